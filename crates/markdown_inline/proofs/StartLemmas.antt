@@ -34,10 +34,10 @@ use Rattle.markdown_base.specs.declared.item.ItemBody.{ItemBody}
 use Rattle.markdown_base.specs.declared.node.Node.{Node}
 use Rattle.markdown_base.proofs.ForestLemmas.{Throughout-weaker, relabelled-Throughout, relabelled-relabelled}
 use Rattle.markdown_base.specs.Questions.{Answers}
-use Rattle.markdown_blocks.specs.Blocks.{text_of_blocks, block_options, block_tree, block_parts, IsOfText}
+use Rattle.markdown_blocks.specs.Blocks.{text_of_blocks, block_tree, block_parts, IsOfEntry}
 use Rattle.markdown_blocks.specs.declared.blocks.Blocks.{Blocks}
-use Rattle.markdown_inline.specs.ParserLeft.{elements, rules_of, reading_of, expansion_limit, ReadsBlocks, ReadsText}
-use Rattle.markdown_inline.specs.ParserLeft.{block_definitions, parser_definitions}
+use Rattle.markdown_inline.specs.ParserLeft.{elements, rules_of, reading_of, expansion_limit, ReadsBlocks, ReadsEntry}
+use Rattle.markdown_inline.specs.ParserLeft.{block_definitions, options_read, parser_definitions}
 use Rattle.markdown_inline.specs.Walk.{left_of}
 use Rattle.markdown_document.specs.Places.{tree_node_at, trees_from, origin_start}
 use Rattle.markdown_document.specs.PlacedNodes.{IsPlaced, HasSlices}
@@ -331,14 +331,14 @@ tables_held parts held h = rw (h.cows, h.links, h.alignments, h.headings) refl
 -- what is held at first gives the rules of the block result
 rules_held : (blocks : Blocks) (held : Allocated) (options : Options) (asks : Bool)
     → HoldsParts (block_parts blocks) held
-    → options ≡ block_options blocks → rules_from options held asks ≡ rules_of blocks asks
+    → options ≡ options_read blocks → rules_from options held asks ≡ rules_of blocks asks
 rules_held blocks held options asks h o =
     let is_name : List ℕ → Bool = λ name. list_any (λ n. is_match (text_of n) name) (block_parts blocks).footnotes.items
     in
     let is_held : List ℕ → Bool = λ name. is_some (footnote_at held.footdefs name) in
     let named : is_held ≡ is_name = fun_ext (λ name. ap is_some (h.footnotes name) ∙ some_if unused (is_name name)) in
     rw (o, h.definitions) (ap (λ (f : List ℕ → Bool). let r : Rules = record {
-      options = block_options blocks;
+      options = options_read blocks;
       definitions =
           firsts (block_parts blocks).definitions.items;
       is_footnote = f;
@@ -361,7 +361,7 @@ uses_held blocks held h =
 -- at the start what is left is the whole reading
 pub starts_left : {F : Type 0} (blocks : Blocks) (p : Parser F) (answers : Answers) → p.resolver.text.now
     ≡ text_of_blocks blocks
-    → p.resolver.options ≡ block_options blocks → HoldsParts (block_parts blocks) p.resolver.lookup.tables
+    → p.resolver.options ≡ options_read blocks → HoldsParts (block_parts blocks) p.resolver.lookup.tables
     → (tree : Arena Item) → tree ≡ block_tree blocks → p.tree
     ≡ record tree { spine = []; cursor = child_of tree.nodes 0 }
     → p.resolver.lookup.limit ≡ expansion_limit (text_of_blocks blocks)
@@ -382,10 +382,10 @@ starts_left blocks p answers text options held tree same reset limit =
     ) refl
 
 -- a parser of a block result of a text is one of some block result of the text
-pub of_some_text : {F : Type 0} (text : List ℕ) (options : Options) (blocks : Blocks) (made : Result (Parser F) Fault)
-    → IsOfText text options blocks
+pub of_some_text : {F : Type 0} (extended : Bool) (text : List ℕ) (options : Options) (blocks : Blocks)
+    (made : Result (Parser F) Fault) → IsOfEntry extended text options blocks
     → IfOk made (ReadsBlocks blocks) → IfOk made (λ p. parser_definitions p ≡ block_definitions blocks)
-    → IfOk made (ReadsText text options)
-of_some_text text options blocks (Ok p) of left found = record
+    → IfOk made (ReadsEntry extended text options)
+of_some_text extended text options blocks (Ok p) of left found = record
     { blocks = blocks; of_text = of; left = left; definitions = found }
-of_some_text text options blocks (Err fault) of left found = tt
+of_some_text extended text options blocks (Err fault) of left found = tt

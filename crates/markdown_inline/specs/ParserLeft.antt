@@ -1,13 +1,15 @@
 -- What a parser holds, and what is left of it: the elements of its reading that it has not given yet, for the answers
 -- that its callback will give.
-use Rattle.std.specs.Prelude.{◌≡◌, ℕ, max, Bool, List, [], length, Option, is_some}
+use Rattle.std.specs.Prelude.{◌≡◌, ℕ, max, Bool, true, false, List, [], length, Option, is_some}
 use Rattle.std.specs.List.{list_any}
 use Rattle.markdown_base.specs.Arena.{Arena}
 use Rattle.markdown_base.specs.CowText.{text_of}
 use Rattle.markdown_base.specs.Questions.{Answers}
 use Rattle.markdown_base.specs.declared.item.Item.{Item}
 use Rattle.markdown_base.specs.declared.options.Options.{Options}
-use Rattle.markdown_blocks.specs.Blocks.{text_of_blocks, block_options, block_tree, block_parts, IsOfText}
+use Rattle.markdown_base.specs.ExtendedOptions.{with_extended}
+use Rattle.markdown_blocks.specs.Blocks.{text_of_blocks, block_options, block_extended, block_tree, block_parts}
+use Rattle.markdown_blocks.specs.Blocks.{IsOfEntry}
 use Rattle.markdown_defs.specs.Definitions.{Labelled, firsts}
 use Rattle.markdown_defs.specs.Folding.{is_match}
 use Rattle.markdown_blocks.specs.declared.blocks.Blocks.{Blocks}
@@ -36,10 +38,14 @@ state_at_start source answers = record { limit = expansion_limit source; answers
 abbrev pub block_definitions : Blocks → List Labelled
 block_definitions blocks = firsts (block_parts blocks).definitions.items
 
+-- the options by which a block result is read: those of its caller, for its entry
+abbrev pub options_read : Blocks → Options
+options_read blocks = with_extended (block_extended blocks) (block_options blocks)
+
 -- the rules by which the chains of a block result are resolved, with or without a callback
 abbrev pub rules_of : Blocks → Bool → Rules
 rules_of blocks asks = record {
-  options = block_options blocks;
+  options = options_read blocks;
   definitions = block_definitions blocks;
   is_footnote = λ name. list_any (λ n. is_match (text_of n) name) (block_parts blocks).footnotes.items;
   asks = asks;
@@ -107,13 +113,20 @@ abbrev pub ReadsBlocks : {F : Type 0} → Blocks → Parser F → Type 0
 ReadsBlocks blocks p = (answers : Answers)
     → elements p answers ≡ reading_of blocks (is_some (parser_callback p)) answers
 
--- the same of some block result of a text and options: one that is well formed and covers the text. The reference
--- definitions that can be found are those of this block result.
-pub record ReadsText {F : Type 0} (text : List ℕ) (options : Options) (p : Parser F) : Type 0 where
+-- the same of some block result of a text and options, of one of the entries: one that is well formed and covers the
+-- text. The reference definitions that can be found are those of this block result.
+pub record ReadsEntry {F : Type 0} (extended : Bool) (text : List ℕ) (options : Options) (p : Parser F) : Type 0 where
   pub blocks : Blocks
-  pub of_text : IsOfText text options blocks
+  pub of_text : IsOfEntry extended text options blocks
   pub left : ReadsBlocks blocks p
   pub definitions : parser_definitions p ≡ block_definitions blocks
+
+-- the same of the present entry, and of the extended one
+abbrev pub ReadsText : {F : Type 0} → (text : List ℕ) → Options → Parser F → Type 0
+ReadsText text options p = ReadsEntry false text options p
+
+abbrev pub ReadsExtended : {F : Type 0} → (text : List ℕ) → Options → Parser F → Type 0
+ReadsExtended text options p = ReadsEntry true text options p
 
 -- a bound on the steps to come, and so on the items
 abbrev pub parser_steps : {F : Type 0} → Parser F → ℕ

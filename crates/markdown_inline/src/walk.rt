@@ -294,13 +294,15 @@ impl<'input, F> OffsetIter<'input, F> {
     }
 }
 
-/// Formats the text and the options, without the tree and what its items refer to, which may be as long as the text,
-/// and without the callback.
+/// Formats the text and the caller's options, without the tree and what its items refer to, which may be as long as the
+/// text, and without the callback.
 impl<'input, F> fmt::Debug for Parser<'input, F> {
     fn fmt<W: fmt::Write>(&self, f: &mut fmt::Formatter<W>) -> fmt::Result {
+        // without the bit of the entry
+        let options = self.resolver.options.with_extended(false);
         f.debug_struct("Parser")
             .field("text", &self.resolver.text)
-            .field("options", &self.resolver.options)
+            .field("options", &options)
             .finish_non_exhaustive()
     }
 }
@@ -346,8 +348,9 @@ impl<'input, F: BrokenLinkCallback<'input>> Parser<'input, F> {
     ghost use Rattle.std.specs.Prelude.{◌≡◌, IfOk, IfErr, IfSome};
     ghost use Rattle.markdown_blocks.specs.Blocks.{text_of_blocks};
     ghost use Rattle.markdown_inline.specs.CountsLaw.{CountsLaw, RisesPlainly};
-    ghost use Rattle.markdown_inline.specs.ParserLeft.{ReadsText, ReadsBlocks, no_work, parser_text, parser_callback};
-    ghost use Rattle.markdown_inline.specs.ParserLeft.{block_definitions, parser_definitions, parser_work, offset_parser};
+    ghost use Rattle.markdown_inline.specs.ParserLeft.{ReadsText, ReadsExtended, ReadsBlocks, no_work, parser_text};
+    ghost use Rattle.markdown_inline.specs.ParserLeft.{parser_callback, block_definitions, parser_definitions};
+    ghost use Rattle.markdown_inline.specs.ParserLeft.{parser_work, offset_parser};
 
     /// Returns a parser of a text, which calls `callback`, where there is one, for each link label without a reference
     /// definition. The only error is `Fault::Memory`.
@@ -367,7 +370,26 @@ impl<'input, F: BrokenLinkCallback<'input>> Parser<'input, F> {
         Parser::from_blocks(alloc, blocks, callback)
     }
 
-    /// Returns a parser of a block result. The only error is `Fault::Memory`.
+    /// Returns a parser of a text that is read by the extended entry. It calls `callback`, where there is one, for each
+    /// link label without a reference definition. The only error is `Fault::Memory`.
+    pub fn new_extended(
+        alloc: Global,
+        text: &'input str,
+        options: Options,
+        callback: Option<F>,
+    ) -> Result<Self, Fault>
+        ensures left { IfOk result (ReadsExtended text.entry.now options) }
+        ensures text { IfOk result (λ p. parser_text p ≡ text.entry.now) }
+        ensures callback { IfOk result (λ p. parser_callback p ≡ callback) }
+        ensures work { IfOk result (λ p. parser_work p ≡ no_work) }
+        ensures refused { IfErr result (λ fault. fault ≡ Fault.Memory) }
+    {
+        let blocks = Blocks::of_extended(alloc, text, options)?;
+        Parser::from_blocks(alloc, blocks, callback)
+    }
+
+    /// Returns a parser of a block result, whose entry also decides how chains are resolved. The only error is
+    /// `Fault::Memory`.
     pub fn from_blocks(
         alloc: Global,
         blocks: Blocks<'input>,
@@ -381,6 +403,7 @@ impl<'input, F: BrokenLinkCallback<'input>> Parser<'input, F> {
         ensures work { IfOk result (λ p. parser_work p ≡ no_work) }
         ensures refused { IfErr result (λ fault. fault ≡ Fault.Memory) }
     {
+        let extended = blocks.is_extended();
         let (text, options, tree, parts) = blocks.into_parts();
         let tables = Allocations::new(alloc, parts)?;
         let mut tree = tree;
@@ -391,7 +414,7 @@ impl<'input, F: BrokenLinkCallback<'input>> Parser<'input, F> {
             resolver: Resolver {
                 alloc,
                 text,
-                options,
+                options: options.with_extended(extended),
                 lookup: LabelLookup {
                     tables,
                     limit: text.len().max(100000),
