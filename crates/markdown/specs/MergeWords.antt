@@ -3,9 +3,12 @@
 -- the merge of a list of events and errors
 pub use Rattle.markdown_out.specs.Merge.{Item, PlacedText, text_item, text_of_item, Run, runs, merged, merge_answers}
 pub use Rattle.markdown_out.specs.EventRanges.{bare, nowhere, with_range, through_ranges}
+-- with the forms of their texts
+pub use Rattle.markdown_out.specs.TextForms.{TextForm, boxed_form, slice_form, inline_form, text_form, event_forms}
+pub use Rattle.markdown_out.specs.TextForms.{Formed, with_forms, boxed_through}
 -- a merge between calls, and a call of it
 pub use Rattle.markdown_out.specs.MergeNext.{MergeState, CanMerge, CallsMerge, MergesNext, PassesOn, Gave}
-pub use Rattle.markdown_out.specs.MergeNext.{item_view, some_count, left_count}
+pub use Rattle.markdown_out.specs.MergeNext.{item_view, formed_view, some_count, left_count}
 pub use Rattle.markdown_out.specs.MergeState.{stream_state, offset_state}
 pub use Rattle.markdown_out.specs.declared.merge.TextMergeStream.{TextMergeStream}
 pub use Rattle.markdown_out.specs.declared.merge.TextMergeWithOffset.{TextMergeWithOffset}

@@ -63,7 +63,8 @@ pub mod laws {
         references_expand_to_few_bytes, resolving_makes_no_block, walk_reads_what_is_defined,
     };
     pub use markdown_out::laws::{
-        a_mapped_iterator_can_be_merged, a_mapped_iterator_stays_ended, a_stream_gives_the_merge,
+        a_mapped_iterator_can_be_merged, a_mapped_iterator_stays_ended, a_stream_can_be_merged,
+        a_stream_gives_the_merge, a_stream_with_offsets_can_be_merged,
         a_stream_with_offsets_gives_the_merge, an_image_has_the_html_of_its_parts,
         html_of_a_merge_is_that_of_the_merged_events, merged_texts_are_no_neighbours,
         merging_keeps_the_html, merging_twice_is_merging_once,

@@ -15,6 +15,7 @@ pub mod MergeLawsLemmas
 pub mod MergedRangesLemmas
 pub mod MergedHtmlLemmas
 pub mod DrainedMergeLemmas
+pub mod FormedMergeLemmas
 pub mod EndedMergeLemmas
 pub mod MappedMergeLemmas
 pub mod RenderedMergeLemmas

@@ -9,6 +9,7 @@ use Rattle.markdown_base.specs.Event.{hard_break, rule, task_list_marker}
 use Rattle.markdown_out.specs.Merge.{Item, PlacedText, text_item, text_of_item, Run, alone, texts, before_runs, runs}
 use Rattle.markdown_out.specs.Merge.{last_text}
 use Rattle.markdown_out.specs.Merge.{unless_empty, run_items, merged, merge_answers}
+use Rattle.markdown_out.specs.TextForms.{Formed, boxed_form, boxed_through}
 
 -- the runs of a list that begins with no Text
 pub runs-alone : {P : Type 0} (x : Item P) (xs : List (Item P)) → text_of_item x ≡ None → runs (x ∷ xs)
@@ -44,62 +45,6 @@ module _ {P : Type 0} (through : P → P → P) where
   merged-lone_text t y ys h =
       ap (λ rs. flat_map (run_items through) (before_runs (text_item t) (Some t) rs)) (runs-alone y ys h)
       ∙ ap (λ rs. text_item t ∷ flat_map (run_items through) rs) (sym (runs-alone y ys h))
-
-  -- two Texts at the front count as one of both at the first range and an empty one at the last
-  pub merged-two_texts : (t u : PlacedText P) (rest : List (Item P))
-      → merged through (text_item t ∷ text_item u ∷ rest)
-      ≡ merged through (text_item (record { bytes = t.bytes ++ u.bytes; range = t.range }) ∷ text_item
-      (record { bytes = []; range = u.range }) ∷ rest)
-  merged-two_texts t u rest = by_runs (runs rest)
-    where
-      both : PlacedText P
-      both = record { bytes = t.bytes ++ u.bytes; range = t.range }
-
-      none : PlacedText P
-      none = record { bytes = []; range = u.range }
-
-      with_two : List (Run P) → PlacedText P → PlacedText P → List (Item P)
-      with_two rs a b = flat_map (run_items through)
-          (before_runs (text_item a) (Some a) (before_runs (text_item b) (Some b) rs))
-
-      by_runs : (rs : List (Run P)) → with_two rs t u ≡ with_two rs both none
-      by_runs [] = ap (λ bytes. unless_empty bytes (through t.range u.range) ++ [])
-          (sym (append_assoc t.bytes u.bytes []))
-      by_runs (alone x ∷ rs) = ap (λ bytes. unless_empty bytes (through t.range u.range) ++ flat_map (run_items through)
-          (alone x ∷ rs))
-          (sym (append_assoc t.bytes u.bytes []))
-      by_runs (texts v vs ∷ rs) =
-          ap (λ bytes. unless_empty bytes (through t.range (last_text v vs).range) ++ flat_map (run_items through) rs)
-          (sym (append_assoc t.bytes u.bytes (flat_map (λ x. x.bytes) (v ∷ vs))))
-
-  -- a third Text after two whose last is empty
-  pub merged-three_texts : (t l u : PlacedText P) (rest : List (Item P)) → l.bytes ≡ []
-      → merged through (text_item t ∷ text_item l ∷ text_item u ∷ rest)
-      ≡ merged through (text_item (record { bytes = t.bytes ++ u.bytes; range = t.range }) ∷ text_item
-      (record { bytes = []; range = u.range }) ∷ rest)
-  merged-three_texts t l u rest e = by_runs (runs rest)
-    where
-      both : PlacedText P
-      both = record { bytes = t.bytes ++ u.bytes; range = t.range }
-
-      none : PlacedText P
-      none = record { bytes = []; range = u.range }
-
-      joined : (more : List ℕ) → t.bytes ++ (l.bytes ++ (u.bytes ++ more)) ≡ (t.bytes ++ u.bytes) ++ more
-      joined more = ap (λ bytes. t.bytes ++ (bytes ++ (u.bytes ++ more))) e ∙ sym (append_assoc t.bytes u.bytes more)
-
-      by_runs : (rs : List (Run P))
-          → flat_map (run_items through) (before_runs (text_item t) (Some t)
-          (before_runs (text_item l) (Some l) (before_runs (text_item u) (Some u) rs)))
-          ≡ flat_map (run_items through)
-          (before_runs (text_item both) (Some both) (before_runs (text_item none) (Some none) rs))
-      by_runs [] = ap (λ bytes. unless_empty bytes (through t.range u.range) ++ []) (joined [])
-      by_runs (alone x ∷ rs) = ap (λ bytes. unless_empty bytes (through t.range u.range) ++ flat_map (run_items through)
-          (alone x ∷ rs))
-          (joined [])
-      by_runs (texts v vs ∷ rs) =
-          ap (λ bytes. unless_empty bytes (through t.range (last_text v vs).range) ++ flat_map (run_items through) rs)
-          (joined (flat_map (λ x. x.bytes) (v ∷ vs)))
 
   -- two Texts, the last of them empty, where no Text follows
   pub merged-run_end : (t l : PlacedText P) (y : Item P) (ys : List (Item P)) → l.bytes ≡ [] → text_of_item y ≡ None
@@ -152,3 +97,65 @@ module _ {P : Type 0} (through : P → P → P) where
       ∙ ap (λ items. merge_answers through (y ∷ items) later) (sym (append_assoc ys rest (z ∷ []))))
   answers-alike x xs y ys rest (None ∷ later) h =
       ap (λ items. map (λ i. Some i) items ++ merge_answers through [] later) (h rest)
+
+module _ {P : Type 0} (through : P → P → P) where
+  -- a Text with this form, over the range of another
+  abbrev boxed : List ℕ → PlacedText (Formed P) → PlacedText (Formed P)
+  boxed bytes t = record { bytes = bytes; range = (t.range.0, boxed_form ∷ []) }
+
+  abbrev all : Formed P → Formed P → Formed P
+  all = boxed_through through
+
+  -- two Texts at the front count as a boxed one of both at the first range and an empty one at the last
+  pub merged-two_texts : (t u : PlacedText (Formed P)) (rest : List (Item (Formed P)))
+      → merged all (text_item t ∷ text_item u ∷ rest)
+      ≡ merged all (text_item (boxed (t.bytes ++ u.bytes) t) ∷ text_item (boxed [] u) ∷ rest)
+  merged-two_texts t u rest = by_runs (runs rest)
+    where
+      both : PlacedText (Formed P)
+      both = boxed (t.bytes ++ u.bytes) t
+
+      none : PlacedText (Formed P)
+      none = boxed [] u
+
+      with_two : List (Run (Formed P)) → PlacedText (Formed P) → PlacedText (Formed P) → List (Item (Formed P))
+      with_two rs a b = flat_map (run_items all)
+          (before_runs (text_item a) (Some a) (before_runs (text_item b) (Some b) rs))
+
+      by_runs : (rs : List (Run (Formed P))) → with_two rs t u ≡ with_two rs both none
+      by_runs [] = ap (λ bytes. unless_empty bytes (all t.range u.range) ++ [])
+          (sym (append_assoc t.bytes u.bytes []))
+      by_runs (alone x ∷ rs) = ap (λ bytes. unless_empty bytes (all t.range u.range) ++ flat_map (run_items all)
+          (alone x ∷ rs))
+          (sym (append_assoc t.bytes u.bytes []))
+      by_runs (texts v vs ∷ rs) =
+          ap (λ bytes. unless_empty bytes (all t.range (last_text v vs).range) ++ flat_map (run_items all) rs)
+          (sym (append_assoc t.bytes u.bytes (flat_map (λ x. x.bytes) (v ∷ vs))))
+
+  -- a third Text after two whose last is empty
+  pub merged-three_texts : (t l u : PlacedText (Formed P)) (rest : List (Item (Formed P))) → l.bytes ≡ []
+      → merged all (text_item t ∷ text_item l ∷ text_item u ∷ rest)
+      ≡ merged all (text_item (boxed (t.bytes ++ u.bytes) t) ∷ text_item (boxed [] u) ∷ rest)
+  merged-three_texts t l u rest e = by_runs (runs rest)
+    where
+      both : PlacedText (Formed P)
+      both = boxed (t.bytes ++ u.bytes) t
+
+      none : PlacedText (Formed P)
+      none = boxed [] u
+
+      joined : (more : List ℕ) → t.bytes ++ (l.bytes ++ (u.bytes ++ more)) ≡ (t.bytes ++ u.bytes) ++ more
+      joined more = ap (λ bytes. t.bytes ++ (bytes ++ (u.bytes ++ more))) e ∙ sym (append_assoc t.bytes u.bytes more)
+
+      by_runs : (rs : List (Run (Formed P)))
+          → flat_map (run_items all) (before_runs (text_item t) (Some t)
+          (before_runs (text_item l) (Some l) (before_runs (text_item u) (Some u) rs)))
+          ≡ flat_map (run_items all)
+          (before_runs (text_item both) (Some both) (before_runs (text_item none) (Some none) rs))
+      by_runs [] = ap (λ bytes. unless_empty bytes (all t.range u.range) ++ []) (joined [])
+      by_runs (alone x ∷ rs) = ap (λ bytes. unless_empty bytes (all t.range u.range) ++ flat_map (run_items all)
+          (alone x ∷ rs))
+          (joined [])
+      by_runs (texts v vs ∷ rs) =
+          ap (λ bytes. unless_empty bytes (all t.range (last_text v vs).range) ++ flat_map (run_items all) rs)
+          (joined (flat_map (λ x. x.bytes) (v ∷ vs)))

@@ -12,6 +12,7 @@ use Rattle.markdown_out.specs.Merge.{Item, merge_answers}
 use Rattle.markdown_out.specs.MergeNext.{Gave, CanMerge, ReadsItem}
 use Rattle.markdown_out.specs.AdvanceSteps.{IsMerged}
 use Rattle.markdown_out.specs.HeldItems.{placed_view, held_items}
+use Rattle.markdown_out.specs.TextForms.{Formed, boxed_through}
 use Rattle.markdown_out.specs.TakenAnswers.{held_count, answer_count, given_answers, TakesIn}
 use Rattle.markdown_out.specs.declared.merge.held.Held.{Held}
 use Rattle.markdown_out.specs.declared.merge.held.Step.{Step}
@@ -69,27 +70,31 @@ viewed-more view xs r later = ap (λ x. x ++ later) (map-append (option_map view
     ∙ append_assoc (map (option_map view) xs)
     (option_map view r ∷ []) later
 
-module _ {S T P : Type 0} (through : P → P → P) (view : T → Item P) (steps : S → Option T → S → Type 0) where
+module _ {S T P : Type 0} (through : P → P → P) (view : T → Item (Formed P)) (steps : S → Option T → S → Type 0) where
+  abbrev boxed : Formed P → Formed P → Formed P
+  boxed = boxed_through through
+
   -- an answer is taken in
-  pub merged-more : {items : List (Item P)} {s t u : S} (now : Held P) (step : Step P) (after : Held P) (r : Option T)
+  pub merged-more : {items : List (Item (Formed P))} {s t u : S} (now : Held P) (step : Step P) (after : Held P)
+      (r : Option T)
       (answer : Option (Result (Event × P) Fault))
-      → IsMerged through view steps items s [] (held_items now) t → steps t r u → option_map placed_view answer
+      → IsMerged boxed view steps items s [] (held_items now) t → steps t r u → option_map placed_view answer
       ≡ option_map view r
-      → TakesIn through (held_items now) answer step after → IsMerged through view steps items s (given_answers step)
+      → TakesIn through (held_items now) answer step after → IsMerged boxed view steps items s (given_answers step)
       (held_items after) u
   merged-more {items} {s} {t} {u} now step after r answer m p e takes = record {
     answers = m.answers ++ r ∷ [];
     read = gave-more steps s t u m.answers r m.read p;
     leaves = λ later.
-        ap (merge_answers through items) (viewed-more view m.answers r later)
+        ap (merge_answers boxed items) (viewed-more view m.answers r later)
         ∙ (m.leaves (option_map view r ∷ later)
-        ∙ (ap (λ x. merge_answers through (held_items now) (x ∷ later)) (sym e) ∙ takes.leaves later));
+        ∙ (ap (λ x. merge_answers boxed (held_items now) (x ∷ later)) (sym e) ∙ takes.leaves later));
   }
 
   module _ (can : S → Type 0) (rest : S → Count) where
     -- nothing was given yet, and no more is left than at first
     pub record IsReading (first : Held P) (s : S) (now : Held P) (t : S) : Type 0 where
-      pub merged : IsMerged through view steps (held_items first) s [] (held_items now) t
+      pub merged : IsMerged boxed view steps (held_items first) s [] (held_items now) t
       pub can_merge : CanMerge steps can rest t
       pub fewer : held_count now + size (rest t) ≤ held_count first + size (rest s)
 

@@ -16,84 +16,104 @@ use Rattle.markdown_out.specs.OutLaws.{ranged_item}
 use Rattle.markdown_out.specs.EventRanges.{nowhere, with_range, through_ranges}
 use Rattle.markdown_out.proofs.MergeLawsLemmas.{IsText, text_or_none}
 
--- an item, a Text and a run without their ranges
+-- an item, a Text and a run over another range
+abbrev pub moved : {P Q : Type 0} → (P → Q) → Item P → Item Q
+moved f (Ok placed) = Ok (placed.0, f placed.1)
+moved f (Err fault) = Err fault
+
+abbrev moved_text : {P Q : Type 0} → (P → Q) → PlacedText P → PlacedText Q
+moved_text f t = record { bytes = t.bytes; range = f t.range }
+
+abbrev moved_run : {P Q : Type 0} → (P → Q) → Run P → Run Q
+moved_run f (alone x) = alone (moved f x)
+moved_run f (texts t us) = texts (moved_text f t) (map (moved_text f) us)
+
+-- an item without its range
 abbrev unplaced : {P : Type 0} → Item P → Item (Unit {0})
-unplaced (Ok placed) = Ok (placed.0, tt)
-unplaced (Err fault) = Err fault
+unplaced x = moved (λ range. tt) x
 
-abbrev unplaced_text : {P : Type 0} → PlacedText P → PlacedText (Unit {0})
-unplaced_text t = record { bytes = t.bytes; range = tt }
+-- merging passes a function of ranges through that keeps what lies between two of them
+module _ {P Q : Type 0} (through : P → P → P) (through' : Q → Q → Q) (f : P → Q)
+    (keeps : (p q : P) → through' (f p) (f q) ≡ f (through p q)) where
+  abbrev items_moved : List (Item P) → List (Item Q)
+  items_moved xs = map (moved f) xs
 
-abbrev unplaced_run : {P : Type 0} → Run P → Run (Unit {0})
-unplaced_run (alone x) = alone (unplaced x)
-unplaced_run (texts t us) = texts (unplaced_text t) (map unplaced_text us)
-
-module _ {P : Type 0} (through : P → P → P) where
-  abbrev bare_items : List (Item P) → List (Item (Unit {0}))
-  bare_items xs = map unplaced xs
-
-  abbrev bare_runs : List (Run P) → List (Run (Unit {0}))
-  bare_runs rs = map unplaced_run rs
+  abbrev runs_moved : List (Run P) → List (Run Q)
+  runs_moved rs = map (moved_run f) rs
 
   -- a list is cut into the same runs
-  text-runs : (t : PlacedText P) (rs : List (Run P)) → before_runs (text_item (unplaced_text t))
-      (Some (unplaced_text t)) (bare_runs rs)
-      ≡ bare_runs (before_runs (text_item t) (Some t) rs)
+  text-runs : (t : PlacedText P) (rs : List (Run P))
+      → before_runs (text_item (moved_text f t)) (Some (moved_text f t)) (runs_moved rs)
+      ≡ runs_moved (before_runs (text_item t) (Some t) rs)
   text-runs t [] = refl
   text-runs t (alone x ∷ rs) = refl
   text-runs t (texts u us ∷ rs) = refl
 
-  no_text : (x : Item P) → text_of_item x ≡ None → text_of_item (unplaced x) ≡ None
+  no_text : (x : Item P) → text_of_item x ≡ None → text_of_item (moved f x) ≡ None
   no_text (Ok (e, p)) none = of_event e none
     where
-      of_event : (e : EventView) → text_of_item (Ok (e, p)) ≡ None → text_of_item (unplaced (Ok (e, p))) ≡ None
+      of_event : (e : EventView) → text_of_item (Ok (e, p)) ≡ None → text_of_item (moved f (Ok (e, p))) ≡ None
       of_event (text t) none = cc none
       of_event other none = refl
   no_text (Err fault) none = refl
 
   more-runs : (x : Item P) (rs : List (Run P)) → IsText x ⊎ (text_of_item x ≡ None)
-      → before_runs (unplaced x) (text_of_item (unplaced x)) (bare_runs rs)
-      ≡ bare_runs (before_runs x (text_of_item x) rs)
+      → before_runs (moved f x) (text_of_item (moved f x)) (runs_moved rs)
+      ≡ runs_moved (before_runs x (text_of_item x) rs)
   more-runs x rs (inl is) =
-      subst (λ y. before_runs (unplaced y) (text_of_item (unplaced y)) (bare_runs rs)
-      ≡ bare_runs (before_runs y (text_of_item y) rs))
+      subst (λ y. before_runs (moved f y) (text_of_item (moved f y)) (runs_moved rs)
+      ≡ runs_moved (before_runs y (text_of_item y) rs))
       (sym is.is) (text-runs is.t rs)
   more-runs x rs (inr none) =
-      ap (λ o. before_runs (unplaced x) o (bare_runs rs)) (no_text x none) ∙ ap (λ o. bare_runs (before_runs x o rs))
+      ap (λ o. before_runs (moved f x) o (runs_moved rs)) (no_text x none) ∙ ap (λ o. runs_moved (before_runs x o rs))
       (sym none)
 
-  same-runs : (xs : List (Item P)) → runs (bare_items xs) ≡ bare_runs (runs xs)
+  same-runs : (xs : List (Item P)) → runs (items_moved xs) ≡ runs_moved (runs xs)
   same-runs [] = refl
-  same-runs (x ∷ xs) = ap (before_runs (unplaced x) (text_of_item (unplaced x))) (same-runs xs)
+  same-runs (x ∷ xs) = ap (before_runs (moved f x) (text_of_item (moved f x))) (same-runs xs)
       ∙ more-runs x (runs xs) (text_or_none x)
 
   -- and each gives the same
-  same-bytes : (us : List (PlacedText P)) → flat_map (λ x. x.bytes) (map unplaced_text us) ≡ flat_map (λ x. x.bytes) us
+  same-bytes : (us : List (PlacedText P)) → flat_map (λ x. x.bytes) (map (moved_text f) us) ≡ flat_map (λ x. x.bytes) us
   same-bytes [] = refl
   same-bytes (u ∷ us) = ap (λ bytes. u.bytes ++ bytes) (same-bytes us)
 
-  unless-bare : (bytes : List ℕ) (p : P) → unless_empty bytes tt ≡ bare_items (unless_empty bytes p)
-  unless-bare [] p = refl
-  unless-bare (b ∷ bytes) p = refl
+  same-last : (u : PlacedText P) (us : List (PlacedText P)) → (last_text (moved_text f u) (map (moved_text f) us)).range
+      ≡ f (last_text u us).range
+  same-last u [] = refl
+  same-last u (v ∷ us) = same-last v us
 
-  same-items : (r : Run P) → run_items nowhere (unplaced_run r) ≡ bare_items (run_items through r)
+  unless-moved : (bytes : List ℕ) (p : P) → unless_empty bytes (f p) ≡ items_moved (unless_empty bytes p)
+  unless-moved [] p = refl
+  unless-moved (b ∷ bytes) p = refl
+
+  same-items : (r : Run P) → run_items through' (moved_run f r) ≡ items_moved (run_items through r)
   same-items (alone x) = refl
   same-items (texts t []) = refl
   same-items (texts t (u ∷ us)) =
-      ap (λ bytes. unless_empty bytes tt) (same-bytes (t ∷ u ∷ us))
-      ∙ unless-bare (flat_map (λ x. x.bytes) (t ∷ u ∷ us)) (through t.range (last_text u us).range)
+      let last = (last_text u us).range in
+      let bytes = flat_map (λ (x : PlacedText P). x.bytes) (t ∷ u ∷ us) in
+      let range : through' (f t.range) (last_text (moved_text f u) (map (moved_text f) us)).range
+      ≡ f (through t.range last) = ap (through' (f t.range)) (same-last u us) ∙ keeps t.range last in
+      ap (λ bytes. unless_empty bytes (through' (f t.range) (last_text (moved_text f u) (map (moved_text f) us)).range))
+      (same-bytes (t ∷ u ∷ us))
+      ∙ (ap (unless_empty bytes) range ∙ unless-moved bytes (through t.range last))
 
-  all-items : (rs : List (Run P)) → flat_map (run_items nowhere) (bare_runs rs)
-      ≡ bare_items (flat_map (run_items through) rs)
+  all-items : (rs : List (Run P)) → flat_map (run_items through') (runs_moved rs)
+      ≡ items_moved (flat_map (run_items through) rs)
   all-items [] = refl
   all-items (r ∷ rs) =
-      ap (λ xs. xs ++ flat_map (run_items nowhere) (bare_runs rs)) (same-items r)
-      ∙ ap (λ xs. bare_items (run_items through r) ++ xs) (all-items rs)
-      ∙ sym (map-append unplaced (run_items through r) (flat_map (run_items through) rs))
+      ap (λ xs. xs ++ flat_map (run_items through') (runs_moved rs)) (same-items r)
+      ∙ ap (λ xs. items_moved (run_items through r) ++ xs) (all-items rs)
+      ∙ sym (map-append (moved f) (run_items through r) (flat_map (run_items through) rs))
 
-  -- merging without ranges is merging, and then leaving ranges out
-  pub merged-bare : (xs : List (Item P)) → merged nowhere (bare_items xs) ≡ bare_items (merged through xs)
-  merged-bare xs = ap (flat_map (run_items nowhere)) (same-runs xs) ∙ all-items (runs xs)
+  pub merged-moved : (xs : List (Item P)) → merged through' (items_moved xs) ≡ items_moved (merged through xs)
+  merged-moved xs = ap (flat_map (run_items through')) (same-runs xs) ∙ all-items (runs xs)
+
+-- merging without ranges is merging, and then leaving ranges out
+merged-bare : {P : Type 0} (through : P → P → P) (xs : List (Item P)) → merged nowhere (map unplaced xs)
+    ≡ map unplaced (merged through xs)
+merged-bare through xs = merged-moved through nowhere (λ range. tt) (λ p q. refl) xs
 
 -- the events of items, without their ranges
 bare-events : (xs : List (Item (Range ℕ))) → flat_map item_events (map unplaced xs)

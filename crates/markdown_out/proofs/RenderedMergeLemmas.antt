@@ -16,11 +16,14 @@ use Rattle.markdown_out.specs.HtmlCorrect.{items, GoesTooDeep, IsRendered, Stops
 use Rattle.markdown_out.specs.Merge.{Item, PlacedText, text_item, text_of_item, Run, alone, texts, before_runs, runs}
 use Rattle.markdown_out.specs.Merge.{last_text}
 use Rattle.markdown_out.specs.Merge.{unless_empty, run_items, merged}
-use Rattle.markdown_out.specs.MergeNext.{MergeState, PassesOn, Refuses, item_view}
+use Rattle.markdown_out.specs.MergeNext.{MergeState, PassesOn, Refuses, formed_view, item_view}
 use Rattle.markdown_out.specs.EventRanges.{bare, nowhere}
 use Rattle.markdown_out.specs.OutLaws.{event_item, item_events, merged_events, StaysEnded, merge_steps, IsNewMerge}
 use Rattle.markdown_out.specs.OutLaws.{GoesTooDeepMerged, IsRenderedMerged, StopsAtErrorMerged, IsRefusedMerged}
+use Rattle.markdown_out.specs.OutLaws.{IsMergeSoFar}
+use Rattle.markdown_out.specs.TextForms.{Formed, boxed_through}
 use Rattle.markdown_out.proofs.DrainedMergeLemmas.{gives_the_merge}
+use Rattle.markdown_out.proofs.FormedMergeLemmas.{all_without, so_far_without}
 use Rattle.markdown_out.proofs.MergeLawsLemmas.{IsText, text_or_none}
 
 abbrev U : Type 0
@@ -324,12 +327,18 @@ module _ {S A : Type 0} (steps : S → Option A → S → Type 0) where
       let f = yields-prefix y.0 t xs ys y.2 in record { mid = f.mid; first = (y.0, y.1, f.first); rest = f.rest }
 
 module _ {S M : Type 0} (steps : S → Option Raw → S → Type 0) (can : S → Type 0) (rest : S → Count)
-    (state : M → MergeState S U) where
+    (state : M → MergeState S (Formed U)) where
+  abbrev formed : Raw → Item (Formed U)
+  formed = formed_view bare
+
+  abbrev boxed : Formed U → Formed U → Formed U
+  boxed = boxed_through nowhere
+
   abbrev calls : M → Option Raw → M → Type 0
-  calls = merge_steps nowhere view steps can rest state
+  calls = merge_steps boxed formed steps can rest state
 
   abbrev Passes : M → Option Raw → M → Type 0
-  Passes m r t = PassesOn nowhere view steps (state m) r (state t)
+  Passes m r t = PassesOn boxed formed steps (state m) r (state t)
 
   -- a merge that is not over passes on, or is refused memory
   pub passes_or_refused : (m t : M) (r : Option Raw) → (state m).over ≡ false → calls m r t
@@ -364,6 +373,12 @@ module _ {S M : Type 0} (steps : S → Option Raw → S → Type 0) (can : S →
   events-go-on m t (e ∷ es) o y = events-go-on y.0 t es (ok-goes-on m y.0 e o y.1) y.2
 
   module _ (m : M) (ends : StaysEnded steps (state m).iter) (old new : List ℕ) (begun : IsNewMerge (state m)) where
+    -- what was given is a prefix of the merge of what was read
+    so_far : (given : List Raw) (t : M) → Yields calls m given t → (state t).over ≡ false
+        → IsMergeSoFar nowhere view steps (state m).iter given
+    so_far given t y o = so_far_without nowhere bare steps (state m).iter given
+        ((gives_the_merge boxed formed steps can rest state m ends begun).so_far given t y o)
+
     -- the HTML of a merge is that of the merge of the events
     pub rendered-merged : IsRendered calls m old new → IsRenderedMerged steps (state m).iter old new
     rendered-merged r =
@@ -371,8 +386,9 @@ module _ {S M : Type 0} (steps : S → Option Raw → S → Type 0) (can : S →
         let views = map event_view es in
         let t = r.read.1.0 in
         let n = none-goes-on t r.read.0 (events-go-on m t es begun.goes_on r.read.1.1) r.read.1.2 in
-        let g = (gives_the_merge nowhere view steps can rest state m ends begun).all (items es) t r.read.0 r.read.1.1
-        r.read.1.2 n in
+        let g = all_without nowhere bare steps (state m).iter (items es)
+        ((gives_the_merge boxed formed steps can rest state m ends begun).all (items es) t r.read.0 r.read.1.1
+        r.read.1.2 n) in
         let given : merged nowhere (map view g.all) ≡ map event_item views = g.merges ∙ views-items es in
         let no_error = subst HasNoError (runs_of_items (map view g.all))
         (no_error-runs (runs (map view g.all)) (subst HasNoError (sym given) (no_error-views views))) in
@@ -407,9 +423,7 @@ module _ {S M : Type 0} (steps : S → Option Raw → S → Type 0) (can : S →
             ((fault ≡ Memory) × IsRefusedMerged steps (state m).iter old new)
         by (inl p) =
             let last : (state r.left).over ≡ false = subst (λ k. (state k).over ≡ false) f.rest.2 p.goes_on in
-            let g = (gives_the_merge nowhere view steps can rest state m ends begun).so_far (items es ++ Err fault ∷ [])
-            r.left r.read last
-            in
+            let g = so_far (items es ++ Err fault ∷ []) r.left r.read last in
             let seen : map view (items es ++ Err fault ∷ []) ≡ map event_item (map event_view es) ++ Err fault ∷ [] =
             map-append view (items es) (Err fault ∷ []) ∙ ap (λ ys. ys ++ Err fault ∷ []) (views-items es) in
             let s = stopped g.so_far (map event_view es) fault g.missing
@@ -427,7 +441,7 @@ module _ {S M : Type 0} (steps : S → Option Raw → S → Type 0) (can : S →
           same-fault q.0,
           record {
             events = es;
-            prefix = (gives_the_merge nowhere view steps can rest state m ends begun).so_far (items es) f.mid f.first o;
+            prefix = so_far (items es) f.mid f.first o;
             stands = r.stands;
           },
         )
@@ -437,7 +451,7 @@ module _ {S M : Type 0} (steps : S → Option Raw → S → Type 0) (can : S →
     deep-merged r =
         let es = r.events in
         let o = events-go-on m r.left es begun.goes_on r.read in
-        let g = (gives_the_merge nowhere view steps can rest state m ends begun).so_far (items es) r.left r.read o in
+        let g = so_far (items es) r.left r.read o in
         let b = begun-by g.so_far (map event_view es) g.missing (g.merges ∙ ap (λ ys. ys ++ g.missing) (views-items es))
         in
         let y = yields-prefix steps (state m).iter g.left (items b.events) b.after

@@ -11,6 +11,7 @@ pub mod StringAppends
 pub mod Merge
 pub mod MergeNext
 pub mod EventRanges
+pub mod TextForms
 pub mod HeldItems
 pub mod MergeState
 pub mod OutLaws

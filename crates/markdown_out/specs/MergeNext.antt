@@ -9,11 +9,16 @@ use Rattle.markdown_base.specs.declared.event.Event.{Event}
 use Rattle.markdown_base.specs.declared.fault.Fault.{Fault}
 use Rattle.markdown_base.specs.declared.fault.Fault.TheVariants.{Memory}
 use Rattle.markdown_out.specs.Merge.{Item, merge_answers}
+use Rattle.markdown_out.specs.TextForms.{Formed, with_forms}
 
 -- an item in the form in which the merge is defined; `parts` gives its event and its range
 abbrev pub item_view : {T P : Type 0} → (T → Event × P) → Result T Fault → Item P
 item_view parts (Ok x) = Ok (event_view (parts x).0, (parts x).1)
 item_view parts (Err fault) = Err fault
+
+-- the same, with the forms of the event's texts beside its range
+abbrev pub formed_view : {T P : Type 0} → (T → Event × P) → Result T Fault → Item (Formed P)
+formed_view parts = item_view (with_forms parts)
 
 module _ {S A : Type 0} (steps : S → Option A → S → Type 0) where
   -- the calls from state s to state t returned these results

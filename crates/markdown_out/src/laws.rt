@@ -9,12 +9,13 @@ ghost use Rattle.markdown_base.specs.declared.fault.Fault.TheVariants.{Memory};
 ghost use Rattle.markdown_out.specs.HtmlCorrect.{GoesTooDeep, IsRendered, StopsAtError};
 ghost use Rattle.markdown_out.specs.ImageHtml.{ImagesHaveParts};
 ghost use Rattle.markdown_out.specs.Merge.{Item, merged};
-ghost use Rattle.markdown_out.specs.MergeNext.{CanMerge, item_view, left_count};
+ghost use Rattle.markdown_out.specs.MergeNext.{CanMerge, formed_view, left_count};
 ghost use Rattle.markdown_out.specs.MergeState.{stream_state, offset_state};
 ghost use Rattle.markdown_out.specs.OutLaws.{HasNoNeighbours, MergingKeepsHtml, StaysEnded};
 ghost use Rattle.markdown_out.specs.OutLaws.{IsNewMerge, GivesTheMerge, merge_steps};
 ghost use Rattle.markdown_out.specs.OutLaws.{GoesTooDeepMerged, IsRenderedMerged, StopsAtErrorMerged, IsRefusedMerged};
 ghost use Rattle.markdown_out.specs.EventRanges.{bare, nowhere, with_range, through_ranges};
+ghost use Rattle.markdown_out.specs.TextForms.{boxed_through};
 
 use crate::merge::{TextMergeStream, TextMergeWithOffset};
 use markdown_base::event::Event;
@@ -55,8 +56,9 @@ pub fn a_stream_gives_the_merge<'a, I: Iterator<Item = Result<Event<'a>, Fault>>
 )
     ensures { StaysEnded I.next_gives (stream_state merge.now).iter
         → IsNewMerge (stream_state merge.now)
-        → GivesTheMerge nowhere (item_view bare) I.next_gives I.can_next I.remaining stream_state
-        merge.now }
+        → GivesTheMerge (boxed_through nowhere) (formed_view bare)
+        I.next_gives I.can_next I.remaining
+        stream_state merge.now }
 {}
 
 /// States for events with their ranges what `a_stream_gives_the_merge` states for events.
@@ -66,8 +68,9 @@ pub fn a_stream_with_offsets_gives_the_merge<
 >(merge: &TextMergeWithOffset<'a, I>)
     ensures { StaysEnded I.next_gives (offset_state merge.now).iter
         → IsNewMerge (offset_state merge.now)
-        → GivesTheMerge through_ranges (item_view with_range) I.next_gives I.can_next I.remaining
-        offset_state merge.now }
+        → GivesTheMerge (boxed_through through_ranges) (formed_view with_range)
+        I.next_gives I.can_next
+        I.remaining offset_state merge.now }
 {}
 
 /// States that a merge can be merged again: over an iterator that stays ended it does so too, and where its iterator can
@@ -76,10 +79,12 @@ pub fn a_stream_can_be_merged<'a, I: Iterator<Item = Result<Event<'a>, Fault>>>(
     merge: &TextMergeStream<'a, I>,
 )
     ensures stays_ended { StaysEnded I.next_gives (stream_state merge.now).iter
-        → StaysEnded (merge_steps nowhere (item_view bare) I.next_gives I.can_next I.remaining
+        → StaysEnded (merge_steps (boxed_through nowhere) (formed_view bare)
+        I.next_gives I.can_next I.remaining
         stream_state) merge.now }
     ensures merges { CanMerge I.next_gives I.can_next I.remaining (stream_state merge.now).iter
-        → CanMerge (merge_steps nowhere (item_view bare) I.next_gives I.can_next I.remaining
+        → CanMerge (merge_steps (boxed_through nowhere) (formed_view bare)
+        I.next_gives I.can_next I.remaining
         stream_state) (λ m. CanMerge I.next_gives I.can_next I.remaining (stream_state m).iter)
         (λ m. at_most (left_count I.remaining (stream_state m))) merge.now }
 {}
@@ -90,10 +95,12 @@ pub fn a_stream_with_offsets_can_be_merged<
     I: Iterator<Item = Result<(Event<'a>, Range<usize>), Fault>>,
 >(merge: &TextMergeWithOffset<'a, I>)
     ensures stays_ended { StaysEnded I.next_gives (offset_state merge.now).iter
-        → StaysEnded (merge_steps through_ranges (item_view with_range) I.next_gives I.can_next
+        → StaysEnded (merge_steps (boxed_through through_ranges) (formed_view with_range)
+        I.next_gives I.can_next
         I.remaining offset_state) merge.now }
     ensures merges { CanMerge I.next_gives I.can_next I.remaining (offset_state merge.now).iter
-        → CanMerge (merge_steps through_ranges (item_view with_range) I.next_gives I.can_next
+        → CanMerge (merge_steps (boxed_through through_ranges) (formed_view with_range)
+        I.next_gives I.can_next
         I.remaining offset_state) (λ m. CanMerge I.next_gives I.can_next I.remaining
         (offset_state m).iter) (λ m. at_most (left_count I.remaining (offset_state m))) merge.now }
 {}
@@ -125,14 +132,16 @@ pub fn html_of_a_merge_is_that_of_the_merged_events<
     ensures whole { StaysEnded I.next_gives (stream_state merge.now).iter
         → IsNewMerge (stream_state merge.now)
         → (old new : List ℕ)
-        → IsRendered (merge_steps nowhere (item_view bare) I.next_gives I.can_next I.remaining
+        → IsRendered (merge_steps (boxed_through nowhere) (formed_view bare)
+        I.next_gives I.can_next I.remaining
         stream_state) merge.now
         old new
         → IsRenderedMerged I.next_gives (stream_state merge.now).iter old new }
     ensures error { StaysEnded I.next_gives (stream_state merge.now).iter
         → IsNewMerge (stream_state merge.now)
         → (old new : List ℕ) (fault : Fault)
-        → StopsAtError (merge_steps nowhere (item_view bare) I.next_gives I.can_next I.remaining
+        → StopsAtError (merge_steps (boxed_through nowhere) (formed_view bare)
+        I.next_gives I.can_next I.remaining
         stream_state) merge.now
         old new fault
         → StopsAtErrorMerged I.next_gives (stream_state merge.now).iter old new fault
@@ -140,7 +149,8 @@ pub fn html_of_a_merge_is_that_of_the_merged_events<
     ensures deep { StaysEnded I.next_gives (stream_state merge.now).iter
         → IsNewMerge (stream_state merge.now)
         → (old new : List ℕ)
-        → GoesTooDeep (merge_steps nowhere (item_view bare) I.next_gives I.can_next I.remaining
+        → GoesTooDeep (merge_steps (boxed_through nowhere) (formed_view bare)
+        I.next_gives I.can_next I.remaining
         stream_state) merge.now
         old new
         → GoesTooDeepMerged I.next_gives (stream_state merge.now).iter old new }

@@ -54,14 +54,15 @@ impl<'a, I: Iterator<Item = Result<Event<'a>, Fault>>> Iterator for TextMergeStr
     type Item = Result<Event<'a>, Fault>;
 
     ghost use Rattle.std.specs.Iterator.{at_most};
-    ghost use Rattle.markdown_out.specs.MergeNext.{CanMerge, CallsMerge, item_view, left_count};
+    ghost use Rattle.markdown_out.specs.MergeNext.{CallsMerge, CanMerge, formed_view, left_count};
     ghost use Rattle.markdown_out.specs.MergeState.{stream_state};
     ghost use Rattle.markdown_out.specs.EventRanges.{bare, nowhere};
+    ghost use Rattle.markdown_out.specs.TextForms.{boxed_through};
 
     ghost can_next = { λ m. CanMerge I.next_gives I.can_next I.remaining (stream_state m).iter };
 
     ghost next_gives = { λ m r t.
-        CallsMerge nowhere (item_view bare) I.next_gives I.can_next I.remaining
+        CallsMerge (boxed_through nowhere) (formed_view bare) I.next_gives I.can_next I.remaining
         (stream_state m) r (stream_state t) };
 
     ghost remaining = { λ m. at_most (left_count I.remaining (stream_state m)) };
@@ -105,15 +106,16 @@ impl<'a, I: Iterator<Item = Result<(Event<'a>, Range<usize>), Fault>>> Iterator
     type Item = Result<(Event<'a>, Range<usize>), Fault>;
 
     ghost use Rattle.std.specs.Iterator.{at_most};
-    ghost use Rattle.markdown_out.specs.MergeNext.{CanMerge, CallsMerge, item_view, left_count};
+    ghost use Rattle.markdown_out.specs.MergeNext.{CallsMerge, CanMerge, formed_view, left_count};
     ghost use Rattle.markdown_out.specs.MergeState.{offset_state};
     ghost use Rattle.markdown_out.specs.EventRanges.{with_range, through_ranges};
+    ghost use Rattle.markdown_out.specs.TextForms.{boxed_through};
 
     ghost can_next = { λ m. CanMerge I.next_gives I.can_next I.remaining (offset_state m).iter };
 
     ghost next_gives = { λ m r t.
-        CallsMerge through_ranges (item_view with_range) I.next_gives I.can_next I.remaining
-        (offset_state m) r (offset_state t) };
+        CallsMerge (boxed_through through_ranges) (formed_view with_range) I.next_gives I.can_next
+        I.remaining (offset_state m) r (offset_state t) };
 
     ghost remaining = { λ m. at_most (left_count I.remaining (offset_state m)) };
 

@@ -12,10 +12,12 @@ use Rattle.markdown_base.specs.declared.fault.Fault.TheVariants.{Memory}
 use Rattle.markdown_out.specs.Merge.{Item, PlacedText, text_item, text_of_item, Run, alone, texts, before_runs, runs}
 use Rattle.markdown_out.specs.Merge.{last_text}
 use Rattle.markdown_out.specs.Merge.{unless_empty, run_items, merged}
-use Rattle.markdown_out.specs.MergeNext.{MergeState, PassesOn, Refuses, item_view}
+use Rattle.markdown_out.specs.MergeNext.{MergeState, PassesOn, Refuses, formed_view, item_view}
 use Rattle.markdown_out.specs.OutLaws.{StaysEnded, IsNewMerge, merge_steps}
 use Rattle.markdown_out.specs.EventRanges.{with_range, through_ranges}
+use Rattle.markdown_out.specs.TextForms.{Formed, boxed_through}
 use Rattle.markdown_out.proofs.DrainedMergeLemmas.{gives_the_merge}
+use Rattle.markdown_out.proofs.FormedMergeLemmas.{all_without}
 use Rattle.markdown_out.proofs.MergeLawsLemmas.{IsText, text_or_none}
 use Rattle.markdown_outline.specs.Outline.{Ranged, EntryView, entries_of}
 use Rattle.markdown_outline.specs.OutlineLaws.{merge_items}
@@ -98,18 +100,24 @@ are-events (Err fault ∷ xs) h = cc h
 -- ---- the calls
 
 module _ {S M : Type 0} (steps : S → Option Raw → S → Type 0) (can : S → Type 0) (rest : S → Count)
-    (state : M → MergeState S R) where
+    (state : M → MergeState S (Formed R)) where
+  abbrev formed : Raw → Item (Formed R)
+  formed = formed_view with_range
+
+  abbrev boxed : Formed R → Formed R → Formed R
+  boxed = boxed_through through_ranges
+
   abbrev calls : M → Option Raw → M → Type 0
-  calls = merge_steps through_ranges view steps can rest state
+  calls = merge_steps boxed formed steps can rest state
 
   -- where a merge that is not over returns no error, it continues
   goes-on : (m t : M) (r : Option Raw) → (r ≡ Some (Err Memory) → ⊥) → (state m).over ≡ false → calls m r t
       → (state t).over ≡ false
   goes-on m t r passes o c = by_kind (subst (λ (b : Bool). MatchBool b ((r ≡ None) × ((state t).over ≡ true))
-      (PassesOn through_ranges view steps (state m) r (state t) ⊎ Refuses steps (state m) r (state t)))
+      (PassesOn boxed formed steps (state m) r (state t) ⊎ Refuses steps (state m) r (state t)))
       o c.gives)
     where
-      by_kind : PassesOn through_ranges view steps (state m) r (state t) ⊎ Refuses steps (state m) r (state t)
+      by_kind : PassesOn boxed formed steps (state m) r (state t) ⊎ Refuses steps (state m) r (state t)
           → (state t).over ≡ false
       by_kind (inl p) = p.goes_on
       by_kind (inr q) = absurd (passes q.0)
@@ -134,8 +142,9 @@ module _ {S M : Type 0} (steps : S → Option Raw → S → Type 0) (can : S →
       let u = r.read.0 in
       let before = events-go-on m t es begun.goes_on r.read.1.1 in
       let last = goes-on t u None (none-error (Err Memory)) before r.read.1.2 in
-      let g = (gives_the_merge through_ranges view steps can rest state m ends begun).all (event_items es) t u
-      r.read.1.1 r.read.1.2 last in
+      let g = all_without through_ranges with_range steps (state m).iter (event_items es)
+      ((gives_the_merge boxed formed steps can rest state m ends begun).all (event_items es) t u
+      r.read.1.1 r.read.1.2 last) in
       let clean : list_any is_error (map view g.all) ≡ false =
       sym (error-merged (map view g.all)) ∙ ap (list_any is_error) g.merges ∙ error-events es in
       let read = are-events g.all clean in

@@ -1,9 +1,10 @@
 //! Laws of outlines: functions without code, whose clauses state them.
 ghost use Rattle.std.specs.Prelude.{List};
-ghost use Rattle.markdown_out.specs.MergeNext.{item_view};
+ghost use Rattle.markdown_out.specs.MergeNext.{formed_view};
 ghost use Rattle.markdown_out.specs.MergeState.{offset_state};
 ghost use Rattle.markdown_out.specs.OutLaws.{IsNewMerge, StaysEnded, merge_steps};
 ghost use Rattle.markdown_out.specs.EventRanges.{with_range, through_ranges};
+ghost use Rattle.markdown_out.specs.TextForms.{boxed_through};
 ghost use Rattle.markdown_outline.specs.Outline.{EntryView};
 ghost use Rattle.markdown_outline.specs.OutlineLaws.{MergingKeepsOutline};
 ghost use Rattle.markdown_outline.specs.OutlineRead.{IsOutlineOfAll};
@@ -28,8 +29,8 @@ pub fn outline_of_a_merge_is_that_of_the_events<
         → IsNewMerge (offset_state merge.now)
         → (entries : List EntryView)
         → IsOutlineOfAll
-        (merge_steps through_ranges (item_view with_range) I.next_gives I.can_next I.remaining
-        offset_state)
+        (merge_steps (boxed_through through_ranges) (formed_view with_range) I.next_gives
+        I.can_next I.remaining offset_state)
         merge.now entries
         → IsOutlineOfAll I.next_gives (offset_state merge.now).iter entries }
 {}

@@ -9,11 +9,12 @@ use Rattle.markdown_base.specs.Questions.{Question, Answer}
 use Rattle.markdown_inline.specs.NextGives.{NextGives, IsEventOf}
 use Rattle.markdown_inline.specs.declared.walk.Parser.{Parser}
 use Rattle.markdown_out.specs.HtmlCorrect.{IsOwnFault, IsRendered, StopsAtError}
-use Rattle.markdown_out.specs.MergeNext.{MergeState, item_view}
+use Rattle.markdown_out.specs.MergeNext.{MergeState, formed_view}
 use Rattle.markdown_out.specs.MergeState.{stream_state}
 use Rattle.markdown_out.specs.OutLaws.{StaysEnded, merge_steps, IsNewMerge, IsRenderedMerged}
 use Rattle.markdown_out.specs.OutLaws.{GoesTooDeepMerged, IsRefusedMerged, StopsAtErrorMerged}
 use Rattle.markdown_out.specs.EventRanges.{bare, nowhere}
+use Rattle.markdown_out.specs.TextForms.{Formed, boxed_through}
 use Rattle.markdown_out.specs.declared.merge.TextMergeStream.{TextMergeStream}
 use Rattle.markdown_out.proofs.RenderedMergeLemmas.{deep-merged, rendered-merged, stopped-merged}
 use Rattle.markdown_render.specs.Merged.{IsMergedHtmlOf, IsMergeTooDeep}
@@ -38,8 +39,8 @@ of_events step p old html empty r = record {
 begun_of : {F : Type 0} (m : TextMergeStream (Parser F)) (p : Parser F)
     → stream_state m ≡ record { iter = p; held = []; over = false } → IsNewMerge (stream_state m)
 begun_of {F} m p new = record {
-  holds = ap (λ (s : MergeState (Parser F) (Unit {0})). s.held) new;
-  goes_on = ap (λ (s : MergeState (Parser F) (Unit {0})). s.over) new;
+  holds = ap (λ (s : MergeState (Parser F) (Formed (Unit {0}))). s.held) new;
+  goes_on = ap (λ (s : MergeState (Parser F) (Formed (Unit {0}))). s.over) new;
 }
 
 -- the HTML of a new merge over a parser
@@ -47,7 +48,8 @@ pub merged : {F : Type 0} (step : F → Question → Option Answer → F → Typ
     (rest : Parser F → Count)
     (m : TextMergeStream (Parser F)) (p : Parser F) (old html : List ℕ)
     → stream_state m ≡ record { iter = p; held = []; over = false } → old ≡ []
-    → IsRendered (merge_steps nowhere (item_view bare) (NextGives step IsEventOf) can rest stream_state) m old html
+    → IsRendered (merge_steps (boxed_through nowhere) (formed_view bare)
+        (NextGives step IsEventOf) can rest stream_state) m old html
     → IsMergedHtmlOf step p html
 merged {F} step can rest m p old html new empty r =
     let begun = begun_of m p new in
@@ -55,7 +57,7 @@ merged {F} step can rest m p old html new empty r =
     old html begun r in
     of_events step p old html empty
     (subst (λ (q : Parser F). IsRenderedMerged (NextGives step IsEventOf) q old html)
-    (ap (λ (s : MergeState (Parser F) (Unit {0})). s.iter) new) of)
+    (ap (λ (s : MergeState (Parser F) (Formed (Unit {0}))). s.iter) new) of)
 
 module _ {F : Type 0} (step : F → Question → Option Answer → F → Type 0) (can : Parser F → Type 0)
     (rest : Parser F → Count) where
@@ -63,7 +65,7 @@ module _ {F : Type 0} (step : F → Question → Option Answer → F → Type 0)
   Steps = NextGives step IsEventOf
 
   abbrev MergeSteps : TextMergeStream (Parser F) → Option (Result Event Fault) → TextMergeStream (Parser F) → Type 0
-  MergeSteps = merge_steps nowhere (item_view bare) Steps can rest stream_state
+  MergeSteps = merge_steps (boxed_through nowhere) (formed_view bare) Steps can rest stream_state
 
   -- a parser in which too many Starts are open, merged
   of_deep : (p : Parser F) (old new : List ℕ) → GoesTooDeepMerged Steps p old new → IsMergeTooDeep step p
@@ -111,5 +113,5 @@ module _ {F : Type 0} (step : F → Question → Option Answer → F → Type 0)
       → (fault ≡ Memory) ⊎ ((fault ≡ Depth) × IsMergeTooDeep step p)
   merged_faults m p old new fault is stops =
       subst (λ (q : Parser F). (fault ≡ Memory) ⊎ ((fault ≡ Depth) × IsMergeTooDeep step q))
-      (ap (λ (s : MergeState (Parser F) (Unit {0})). s.iter) is)
+      (ap (λ (s : MergeState (Parser F) (Formed (Unit {0}))). s.iter) is)
       (faults m (begun_of m p is) old new fault stops)

@@ -1,11 +1,12 @@
 //! What a merge holds between two calls of its iterator, and what it does with the result of a call.
-ghost use Rattle.std.specs.Prelude.{◌≡◌, ◌++◌, ◌≤◌, Some, None, IfOk, IfErr, MatchResult, map, string_bytes};
+ghost use Rattle.std.specs.Prelude.{◌≡◌, ◌++◌, ◌∷◌, ◌≤◌, [], Some, None, IfOk, IfErr, MatchResult, map, string_bytes};
 ghost use Rattle.std.specs.Option.{option_map};
 ghost use Rattle.markdown_base.specs.CowText.{text_of};
 ghost use Rattle.markdown_out.specs.Merge.{text_item, text_of_item, unless_empty};
 ghost use Rattle.markdown_out.specs.HeldItems.{placed_view, held_items};
 ghost use Rattle.markdown_out.specs.TakenAnswers.{placed_text, answer_items, given_answers, IsNoText};
 ghost use Rattle.markdown_out.specs.TakenAnswers.{TakesIn, answer_count, held_count, given_count};
+ghost use Rattle.markdown_out.specs.TextForms.{boxed_form};
 
 use super::event_range::EventRange;
 use markdown_base::cow_str::CowStr;
@@ -126,7 +127,8 @@ fn close<'a, P: EventRange>(texts: JoinedTexts<P>) -> Step<'a, P>
     ensures count { given_count result ≤ 1 }
     ensures given { given_answers result
         ≡ map (λ x. Some x)
-        (unless_empty (string_bytes texts.bytes) (P.through texts.first texts.last)) }
+        (unless_empty (string_bytes texts.bytes)
+        (P.through texts.first texts.last, boxed_form ∷ [])) }
 {
     if texts.bytes.is_empty() {
         return Step::Again;

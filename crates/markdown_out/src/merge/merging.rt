@@ -2,11 +2,12 @@
 ghost use Rattle.std.specs.Prelude.{◌≡◌, ◌+◌, ◌≤◌, ◌∷◌, [], IfOk, IfErr};
 ghost use Rattle.std.specs.Option.{option_map};
 ghost use Rattle.std.specs.Iterator.{size};
-ghost use Rattle.markdown_out.specs.MergeNext.{CanMerge, MergesNext, ReadsItem, item_view, left_count};
+ghost use Rattle.markdown_out.specs.MergeNext.{CanMerge, MergesNext, ReadsItem, formed_view, left_count};
 ghost use Rattle.markdown_out.specs.HeldItems.{placed_view, held_items};
 ghost use Rattle.markdown_out.specs.TakenAnswers.{answer_count, held_count};
 ghost use Rattle.markdown_out.specs.AdvanceSteps.{IsMerged};
 ghost use Rattle.markdown_out.specs.MergeState.{merging_state};
+ghost use Rattle.markdown_out.specs.TextForms.{boxed_through};
 
 use super::event_range::{EventRange, MergeItem};
 use super::held::{Held, Placed, Step, take_in};
@@ -26,7 +27,7 @@ pub struct Merging<'a, I, P> {
 
 /// Splits the item of an iterator's result into event and range.
 fn parted<'a, T: MergeItem<'a>>(answer: Option<Result<T, Fault>>) -> Option<Placed<'a, T::At>>
-    ensures view { option_map placed_view result ≡ option_map (item_view T.parts) answer }
+    ensures view { option_map placed_view result ≡ option_map (formed_view T.parts) answer }
     ensures count { answer_count result ≡ answer_count answer }
 {
     match answer {
@@ -38,7 +39,7 @@ fn parted<'a, T: MergeItem<'a>>(answer: Option<Result<T, Fault>>) -> Option<Plac
 
 /// Puts event and range together again as the item of a result.
 fn rebuilt<'a, T: MergeItem<'a>>(answer: Option<Placed<'a, T::At>>) -> Option<Result<T, Fault>>
-    ensures view { option_map (item_view T.parts) result ≡ option_map placed_view answer.entry }
+    ensures view { option_map (formed_view T.parts) result ≡ option_map placed_view answer.entry }
     ensures count { answer_count result ≡ answer_count answer.entry }
 {
     match answer {
@@ -56,9 +57,9 @@ fn advance<'a, T: MergeItem<'a>, I: Iterator<Item = Result<T, Fault>>>(
     held: Held<'a, T::At>,
 ) -> Result<(Option<Result<T, Fault>>, Held<'a, T::At>), AllocError>
     requires { CanMerge I.next_gives I.can_next I.remaining iter.old }
-    ensures passes { IfOk result (λ p. IsMerged T.At.through (item_view T.parts) I.next_gives
-        (held_items held.entry) iter.old (option_map (item_view T.parts) p.0 ∷ []) (held_items p.1)
-        iter.new) }
+    ensures passes { IfOk result (λ p. IsMerged (boxed_through T.At.through) (formed_view T.parts)
+        I.next_gives (held_items held.entry) iter.old (option_map (formed_view T.parts) p.0 ∷ [])
+        (held_items p.1) iter.new) }
     ensures again { CanMerge I.next_gives I.can_next I.remaining iter.new }
     ensures less { IfOk result (λ p. answer_count p.0 + held_count p.1 + size (I.remaining iter.new)
         ≤ held_count held.entry + size (I.remaining iter.old)) }
@@ -100,7 +101,7 @@ pub fn next_item<'a, T: MergeItem<'a>, I: Iterator<Item = Result<T, Fault>>>(
     merging: &mut Merging<'a, I, T::At>,
 ) -> Option<Result<T, Fault>>
     requires { CanMerge I.next_gives I.can_next I.remaining merging.old.iter }
-    ensures gives { MergesNext T.At.through (item_view T.parts) I.next_gives
+    ensures gives { MergesNext (boxed_through T.At.through) (formed_view T.parts) I.next_gives
         (merging_state merging.old) result (merging_state merging.new) }
     ensures again { CanMerge I.next_gives I.can_next I.remaining merging.new.iter }
     ensures less { answer_count result + left_count I.remaining (merging_state merging.new)

@@ -1,11 +1,13 @@
-use Rattle.markdown_out.specs.MergeNext.{item_view}
+use Rattle.markdown_out.specs.MergeNext.{formed_view}
 use Rattle.markdown_out.specs.MergeState.{stream_state}
 use Rattle.markdown_out.specs.EventRanges.{bare, nowhere}
+use Rattle.markdown_out.specs.TextForms.{boxed_through}
 use Rattle.markdown_out.proofs.DrainedMergeLemmas.{gives_the_merge}
 use Rattle.markdown_out.proofs.laws.a_stream_gives_the_merge.Goals as goal
 
 pub returns : goal.returns
 returns g c ends new =
-    gives_the_merge nowhere (item_view bare) g.I.Iterator.next_gives g.I.Iterator.can_next g.I.Iterator.remaining
+    gives_the_merge (boxed_through nowhere) (formed_view bare) g.I.Iterator.next_gives g.I.Iterator.can_next
+        g.I.Iterator.remaining
     stream_state
     c.args.merge.now ends new

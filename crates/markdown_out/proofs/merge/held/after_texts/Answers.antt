@@ -1,6 +1,7 @@
-use Rattle.std.proofs.Common.{◌≡◌, [], Some, refl, map, string_bytes, sym, ap, ◌∙◌, arith}
+use Rattle.std.proofs.Common.{◌≡◌, ◌∷◌, [], Some, refl, map, string_bytes, sym, ap, ◌∙◌, arith}
 use Rattle.markdown_out.specs.Merge.{unless_empty}
 use Rattle.markdown_out.specs.HeldItems.{placed_view, held_items}
+use Rattle.markdown_out.specs.TextForms.{boxed_form}
 use Rattle.markdown_out.specs.TakenAnswers.{placed_text, answer_items, given_answers, answer_count, held_count}
 use Rattle.markdown_out.proofs.HeldItemsLemmas.{gives-run, joins-more, answer_count-mapped, again_count-most}
 use Rattle.markdown_out.proofs.merge.held.after_texts.Goals as goal
@@ -14,7 +15,7 @@ returns-in-Err-clause-takes g c =
     let count : held_count c.hold.result ≡ answer_count c.args.answer =
     c.hold.ensures.count ∙ ap answer_count same in
     let given : given_answers c.close.result
-    ≡ map (λ i. Some i) (unless_empty (string_bytes t.bytes) (through t.first t.last)) =
+    ≡ map (λ i. Some i) (unless_empty (string_bytes t.bytes) (through t.first t.last, boxed_form ∷ [])) =
     c.close.ensures.given in
     record {
       leaves = λ later. rw (
@@ -22,8 +23,8 @@ returns-in-Err-clause-takes g c =
         same,
         given,
         gives-run through
-            (record { bytes = string_bytes t.bytes; range = t.first })
-            (record { bytes = []; range = t.last }) c.args.answer later refl c.in-Err.ensures.1,
+            (record { bytes = string_bytes t.bytes; range = (t.first, boxed_form ∷ []) })
+            (record { bytes = []; range = (t.last, boxed_form ∷ []) }) c.args.answer later refl c.in-Err.ensures.1,
       );
       counts = omega (arith, count, c.close.ensures.count);
       holds = omega (arith, count);
@@ -43,8 +44,8 @@ returns-in_ok-texts-in-Ok-clause-takes g c =
         made.first,
         made.last,
         joins-more
-            g.P.EventRange.through (record { bytes = string_bytes t.bytes; range = t.first })
-            (record { bytes = []; range = t.last }) (placed_text c.in-Ok.last) later refl,
+            g.P.EventRange.through (record { bytes = string_bytes t.bytes; range = (t.first, boxed_form ∷ []) })
+            (record { bytes = []; range = (t.last, boxed_form ∷ []) }) (placed_text c.in-Ok.last) later refl,
       );
       counts = omega (arith, count);
       holds = omega (arith, count);

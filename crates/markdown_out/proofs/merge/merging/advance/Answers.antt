@@ -1,7 +1,8 @@
 use Rattle.std.proofs.Common.{◌≡◌, ◌<◌, ◌+◌, ◌*◌, ◌∷◌, [], sym, ap, subst, ◌∙◌, arith}
 use Rattle.std.specs.Iterator.{size}
 use Rattle.std.specs.Option.{option_map}
-use Rattle.markdown_out.specs.MergeNext.{item_view}
+use Rattle.markdown_out.specs.MergeNext.{formed_view}
+use Rattle.markdown_out.specs.TextForms.{boxed_through}
 use Rattle.markdown_out.specs.HeldItems.{held_items}
 use Rattle.markdown_out.specs.TakenAnswers.{again_count, given_answers, given_count, held_count}
 use Rattle.markdown_out.specs.AdvanceSteps.{IsMerged}
@@ -11,7 +12,7 @@ use Rattle.markdown_out.proofs.merge.merging.advance.Goals as goal
 pub returns-in-Give-clause-passes : goal.returns-in-Give-clause-passes
 returns-in-Give-clause-passes g c =
     let through = g.T.At.EventRange.through in
-    let view = item_view g.T.MergeItem.parts in
+    let view = formed_view g.T.MergeItem.parts in
     let steps = g.I.Iterator.next_gives in
     let after = c.in_ok-step.next in
     let more = merged-more through view steps c.reading.held c.in_ok-step.step after c.next.result
@@ -19,14 +20,15 @@ returns-in-Give-clause-passes g c =
     c.reading.invariant.merged c.next.ensures.steps c.parted-answer.ensures.view c.in_ok-step.ensures.takes in
     let given : given_answers c.in_ok-step.step ≡ option_map view c.rebuilt.result ∷ [] =
     ap given_answers c.in-Give.is ∙ ap (λ x. x ∷ []) (sym c.rebuilt.ensures.view) in
-    subst (λ given. IsMerged through view steps (held_items c.args.held) c.args.iter.now given (held_items after)
+    subst (λ given. IsMerged (boxed_through through) view steps (held_items c.args.held) c.args.iter.now given
+        (held_items after)
     c.next.new.self) given
     more
 
 pub reading-preserved : goal.reading-preserved
 reading-preserved g c =
     let through = g.T.At.EventRange.through in
-    let view = item_view g.T.MergeItem.parts in
+    let view = formed_view g.T.MergeItem.parts in
     let steps = g.I.Iterator.next_gives in
     let after = c.in_ok-step.next in
     let can = c.reading.invariant.can_merge in
@@ -35,7 +37,8 @@ reading-preserved g c =
     c.reading.invariant.merged c.next.ensures.steps c.parted-answer.ensures.view c.in_ok-step.ensures.takes in
     let given : given_answers c.in_ok-step.step ≡ [] = ap given_answers c.in-Again.is in
     record {
-      merged = subst (λ given. IsMerged through view steps (held_items c.args.held) c.args.iter.now given
+      merged = subst (λ given. IsMerged (boxed_through through) view steps
+          (held_items c.args.held) c.args.iter.now given
           (held_items after)
           c.next.new.self) given more;
       can_merge = can_merge-after steps c.next.result can c.next.ensures.steps c.next.ensures.goes;
