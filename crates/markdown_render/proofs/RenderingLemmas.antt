@@ -1,5 +1,5 @@
 -- What a parser gives, up to its first None, is all that was left of it, for the answers that its callback gave.
-use Rattle.std.proofs.Common.{◌≡◌, ℕ, false, List, [], ◌∷◌, ◌++◌, map, Err, Option, None, Result, ◌⊎◌, inl, inr}
+use Rattle.std.proofs.Common.{◌≡◌, ℕ, Bool, false, List, [], ◌∷◌, ◌++◌, map, Err, Option, None, Result, ◌⊎◌, inl, inr}
 use Rattle.std.proofs.Common.{ap, refl, subst, sym, ◌∙◌, append_assoc, append-nil}
 use Rattle.std.proofs.lemmas.List.{map-append}
 use Rattle.std.specs.Iterator.{Drains, Yields}
@@ -13,7 +13,7 @@ use Rattle.markdown_base.specs.declared.options.Options.{Options}
 use Rattle.markdown_defs.specs.Callback.{Asks}
 use Rattle.markdown_inline.specs.Elements.{Placed, events_of, questions_of}
 use Rattle.markdown_inline.specs.NextGives.{NextGives, IsEventOf}
-use Rattle.markdown_inline.specs.ParserLeft.{ReadsText, elements, parser_text, parser_callback, reading_of}
+use Rattle.markdown_inline.specs.ParserLeft.{ReadsEntry, elements, parser_text, parser_callback, reading_of}
 use Rattle.markdown_inline.specs.Runs.{AreOf}
 use Rattle.markdown_inline.specs.declared.walk.Parser.{Parser}
 use Rattle.markdown_inline.proofs.RunLemmas.{GaveFirst, gave_none, gave_more, gave_rest}
@@ -21,8 +21,9 @@ use Rattle.markdown_out.specs.EventHtml.{html_of}
 use Rattle.markdown_out.specs.HtmlCorrect.{GoesTooDeep, IsRendered, StopsAtError, IsOwnFault, items}
 use Rattle.markdown_out.specs.LookBacks.{IsTooDeep}
 use Rattle.markdown_render.specs.ParserHtml.{IsHtmlOfAll, IsHtmlOfFirst}
-use Rattle.markdown_render.specs.Rendering.{views_of, IsRenderingOf, IsTooDeepOf}
-use Rattle.markdown_render.specs.RenderingFor.{AreEventsFor, AreFirstEventsFor, IsRenderingFor, IsTooDeepFor}
+use Rattle.markdown_render.specs.Rendering.{views_of, IsEntryRenderingOf, IsEntryTooDeepOf, IsTooDeepOf}
+use Rattle.markdown_render.specs.RenderingFor.{AreEventsFor, AreFirstEventsFor}
+use Rattle.markdown_render.specs.RenderingFor.{IsEntryRenderingFor, IsEntryTooDeepFor, IsTooDeepFor}
 use Rattle.markdown_render.specs.declared.run.Failure.TheVariants as failure
 
 -- events of a reading are compared by what is seen of them
@@ -121,10 +122,10 @@ module _ {F : Type 0} (step : F → Question → Option Answer → F → Type 0)
       (map event_view d.events, record { left = first_drained p d.left d.events d.read; stands = d.stands }, d.deep)
 
   -- and where all of a document's reading was left, that of the document
-  pub of_document : (text : List ℕ) (options : Options) (p : Parser F) (old new : List ℕ) → ReadsText text options p
-      → IsRendered Steps p old new
-      → (html : List ℕ) × (new ≡ old ++ html) × IsRenderingFor step (parser_callback p) text options html
-  of_document text options p old new of r =
+  pub of_document : (extended : Bool) (text : List ℕ) (options : Options) (p : Parser F) (old new : List ℕ)
+      → ReadsEntry extended text options p → IsRendered Steps p old new
+      → (html : List ℕ) × (new ≡ old ++ html) × IsEntryRenderingFor extended step (parser_callback p) text options html
+  of_document extended text options p old new of r =
       let d = drained p r.events r.read in (
         html_of (map event_view r.events),
         r.stands,
@@ -143,22 +144,22 @@ module _ {F : Type 0} (step : F → Question → Option Answer → F → Type 0)
       )
 
   -- which is all of the string where that was empty before, for the callback that the parser was given
-  pub rendering : (text old new : List ℕ) (options : Options) (callback : Option F) (p : Parser F) → old ≡ []
-      → parser_callback p ≡ callback
-      → (html : List ℕ) × (new ≡ old ++ html) × IsRenderingFor step (parser_callback p) text options html
-      → IsRenderingFor step callback text options new
-  rendering text old new options callback p empty holds (html, stands, is) =
+  pub rendering : (extended : Bool) (text old new : List ℕ) (options : Options) (callback : Option F) (p : Parser F)
+      → old ≡ [] → parser_callback p ≡ callback
+      → (html : List ℕ) × (new ≡ old ++ html) × IsEntryRenderingFor extended step (parser_callback p) text options html
+      → IsEntryRenderingFor extended step callback text options new
+  rendering extended text old new options callback p empty holds (html, stands, is) =
       let alone : new ≡ html = stands ∙ ap (λ bytes. bytes ++ html) empty in
-      subst (λ (c : Option F). IsRenderingFor step c text options new) holds
-      (subst (IsRenderingFor step (parser_callback p) text options) (sym alone) is)
+      subst (λ (c : Option F). IsEntryRenderingFor extended step c text options new) holds
+      (subst (IsEntryRenderingFor extended step (parser_callback p) text options) (sym alone) is)
 
   -- among the first events of a document's reading too many Starts are open
-  too_deep : (text : List ℕ) (options : Options) (callback : Option F) (p : Parser F) (events : List EventView)
-      → ReadsText text options p → parser_callback p ≡ callback
+  too_deep : (extended : Bool) (text : List ℕ) (options : Options) (callback : Option F) (p : Parser F)
+      (events : List EventView) → ReadsEntry extended text options p → parser_callback p ≡ callback
       → AreFirstEventsFor step (parser_callback p) (elements p) events → IsTooDeep events
-      → IsTooDeepFor step callback text options
-  too_deep text options callback p events of holds f deep =
-      let here : IsTooDeepFor step (parser_callback p) text options = record {
+      → IsEntryTooDeepFor extended step callback text options
+  too_deep extended text options callback p events of holds f deep =
+      let here : IsEntryTooDeepFor extended step (parser_callback p) text options = record {
         blocks = of.blocks;
         of_text = of.of_text;
         events = events;
@@ -177,24 +178,26 @@ module _ {F : Type 0} (step : F → Question → Option Answer → F → Type 0)
         };
         deep = deep;
       } in
-      subst (λ (c : Option F). IsTooDeepFor step c text options) holds here
+      subst (λ (c : Option F). IsEntryTooDeepFor extended step c text options) holds here
 
   -- so rendering fails by memory, or there
-  own_faults : (text old new : List ℕ) (options : Options) (callback : Option F) (p : Parser F) (fault : Fault)
-      → ReadsText text options p → parser_callback p ≡ callback → IsOwnFault Steps p old new fault
-      → (fault ≡ Memory) ⊎ ((fault ≡ Depth) × IsTooDeepFor step callback text options)
-  own_faults text old new options callback p Memory of holds own = inl refl
-  own_faults text old new options callback p Depth of holds own =
-      let d = of_deep p old new own in inr (refl, too_deep text options callback p d.0 of holds d.1.left d.2)
-  own_faults text old new options callback p Blocks of holds own = absurd own
+  own_faults : (extended : Bool) (text old new : List ℕ) (options : Options) (callback : Option F) (p : Parser F)
+      (fault : Fault) → ReadsEntry extended text options p → parser_callback p ≡ callback
+      → IsOwnFault Steps p old new fault
+      → (fault ≡ Memory) ⊎ ((fault ≡ Depth) × IsEntryTooDeepFor extended step callback text options)
+  own_faults extended text old new options callback p Memory of holds own = inl refl
+  own_faults extended text old new options callback p Depth of holds own =
+      let d = of_deep p old new own in inr (refl, too_deep extended text options callback p d.0 of holds d.1.left d.2)
+  own_faults extended text old new options callback p Blocks of holds own = absurd own
 
-  pub faults : (text old new : List ℕ) (options : Options) (callback : Option F) (p : Parser F) (fault : Fault)
-      → ReadsText text options p → parser_callback p ≡ callback
+  pub faults : (extended : Bool) (text old new : List ℕ) (options : Options) (callback : Option F) (p : Parser F)
+      (fault : Fault) → ReadsEntry extended text options p → parser_callback p ≡ callback
       → StopsAtError Steps p old new fault ⊎ IsOwnFault Steps p old new fault
-      → (fault ≡ Memory) ⊎ ((fault ≡ Depth) × IsTooDeepFor step callback text options)
-  faults text old new options callback p fault of holds (inl s) = inl (memory_alone p s.left s.events fault s.read)
-  faults text old new options callback p fault of holds (inr own) = own_faults text old new options callback p fault of
-      holds own
+      → (fault ≡ Memory) ⊎ ((fault ≡ Depth) × IsEntryTooDeepFor extended step callback text options)
+  faults extended text old new options callback p fault of holds (inl s) =
+      inl (memory_alone p s.left s.events fault s.read)
+  faults extended text old new options callback p fault of holds (inr own) =
+      own_faults extended text old new options callback p fault of holds own
 
   -- without a callback there are no answers
   unasked : (questions : List Question) (answers : Answers) (after : Option F) → Asks step None questions answers after
@@ -205,10 +208,10 @@ module _ {F : Type 0} (step : F → Question → Option Answer → F → Type 0)
   unasked (q ∷ questions) (x ∷ answers) after a = absurd a
 
   -- so the rendering is the same for all answers
-  pub rendering_alone : (text html : List ℕ) (options : Options) → IsUtf8 text
-      → IsRenderingFor step None text options html
-      → IsRenderingOf text options html
-  rendering_alone text html options utf8 r =
+  pub rendering_alone : (extended : Bool) (text html : List ℕ) (options : Options) → IsUtf8 text
+      → IsEntryRenderingFor extended step None text options html
+      → IsEntryRenderingOf extended text options html
+  rendering_alone extended text html options utf8 r =
       let none = unasked _ r.read.answers r.read.after r.read.asked in
       record {
         is_text = utf8;
@@ -218,9 +221,9 @@ module _ {F : Type 0} (step : F → Question → Option Answer → F → Type 0)
       }
 
   -- and so is where too many Starts are open
-  pub too_deep_alone : (text : List ℕ) (options : Options) → IsUtf8 text → IsTooDeepFor step None text options
-      → IsTooDeepOf text options
-  too_deep_alone text options utf8 d =
+  pub too_deep_alone : (extended : Bool) (text : List ℕ) (options : Options) → IsUtf8 text
+      → IsEntryTooDeepFor extended step None text options → IsEntryTooDeepOf extended text options
+  too_deep_alone extended text options utf8 d =
       let none = unasked d.read.questions d.read.answers d.read.after d.read.asked in
       record {
         is_text = utf8;
@@ -241,4 +244,5 @@ module _ {F : Type 0} (step : F → Question → Option Answer → F → Type 0)
       → (failure.Fault fault ≡ failure.Fault Memory) ⊎ ((failure.Fault fault ≡ failure.Fault Depth)
       × IsTooDeepOf text options)
   failed_alone text options fault utf8 (inl e) = inl (ap failure.Fault e)
-  failed_alone text options fault utf8 (inr (e, deep)) = inr (ap failure.Fault e, too_deep_alone text options utf8 deep)
+  failed_alone text options fault utf8 (inr (e, deep)) =
+      inr (ap failure.Fault e, too_deep_alone false text options utf8 deep)

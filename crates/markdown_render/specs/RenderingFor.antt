@@ -1,9 +1,9 @@
 -- What rendering returns where a callback is asked: the HTML of the reading of a text, for the answers that it gave.
-use Rattle.std.specs.Prelude.{◌≡◌, ℕ, List, ◌++◌, Option, is_some}
+use Rattle.std.specs.Prelude.{◌≡◌, ℕ, Bool, true, false, List, ◌++◌, Option, is_some}
 use Rattle.markdown_base.specs.Questions.{Question, Answer, Answers}
 use Rattle.markdown_base.specs.Event.{EventView}
 use Rattle.markdown_base.specs.declared.options.Options.{Options}
-use Rattle.markdown_blocks.specs.Blocks.{IsOfText}
+use Rattle.markdown_blocks.specs.Blocks.{IsOfEntry}
 use Rattle.markdown_blocks.specs.declared.blocks.Blocks.{Blocks}
 use Rattle.markdown_defs.specs.Callback.{Asks}
 use Rattle.markdown_inline.specs.Elements.{Element, questions_of}
@@ -33,20 +33,39 @@ pub record AreFirstEventsFor {F : Type 0} (step : F → Question → Option Answ
       × (questions_of (read (answers ++ later)) ≡ questions ++ more)
   pub are_first : (later : Answers) → (more : List EventView) × (views_of (read (answers ++ later)) ≡ events ++ more)
 
--- this is the HTML of the events of a block result of the text with these options, read with the callback's answers
-pub record IsRenderingFor {F : Type 0} (step : F → Question → Option Answer → F → Type 0) (callback : Option F)
-    (text : List ℕ) (options : Options) (html : List ℕ) : Type 0 where
+-- this is the HTML of the events of a block result of the text with these options, of one of the entries, read with the
+-- callback's answers
+pub record IsEntryRenderingFor {F : Type 0} (extended : Bool) (step : F → Question → Option Answer → F → Type 0)
+    (callback : Option F) (text : List ℕ) (options : Options) (html : List ℕ) : Type 0 where
   pub blocks : Blocks
-  pub of_text : IsOfText text options blocks
+  pub of_text : IsOfEntry extended text options blocks
   pub events : List EventView
   pub read : AreEventsFor step callback (reading_of blocks (is_some callback)) events
   pub rendered : html ≡ html_of events
 
 -- among the first events of such a block result, more Starts are open in an image than can be counted
-pub record IsTooDeepFor {F : Type 0} (step : F → Question → Option Answer → F → Type 0) (callback : Option F)
-    (text : List ℕ) (options : Options) : Type 0 where
+pub record IsEntryTooDeepFor {F : Type 0} (extended : Bool) (step : F → Question → Option Answer → F → Type 0)
+    (callback : Option F) (text : List ℕ) (options : Options) : Type 0 where
   pub blocks : Blocks
-  pub of_text : IsOfText text options blocks
+  pub of_text : IsOfEntry extended text options blocks
   pub events : List EventView
   pub read : AreFirstEventsFor step callback (reading_of blocks (is_some callback)) events
   pub deep : IsTooDeep events
+
+-- the same of the present entry
+abbrev pub IsRenderingFor : {F : Type 0} → (F → Question → Option Answer → F → Type 0) → Option F → (text : List ℕ)
+    → Options → (html : List ℕ) → Type 0
+IsRenderingFor step callback text options html = IsEntryRenderingFor false step callback text options html
+
+abbrev pub IsTooDeepFor : {F : Type 0} → (F → Question → Option Answer → F → Type 0) → Option F → (text : List ℕ)
+    → Options → Type 0
+IsTooDeepFor step callback text options = IsEntryTooDeepFor false step callback text options
+
+-- and of the extended one
+abbrev pub IsExtendedRenderingFor : {F : Type 0} → (F → Question → Option Answer → F → Type 0) → Option F
+    → (text : List ℕ) → Options → (html : List ℕ) → Type 0
+IsExtendedRenderingFor step callback text options html = IsEntryRenderingFor true step callback text options html
+
+abbrev pub IsExtendedTooDeepFor : {F : Type 0} → (F → Question → Option Answer → F → Type 0) → Option F
+    → (text : List ℕ) → Options → Type 0
+IsExtendedTooDeepFor step callback text options = IsEntryTooDeepFor true step callback text options

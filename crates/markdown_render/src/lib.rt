@@ -3,6 +3,7 @@
 #![tactic(auto)]
 
 pub mod command;
+pub mod extended;
 pub mod laws;
 pub mod merged;
 pub mod pushed;
@@ -10,5 +11,6 @@ pub mod rendering;
 pub mod run;
 pub mod words;
 
+pub use extended::render_extended;
 pub use merged::merged_html;
 pub use rendering::render;
