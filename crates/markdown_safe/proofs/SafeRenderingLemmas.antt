@@ -16,7 +16,7 @@ use Rattle.markdown_defs.specs.Callback.{Asks}
 use Rattle.markdown_inline.specs.Balanced.{Ranged, Awaited, EndsInTurn, AreBalancedFrom, ranged}
 use Rattle.markdown_inline.specs.Elements.{Placed, events_of, questions_of}
 use Rattle.markdown_inline.specs.NextGives.{NextGives, IsEventOf}
-use Rattle.markdown_inline.specs.ParserLeft.{ReadsText, parser_callback, reading_of}
+use Rattle.markdown_inline.specs.ParserLeft.{ReadsEntry, parser_callback, reading_of}
 use Rattle.markdown_inline.specs.declared.walk.Parser.{Parser}
 use Rattle.markdown_inline.proofs.BalancedLemmas.{balanced-law}
 use Rattle.markdown_out.specs.EventHtml.{html_of}
@@ -28,8 +28,8 @@ use Rattle.markdown_safe.specs.NestedEvents.{IsAwaited, awaited_after, NestFrom,
 use Rattle.markdown_safe.specs.SafeEvents.{safe_events}
 use Rattle.markdown_safe.specs.SafeHtml.{IsSafeHtml}
 use Rattle.markdown_safe.specs.SafeItems.{IsSafeItem, GivesSafe}
-use Rattle.markdown_safe.specs.SafeRendering.{IsSafeRenderingFor, IsSafeTooDeepFor, IsSafeRenderingOf}
-use Rattle.markdown_safe.specs.SafeRendering.{IsSafeTooDeepOf}
+use Rattle.markdown_safe.specs.SafeRendering.{IsSafeEntryRenderingFor, IsSafeEntryTooDeepFor}
+use Rattle.markdown_safe.specs.SafeRendering.{IsSafeEntryRenderingOf, IsSafeEntryTooDeepOf}
 use Rattle.markdown_safe.specs.SafeSource.{safe_source}
 use Rattle.markdown_safe.specs.declared.adapter.Safe.{Safe}
 use Rattle.markdown_safe.proofs.NestedEventsLemmas.{html_is_tree}
@@ -73,19 +73,19 @@ nested_reading blocks asks answers events are =
     (nested (ranged (events_of (reading_of blocks asks all))) [] (balanced-law blocks asks all))
 
 -- the HTML of a new parser, made safe
-pub rendering : {F : Type 0} (step : F → Question → Option Answer → F → Type 0) (text old new : List ℕ)
-    (options : Options) (callback : Option F) (p : Parser F) (s : Safe (Parser F)) → safe_source s ≡ p → old ≡ []
-    → ReadsText text options p → parser_callback p ≡ callback
+pub rendering : {F : Type 0} (extended : Bool) (step : F → Question → Option Answer → F → Type 0)
+    (text old new : List ℕ) (options : Options) (callback : Option F) (p : Parser F) (s : Safe (Parser F))
+    → safe_source s ≡ p → old ≡ [] → ReadsEntry extended text options p → parser_callback p ≡ callback
     → IsRendered (λ s r t. GivesSafe (NextGives step IsEventOf) (safe_source s) r (safe_source t)) s old new
-    → IsSafeRenderingFor step callback text options new
-rendering {F} step text old new options callback p s same empty of holds r =
+    → IsSafeEntryRenderingFor extended step callback text options new
+rendering {F} extended step text old new options callback p s same empty of holds r =
     let a = all_safe (NextGives step IsEventOf) safe_source s r.events r.read in
     let drains : Drains (NextGives step IsEventOf) p (items a.0) =
     subst (λ (q : Parser F). Drains (NextGives step IsEventOf) q (items a.0)) same a.1 in
     let d = drained step p a.0 drains in
     let alone : new ≡ html_of (safe_events (map event_view a.0)) =
     r.stands ∙ (ap (λ bytes. bytes ++ html_of (map event_view r.events)) empty ∙ ap html_of a.2) in
-    subst (λ (c : Option F). IsSafeRenderingFor step c text options new) holds (record {
+    subst (λ (c : Option F). IsSafeEntryRenderingFor extended step c text options new) holds (record {
       blocks = of.blocks;
       of_text = of.of_text;
       events = map event_view a.0;
@@ -102,9 +102,10 @@ rendering {F} step text old new options callback p s same empty of holds r =
     })
 
 -- and it is safe HTML
-pub is_safe : {F : Type 0} (step : F → Question → Option Answer → F → Type 0) (text html : List ℕ)
-    (options : Options) (callback : Option F) → IsSafeRenderingFor step callback text options html → IsSafeHtml html
-is_safe step text html options callback r = subst IsSafeHtml (sym r.rendered) (html_is_safe r.events)
+pub is_safe : {F : Type 0} (extended : Bool) (step : F → Question → Option Answer → F → Type 0)
+    (text html : List ℕ) (options : Options) (callback : Option F)
+    → IsSafeEntryRenderingFor extended step callback text options html → IsSafeHtml html
+is_safe extended step text html options callback r = subst IsSafeHtml (sym r.rendered) (html_is_safe r.events)
 
 -- an error among the items is one of memory
 error_alone : {F : Type 0} (step : F → Question → Option Answer → F → Type 0) (s left : Safe (Parser F))
@@ -122,24 +123,24 @@ error_alone step s left [] fault (j, h, y) = by_item h.0 h.1 h.2
 error_alone step s left (e ∷ given) fault (j, h, y) = error_alone step j left given fault y
 
 -- so safe rendering fails by memory, or where too many Starts are open
-pub faults : {F : Type 0} (step : F → Question → Option Answer → F → Type 0) (text old new : List ℕ)
-    (options : Options) (callback : Option F) (p : Parser F) (s : Safe (Parser F)) (fault : Fault) → safe_source s ≡ p
-    → ReadsText text options p → parser_callback p ≡ callback
+pub faults : {F : Type 0} (extended : Bool) (step : F → Question → Option Answer → F → Type 0)
+    (text old new : List ℕ) (options : Options) (callback : Option F) (p : Parser F) (s : Safe (Parser F))
+    (fault : Fault) → safe_source s ≡ p → ReadsEntry extended text options p → parser_callback p ≡ callback
     → StopsAtError (λ s r t. GivesSafe (NextGives step IsEventOf) (safe_source s) r (safe_source t)) s old new fault
     ⊎ IsOwnFault (λ s r t. GivesSafe (NextGives step IsEventOf) (safe_source s) r (safe_source t)) s old new fault
-    → (fault ≡ Memory) ⊎ ((fault ≡ Depth) × IsSafeTooDeepFor step callback text options)
-faults step text old new options callback p s fault same of holds (inl stop) =
+    → (fault ≡ Memory) ⊎ ((fault ≡ Depth) × IsSafeEntryTooDeepFor extended step callback text options)
+faults extended step text old new options callback p s fault same of holds (inl stop) =
     inl (error_alone step s stop.left stop.events fault stop.read)
-faults {F} step text old new options callback p s fault same of holds (inr own) = by_fault fault own
+faults {F} extended step text old new options callback p s fault same of holds (inr own) = by_fault fault own
   where
     too_deep : GoesTooDeep (λ s r t. GivesSafe (NextGives step IsEventOf) (safe_source s) r (safe_source t)) s old new
-        → IsSafeTooDeepFor step callback text options
+        → IsSafeEntryTooDeepFor extended step callback text options
     too_deep d =
         let a = first_safe (NextGives step IsEventOf) safe_source s d.left d.events d.read in
         let y : Yields (NextGives step IsEventOf) p (items a.0) (safe_source d.left) =
         subst (λ (q : Parser F). Yields (NextGives step IsEventOf) q (items a.0) (safe_source d.left)) same a.1 in
         let f = first_drained step p (safe_source d.left) a.0 y in
-        subst (λ (c : Option F). IsSafeTooDeepFor step c text options) holds (record {
+        subst (λ (c : Option F). IsSafeEntryTooDeepFor extended step c text options) holds (record {
           blocks = of.blocks;
           of_text = of.of_text;
           events = map event_view a.0;
@@ -158,7 +159,7 @@ faults {F} step text old new options callback p s fault same of holds (inr own) 
 
     by_fault : (fault : Fault)
         → IsOwnFault (λ s r t. GivesSafe (NextGives step IsEventOf) (safe_source s) r (safe_source t)) s old new fault
-        → (fault ≡ Memory) ⊎ ((fault ≡ Depth) × IsSafeTooDeepFor step callback text options)
+        → (fault ≡ Memory) ⊎ ((fault ≡ Depth) × IsSafeEntryTooDeepFor extended step callback text options)
     by_fault Memory own = inl refl
     by_fault Depth own = inr (refl, too_deep own)
     by_fault Blocks own = absurd own
@@ -173,13 +174,13 @@ module _ {F : Type 0} (step : F → Question → Option Answer → F → Type 0)
   unasked (q ∷ questions) (x ∷ answers) after a = absurd a
 
   -- so the rendering is the same for all answers
-  pub safe_rendering_alone : (text html : List ℕ) (options : Options) → IsUtf8 text
-      → IsSafeRenderingFor step None text options html → IsSafeRenderingOf text options html
-  safe_rendering_alone text html options utf8 r =
+  pub safe_rendering_alone : (extended : Bool) (text html : List ℕ) (options : Options) → IsUtf8 text
+      → IsSafeEntryRenderingFor extended step None text options html → IsSafeEntryRenderingOf extended text options html
+  safe_rendering_alone extended text html options utf8 r =
       let none = unasked _ r.read.answers r.read.after r.read.asked in
       record {
         is_text = utf8;
-        safe = is_safe step text html options None r;
+        safe = is_safe extended step text html options None r;
         blocks = r.blocks;
         of_text = r.of_text;
         events = r.events;
@@ -189,9 +190,9 @@ module _ {F : Type 0} (step : F → Question → Option Answer → F → Type 0)
       }
 
   -- and so is where too many Starts are open
-  pub safe_too_deep_alone : (text : List ℕ) (options : Options) → IsUtf8 text
-      → IsSafeTooDeepFor step None text options → IsSafeTooDeepOf text options
-  safe_too_deep_alone text options utf8 d =
+  pub safe_too_deep_alone : (extended : Bool) (text : List ℕ) (options : Options) → IsUtf8 text
+      → IsSafeEntryTooDeepFor extended step None text options → IsSafeEntryTooDeepOf extended text options
+  safe_too_deep_alone extended text options utf8 d =
       let none = unasked d.read.questions d.read.answers d.read.after d.read.asked in
       record {
         is_text = utf8;

@@ -1,10 +1,10 @@
 -- What safe rendering returns: the HTML of the safe events of a text's reading.
-use Rattle.std.specs.Prelude.{◌≡◌, ℕ, true, false, List, ◌++◌, Option, is_some}
+use Rattle.std.specs.Prelude.{◌≡◌, ℕ, Bool, true, false, List, ◌++◌, Option, is_some}
 use Rattle.std.specs.Str.{IsUtf8}
 use Rattle.markdown_base.specs.Questions.{Question, Answer, Answers}
 use Rattle.markdown_base.specs.Event.{EventView}
 use Rattle.markdown_base.specs.declared.options.Options.{Options}
-use Rattle.markdown_blocks.specs.Blocks.{IsOfText}
+use Rattle.markdown_blocks.specs.Blocks.{IsOfEntry}
 use Rattle.markdown_blocks.specs.declared.blocks.Blocks.{Blocks}
 use Rattle.markdown_inline.specs.ParserLeft.{reading_of}
 use Rattle.markdown_out.specs.EventHtml.{html_of}
@@ -16,44 +16,64 @@ use Rattle.markdown_safe.specs.NestedEvents.{tables_are_whole}
 use Rattle.markdown_safe.specs.SafeEvents.{safe_events}
 use Rattle.markdown_safe.specs.SafeHtml.{IsSafeHtml}
 
--- this is the HTML of the events of a block result of the text with these options, read with the callback's answers,
--- each made safe; and where the tables among these events are whole, it is a tree
-pub record IsSafeRenderingFor {F : Type 0} (step : F → Question → Option Answer → F → Type 0) (callback : Option F)
-    (text : List ℕ) (options : Options) (html : List ℕ) : Type 0 where
+-- this is the HTML of the events of a block result of the text with these options, of one of the entries, read with the
+-- callback's answers, each made safe; and where the tables among these events are whole, it is a tree
+pub record IsSafeEntryRenderingFor {F : Type 0} (extended : Bool) (step : F → Question → Option Answer → F → Type 0)
+    (callback : Option F) (text : List ℕ) (options : Options) (html : List ℕ) : Type 0 where
   pub blocks : Blocks
-  pub of_text : IsOfText text options blocks
+  pub of_text : IsOfEntry extended text options blocks
   pub events : List EventView
   pub read : AreEventsFor step callback (reading_of blocks (is_some callback)) events
   pub rendered : html ≡ html_of (safe_events events)
   pub tree : tables_are_whole events ≡ true → IsSafeTree html
 
 -- among the first events of such a block result, more Starts are open in an image than can be counted
-pub record IsSafeTooDeepFor {F : Type 0} (step : F → Question → Option Answer → F → Type 0) (callback : Option F)
-    (text : List ℕ) (options : Options) : Type 0 where
+pub record IsSafeEntryTooDeepFor {F : Type 0} (extended : Bool) (step : F → Question → Option Answer → F → Type 0)
+    (callback : Option F) (text : List ℕ) (options : Options) : Type 0 where
   pub blocks : Blocks
-  pub of_text : IsOfText text options blocks
+  pub of_text : IsOfEntry extended text options blocks
   pub events : List EventView
   pub read : AreFirstEventsFor step callback (reading_of blocks (is_some callback)) events
   pub deep : IsTooDeep (safe_events events)
 
 -- the same without a callback: the bytes are UTF-8, and this is safe HTML, that of the events of a block result of them
--- with these options, each made safe; and where the tables among these events are whole, it is a tree
-pub record IsSafeRenderingOf (bytes : List ℕ) (options : Options) (html : List ℕ) : Type 0 where
+-- with these options, of one of the entries, each made safe; and where the tables among these events are whole, it is a
+-- tree
+pub record IsSafeEntryRenderingOf (extended : Bool) (bytes : List ℕ) (options : Options) (html : List ℕ) : Type 0 where
   pub is_text : IsUtf8 bytes
   pub safe : IsSafeHtml html
   pub blocks : Blocks
-  pub of_text : IsOfText bytes options blocks
+  pub of_text : IsOfEntry extended bytes options blocks
   pub events : List EventView
   pub read : (answers : Answers) → views_of (reading_of blocks false answers) ≡ events
   pub rendered : html ≡ html_of (safe_events events)
   pub tree : tables_are_whole events ≡ true → IsSafeTree html
 
 -- and among the first events of such a block result, more Starts are open in an image than can be counted
-pub record IsSafeTooDeepOf (bytes : List ℕ) (options : Options) : Type 0 where
+pub record IsSafeEntryTooDeepOf (extended : Bool) (bytes : List ℕ) (options : Options) : Type 0 where
   pub is_text : IsUtf8 bytes
   pub blocks : Blocks
-  pub of_text : IsOfText bytes options blocks
+  pub of_text : IsOfEntry extended bytes options blocks
   pub events : List EventView
   pub are_first : (answers : Answers) → (more : List EventView)
       × (views_of (reading_of blocks false answers) ≡ events ++ more)
   pub deep : IsTooDeep (safe_events events)
+
+-- the same of the present entry
+abbrev pub IsSafeRenderingFor : {F : Type 0} → (F → Question → Option Answer → F → Type 0) → Option F
+    → (text : List ℕ) → Options → (html : List ℕ) → Type 0
+IsSafeRenderingFor step callback text options html = IsSafeEntryRenderingFor false step callback text options html
+
+abbrev pub IsSafeTooDeepFor : {F : Type 0} → (F → Question → Option Answer → F → Type 0) → Option F
+    → (text : List ℕ) → Options → Type 0
+IsSafeTooDeepFor step callback text options = IsSafeEntryTooDeepFor false step callback text options
+
+-- and of the extended one
+abbrev pub IsSafeExtendedRenderingFor : {F : Type 0} → (F → Question → Option Answer → F → Type 0) → Option F
+    → (text : List ℕ) → Options → (html : List ℕ) → Type 0
+IsSafeExtendedRenderingFor step callback text options html =
+    IsSafeEntryRenderingFor true step callback text options html
+
+abbrev pub IsSafeExtendedTooDeepFor : {F : Type 0} → (F → Question → Option Answer → F → Type 0) → Option F
+    → (text : List ℕ) → Options → Type 0
+IsSafeExtendedTooDeepFor step callback text options = IsSafeEntryTooDeepFor true step callback text options

@@ -3,10 +3,12 @@
 
 pub mod adapter;
 pub mod events;
+pub mod extended;
 pub mod laws;
 pub mod rendering;
 mod url;
 
 pub use adapter::{Safe, SafeWithOffset};
 pub use events::safe_event;
+pub use extended::safe_html_extended;
 pub use rendering::safe_html;
