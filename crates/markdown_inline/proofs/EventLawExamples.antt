@@ -1,5 +1,5 @@
 -- Small examples of events that keep the laws of a whole document, and of events that break one.
-use Rattle.std.proofs.Common.{◌≡◌, ℕ, List, [], ◌∷◌, ◌++◌, codes, refl, ap, arith}
+use Rattle.std.proofs.Common.{◌≡◌, ℕ, true, false, List, [], ◌∷◌, ◌++◌, codes, refl, ap, arith, inr, ⊎_elim}
 use Rattle.std.specs.declared.ops.Range.{Range}
 use Rattle.markdown_base.specs.Event.{LinkView, TagView, start, end, tag_end, text, emphasis, link, image}
 use Rattle.markdown_base.specs.declared.tag.LinkType.{LinkType}
@@ -38,17 +38,28 @@ start_alone : AreBalanced ((start emphasis, from_to 0 3) ∷ []) → ⊥
 start_alone h = cc h
 
 -- `[<c>](c)` keeps the second law, and so does a link after a link; an inline link in another breaks it
-autolink_in_link : NoLinkInLink
+autolink_in_link : NoLinkInLink false
     ((start (link (leads kind.Inline)), from_to 0 8) ∷ (start (link (leads kind.Autolink)), from_to 1 4) ∷ [])
 autolink_in_link = (λ some. absurd (omega (arith, some)), (λ some. refl, tt))
 
-link_after_link : NoLinkInLink ((start (link (leads kind.Inline)), from_to 0 6) ∷ (end closes.Link, from_to 0 6)
+link_after_link : NoLinkInLink false ((start (link (leads kind.Inline)), from_to 0 6) ∷ (end closes.Link, from_to 0 6)
     ∷ (start (link (leads kind.Inline)), from_to 6 12) ∷ [])
 link_after_link = (λ some. absurd (omega (arith, some)), (λ some. absurd (omega (arith, some)), tt))
 
-link_in_link : NoLinkInLink
+link_in_link : NoLinkInLink true
     ((start (link (leads kind.Inline)), from_to 0 11) ∷ (start (link (leads kind.Inline)), from_to 1 7) ∷ []) → ⊥
-link_in_link h = cc (h.1.0 (omega arith))
+link_in_link h = ⊎_elim (λ e. cc e) (λ e. cc e) (h.1.0 (omega arith))
+
+-- `[<a@b.c>](c)` keeps it where addresses are on, and only there
+abbrev address_in_link : List Ranged
+address_in_link =
+    (start (link (leads kind.Inline)), from_to 0 12) ∷ (start (link (leads kind.Email)), from_to 1 8) ∷ []
+
+address_on : NoLinkInLink true address_in_link
+address_on = (λ some. absurd (omega (arith, some)), (λ some. inr refl, tt))
+
+address_off : NoLinkInLink false address_in_link → ⊥
+address_off h = cc (h.1.0 (omega arith))
 
 -- of two references to `c` one byte counts, and of three two, since the last does not; inline links do not count
 two_references : ExpandsBelow 2 (round (link (leads kind.Shortcut)) 0 3 (text (codes "b"), from_to 1 2)

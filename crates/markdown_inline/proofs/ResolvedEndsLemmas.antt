@@ -23,7 +23,9 @@ use Rattle.markdown_document.specs.Setting.{Setting, ReferenceState}
 use Rattle.markdown_document.specs.Waiting.{is_quiet}
 use Rattle.markdown_spans.specs.AfterLess.{Markup, autolink, html_markup}
 use Rattle.markdown_spans.specs.Finds.{Find, SpanText, address, code_span, code_trees, find, is_escaped, markup}
-use Rattle.markdown_spans.specs.Finds.{markup_trees, math_span}
+use Rattle.markdown_spans.specs.Finds.{link_type, markup_trees, math_span}
+use Rattle.markdown_spans.specs.declared.after_less.AutolinkKind.{AutolinkKind}
+use Rattle.markdown_spans.specs.declared.after_less.AutolinkKind.TheVariants.{Uri, Email}
 use Rattle.markdown_spans.specs.Finds.{nothing, read_tree, read_unless, trees_for}
 use Rattle.markdown_delims.specs.Pairing.{paired}
 use Rattle.markdown_brackets.specs.BracketDecision.{BracketContext, Closing, Written, LinkReference, Progress, Wikilink}
@@ -103,6 +105,11 @@ takes_from defined asks limit answers q =
 lone_math : (display : Bool) (bytes : List ℕ) → IsMadeEvent (math display bytes)
 lone_math true bytes = tt
 lone_math false bytes = tt
+
+-- an autolink is not looked up
+no_look_up : (kind : AutolinkKind) → is_looked_up (link_type kind) ≡ false
+no_look_up Uri = refl
+no_look_up Email = refl
 
 module _ {A : Type 0} (own : Shape → List ℕ) (holds : List ℕ → (limit : ℕ) → Type 0) (keeps : Keeps own holds) where
   abbrev ends : Forest (TreeNode A) → List ℕ → List ℕ
@@ -458,8 +465,8 @@ module _ {A : Type 0} (own : Shape → List ℕ) (holds : List ℕ → (limit : 
   )
 
   markup_none : (s : Setting) (new : A) (a : TreeNode A) (m : Markup) → HasNone (markup_trees s new a m)
-  markup_none s new a (autolink end uri) = (
-    keeps.other_link (address uri) [] refl,
+  markup_none s new a (autolink kind end bytes) = (
+    keeps.other_link (address kind bytes) [] (no_look_up kind),
     (text_none own keeps.numbers (slice_range s.text (end_of a) (end - 1)), tt, tt),
     tt,
   )

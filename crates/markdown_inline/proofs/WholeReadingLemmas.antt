@@ -7,6 +7,7 @@ use Rattle.std.proofs.lemmas.List.{map-append}
 use Rattle.std.specs.declared.ops.Range.{Range}
 use Rattle.markdown_base.specs.BlockTree.{Numbered, tree_of}
 use Rattle.markdown_base.specs.Event.{EventView, TagView, start, end, tag_end, link, image, hard_break}
+use Rattle.markdown_base.specs.ExtendedOptions.{is_extended}
 use Rattle.markdown_base.specs.Forest.{Forest, nil, node, Each, relabelled}
 use Rattle.markdown_base.specs.Item.{is_resolved}
 use Rattle.markdown_base.specs.Questions.{Answers}
@@ -159,14 +160,15 @@ expansions_keep limit = record {
 
 -- what a part of a document is resolved to: no leaf is a Start or an End, no link is in a link, and what look-ups
 -- found, as the events show it and in all, fits in the limit
-pub record IsSuch (state : ReferenceState) (r : Resolution (Unit {0})) : Type 0 where
+pub record IsSuch (addresses : Bool) (state : ReferenceState) (r : Resolution (Unit {0})) : Type 0 where
   pub lone : sum_of alone r.trees ≡ 0
-  pub apart : HasNoLinkInLink r.trees
+  pub apart : HasNoLinkInLink addresses r.trees
   pub spent : Spent state.limit (ends_onto expansion_at r.trees []) r.state.limit
   pub found : Spent state.limit (map size_of r.found) r.state.limit
 
-none_such : (state : ReferenceState) → IsSuch state (no_trees state)
-none_such state = record { lone = refl; apart = tt; spent = spent_none state.limit; found = spent_none state.limit }
+none_such : (addresses : Bool) (state : ReferenceState) → IsSuch addresses state (no_trees state)
+none_such addresses state =
+    record { lone = refl; apart = tt; spent = spent_none state.limit; found = spent_none state.limit }
 
 -- a shape of a block result: not a link or an image, and not a leaf that is a Start or an End
 abbrev pub IsBlockShape : Shape → Type 0
@@ -186,21 +188,22 @@ block_expansion : (shape : Shape) → IsBlockShape shape → expansion_at shape 
 block_expansion (enclosed tag origins) h = no_bracket_none tag h
 block_expansion other h = refl
 
-block_link : (shape : Shape) → IsBlockShape shape → IsNoLink shape
-block_link (enclosed tag origins) h = tag_link tag h
+block_link : (addresses : Bool) (shape : Shape) → IsBlockShape shape → IsNoLink addresses shape
+block_link addresses (enclosed tag origins) h = tag_link tag h
   where
-    tag_link : (tag : TagView) → IsNoBracket tag → OpensNoLink tag
+    tag_link : (tag : TagView) → IsNoBracket tag → OpensNoLink addresses tag
     tag_link (link v) h = absurd h
     tag_link other h = tt
-block_link other h = tt
+block_link addresses other h = tt
 
-block_apart : {A : Type 0} (shape : Shape) (below : Forest (TreeNode A)) → IsBlockShape shape → HasNoneBelow shape below
-block_apart (enclosed tag origins) below h = note_apart tag h
+block_apart : {A : Type 0} (addresses : Bool) (shape : Shape) (below : Forest (TreeNode A)) → IsBlockShape shape
+    → HasNoneBelow addresses shape below
+block_apart addresses (enclosed tag origins) below h = note_apart tag h
   where
-    note_apart : (tag : TagView) → IsNoBracket tag → ClosesOverNone tag below
+    note_apart : (tag : TagView) → IsNoBracket tag → ClosesOverNone addresses tag below
     note_apart (link v) h = absurd h
     note_apart other h = tt
-block_apart other below h = tt
+block_apart addresses other below h = tt
 
 module _ {A : Type 0} where
   none_at : (own : Shape → List ℕ) → ((shape : Shape) → IsBlockShape shape → own shape ≡ []) → (f : Forest (TreeNode A))
@@ -210,14 +213,15 @@ module _ {A : Type 0} where
   none_at own none (node a below after) h
       = (none a.part.shape h.0, none_at own none below h.1, none_at own none after h.2)
 
-  free_blocks : (f : Forest (TreeNode A)) → AreBlockShapes f → IsFreeOfLinks f
-  free_blocks nil h = tt
-  free_blocks (node a below after) h = (block_link a.part.shape h.0, free_blocks below h.1, free_blocks after h.2)
+  free_blocks : (addresses : Bool) (f : Forest (TreeNode A)) → AreBlockShapes f → IsFreeOfLinks addresses f
+  free_blocks addresses nil h = tt
+  free_blocks addresses (node a below after) h =
+      (block_link addresses a.part.shape h.0, free_blocks addresses below h.1, free_blocks addresses after h.2)
 
 -- a chain
 chain_such : (s : Setting) (above : EnclosingBlocks) (chain : Forest Plain) (state : ReferenceState)
     → AreBlockShapes chain
-    → IsSuch state (resolved_chain s no_notes above chain state)
+    → IsSuch (is_extended s.rules.options) state (resolved_chain s no_notes above chain state)
 chain_such s above chain state h =
     let trees : Forest Plain = (resolved_chain s no_notes above chain state).trees in
     record {
@@ -225,7 +229,7 @@ chain_such s above chain state h =
           let none = resolved_holds alone_at (λ ns limit. total ns ≡ 0) alone_keeps s no_notes above chain state
           (none_at alone_at block_alone chain h) refl in
           omega (arith, none, total_ends alone_at trees []);
-      apart = resolved_apart s no_notes above chain state (free_blocks chain h);
+      apart = resolved_apart s no_notes above chain state (free_blocks (is_extended s.rules.options) chain h);
       spent = resolved_holds expansion_at (Spent state.limit) (expansions_keep state.limit) s no_notes above chain
           state
           (none_at expansion_at block_expansion chain h) (spent_none state.limit);
@@ -233,10 +237,11 @@ chain_such s above chain state h =
     }
 
 -- a tree over what is below it, before what comes after it
-then_such : (a : Plain) (below after : Resolving (Unit {0})) (state : ReferenceState) → IsBlockShape a.part.shape
-    → IsSuch state (below state)
-    → IsSuch (below state).state (after (below state).state) → IsSuch state (tree_then a below after state)
-then_such a below after state h i r =
+then_such : (addresses : Bool) (a : Plain) (below after : Resolving (Unit {0})) (state : ReferenceState)
+    → IsBlockShape a.part.shape → IsSuch addresses state (below state)
+    → IsSuch addresses (below state).state (after (below state).state)
+    → IsSuch addresses state (tree_then a below after state)
+then_such addresses a below after state h i r =
     let inside : Resolution (Unit {0}) = below state in
     let later : Resolution (Unit {0}) = after inside.state in
     let rest : List ℕ = ends_onto expansion_at later.trees [] in
@@ -246,7 +251,7 @@ then_such a below after state h i r =
     ∙ ends_append expansion_at inside.trees [] rest in
     record {
       lone = omega (arith, ap total (block_alone a.part.shape h), i.lone, r.lone);
-      apart = (block_apart a.part.shape inside.trees h, i.apart, r.apart);
+      apart = (block_apart addresses a.part.shape inside.trees h, i.apart, r.apart);
       spent = subst (λ (l : List ℕ). Spent state.limit l later.state.limit) (sym listed)
           (spent_both state.limit inside.state.limit
           later.state.limit (ends_onto expansion_at inside.trees []) rest i.spent r.spent);
@@ -256,25 +261,28 @@ then_such a below after state h i r =
           (map size_of later.found) i.found r.found);
     }
 
-tree_such : (shape : Shape) (a : Plain) (below after chain : Resolving (Unit {0})) → IsBlockShape a.part.shape
-    → ((state : ReferenceState) → IsSuch state (below state)) → ((state : ReferenceState) → IsSuch state (after state))
-    → ((state : ReferenceState) → IsSuch state (chain state)) → (state : ReferenceState)
-    → IsSuch state (resolved_tree shape a below after chain state)
-tree_such (leaf e origins) a below after chain h i l w state = then_such a no_trees after state h (none_such state)
-    (l state)
-tree_such (enclosed tag origins) a below after chain h i l w state = then_such a below after state h (i state)
-    (l (below state).state)
-tree_such plain a below after chain h i l w state = then_such a below after state h (i state) (l (below state).state)
-tree_such backslash_break a below after chain h i l w state = then_such a no_trees after state h (none_such state)
-    (l state)
-tree_such (unresolved b) a below after chain h i l w state = w state
+tree_such : (addresses : Bool) (shape : Shape) (a : Plain) (below after chain : Resolving (Unit {0}))
+    → IsBlockShape a.part.shape → ((state : ReferenceState) → IsSuch addresses state (below state))
+    → ((state : ReferenceState) → IsSuch addresses state (after state))
+    → ((state : ReferenceState) → IsSuch addresses state (chain state)) → (state : ReferenceState)
+    → IsSuch addresses state (resolved_tree shape a below after chain state)
+tree_such addresses (leaf e origins) a below after chain h i l w state =
+    then_such addresses a no_trees after state h (none_such addresses state) (l state)
+tree_such addresses (enclosed tag origins) a below after chain h i l w state =
+    then_such addresses a below after state h (i state) (l (below state).state)
+tree_such addresses plain a below after chain h i l w state =
+    then_such addresses a below after state h (i state) (l (below state).state)
+tree_such addresses backslash_break a below after chain h i l w state =
+    then_such addresses a no_trees after state h (none_such addresses state) (l state)
+tree_such addresses (unresolved b) a below after chain h i l w state = w state
 
 -- a document
 document_such : (s : Setting) (above : EnclosingBlocks) (f : Forest Plain) (state : ReferenceState) → AreBlockShapes f
-    → IsSuch state (resolved_document s no_notes above f state)
-document_such s above nil state h = none_such state
+    → IsSuch (is_extended s.rules.options) state (resolved_document s no_notes above f state)
+document_such s above nil state h = none_such (is_extended s.rules.options) state
 document_such s above (node a below later) state h =
-    tree_such a.part.shape a (λ k. resolved_document s no_notes (inside_node a above) below k)
+    tree_such (is_extended s.rules.options) a.part.shape a
+    (λ k. resolved_document s no_notes (inside_node a above) below k)
     (λ k. resolved_document s no_notes above later k) (λ k. resolved_chain s no_notes above (node a below later) k)
     h.0
     (λ k. document_such s (inside_node a above) below k h.1) (λ k. document_such s above later k h.2)
@@ -303,7 +311,8 @@ block_shapes source tables counts (node a below after) h = (
 
 -- the whole
 pub whole_such : (blocks : Blocks) (asks : Bool) (answers : Answers)
-    → IsSuch (state_at_start (text_of_blocks blocks) answers) (resolved_blocks blocks asks answers)
+    → IsSuch (is_extended (rules_of blocks asks).options) (state_at_start (text_of_blocks blocks) answers)
+    (resolved_blocks blocks asks answers)
 whole_such blocks asks answers =
     document_such (setting_of (text_of_blocks blocks) (rules_of blocks asks)) (no_blocks (text_of_blocks blocks))
     (document (text_of_blocks blocks) (tables_at_start (block_parts blocks)) (block_tree blocks).nodes)

@@ -3,6 +3,7 @@
 use Rattle.std.proofs.Common.{◌≡◌, ℕ, List, [], ◌∷◌, ◌++◌, Option, Bool, refl, sym, subst, ap, ◌∙◌, append-nil}
 use Rattle.std.specs.Prelude.{is_some}
 use Rattle.std.specs.declared.ops.Range.{Range}
+use Rattle.markdown_base.specs.ExtendedOptions.{is_extended}
 use Rattle.markdown_base.specs.Questions.{Question, Answer, Answers}
 use Rattle.markdown_base.specs.declared.event.Event.{Event}
 use Rattle.markdown_brackets.proofs.BracketLawLemmas.{closed_law}
@@ -40,7 +41,8 @@ viewed-ranged source (e ∷ given) (p ∷ events) h =
 
 -- the three laws, of a reading
 whole_reading : (blocks : Blocks) (asks : Bool) (answers : Answers)
-    → IsWhole (text_of_blocks blocks) (ranged (events_of (reading_of blocks asks answers)))
+    → IsWhole (text_of_blocks blocks) (is_extended (rules_of blocks asks).options)
+    (ranged (events_of (reading_of blocks asks answers)))
 whole_reading blocks asks answers =
     record {
       balanced = balanced-law blocks asks answers;
@@ -81,7 +83,8 @@ whole_run step p given callback r blocks reads =
     viewed-ranged _ given r.events r.are ∙ ap ranged (sym all)
     ∙ ap (λ es. ranged (events_of es)) (reads r.answers) in
     record {
-      events = subst (IsWhole (text_of_blocks blocks)) (sym same) (whole_reading blocks asks r.answers);
+      events = subst (IsWhole (text_of_blocks blocks) (is_extended (rules_of blocks asks).options)) (sym same)
+          (whole_reading blocks asks r.answers);
       answers = r.answers;
       are = same;
       asked = subst (λ (es : List Element). Asks step (parser_callback p) (questions_of es) r.answers callback)

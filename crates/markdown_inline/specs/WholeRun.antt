@@ -2,6 +2,7 @@
 use Rattle.std.specs.Prelude.{◌≡◌, ◌≤◌, ℕ, Bool, List, map, length, Option, is_some}
 use Rattle.std.specs.declared.ops.Range.{Range}
 use Rattle.markdown_base.specs.Event.{event_view}
+use Rattle.markdown_base.specs.ExtendedOptions.{is_extended}
 use Rattle.markdown_base.specs.Forest.{Forest, roots}
 use Rattle.markdown_base.specs.Questions.{Question, Answer, Answers}
 use Rattle.markdown_base.specs.declared.event.Event.{Event}
@@ -28,10 +29,11 @@ use Rattle.markdown_resolver.specs.Resolved.{resolved}
 abbrev pub viewed : List (Event × Range ℕ) → List Ranged
 viewed given = map (λ (e : Event × Range ℕ). (event_view e.0, e.1)) given
 
--- events are balanced, a link within a link is an autolink, and references expand to few bytes
-pub record IsWhole (source : List ℕ) (events : List Ranged) : Type 0 where
+-- events are balanced, a link within a link is an autolink, with or without addresses, and references expand to few
+-- bytes
+pub record IsWhole (source : List ℕ) (addresses : Bool) (events : List Ranged) : Type 0 where
   pub balanced : AreBalanced events
-  pub links_apart : NoLinkInLink events
+  pub links_apart : NoLinkInLink addresses events
   pub expands : ExpandsBelow (expansion_limit source) events
 
 -- a chain asks at most one question for each of its `]`, none where the limit is 0 when it is reached, and no two that
@@ -54,7 +56,8 @@ pub record AsksOnce (blocks : Blocks) (asks : Bool) (questions : List Question) 
 -- the callback, which was asked the questions of that reading, and these keep the laws too
 pub record IsWholeRun {F : Type 0} (step : F → Question → Option Answer → F → Type 0) (blocks : Blocks) (p : Parser F)
     (given : List (Event × Range ℕ)) (callback : Option F) : Type 0 where
-  pub events : IsWhole (text_of_blocks blocks) (viewed given)
+  pub events : IsWhole (text_of_blocks blocks) (is_extended (rules_of blocks (is_some (parser_callback p))).options)
+      (viewed given)
   pub answers : Answers
   pub are : viewed given ≡ ranged (events_of (reading_of blocks (is_some (parser_callback p)) answers))
   pub asked : Asks step (parser_callback p) (questions_of (reading_of blocks (is_some (parser_callback p)) answers))
