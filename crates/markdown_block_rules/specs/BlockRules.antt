@@ -11,7 +11,7 @@ use Rattle.markdown_block_rules.specs.BlockGrowth as was
 use Rattle.markdown_block_rules.specs.BlockGrowth.{Block, Kind, blocks_of, followed_by}
 use Rattle.markdown_lines.specs.DefinitionRules.{Definition, divided}
 use Rattle.markdown_block_rules.specs.LineContents.{Shown, content_items, lines_items, source_lines}
-use Rattle.markdown_items.specs.LineItems.{extensions_of}
+use Rattle.markdown_items.specs.LineItems.{item_extensions}
 use Rattle.markdown_lines.specs.SourceLines.{SourceLine, is_blank_rest}
 use Rattle.markdown_scan.specs.Entity.{entity_names}
 use Rattle.markdown_scan.specs.Unescape.{unescaped}
@@ -103,7 +103,7 @@ shown_over start end b text below =
 abbrev pub shown_text : Source → Block → ItemBody → List SourceLine → Forest Shown
 shown_text s b leaf [] = nil
 shown_text s b leaf (l ∷ lines) =
-    shown_over l.left.scanned b.last leaf None (chain_of (lines_items s.text (extensions_of s.options) (l ∷ lines)))
+    shown_over l.left.scanned b.last leaf None (chain_of (lines_items s.text (item_extensions s.options) (l ∷ lines)))
 
 abbrev pub paragraph_body : Bool → ItemBody
 paragraph_body tight = if tight then body.TightParagraph else body.Paragraph
@@ -123,7 +123,7 @@ shown_block s tight b end below inside (was.underlined_leaf level lines) =
     shown_text s b (body.Heading level None) (divided (entity_names s.options) s.text lines).lines
 shown_block s tight b end below inside (was.heading_leaf found) =
     shown_over b.start end (body.Heading found.level None) None
-    (chain_of (content_items s.text (extensions_of s.options) found.from found.to))
+    (chain_of (content_items s.text (item_extensions s.options) found.from found.to))
 shown_block s tight b end below inside was.break_leaf = shown_over b.start end body.Rule None nil
 shown_block s tight b end below inside (was.indented_leaf lines) =
     shown_over b.start end body.IndentCodeBlock None (chain_of (source_lines (body.Text false) (code_lines lines)))

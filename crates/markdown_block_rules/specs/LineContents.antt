@@ -12,7 +12,7 @@ use Rattle.markdown_base.specs.declared.item.ItemBody.TheVariants as body
 use Rattle.markdown_items.specs.Found.{found_at}
 use Rattle.markdown_items.specs.FoundView as found
 use Rattle.markdown_items.specs.FoundView.{FoundView}
-use Rattle.markdown_items.specs.LineItems.{is_escaped, is_special}
+use Rattle.markdown_items.specs.LineItems.{is_after_backslash, is_special}
 use Rattle.markdown_lines.specs.declared.line_break.LineBreak.{LineBreak}
 use Rattle.markdown_lines.specs.LineBreaks.{break_after}
 use Rattle.markdown_lines.specs.LineBytes.{without_end}
@@ -38,7 +38,7 @@ synthesized_item start end text = record {
 -- the text from one byte offset up to another, if there is any
 abbrev pub text_between : List ℕ → Line → ℕ → ℕ → List Shown
 text_between text line from to =
-    if nat_lt from to then plain_item from to (body.Text (is_escaped text line.start from)) ∷ [] else []
+    if nat_lt from to then plain_item from to (body.Text (is_after_backslash text line.start from)) ∷ [] else []
 
 -- the last `count` characters of a delimiter run that ends at a byte offset
 abbrev pub run_items : ℕ → Flags → ℕ → List Shown

@@ -43,18 +43,18 @@ stays_outside_words byte = (byte == underscore) || ((byte == apostrophe) || (byt
 
 -- a delimiter can open: it is left-flanking, and where it stays outside words, it is not also right-flanking, or is
 -- preceded by punctuation
-abbrev pub can_open : ℕ → Option ℕ → Option ℕ → Bool
-can_open byte before after =
+abbrev pub run_can_open : ℕ → Option ℕ → Option ℕ → Bool
+run_can_open byte before after =
     is_left_flanking before after
     && (not (stays_outside_words byte) || (not (is_right_flanking before after) || is_punctuation before))
 
 -- a delimiter can close: it is right-flanking, and where it stays outside words, it is not also left-flanking, or is
 -- followed by punctuation
-abbrev pub can_close : ℕ → Option ℕ → Option ℕ → Bool
-can_close byte before after =
+abbrev pub run_can_close : ℕ → Option ℕ → Option ℕ → Bool
+run_can_close byte before after =
     is_right_flanking before after
     && (not (stays_outside_words byte) || (not (is_left_flanking before after) || is_punctuation after))
 
 -- both flags of a delimiter
 abbrev pub flags_of : ℕ → Option ℕ → Option ℕ → Flags
-flags_of byte before after = record { opens = can_open byte before after; closes = can_close byte before after }
+flags_of byte before after = record { opens = run_can_open byte before after; closes = run_can_close byte before after }

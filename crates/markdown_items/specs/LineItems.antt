@@ -16,8 +16,8 @@ use Rattle.markdown_items.specs.Flanking.{is_white, flags_of}
 
 -- what the options enable: `~` with strikethrough or subscript, `^` with superscript, quotation marks with smart
 -- punctuation, `$` with math; and the names of entities that count
-abbrev pub extensions_of : Options → Extensions
-extensions_of options = record {
+abbrev pub item_extensions : Options → Extensions
+item_extensions options = record {
   tildes = strikethrough_on options || subscript_on options;
   carets = superscript_on options;
   quotes = smart_punctuation_on options;
@@ -26,8 +26,8 @@ extensions_of options = record {
 }
 
 -- a backslash precedes an offset at which a text begins, in a line's content that begins at `start`
-abbrev pub is_escaped : List ℕ → ℕ → ℕ → Bool
-is_escaped text start at = nat_lt start at && (slice_index text (at - 1) == backslash)
+abbrev pub is_after_backslash : List ℕ → ℕ → ℕ → Bool
+is_after_backslash text start at = nat_lt start at && (slice_index text (at - 1) == backslash)
 
 -- the bytes that may begin something other than text; the table in code is checked against them, and so is `is_plain`
 abbrev pub special_bytes : List ℕ

@@ -1,6 +1,6 @@
 //! The options that affect which items a line consists of.
 ghost use Rattle.std.specs.Prelude.{◌≡◌};
-ghost use Rattle.markdown_items.specs.LineItems.{extensions_of};
+ghost use Rattle.markdown_items.specs.LineItems.{item_extensions};
 
 use markdown_base::options::Options;
 use markdown_scan::entity::{EntityNames, entity_names};
@@ -24,7 +24,7 @@ impl Extensions {
     /// Returns what a set of options enables: `~` with strikethrough or subscript, `^` with superscript, quotation
     /// marks with smart punctuation, `$` with math; and the names of entities that count.
     pub fn of(options: Options) -> Extensions
-        ensures { result ≡ extensions_of options }
+        ensures { result ≡ item_extensions options }
     {
         Extensions {
             tildes: options.contains(Options::ENABLE_STRIKETHROUGH)

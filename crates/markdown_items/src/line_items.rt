@@ -1,7 +1,7 @@
 //! The items of a line's content, read in one pass over its bytes.
 ghost use Rattle.std.specs.Prelude.{◌≡◌, ◌≤◌, true, length, IfOk};
 ghost use Rattle.std.specs.Str.{IsCharBoundary};
-ghost use Rattle.markdown_items.specs.LineItems.{is_escaped};
+ghost use Rattle.markdown_items.specs.LineItems.{is_after_backslash};
 ghost use Rattle.markdown_items.specs.FoundFits.{IsAtSpecial, FoundFits, run_after_text, view_after};
 
 use crate::extensions::Extensions;
@@ -14,9 +14,9 @@ use markdown_builder::builder::Builder;
 use std::alloc::AllocError;
 
 /// Returns whether a backslash escapes the byte at `at`, at which a text of the line's content begins.
-fn is_escaped(bytes: &[u8], start: usize, at: usize) -> bool
+fn is_after_backslash(bytes: &[u8], start: usize, at: usize) -> bool
     requires { at ≤ length bytes.now }
-    ensures { result ≡ is_escaped bytes.now start at }
+    ensures { result ≡ is_after_backslash bytes.now start at }
 {
     start < at && bytes[at - 1] == b'\\'
 }
@@ -33,7 +33,7 @@ fn append_text(builder: &mut Builder<'_>, line: Line, to: usize) -> Result<(), A
 {
     let from = builder.at();
     if from < to {
-        let backslash_escaped = is_escaped(builder.text().as_bytes(), line.start, from);
+        let backslash_escaped = is_after_backslash(builder.text().as_bytes(), line.start, from);
         builder.inline(ItemBody::Text { backslash_escaped }, to)?;
     }
     Ok(())
