@@ -59,6 +59,9 @@ pub mod TailEndLemmas
 pub mod GoesOnLemmas
 pub mod WikilinkShowsLemmas
 pub mod EndsWellLemmas
+pub mod ApartLemmas
+pub mod PassOneApartLemmas
+pub mod NestedChainsLemmas
 pub mod SplitLemmas
 pub mod CloseLemmas
 pub mod CloseTextLemmas

@@ -52,7 +52,7 @@ closed_no_run (unresolved b) h = cc h
 closed_no_run other h = refl
 
 -- cutting leaves a run's character as it is
-cut_run : (n : ℕ) (shape : Shape) → open_body (cut_shape n shape) ≡ open_body shape
+pub cut_run : (n : ℕ) (shape : Shape) → open_body (cut_shape n shape) ≡ open_body shape
 cut_run n (leaf e origins) = refl
 cut_run n other = refl
 
@@ -187,7 +187,7 @@ module _ {A : Type 0} where
   WaitsClosed (waits m a ∷ left) = (is_unresolved a.part.shape ≡ false) × WaitsClosed left
 
   -- states do not change the trees
-  same_change : (opens : OpenerState → Bool) (f : OpenerState → OpenerState) (left : List (Entry A))
+  pub same_change : (opens : OpenerState → Bool) (f : OpenerState → OpenerState) (left : List (Entry A))
       (later : Forest (TreeNode A)) → trees_onto (change_nearest opens f left) later ≡ trees_onto left later
   same_change opens f [] later = refl
   same_change opens f (done a below ∷ left) later = same_change opens f left (node a below later)
@@ -211,7 +211,7 @@ module _ {A : Type 0} where
       by true k = h
       by false k = (h.0, k)
 
-  same_marks : (f : OpenerState → OpenerState) (left : List (Entry A)) (later : Forest (TreeNode A)) → trees_onto
+  pub same_marks : (f : OpenerState → OpenerState) (left : List (Entry A)) (later : Forest (TreeNode A)) → trees_onto
       (on_states f left) later
       ≡ trees_onto left later
   same_marks f [] later = refl
@@ -224,7 +224,7 @@ module _ {A : Type 0} where
   closed_marks f (done a below ∷ left) h = closed_marks f left h
   closed_marks f (waits m a ∷ left) h = (h.0, closed_marks f left h.1)
 
-  same_second : (left : List (Entry A)) (later : Forest (TreeNode A)) → trees_onto (second_folded left) later
+  pub same_second : (left : List (Entry A)) (later : Forest (TreeNode A)) → trees_onto (second_folded left) later
       ≡ trees_onto left later
   same_second [] later = refl
   same_second (done a below ∷ left) later = refl
@@ -235,7 +235,7 @@ module _ {A : Type 0} where
   closed_second (done a below ∷ left) h = h
   closed_second (waits m a ∷ left) h = h
 
-  same_link : (is_image : Bool) (left : List (Entry A)) (later : Forest (TreeNode A))
+  pub same_link : (is_image : Bool) (left : List (Entry A)) (later : Forest (TreeNode A))
       → trees_onto (before_link is_image left) later ≡ trees_onto left later
   same_link true left later = same_second left later
   same_link false left later = same_marks disabled_state (second_folded left) later ∙ same_second left later
@@ -387,7 +387,7 @@ module _ {A : Type 0} where
     }
 
   -- trees put onto a left list
-  onto_done : (trees : Forest (TreeNode A)) (left : List (Entry A)) (later : Forest (TreeNode A))
+  pub onto_done : (trees : Forest (TreeNode A)) (left : List (Entry A)) (later : Forest (TreeNode A))
       → trees_onto (all_done trees left) later ≡ trees_onto left (joined_chains trees later)
   onto_done nil left later = refl
   onto_done (node a below after) left later = onto_done after (done a below ∷ left) later

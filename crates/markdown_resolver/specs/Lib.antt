@@ -11,6 +11,7 @@ pub mod Unread
 pub mod KeptChains
 pub mod Laws
 pub mod ChainQuestions
+pub mod NestedChains
 -- what a resolver guarantees to a walk
 pub mod Chains
 -- the terms of private contracts

@@ -4,6 +4,7 @@ ghost use Rattle.std.specs.Prelude.{ℕ, ⊤};
 ghost use Rattle.markdown_resolver.specs.ChainQuestions.{ChainCountLaw, ChainEndsLaw, DocumentLineLaw};
 ghost use Rattle.markdown_resolver.specs.Laws.{QuietLaw, OrderLaw, ClosedChainLaw, BeginLaw, AnswerLaw, WeightLaw, NoteLaw};
 ghost use Rattle.markdown_resolver.specs.Laws.{DocumentLaw, WholeLaw};
+ghost use Rattle.markdown_resolver.specs.NestedChains.{DocumentNestLaw};
 
 /// States that resolving a chain in which only delimiter runs and quotation marks are open asks nothing, and only pairs
 /// them.
@@ -65,4 +66,10 @@ pub fn questions_of_a_chain_end_apart()
 /// States that the items of each chain of a well-formed block result are in order and cover their markup.
 pub fn chains_of_documents_stand_in_line()
     ensures { DocumentLineLaw }
+{}
+
+/// States that in each chain of a well-formed block result, and in each chain of children that pass one makes of it, any
+/// two pairs are nested or disjoint.
+pub fn pairs_of_each_chain_nest()
+    ensures { DocumentNestLaw }
 {}
