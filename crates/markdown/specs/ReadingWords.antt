@@ -13,6 +13,7 @@ pub use Rattle.markdown_inline.specs.ResolvedDocument.{Resolution, Resolving, re
 pub use Rattle.markdown_inline.specs.ResolvedDocument.{resolved_chain}
 pub use Rattle.markdown_inline.specs.TreeReading.{events_in, tree_events, ReadsTree, TreeLaw, SplitLaw}
 pub use Rattle.markdown_inline.specs.TreeReading.{ReadsBlockTree, BlockTreeLaw}
+pub use Rattle.markdown_inline.specs.SlicesOfTree.{BlockSlicesLaw}
 pub use Rattle.markdown_inline.specs.ResolvedShapes.{IsMadeShape, IsMadeEvent, IsMadeTag, IsPairedTag, ShapesLaw}
 pub use Rattle.markdown_document.specs.Document.{Shape, leaf, enclosed, plain, backslash_break, unresolved, TreeNode}
 -- what is left of a parser

@@ -100,7 +100,7 @@ pub record KeptByPairing {I A : Type 0} (s : Setting) (p : I → Forest (TreeNod
       (node a below g)
   pub text : (a : TreeNode A) (below f g : Forest (TreeNode A)) → Keeps p f g
       → Keeps p (node a below f) (node (as_text s.text a) nil g)
-  pub closed : (a : TreeNode A) (below after : Forest (TreeNode A))
+  pub closed : (a : TreeNode A) (below after : Forest (TreeNode A)) → is_unresolved a.part.shape ≡ true
       → Keeps p (node a below after) (node (as_text s.text a) below after)
   pub one : (d : Delimiter) (x v : TreeNode A) (inside rest : Forest (TreeNode A)) → EachTree IsClosedTree inside
       → Keeps p (node x nil (joined_chains inside (node v nil rest)))
@@ -123,10 +123,10 @@ module _ {I A : Type 0} (s : Setting) (p : I → Forest (TreeNode A) → Type 0)
   after_read (waiting dropped run xs ∷ rs) f g h = after_read rs (texts_before xs f) (texts_before xs g)
       (texts_after xs f g h)
 
-  closed_if : (b : Bool) (a : TreeNode A) (below after : Forest (TreeNode A))
+  closed_if : (b : Bool) (a : TreeNode A) (below after : Forest (TreeNode A)) → is_unresolved a.part.shape ≡ b
       → Keeps p (node a below after) (node (text_if b s.text a) below after)
-  closed_if true a below after = kept.closed a below after
-  closed_if false a below after = λ i h. h
+  closed_if true a below after opens = kept.closed a below after opens
+  closed_if false a below after opens = λ i h. h
 
   firsts : (n : ℕ) (chain : Forest (TreeNode A)) → Keeps p chain (forward (first_texts s.text n chain) (later n chain))
   firsts zero chain = λ i h. h
@@ -184,7 +184,7 @@ module _ {I A : Type 0} (s : Setting) (p : I → Forest (TreeNode A) → Type 0)
       record {
         tree = λ a below after rs e h. (
           after_read rs (node a below after) (node (as_closed s.text a) below after)
-              (closed_if (is_unresolved a.part.shape) a below after) i h.0,
+              (closed_if (is_unresolved a.part.shape) a below after refl) i h.0,
           closed.tree a below after rs e h.1,
         );
         run = λ run a below after rs e h.

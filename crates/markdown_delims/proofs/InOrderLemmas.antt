@@ -137,7 +137,7 @@ module _ (text : List ℕ) (deep : ℕ → Type 0) where
     after = λ a below f g l i h. (h.0, h.1, h.2, h.3, l (a.part.range.end, suc a.note) h.4);
     text = λ a below f g l i h.
         (h.0, h.1, as_text_lies s.text a h.2, tt, l (a.part.range.end, suc a.note) h.4);
-    closed = λ a below after i h. (h.0, h.1, as_text_lies s.text a h.2, h.3, h.4);
+    closed = λ a below after opens i h. (h.0, h.1, as_text_lies s.text a h.2, h.3, h.4);
     one = λ d x v inside rest c i. around x v (spanned s.text (layer_of_one
         (extensions_of s.rules.options) d) x v) inside
         rest refl refl refl c i.0 i.1;

@@ -133,7 +133,7 @@ module _ (s : Setting) where
       fill a.note (start_of a) (end_of a) nil (own_spans a below h.1),
       l (end_of a, i.1) h.2,
     );
-    closed = λ a below after i h. h;
+    closed = λ a below after opens i h. h;
     one = λ d x v inside rest c i h.
         let e = encloses i.0 i.1 x v inside rest h in
         (e.begins, fill x.note (start_of x) (end_of v) inside e.between, e.later);

@@ -39,7 +39,7 @@ module _ {A : Type 0} (s : Setting) (g : TreeNode A → ℕ) (no_more : CountsNo
   at_most_kept = record {
     after = λ a below f h less n k. omega (arith, k, less (sum_of g f) (omega arith));
     text = λ a below f h less n k. omega (arith, k, less (sum_of g f) (omega arith), no_more.text a);
-    closed = λ a below after n k. omega (arith, k, no_more.text a);
+    closed = λ a below after opens n k. omega (arith, k, no_more.text a);
     one = λ d x v inside rest c n k. omega (arith, k, no_more.one d x v, sum_joined inside (node v nil rest));
     two = λ d x y v w inside rest c n k.
         omega (arith, k, no_more.two d y w, sum_joined inside (node v nil (node w nil rest)));

@@ -23,6 +23,7 @@ pub mod LinksApartLemmas
 pub mod ResolvedShapesLemmas
 pub mod LookUpsLemmas
 pub mod WholeReadingLemmas
+pub mod SlicesOfTreeLemmas
 pub mod BalancedLemmas
 pub mod NoLinkInLinkEventsLemmas
 pub mod LimitLawLemmas

@@ -15,6 +15,7 @@ pub mod NoLinkInLinkEvents
 pub mod LookUps
 pub mod ResolvedDocument
 pub mod TreeReading
+pub mod SlicesOfTree
 pub mod ResolvedShapes
 pub mod LimitLaw
 pub mod WholeRun

@@ -6,6 +6,7 @@ ghost use Rattle.markdown_inline.specs.NoLinkInLinkEvents.{NoLinkInLinkLaw};
 ghost use Rattle.markdown_inline.specs.QuestionLaws.{DocumentCountLaw, DocumentEndsLaw};
 ghost use Rattle.markdown_inline.specs.ReadingLaw.{ReadingLaw};
 ghost use Rattle.markdown_inline.specs.ResolvedShapes.{ShapesLaw};
+ghost use Rattle.markdown_inline.specs.SlicesOfTree.{BlockSlicesLaw};
 ghost use Rattle.markdown_inline.specs.TreeReading.{BlockTreeLaw, SplitLaw, TreeLaw};
 
 /// States that the events of a whole document are balanced: each End is the `to_end` of its Start, with the same range.
@@ -68,4 +69,11 @@ pub fn document_asks_once_for_each_bracket()
 /// States that no two questions of one chain of a well-formed block result end at the same byte offset.
 pub fn questions_of_one_chain_end_apart()
     ensures { DocumentEndsLaw }
+{}
+
+/// States that in the tree of a block result, in which each chain is resolved, the texts of code and of math, the
+/// destinations of autolinks and the names of wikilinks that are slices are slices within the ranges of their own items:
+/// all but those of the first item that a wikilink shows after its pipe.
+pub fn slices_of_blocks_are_in_place()
+    ensures { BlockSlicesLaw }
 {}

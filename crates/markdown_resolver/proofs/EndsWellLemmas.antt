@@ -112,10 +112,10 @@ unknown_made kind.Shortcut e = refl
 unknown_made other e = e
 
 -- so it is neither an autolink nor a wikilink
-IsNoSlice : Option LinkView → Type 0
+unfoldable pub IsNoSlice : Option LinkView → Type 0
 IsNoSlice target = IfSome target (λ t. destination_origin t.kind ≡ made)
 
-looked_up_made : (defined : List Labelled) (asks : Bool) (limit : ℕ) (answers : Answers) (q : Question)
+pub looked_up_made : (defined : List Labelled) (asks : Bool) (limit : ℕ) (answers : Answers) (q : Question)
     → destination_origin q.link_type ≡ made → IsNoSlice (look_up defined asks limit answers q).target
 unfolding IsNoSlice
 looked_up_made defined asks limit answers q e = by_limit (limit == 0)

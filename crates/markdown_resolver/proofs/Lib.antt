@@ -62,6 +62,9 @@ pub mod EndsWellLemmas
 pub mod ApartLemmas
 pub mod PassOneApartLemmas
 pub mod NestedChainsLemmas
+pub mod SlicedSpanLemmas
+pub mod PassOneSlicesLemmas
+pub mod SlicesInPlaceLemmas
 pub mod SplitLemmas
 pub mod CloseLemmas
 pub mod CloseTextLemmas

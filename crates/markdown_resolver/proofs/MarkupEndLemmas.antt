@@ -215,7 +215,7 @@ slice_before text at (Some n) =
     slice_wider text at (at + n) at (at + n + 1) bytes (omega arith) (omega arith)
     (slice_between text at (at + n) bytes (ap (λ k. take k (drop at text)) size))
 
-uri_slice : (text : List ℕ) (at : ℕ) → IfSome (uri_autolink text at) (λ found. IsSliceWithin text at found.0 found.1)
+pub uri_slice : (text : List ℕ) (at : ℕ) → IfSome (uri_autolink text at) (λ found. IsSliceWithin text at found.0 found.1)
 uri_slice text at = slice_before text at (closed_uri (drop at text))
 
 -- an autolink to an address
@@ -238,7 +238,7 @@ address_ends true text at = by (closed_address (drop at text)) refl
         }
 
 -- its address is a slice of the text, before its end
-address_slice : (addresses : Bool) (text : List ℕ) (at : ℕ)
+pub address_slice : (addresses : Bool) (text : List ℕ) (at : ℕ)
     → IfSome (address_at addresses text at) (λ found. IsSliceWithin text at found.0 found.1)
 address_slice false text at = tt
 address_slice true text at = slice_before text at (closed_address (drop at text))

@@ -302,7 +302,7 @@ cut_slice text start end None h = named_slice text start end (slice_range text s
     (slice_between text start end (slice_range text start end) refl)
 cut_slice text start end (Some pipe) h = named_slice text start end pipe.1 (shown_from pipe.0 end) h
 
-body_slice : (text : List ℕ) (block_end start end : ℕ)
+pub body_slice : (text : List ℕ) (block_end start end : ℕ)
     → IfSome (wikilink_body text block_end start end) (λ b. IsSliceWithin text start end b.name)
 body_slice text block_end start end = by (nat_lt start end) refl _
     (λ order. some_in_block text block_end start (end - start) (λ pipe. IsSliceWithin text start end pipe.1)

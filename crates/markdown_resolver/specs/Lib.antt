@@ -12,6 +12,7 @@ pub mod KeptChains
 pub mod Laws
 pub mod ChainQuestions
 pub mod NestedChains
+pub mod SlicesInPlace
 -- what a resolver guarantees to a walk
 pub mod Chains
 -- the terms of private contracts

@@ -5,6 +5,7 @@ ghost use Rattle.markdown_resolver.specs.ChainQuestions.{ChainCountLaw, ChainEnd
 ghost use Rattle.markdown_resolver.specs.Laws.{QuietLaw, OrderLaw, ClosedChainLaw, BeginLaw, AnswerLaw, WeightLaw, NoteLaw};
 ghost use Rattle.markdown_resolver.specs.Laws.{DocumentLaw, WholeLaw};
 ghost use Rattle.markdown_resolver.specs.NestedChains.{DocumentNestLaw};
+ghost use Rattle.markdown_resolver.specs.SlicesInPlace.{DocumentSlicesLaw};
 
 /// States that resolving a chain in which only delimiter runs and quotation marks are open asks nothing, and only pairs
 /// them.
@@ -72,4 +73,11 @@ pub fn chains_of_documents_stand_in_line()
 /// two pairs are nested or disjoint.
 pub fn pairs_of_each_chain_nest()
     ensures { DocumentNestLaw }
+{}
+
+/// States that in each chain of a well-formed block result, once it is resolved, the texts of code and of math, the
+/// destinations of autolinks and the names of wikilinks are slices within their own trees' ranges where their origins say
+/// that they are slices: all but those of the first tree that a wikilink shows after its pipe.
+pub fn slices_of_each_chain_are_in_place()
+    ensures { DocumentSlicesLaw }
 {}
