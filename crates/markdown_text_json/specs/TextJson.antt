@@ -1,10 +1,10 @@
 -- The JSON of a text: the lines of the events of its reading.
-use Rattle.std.specs.Prelude.{◌≡◌, ℕ, false, List}
+use Rattle.std.specs.Prelude.{◌≡◌, ℕ, Bool, true, false, List}
 use Rattle.std.specs.List.{flat_map}
 use Rattle.std.specs.Str.{IsUtf8}
 use Rattle.markdown_base.specs.Questions.{Answers}
 use Rattle.markdown_base.specs.declared.options.Options.{Options}
-use Rattle.markdown_blocks.specs.Blocks.{IsOfText}
+use Rattle.markdown_blocks.specs.Blocks.{IsOfEntry}
 use Rattle.markdown_blocks.specs.declared.blocks.Blocks.{Blocks}
 use Rattle.markdown_inline.specs.Elements.{Element, Placed, events_of}
 use Rattle.markdown_inline.specs.ParserLeft.{reading_of}
@@ -18,15 +18,22 @@ placed_line placed = line_json placed.0 placed.1.start placed.1.end
 abbrev pub reading_lines : List Element → List ℕ
 reading_lines elements = flat_map placed_line (events_of elements)
 
--- the input is UTF-8, and these are the lines of the reading of a block result of it with these options, without a
--- callback
-pub record AreLinesOf (lines : List Element → List ℕ) (bytes : List ℕ) (options : Options)
+-- the input is UTF-8, and these are the lines of the reading of a block result of it with these options, of one of the
+-- entries, without a callback
+pub record AreEntryLinesOf (lines : List Element → List ℕ) (extended : Bool) (bytes : List ℕ) (options : Options)
     (json : List ℕ) : Type 0 where
   pub is_text : IsUtf8 bytes
   pub blocks : Blocks
-  pub of_text : IsOfText bytes options blocks
+  pub of_text : IsOfEntry extended bytes options blocks
   pub written : (answers : Answers) → json ≡ lines (reading_of blocks false answers)
 
--- these are the lines of the events of a text
+-- the same of the present entry
+abbrev pub AreLinesOf : (lines : List Element → List ℕ) → (bytes : List ℕ) → Options → (json : List ℕ) → Type 0
+AreLinesOf lines bytes options json = AreEntryLinesOf lines false bytes options json
+
+-- these are the lines of the events of a text, read by the present entry or by the extended one
 abbrev pub IsJsonOf : (bytes : List ℕ) → Options → (json : List ℕ) → Type 0
 IsJsonOf bytes options json = AreLinesOf reading_lines bytes options json
+
+abbrev pub IsExtendedJsonOf : (bytes : List ℕ) → Options → (json : List ℕ) → Type 0
+IsExtendedJsonOf bytes options json = AreEntryLinesOf reading_lines true bytes options json
