@@ -8,6 +8,7 @@ use Rattle.std.specs.List.{AllByRecursion}
 use Rattle.std.specs.Option.{option_and_then, option_map, option_map_or, option_or}
 use Rattle.std.proofs.lemmas.Bool.{leb-false}
 use Rattle.std.proofs.lemmas.Bool.Decides.{nat_tests}
+use Rattle.markdown_base.specs.ExtendedOptions.{is_extended}
 use Rattle.markdown_base.specs.Forest.{Forest, nil, node, roots}
 use Rattle.markdown_base.specs.declared.item.Item.{Item}
 use Rattle.markdown_base.specs.declared.item.ItemBody.{ItemBody}
@@ -27,7 +28,10 @@ use Rattle.markdown_document.specs.ChainRest.{next_starts_at, past_byte, start_o
 use Rattle.markdown_document.specs.Document.{Shape, TreeNode, is_unresolved, leaf}
 use Rattle.markdown_document.specs.EnclosingBlocks.{EnclosingBlocks}
 use Rattle.markdown_document.specs.Setting.{Setting}
-use Rattle.markdown_spans.specs.AfterLess.{Markup, autolink, declared_end, html_at, html_markup, markup_at, unbroken}
+use Rattle.markdown_spans.specs.AfterLess.{Markup, address_at, autolink, declared_end, html_at, html_markup, markup_at}
+use Rattle.markdown_spans.specs.AfterLess.{unbroken}
+use Rattle.markdown_spans.specs.EmailAutolink.{closed_address}
+use Rattle.markdown_spans.specs.declared.after_less.AutolinkKind.TheVariants.{Uri, Email}
 use Rattle.markdown_raw_html.specs.HtmlTag.{html_tag}
 use Rattle.markdown_raw_html.specs.RawHtml.{cdata_section, comment, declaration, end_from, processing_instruction}
 use Rattle.markdown_raw_html.specs.TagSource.{tag_at, tag_lengths, tag_of}
@@ -87,13 +91,18 @@ html_later skipped text start at l = by (slice_index text at == 33) (slice_index
     by false true = scanned_later processing_instruction text start (at + 1) more
     by false false = of_tag (html_tag (text_in skipped (drop start text)))
 
+closed_later : (text : List ℕ) (at : ℕ) (size : Option ℕ)
+    → IfSome {T = ℕ × List ℕ} (option_map (λ n. (at + n + 1, take n (drop at text))) size) (λ found. at < found.0)
+closed_later text at None = tt
+closed_later text at (Some n) = omega arith
+
 uri_later : (text : List ℕ) (at : ℕ) → IfSome (uri_autolink text at) (λ found. at < found.0)
-uri_later text at = by (closed_uri (drop at text))
-  where
-    by : (size : Option ℕ) → IfSome {T = ℕ × List ℕ} (option_map (λ n. (at + n + 1, take n (drop at text))) size)
-        (λ found. at < found.0)
-    by None = tt
-    by (Some n) = omega arith
+uri_later text at = closed_later text at (closed_uri (drop at text))
+
+address_later : (addresses : Bool) (text : List ℕ) (at : ℕ)
+    → IfSome (address_at addresses text at) (λ found. at < found.0)
+address_later false text at = tt
+address_later true text at = closed_later text at (closed_address (drop at text))
 
 module _ {A : Type 0} where
   -- an open node has bytes, and nothing is below it
@@ -259,7 +268,7 @@ module _ {A : Type 0} where
   abbrev pub Fits : TreeNode A → Find A → Type 0
   Fits a (code_span t closer) = end_of a ≤ end_of closer
   Fits a (math_span display t end) = end_of a ≤ end
-  Fits a (markup (autolink end uri)) = end_of a < end
+  Fits a (markup (autolink kind end uri)) = end_of a < end
   Fits a (markup (html_markup end bytes)) = start_of a ≤ end
   Fits a nothing = ⊤
 
@@ -354,18 +363,24 @@ module _ {A : Type 0} where
   ends_later i j (node a below after) l h =
       (omega (arith, l, h.0, h.1), ends_later i (end_of a) after (omega (arith, l, h.0, h.1)) h.4)
 
-  markup_fits : (skipped : List ℕ → Option ℕ) (text : List ℕ) (a : TreeNode A) → start_of a < end_of a
-      → IfSome (markup_at skipped text (start_of a) (end_of a)) (λ m. Fits a (markup m))
+  markup_fits : (skipped : List ℕ → Option ℕ) (addresses : Bool) (text : List ℕ) (a : TreeNode A)
+      → start_of a < end_of a
+      → IfSome (markup_at skipped addresses text (start_of a) (end_of a)) (λ m. Fits a (markup m))
   unfolding markup_at
-  markup_fits skipped text a l = by (uri_autolink text (end_of a)) (html_at skipped text (start_of a) (end_of a))
-      (uri_later text (end_of a)) (html_later skipped text (start_of a) (end_of a) (omega (arith, l)))
+  markup_fits skipped addresses text a l =
+      by (uri_autolink text (end_of a)) (address_at addresses text (end_of a))
+      (html_at skipped text (start_of a) (end_of a)) (uri_later text (end_of a))
+      (address_later addresses text (end_of a)) (html_later skipped text (start_of a) (end_of a) (omega (arith, l)))
     where
-      by : (uri : Option (ℕ × List ℕ)) (tag : Option (ℕ × Option (List ℕ))) → IfSome uri (λ found. end_of a < found.0)
-          → TagLater (start_of a) tag → IfSome (option_or (option_map (λ found. autolink found.0 found.1) uri)
-          (option_map (λ found. html_markup found.0 found.1) tag)) (λ m. Fits a (markup m))
-      by (Some found) tag h k = h
-      by None (Some found) h k = k
-      by None None h k = tt
+      by : (uri address : Option (ℕ × List ℕ)) (tag : Option (ℕ × Option (List ℕ)))
+          → IfSome uri (λ found. end_of a < found.0) → IfSome address (λ found. end_of a < found.0)
+          → TagLater (start_of a) tag → IfSome (option_or (option_map (λ found. autolink Uri found.0 found.1) uri)
+          (option_or (option_map (λ found. autolink Email found.0 found.1) address)
+          (option_map (λ found. html_markup found.0 found.1) tag))) (λ m. Fits a (markup m))
+      by (Some found) address tag h i k = h
+      by None (Some found) tag h i k = i
+      by None None (Some found) h i k = k
+      by None None None h i k = tt
 
   module _ (s : Setting) (above : EnclosingBlocks) where
     code_fits : (a : TreeNode A) (o : Option (TreeNode A)) → IfSome o (λ c. end_of a ≤ end_of c)
@@ -380,7 +395,9 @@ module _ {A : Type 0} where
 
     less_fits : (a : TreeNode A) (followed : Bool) → start_of a < end_of a → Fits a (markup_found s above a followed)
     less_fits a false l = tt
-    less_fits a true l = by (markup_at skipped text (start_of a) (end_of a)) (markup_fits skipped text a l)
+    less_fits a true l =
+        by (markup_at skipped (is_extended s.rules.options) text (start_of a) (end_of a))
+        (markup_fits skipped (is_extended s.rules.options) text a l)
       where
         skipped : List ℕ → Option ℕ
         skipped = λ bytes. Some (prefix_below s above bytes)
@@ -420,7 +437,7 @@ module _ {A : Type 0} where
         (past_byte_apart (end_of closer) (end_of a) rest h)
     found_apart fresh i a (math_span display t end) rest b l h e =
         (b, omega (arith, l, e), (λ opens. cc opens), tt, past_byte_apart end (end_of a) rest h)
-    found_apart fresh i a (markup (autolink end uri)) rest b l h e = (
+    found_apart fresh i a (markup (autolink kind end uri)) rest b l h e = (
       b,
       omega (arith, l, e),
       (λ opens. cc opens),

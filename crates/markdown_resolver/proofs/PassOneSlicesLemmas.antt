@@ -6,6 +6,7 @@ use Rattle.std.specs.List.{AllByRecursion}
 use Rattle.std.specs.Option.{option_and_then, option_map, option_map_or}
 use Rattle.std.proofs.lemmas.Bool.{cases_lt}
 use Rattle.markdown_base.specs.Event.{EventView, LinkView, code, display_math, image, inline_math, link}
+use Rattle.markdown_base.specs.ExtendedOptions.{is_extended}
 use Rattle.markdown_base.specs.Forest.{Forest, nil, node, roots}
 use Rattle.markdown_base.specs.declared.item.Item.{Item}
 use Rattle.markdown_base.specs.declared.item.ItemBody.{ItemBody}
@@ -55,7 +56,7 @@ use Rattle.markdown_resolver.proofs.ApartLemmas.{Closing_among, LieApart, around
 use Rattle.markdown_resolver.proofs.ApartLemmas.{onto}
 use Rattle.markdown_resolver.proofs.EndsWellLemmas.{IsNoSlice, looked_up_made}
 use Rattle.markdown_resolver.proofs.PassOneApartLemmas.{SoFar, closer_open, past_step, quiet_open, second_later}
-use Rattle.markdown_resolver.proofs.SlicedSpanLemmas.{AddressIn, address_slice, name_slice_of, span_slice}
+use Rattle.markdown_resolver.proofs.SlicedSpanLemmas.{AddressIn, markup_slice, name_slice_of, span_slice}
 use Rattle.markdown_resolver.proofs.WholeLemmas.{onto_done, same_change, same_link, same_marks, same_second}
 
 -- ---- shapes
@@ -487,7 +488,7 @@ module _ {A : Type 0} (s : Setting) (above : EnclosingBlocks) where
   abbrev FindsSlice : TreeNode A → Find A → Type 0
   FindsSlice a (code_span t closer) = IsSlicedOf s.text (end_of a) (end_of closer) t.origin t.bytes
   FindsSlice a (math_span display t end) = IsSlicedOf s.text (start_of a) end t.origin t.bytes
-  FindsSlice a (markup (autolink end uri)) = IsSliceWithin s.text (end_of a) end uri
+  FindsSlice a (markup (autolink kind end bytes)) = IsSliceWithin s.text (end_of a) end bytes
   FindsSlice a (markup (html_markup end bytes)) = ⊤
   FindsSlice a nothing = ⊤
 
@@ -517,14 +518,17 @@ module _ {A : Type 0} (s : Setting) (above : EnclosingBlocks) where
 
   less_slice : (a : TreeNode A) (followed : Bool) → FindsSlice a (markup_found s above a followed)
   less_slice a false = tt
-  less_slice a true = by (markup_at skipped (take above.block_end s.text) (start_of a) (end_of a))
-      (address_slice skipped s.text above.block_end (start_of a) (end_of a))
+  less_slice a true = by (markup_at skipped addresses (take above.block_end s.text) (start_of a) (end_of a))
+      (markup_slice skipped addresses s.text above.block_end (start_of a) (end_of a))
     where
       skipped : List ℕ → Option ℕ
       skipped = λ bytes. Some (prefix_below s above bytes)
 
+      addresses : Bool
+      addresses = is_extended s.rules.options
+
       of_markup : (m : Markup) → AddressIn s.text (end_of a) m → FindsSlice a (markup m)
-      of_markup (autolink end uri) h = h
+      of_markup (autolink kind end bytes) h = h
       of_markup (html_markup end bytes) h = tt
 
       by : (o : Option Markup) → IfSome o (AddressIn s.text (end_of a)) → FindsSlice a (option_map_or markup o nothing)
@@ -568,8 +572,8 @@ module _ {A : Type 0} (s : Setting) (above : EnclosingBlocks) where
       → SlicesInPlace s.text false (joined_chains (trees_for s fresh a f) nil)
   found_in_place fresh a (code_span t closer) l h = code_in_place (is_escaped (open_body a.part.shape)) a closer t l h
   found_in_place fresh a (math_span display t end) l h = ((λ e. math_in_place display a t end h), tt, tt)
-  found_in_place fresh a (markup (autolink end uri)) l h = (
-    (λ e is. slice_wider s.text (end_of a) end (start_of a) end uri (omega (arith, l)) (omega arith) h),
+  found_in_place fresh a (markup (autolink kind end bytes)) l h = (
+    (λ e is. slice_wider s.text (end_of a) end (start_of a) end bytes (omega (arith, l)) (omega arith) h),
     ((λ e. tt), tt, tt),
     tt,
   )

@@ -13,15 +13,16 @@ use Rattle.markdown_document.specs.EnclosingBlocks.{EnclosingBlocks}
 use Rattle.markdown_document.specs.Origins.{IsSliceWithin, IsSlicedOf, made, sliced}
 use Rattle.markdown_document.specs.Setting.{Setting}
 use Rattle.markdown_spans.specs.LineEnd.{line_ending}
-use Rattle.markdown_spans.specs.AfterLess.{Markup, autolink, html_at, html_markup, markup_at}
+use Rattle.markdown_spans.specs.AfterLess.{Markup, address_at, autolink, html_at, html_markup, markup_at}
 use Rattle.markdown_spans.specs.Autolink.{uri_autolink}
 use Rattle.markdown_spans.specs.CodeText.{Piece, begins_escaped_pipe, has_outer_spaces, is_sliced, lines_joined, piece_at}
 use Rattle.markdown_spans.specs.CodeText.{replaced_past, shown_ending, span_text, without_outer_spaces}
 use Rattle.markdown_spans.specs.Finds.{prefix_below, span_between}
+use Rattle.markdown_spans.specs.declared.after_less.AutolinkKind.TheVariants.{Uri, Email}
 use Rattle.markdown_spans.specs.declared.span_text.SpanKind.{SpanKind}
 use Rattle.markdown_spans.specs.declared.span_text.SpanKind.TheVariants.{Code, Math}
 use Rattle.markdown_spans.proofs.SliceLemmas.{slice_inside, slice_of_slice, slice_whole}
-use Rattle.markdown_resolver.proofs.MarkupEndLemmas.{uri_slice}
+use Rattle.markdown_resolver.proofs.MarkupEndLemmas.{address_slice, uri_slice}
 use Rattle.markdown_resolver.proofs.WikilinkShowsLemmas.{body_slice}
 
 -- ---- spans
@@ -103,32 +104,36 @@ first_bytes text size = let e : size - 0 ≡ size = omega arith in ap (λ n. tak
 
 -- an address is a slice of the source, from the `<` on
 abbrev pub AddressIn : List ℕ → ℕ → Markup → Type 0
-AddressIn source at (autolink end uri) = IsSliceWithin source at end uri
+AddressIn source at (autolink kind end bytes) = IsSliceWithin source at end bytes
 AddressIn source at (html_markup end bytes) = Unit {0}
 
-pub address_slice : (skipped : List ℕ → Option ℕ) (source : List ℕ) (size start at : ℕ)
-    → IfSome (markup_at skipped (take size source) start at) (AddressIn source at)
+pub markup_slice : (skipped : List ℕ → Option ℕ) (addresses : Bool) (source : List ℕ) (size start at : ℕ)
+    → IfSome (markup_at skipped addresses (take size source) start at) (AddressIn source at)
 unfolding markup_at
-address_slice skipped source size start at = by (uri_autolink text at) (html_at skipped text start at) (uri_slice text at)
+markup_slice skipped addresses source size start at =
+    by (uri_autolink text at) (address_at addresses text at) (html_at skipped text start at) (uri_slice text at)
+    (address_slice addresses text at)
   where
     text : List ℕ
     text = take size source
 
-    by : (uri : Option (ℕ × List ℕ)) (tag : Option (ℕ × Option (List ℕ)))
+    of_whole : (found : ℕ × List ℕ) → IsSliceWithin text at found.0 found.1 → IsSliceWithin source at found.0 found.1
+    of_whole found h =
+        let a : 0 + at ≡ at = omega arith in
+        let b : 0 + found.0 ≡ found.0 = omega arith in
+        rw (a, b) at (slice_of_slice source 0 size at found.0 found.1
+        (subst (λ (t : List ℕ). IsSliceWithin t at found.0 found.1) (sym (first_bytes source size)) h))
+
+    by : (uri address : Option (ℕ × List ℕ)) (tag : Option (ℕ × Option (List ℕ)))
         → IfSome uri (λ found. IsSliceWithin text at found.0 found.1)
-        → IfSome (option_or (option_map (λ found. autolink found.0 found.1) uri)
-        (option_map (λ found. html_markup found.0 found.1) tag)) (AddressIn source at)
-    by (Some found) tag h = of_whole found h
-      where
-        of_whole : (found : ℕ × List ℕ) → IsSliceWithin text at found.0 found.1
-            → IsSliceWithin source at found.0 found.1
-        of_whole found h =
-            let a : 0 + at ≡ at = omega arith in
-            let b : 0 + found.0 ≡ found.0 = omega arith in
-            rw (a, b) at (slice_of_slice source 0 size at found.0 found.1
-            (subst (λ (t : List ℕ). IsSliceWithin t at found.0 found.1) (sym (first_bytes source size)) h))
-    by None (Some found) h = tt
-    by None None h = tt
+        → IfSome address (λ found. IsSliceWithin text at found.0 found.1)
+        → IfSome (option_or (option_map (λ found. autolink Uri found.0 found.1) uri)
+        (option_or (option_map (λ found. autolink Email found.0 found.1) address)
+        (option_map (λ found. html_markup found.0 found.1) tag))) (AddressIn source at)
+    by (Some found) address tag h i = of_whole found h
+    by None (Some found) tag h i = of_whole found i
+    by None None (Some found) h i = tt
+    by None None None h i = tt
 
 -- ---- wikilinks
 
