@@ -17,6 +17,8 @@ use Rattle.markdown_document.specs.EnclosingBlocks.{EnclosingBlocks}
 use Rattle.markdown_document.specs.Document.{sliced, Shape, leaf, enclosed, Plain, part_of, no_notes, text_over}
 use Rattle.markdown_document.specs.Setting.{Setting, ReferenceState, setting_of}
 use Rattle.markdown_document.specs.Tables.{no_tables}
+use Rattle.markdown_entities.specs.EntityTable.{entity_groups}
+use Rattle.markdown_entities.specs.NamedEntity.{first_written}
 use Rattle.markdown_spans.specs.AfterLess.{markup_at}
 use Rattle.markdown_spans.specs.CodeText.{replaced_past, is_sliced}
 use Rattle.markdown_spans.specs.EmailAutolink.{cut_at_periods}
@@ -156,7 +158,7 @@ row_address : (state : ReferenceState)
     (node (text_at address_in_link 1 3) nil
     (node (over 3 10 (enclosed (link (address Email (codes "b@c.d"))) []))
     (node (text_at address_in_link 4 9) nil nil) nil)) nil
-unfolding pass_one read_chain read_tree markup_at cut_at_periods closed decided
+unfolding pass_one read_chain read_tree markup_at cut_at_periods closed decided first_written entity_groups
 row_address state = refl
 
 -- raw HTML that ends inside a text, of which the rest is left; backticks in it open nothing
