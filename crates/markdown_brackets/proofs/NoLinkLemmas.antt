@@ -240,12 +240,10 @@ module _ (addresses : Bool) where
   -- a link or an image that was found
   link_entry : {A : Type 0} (i : Bool) (a : TreeNode A) (target : LinkView) (titles : List Origin) (start end : ℕ)
       (below : Forest (TreeNode A)) (before : List (Entry A))
-      → IsSound before → (i ≡ false → IsFreeOfLinks addresses below) → (any_live before ≡ true
-      → IsFreeOfLinks addresses below)
-      → HasNoLinkInLink addresses below
-      → IsSound (done (over a (enclosed (if i then image target else link target) titles) start end) below ∷
-      before_link i
-      before)
+      → IsSound before → (i ≡ false → IsFreeOfLinks addresses below)
+      → (any_live before ≡ true → IsFreeOfLinks addresses below) → HasNoLinkInLink addresses below
+      → IsSound (done (over a (enclosed (if i then image target else link target) titles) start end) below
+      ∷ before_link i before)
   link_entry true a target titles start end below before s f g h =
       let marked = same_before_link sounds_marked true before in
       (λ q. (tt, g (marked.0 q)), (tt, h), marked.1 s)
@@ -268,8 +266,7 @@ module _ (addresses : Bool) where
   )
     where
       well : (i : Bool) → (i ≡ false → IsFreeOfLinks addresses below)
-          → ClosesOverNone addresses (if i then image target else link target)
-          below
+          → ClosesOverNone addresses (if i then image target else link target) below
       well true f = tt
       well false f = f refl
 

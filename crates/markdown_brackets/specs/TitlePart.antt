@@ -10,10 +10,10 @@ use Rattle.markdown_document.specs.Origins.{origin_of}
 
 -- the byte offset after both, and the title with its origin, if these are its offset and its text as written
 pub record IsTitleText (names : EntityNames) (in_table : Bool) (close end : ℕ) (text : List ℕ) (is_joined : Bool)
-  (found : CowStr) : Type 0 where
-    pub ends : end ≡ close
-    pub text_is : text_of found ≡ unescaped names in_table text
-    pub origin : origin_of found ≡ title_origin names in_table text is_joined
+    (found : CowStr) : Type 0 where
+  pub ends : end ≡ close
+  pub text_is : text_of found ≡ unescaped names in_table text
+  pub origin : origin_of found ≡ title_origin names in_table text is_joined
 
 -- what is returned is the title with the separator after it or, if there is none, an empty title at the same byte
 -- offset

@@ -2,7 +2,7 @@
 use markdown_base::cow_str::CowStr;
 use markdown_base::tree::Tree;
 use markdown_raw_html::raw_html::RawHtmlScanner;
-use markdown_spans::after_less::{MarkupFound, scan_after_less};
+use markdown_spans::after_less::{Autolink, AutolinkKind, LessThan, MarkupFound, scan_after_less};
 use markdown_spans::prefixes::ContainerPrefix;
 use markdown_spans::span_text::{SpanKind, span_text};
 use markdown_test_helpers::rows::gives;
@@ -81,7 +81,21 @@ fn texts_of_code_and_math(rt: HostRuntime) -> Result<(), Fail> {
 fn described(alloc: Global, found: Option<MarkupFound<'_>>) -> Result<String, AllocError> {
     match found {
         None => String::from_str(alloc, "none"),
-        Some(MarkupFound::Autolink(end, uri)) => format!(in alloc; "autolink {end} {uri}"),
+        Some(
+            MarkupFound::Autolink(
+                Autolink {
+                    kind,
+                    end,
+                    destination,
+                },
+            ),
+        ) => {
+            let name = match kind {
+                AutolinkKind::Uri => "autolink",
+                AutolinkKind::Email => "address",
+            };
+            format!(in alloc; "{name} {end} {destination}")
+        }
         Some(MarkupFound::Html(end)) => format!(in alloc; "html {end}"),
         Some(MarkupFound::OwnedHtml(end, text)) => {
             let made = format!(in alloc; "owned {end} {text}");
@@ -91,18 +105,25 @@ fn described(alloc: Global, found: Option<MarkupFound<'_>>) -> Result<String, Al
     }
 }
 
-/// Returns what begins at the `<` at `start`.
+/// Returns what begins at the `<` at `start`, with or without addresses.
 fn markup(
     alloc: Global,
     text: &str,
     start: usize,
+    addresses: bool,
     prefix: &ContainerPrefix<'_>,
 ) -> Result<String, AllocError> {
     if start >= text.len() || !text.is_char_boundary(start) || !text.is_char_boundary(start + 1) {
         return String::from_str(alloc, "no character");
     }
     let mut scanner = RawHtmlScanner::new(text.as_bytes());
-    let found = scan_after_less(alloc, text, start, start + 1, &mut scanner, prefix)?;
+    let less = LessThan {
+        text,
+        start,
+        at: start + 1,
+        addresses,
+    };
+    let found = scan_after_less(alloc, &less, &mut scanner, prefix)?;
     described(alloc, found)
 }
 
@@ -123,22 +144,28 @@ static MARKUP: [(&str, usize, &str); 12] = [
     ("<\\!-- x -->", 0, "none"),
 ];
 
-/// Checks what begins at the `<` at `start`.
-fn has_markup(
+/// The same where addresses are on.
+static WITH_ADDRESSES: [(&str, usize, &str); 6] = [
+    ("<a+b@x-y.z>", 0, "address 11 a+b@x-y.z"),
+    ("x <a@b.c> y", 2, "address 9 a@b.c"),
+    // a URI comes first
+    ("<mailto:a@b>", 0, "autolink 12 mailto:a@b"),
+    // and raw HTML last
+    ("<!a@b.c>", 0, "address 8 !a@b.c"),
+    ("<b>", 0, "html 3"),
+    ("<a\\@b.c>", 0, "none"),
+];
+
+/// Checks what begins at the `<` of each text, with or without addresses.
+fn all_have_markup(
     alloc: Global,
-    text: &str,
-    start: usize,
-    expected: &str,
+    texts: &[(&str, usize, &str)],
+    addresses: bool,
     prefix: &ContainerPrefix<'_>,
 ) -> Result<(), Fail> {
-    let found = markup(alloc, text, start, prefix)?;
-    gives(text, found.as_str(), expected)
-}
-
-/// Checks what begins at the `<` of each text.
-fn all_have_markup(alloc: Global, prefix: &ContainerPrefix<'_>) -> Result<(), Fail> {
-    for &(text, start, expected) in &MARKUP {
-        has_markup(alloc, text, start, expected, prefix)?;
+    for &(text, start, expected) in texts {
+        let found = markup(alloc, text, start, addresses, prefix)?;
+        gives(text, found.as_str(), expected)?;
     }
     Ok(())
 }
@@ -147,5 +174,6 @@ fn all_have_markup(alloc: Global, prefix: &ContainerPrefix<'_>) -> Result<(), Fa
 fn markup_after_a_less_than_sign(rt: HostRuntime) -> Result<(), Fail> {
     let tree = Tree::new(rt.alloc())?;
     let prefix = ContainerPrefix::new(&tree, false);
-    all_have_markup(rt.alloc(), &prefix)
+    all_have_markup(rt.alloc(), &MARKUP, false, &prefix)?;
+    all_have_markup(rt.alloc(), &WITH_ADDRESSES, true, &prefix)
 }
