@@ -1,6 +1,7 @@
 mod BlockBeginningsLemmas
 mod BlockLawsLemmas
 mod IndentedLinesLemmas
+mod LeafLawsLemmas
 mod LineLawsLemmas
 mod ListLawsLemmas
 mod QuotedLinesLemmas

@@ -6,6 +6,7 @@ pub mod BlockRules
 pub mod LineLaws
 pub mod BlockLaws
 pub mod ListLaws
+pub mod LeafLaws
 -- CommonMark's examples
 pub mod ExampleTrees
 pub mod ExamplesOfLines

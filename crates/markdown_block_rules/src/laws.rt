@@ -5,6 +5,9 @@ ghost use Rattle.markdown_block_rules.specs.BlockLaws.{ItemMayBeginWithBlankLine
 ghost use Rattle.markdown_block_rules.specs.BlockLaws.{MarkedLineGoesIntoQuote};
 ghost use Rattle.markdown_block_rules.specs.BlockLaws.{MarkerBeforeTextMayBeLeftOut, OnlyParagraphsGoOnLazily};
 ghost use Rattle.markdown_block_rules.specs.BlockLaws.{QuotedLinesMakeQuote};
+ghost use Rattle.markdown_block_rules.specs.LeafLaws.{HeadingsAndBreaksEnd, IndentedCodeEndsBeforeText, FencedCodeGoesOn};
+ghost use Rattle.markdown_block_rules.specs.LeafLaws.{ClosedCodeEnds, ClosingFenceClosesCode, HtmlGoesOn, EndConditionEndsHtml};
+ghost use Rattle.markdown_block_rules.specs.LeafLaws.{BlankLineEndsHtml, BlankLineEndsParagraph};
 ghost use Rattle.markdown_block_rules.specs.LineLaws.{LineIsItsContent};
 ghost use Rattle.markdown_block_rules.specs.ListLaws.{ListIsLooseAsSaid};
 
@@ -70,4 +73,49 @@ pub fn a_line_changes_the_last_block_alone()
 /// contains two blocks with a blank line between them (5.3).
 pub fn a_list_is_loose_as_said()
     ensures { ListIsLooseAsSaid }
+{}
+
+/// States that thematic breaks and headings end with their line (4.1, 4.2, 4.3).
+pub fn headings_and_breaks_end_with_their_line()
+    ensures { HeadingsAndBreaksEnd }
+{}
+
+/// States that indented code ends before a line that is neither blank nor indented (4.4).
+pub fn indented_code_ends_before_text()
+    ensures { IndentedCodeEndsBeforeText }
+{}
+
+/// States that fenced code goes on in each line that is no closing fence (4.5).
+pub fn fenced_code_goes_on_to_its_closing_fence()
+    ensures { FencedCodeGoesOn }
+{}
+
+/// States that a closing fence closes fenced code (4.5).
+pub fn a_closing_fence_closes_code()
+    ensures { ClosingFenceClosesCode }
+{}
+
+/// States that closed code ends before the next line (4.5).
+pub fn closed_code_ends_before_a_line()
+    ensures { ClosedCodeEnds }
+{}
+
+/// States that an HTML block goes on in each line, but one of some kinds not in a blank line (4.6).
+pub fn html_goes_on_to_its_end_condition()
+    ensures { HtmlGoesOn }
+{}
+
+/// States that an HTML block ends with a line that meets its end condition (4.6).
+pub fn an_end_condition_ends_html()
+    ensures { EndConditionEndsHtml }
+{}
+
+/// States that a blank line ends an HTML block of a kind that ends there (4.6).
+pub fn a_blank_line_ends_html()
+    ensures { BlankLineEndsHtml }
+{}
+
+/// States that a blank line ends a paragraph (4.8).
+pub fn a_blank_line_ends_a_paragraph()
+    ensures { BlankLineEndsParagraph }
 {}
