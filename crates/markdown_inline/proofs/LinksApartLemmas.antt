@@ -228,7 +228,7 @@ module _ (addresses : Bool) where
         let quoted : TreeNode A = shaped (first_turn a after single double).made a in
         let made_apart : HasNoneBelow addresses quoted.part.shape below =
         turn-made (λ shape. HasNoneBelow addresses shape below) (λ c. tt) (kind_of_shape a.part.shape) a.part.shape
-            single double
+        single double
         (is_closed_later after) (is_end after) h.0 in (
           (tt, (closed_apart s.text (is_unresolved quoted.part.shape) quoted below made_apart, h.1)),
           quoted_apart s

@@ -49,7 +49,7 @@ pub merged : {F : Type 0} (step : F → Question → Option Answer → F → Typ
     (m : TextMergeStream (Parser F)) (p : Parser F) (old html : List ℕ)
     → stream_state m ≡ record { iter = p; held = []; over = false } → old ≡ []
     → IsRendered (merge_steps (boxed_through nowhere) (formed_view bare)
-        (NextGives step IsEventOf) can rest stream_state) m old html
+    (NextGives step IsEventOf) can rest stream_state) m old html
     → IsMergedHtmlOf step p html
 merged {F} step can rest m p old html new empty r =
     let begun = begun_of m p new in

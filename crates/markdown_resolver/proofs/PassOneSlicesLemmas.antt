@@ -552,15 +552,22 @@ module _ {A : Type 0} (s : Setting) (above : EnclosingBlocks) where
   code_in_place : (escaped : Bool) (a closer : TreeNode A) (t : SpanText) → start_of a < end_of a
       → IsSlicedOf s.text (end_of a) (end_of closer) t.origin t.bytes
       → SlicesInPlace s.text false (joined_chains (code_trees s escaped a t closer) nil)
-  code_in_place false a closer t l h =
-      ((λ e. sliced_wider s.text (end_of a) (end_of closer) (start_of a) (end_of closer) t.origin t.bytes
-      (omega (arith, l)) (omega arith) h), tt, tt)
-  code_in_place true a closer t l h = ((λ e. tt), tt, (
-    (λ e. sliced_wider s.text (end_of a) (end_of closer) (start_of a + 1) (end_of closer) t.origin t.bytes
+  code_in_place false a closer t l h = (
+    (λ e. sliced_wider s.text (end_of a) (end_of closer) (start_of a) (end_of closer) t.origin t.bytes
         (omega (arith, l)) (omega arith) h),
     tt,
     tt,
-  ))
+  )
+  code_in_place true a closer t l h = (
+    (λ e. tt),
+    tt,
+    (
+      (λ e. sliced_wider s.text (end_of a) (end_of closer) (start_of a + 1) (end_of closer) t.origin t.bytes
+          (omega (arith, l)) (omega arith) h),
+      tt,
+      tt,
+    ),
+  )
 
   math_in_place : (display : Bool) (a : TreeNode A) (t : SpanText) (end : ℕ)
       → IsSlicedOf s.text (start_of a) end t.origin t.bytes
@@ -596,8 +603,11 @@ module _ {A : Type 0} (s : Setting) (notes : Notes A) (above : EnclosingBlocks) 
   kept_step : (a : TreeNode A) (p : Progress A) → refers a.part.shape ≡ false → In p
       → SlicesInPlace s.text false (trees_onto p.left (node a nil nil))
   kept_step a p none h =
-      other_after s.text p.left nil (node a nil nil) h ((λ e. in_place-none s.text (start_of a) (end_of a) a.part.shape none),
-      tt, tt)
+      other_after s.text p.left nil (node a nil nil) h (
+        (λ e. in_place-none s.text (start_of a) (end_of a) a.part.shape none),
+        tt,
+        tt,
+      )
 
   other_in : (a : TreeNode A) (below rest : Forest (TreeNode A)) (p : Progress A) → refers a.part.shape ≡ false
       → below ≡ nil → LieApart 0 (trees_onto p.left (node a below rest)) → In p

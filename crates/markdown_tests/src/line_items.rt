@@ -242,10 +242,7 @@ static NAMES_OF_HTML: [(&str, &str); 5] = [
     ),
     ("&copy &bad; &Copy; &;", "Text 0..21;"),
     ("\\&copy;", "Escaped 1..7;"),
-    (
-        "a&#65;",
-        "Text 0..1;SynthesizeText(CowIndex(0)) 1..6;A;",
-    ),
+    ("a&#65;", "Text 0..1;SynthesizeText(CowIndex(0)) 1..6;A;"),
     // the flags are those of the source
     (
         "*&nbsp;a*",

@@ -8,6 +8,6 @@ use Rattle.markdown_out.proofs.laws.a_stream_gives_the_merge.Goals as goal
 pub returns : goal.returns
 returns g c ends new =
     gives_the_merge (boxed_through nowhere) (formed_view bare) g.I.Iterator.next_gives g.I.Iterator.can_next
-        g.I.Iterator.remaining
+    g.I.Iterator.remaining
     stream_state
     c.args.merge.now ends new

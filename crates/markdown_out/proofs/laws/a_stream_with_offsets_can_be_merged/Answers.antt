@@ -8,7 +8,7 @@ use Rattle.markdown_out.proofs.laws.a_stream_with_offsets_can_be_merged.Goals as
 pub returns-clause-stays_ended : goal.returns-clause-stays_ended
 returns-clause-stays_ended g c ends =
     merge_stays_ended (boxed_through through_ranges)
-        (formed_view with_range) g.I.Iterator.next_gives g.I.Iterator.can_next
+    (formed_view with_range) g.I.Iterator.next_gives g.I.Iterator.can_next
     g.I.Iterator.remaining
     offset_state
     c.args.merge.now ends
@@ -16,7 +16,7 @@ returns-clause-stays_ended g c ends =
 pub returns-clause-merges : goal.returns-clause-merges
 returns-clause-merges g c can =
     merge_can_merge (boxed_through through_ranges)
-        (formed_view with_range) g.I.Iterator.next_gives g.I.Iterator.can_next
+    (formed_view with_range) g.I.Iterator.next_gives g.I.Iterator.can_next
     g.I.Iterator.remaining
     offset_state
     c.args.merge.now can

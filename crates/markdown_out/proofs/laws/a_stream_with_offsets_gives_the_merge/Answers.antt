@@ -8,6 +8,6 @@ use Rattle.markdown_out.proofs.laws.a_stream_with_offsets_gives_the_merge.Goals 
 pub returns : goal.returns
 returns g c ends new =
     gives_the_merge (boxed_through through_ranges)
-        (formed_view with_range) g.I.Iterator.next_gives g.I.Iterator.can_next
+    (formed_view with_range) g.I.Iterator.next_gives g.I.Iterator.can_next
     g.I.Iterator.remaining offset_state
     c.args.merge.now ends new

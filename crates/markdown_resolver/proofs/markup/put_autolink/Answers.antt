@@ -28,13 +28,13 @@ put_parent-requires c =
     let inside : Item → Item = λ item. record { start = item.end; end = end - 1; body = body.Text false } in
     let bytes = c.args.found.destination.now in
     let put : PutsLink source (item_at nodes ix).start end (tables_of held) (tables_of held') link (address kind
-        bytes) =
+    bytes) =
     link_put source (item_at nodes ix).start end held held' _ link (address kind bytes)
     c.in_ok-link.ensures.put c.in_ok-link.ensures.number
     (address_from source (item_at nodes ix).start end sliced kind bytes at.address.slice)
     (address_is c.link_type.result kind bytes c.link_type.ensures) in
     let can = can_put_autolink source (tables_of held) (tables_of held') link kind bytes nodes ix end put at.lies
-        at.address in
+    at.address in
     let here = subst (λ (item : Item). CanPutParent source (tables_of held) (tables_of held') nodes ix (over item)
     (inside item)) (sym (c.item-item.ensures no_item)) can in
     (source, tables_of held, tables_of held', put.grown, at.found, here)

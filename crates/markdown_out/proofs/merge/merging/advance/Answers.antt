@@ -21,7 +21,7 @@ returns-in-Give-clause-passes g c =
     let given : given_answers c.in_ok-step.step ≡ option_map view c.rebuilt.result ∷ [] =
     ap given_answers c.in-Give.is ∙ ap (λ x. x ∷ []) (sym c.rebuilt.ensures.view) in
     subst (λ given. IsMerged (boxed_through through) view steps (held_items c.args.held) c.args.iter.now given
-        (held_items after)
+    (held_items after)
     c.next.new.self) given
     more
 
