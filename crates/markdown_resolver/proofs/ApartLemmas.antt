@@ -1,6 +1,6 @@
--- The trees of a chain lie one after the other: a fresh chain's do, and pass one leaves it so, for the chains of children
--- that it makes too. What replaces a find or an opener ends where the chain continues at the latest, and the rest of the
--- chain begins there.
+-- The trees of a chain lie one after the other: a fresh chain's do, and pass one leaves it so, for the chains of
+-- children that it makes too. What replaces a find or an opener ends where the chain continues at the latest, and the
+-- rest of the chain begins there.
 use Rattle.std.proofs.Common.{◌≡◌, ℕ, ◌+◌, ◌-◌, ◌<◌, ◌≤◌, Bool, true, false, ◌&&◌, List, [], ◌∷◌, Option, Some, None}
 use Rattle.std.proofs.Common.{refl, sym, ap, subst, ◌∙◌, arith, nat_le}
 use Rattle.std.specs.Prelude.{IfSome, if◌then◌else◌, ⊤, nat_lt, not, ◌==◌, drop, take, slice_index}
@@ -39,7 +39,8 @@ use Rattle.markdown_raw_html.specs.TagText.{text_in}
 use Rattle.markdown_spans.specs.Autolink.{closed_uri, uri_autolink}
 use Rattle.markdown_spans.specs.Closers.{Dollar, MathClose, code_close, code_closer, dollar_next, first_dollar}
 use Rattle.markdown_spans.specs.Closers.{closing_count, inline_close, is_code_of, is_dollar, is_dollar_of, math_close}
-use Rattle.markdown_spans.specs.Closers.{can_close, can_open, context_of, display_close, math_close_from, math_closed_by}
+use Rattle.markdown_spans.specs.Closers.{can_close, can_open, context_of, display_close}
+use Rattle.markdown_spans.specs.Closers.{math_close_from, math_closed_by}
 use Rattle.markdown_spans.specs.Finds.{Find, SpanText, code_found, code_span, code_trees, end_of_find, find}
 use Rattle.markdown_spans.specs.Finds.{find_by, is_escaped}
 use Rattle.markdown_spans.specs.Finds.{markup, markup_found, math_found, math_span, nothing, prefix_below}
@@ -119,7 +120,8 @@ module _ {A : Type 0} where
   sooner i j nil l h = tt
   sooner i j (node a below after) l h = (omega (arith, l, h.0), h.1, h.2, h.3, h.4)
 
-  closed_alone : (a : TreeNode A) (below : Forest (TreeNode A)) → is_unresolved a.part.shape ≡ false → OpensAlone a below
+  closed_alone : (a : TreeNode A) (below : Forest (TreeNode A)) → is_unresolved a.part.shape ≡ false
+      → OpensAlone a below
   closed_alone a below e opens = absurd (cc (e, opens))
 
   -- a node that is not open, over a range, with a chain below it
@@ -231,7 +233,8 @@ module _ {A : Type 0} where
           has_pothole = has_pothole b.shows;
           children = children;
         } in v) (shown_children w first trees end shows)) (λ v. LieApart 0 v.children)
-        by shows_name = one_apart 0 (text_from w first (start_of first) end) nil nil (omega arith) (omega (arith, l)) refl
+        by shows_name = one_apart 0 (text_from w first (start_of first) end) nil nil (omega arith)
+            (omega (arith, l)) refl
             tt tt
         by (shows_nothing at) = one_apart 0 (text_from w first at at) nil nil (omega arith) (omega arith) refl tt tt
         by (shows_from at) = shown_apart (past_byte at trees)
@@ -277,7 +280,8 @@ module _ {A : Type 0} where
     closer_among n [] h = tt
     closer_among n (a ∷ xs) h = by (is_code_of n (open_body a.part.shape)) (closer_among n xs h.1)
       where
-        by : (b : Bool) → IfSome (code_closer as_item n xs) P → IfSome (if b then Some a else code_closer as_item n xs) P
+        by : (b : Bool) → IfSome (code_closer as_item n xs) P
+            → IfSome (if b then Some a else code_closer as_item n xs) P
         by true k = h.0
         by false k = k
 
@@ -315,7 +319,8 @@ module _ {A : Type 0} where
     unfoldable pub Closing_among : Option (MathClose (TreeNode A)) → Type 0
     Closing_among o = IfSome o (λ m. P m.last)
 
-    inline_among : (end : ℕ) (o : Option (Dollar (TreeNode A))) → FoundDollar o → Closing_among (inline_close as_item end o)
+    inline_among : (end : ℕ) (o : Option (Dollar (TreeNode A))) → FoundDollar o
+        → Closing_among (inline_close as_item end o)
     unfolding FoundDollar Closing_among
     inline_among end None h = tt
     inline_among end (Some d) h =

@@ -215,7 +215,8 @@ slice_before text at (Some n) =
     slice_wider text at (at + n) at (at + n + 1) bytes (omega arith) (omega arith)
     (slice_between text at (at + n) bytes (ap (λ k. take k (drop at text)) size))
 
-pub uri_slice : (text : List ℕ) (at : ℕ) → IfSome (uri_autolink text at) (λ found. IsSliceWithin text at found.0 found.1)
+pub uri_slice : (text : List ℕ) (at : ℕ) → IfSome (uri_autolink text at)
+    (λ found. IsSliceWithin text at found.0 found.1)
 uri_slice text at = slice_before text at (closed_uri (drop at text))
 
 -- an autolink to an address

@@ -12,7 +12,8 @@ use Rattle.markdown_base.specs.Item.{BodyKind, body_kind, is_childless_kind, is_
 use Rattle.markdown_base.specs.Item.{settled_inline, undecided_bracket, undecided_delimiter, undecided_span}
 use Rattle.markdown_base.specs.WellFormed.{AllKeepRules, InlineInOrder, IsWellFormed, PartCounts, RunCharacter}
 use Rattle.markdown_base.specs.WellFormed.{RunGoesOn, RunsAreWhole}
-use Rattle.markdown_base.specs.WellFormed.{StandsInRun, StandsOverMarkup, all_inline, counts_of, has_open, run_character}
+use Rattle.markdown_base.specs.WellFormed.{StandsInRun, StandsOverMarkup, all_inline, counts_of}
+use Rattle.markdown_base.specs.WellFormed.{has_open, run_character}
 use Rattle.markdown_base.specs.declared.block_parts.BlockParts.{BlockParts}
 use Rattle.markdown_base.specs.declared.item.Item.{Item}
 use Rattle.markdown_base.specs.declared.item.ItemBody.{ItemBody}
@@ -89,7 +90,8 @@ module _ {A : Type 0} where
   continues_from source a (node b below rest) c (suc more) e is w =
       let stands : StandsInRun source (by_place a) (Some (by_place b)) c =
       subst (λ (o : Option RunCharacter). IfSome o (StandsInRun source (by_place a) (Some (by_place b)))) is w in
-      let on = subst (λ n. RunGoesOn source (by_place a) n c.can_open c.can_close (Some (by_place b))) e stands.goes_on in
+      let on = subst (λ n. RunGoesOn source (by_place a) n c.can_open c.can_close (Some (by_place b))) e
+      stands.goes_on in
       (record { count = suc more; can_open = c.can_open; can_close = c.can_close }, on.body, refl)
 
   -- where the last tree of a chain ends

@@ -15,7 +15,8 @@ use Rattle.markdown_base.specs.declared.tag.LinkType.TheVariants as kind
 use Rattle.markdown_brackets.specs.BracketDecision.{BracketContext, Closing, LinkReference, Progress, Wikilink, Written}
 use Rattle.markdown_brackets.specs.BracketDecision.{a_link, a_text, block_text, carried_out, closer_ends_at, decided}
 use Rattle.markdown_brackets.specs.BracketDecision.{form_of, found, inline_target, inline_title, left_for_one, lines}
-use Rattle.markdown_brackets.specs.BracketDecision.{looked_up, past_second, question_at, second_end, start_of_first_past}
+use Rattle.markdown_brackets.specs.BracketDecision.{looked_up, past_second, question_at}
+use Rattle.markdown_brackets.specs.BracketDecision.{second_end, start_of_first_past}
 use Rattle.markdown_brackets.specs.BracketDecision.{text_from, wikilink_in}
 use Rattle.markdown_brackets.specs.ClosingBracket.{closed, footnote_from, footnote_onto, linked, put, put_decided}
 use Rattle.markdown_brackets.specs.ClosingBracket.{wikilink_target}
@@ -34,7 +35,8 @@ use Rattle.markdown_document.specs.Setting.{ReferenceState, Setting}
 use Rattle.markdown_document.specs.Waiting.{is_quiet}
 use Rattle.markdown_spans.specs.Finds.{end_of_find, find, read_tree, read_unless, trees_for}
 use Rattle.markdown_resolver.specs.PassOne.{bracket_context, pass_one, put_passed, read_on, read_other}
-use Rattle.markdown_resolver.proofs.ApartLemmas.{Around, LieApart, around, find_fits, found_apart, one_apart, onto, past_byte_apart}
+use Rattle.markdown_resolver.proofs.ApartLemmas.{Around, LieApart, around, find_fits, found_apart, one_apart}
+use Rattle.markdown_resolver.proofs.ApartLemmas.{onto, past_byte_apart}
 use Rattle.markdown_resolver.proofs.ApartLemmas.{past_second_apart, sooner, wikilink_apart}
 use Rattle.markdown_resolver.proofs.TailEndLemmas.{tail_closes}
 use Rattle.markdown_resolver.proofs.WholeLemmas.{onto_done, same_change, same_link, same_marks, same_second}
@@ -44,7 +46,8 @@ pub quiet_open : (shape : Shape) → is_quiet shape ≡ false → is_unresolved 
 quiet_open (unresolved b) h = refl
 quiet_open other h = cc h
 
-pub closer_open : (shape : Shape) (could : Bool) → open_body shape ≡ body.MaybeLinkClose could → is_unresolved shape ≡ true
+pub closer_open : (shape : Shape) (could : Bool) → open_body shape ≡ body.MaybeLinkClose could
+    → is_unresolved shape ≡ true
 closer_open (unresolved b) could e = refl
 closer_open other could e = cc e
 
@@ -74,7 +77,8 @@ module _ {A : Type 0} where
     stays : Stays Before
     unfolding Before
     stays = record {
-      bracket = λ left h. subst (LieApart 0) (sym (same_change opens_bracket without_bracket left (node c.node nil c.rest)))
+      bracket = λ left h. subst (LieApart 0) (sym (same_change opens_bracket without_bracket left
+          (node c.node nil c.rest)))
           h;
       wikilink = λ left h. subst (LieApart 0)
           (sym (same_change opens_wikilink without_wikilink left (node c.node nil c.rest))) h;
@@ -106,7 +110,8 @@ module _ {A : Type 0} where
         subst (LieApart 0) (sym (same_link o.state.is_image o.before (node d (inside o) (past_byte next c.rest))))
         (r.goes (node d (inside o) (past_byte next c.rest))
         (one_apart r.begins d (inside o) (past_byte next c.rest) r.starts
-        (omega (arith, r.ordered, r.later, k.0, k.1, later)) refl (sooner 0 (end_of o.opener) (inside o) (omega arith) r.inner) (rest_apart end next on)))
+        (omega (arith, r.ordered, r.later, k.0, k.1, later)) refl (sooner 0 (end_of o.opener) (inside o)
+        (omega arith) r.inner) (rest_apart end next on)))
 
     footnote_apart : (i : Bool) (left : List (Entry A)) (o : Split A) (name : List ℕ) → Before left
         → nearest opens_bracket left ≡ Some o
@@ -134,7 +139,8 @@ module _ {A : Type 0} where
         by true =
             let d = footnote_from c.node name (start_of o.opener + 1) (end_of c.node) in
             let mark = text_from w o.opener (start_of o.opener) (start_of o.opener + 1) in
-            subst (LieApart 0) (sym (same (node mark nil (node d nil later)))) (r.goes (node mark nil (node d nil later))
+            subst (LieApart 0) (sym (same (node mark nil (node d nil later))))
+            (r.goes (node mark nil (node d nil later))
             (one_apart r.begins mark nil (node d nil later) r.starts (omega arith) refl tt
             (one_apart (start_of o.opener + 1) d nil later (omega arith)
             (omega (arith, r.ordered, r.later, r.here.0, some)) refl tt
@@ -193,7 +199,8 @@ module _ {A : Type 0} where
         (λ left o h e live. record {
           inline = λ t is.
               let closes = tail_closes (lines w) (start_of_first_past c.rest) (block_text w) (end_of c.node) t is in
-              link_apart left o (inline_target w t) (inline_title w t ∷ []) t.ends t.ends h e (omega (arith, closes.after))
+              link_apart left o (inline_target w t) (inline_title w t ∷ []) t.ends t.ends h e
+              (omega (arith, closes.after))
               (omega arith);
           refers = λ r way.
               let rules = w.setting.rules in
@@ -276,7 +283,8 @@ module _ {A : Type 0} where
     step (body.MaybeLinkClose could) a below rest p is none h = closed_step could a below rest p none is h
     step other a below rest p is none h = other_step a below rest p h
 
-    pub past_step : (goes_on : Option ℕ) (a : TreeNode A) (below rest : Forest (TreeNode A)) (p : Progress A) → p.goes_on
+    pub past_step : (goes_on : Option ℕ) (a : TreeNode A) (below rest : Forest (TreeNode A)) (p : Progress A)
+        → p.goes_on
         ≡ goes_on → SoFar p (node a below rest)
         → SoFar (read_past (bracket_context s above) (read_other s notes above) goes_on a below rest p) rest
     unfolding SoFar

@@ -1,5 +1,6 @@
 -- In pass one each tree keeps its slices in its own range, but for the first that a wikilink shows after its pipe.
-use Rattle.std.proofs.Common.{◌≡◌, ℕ, ◌+◌, ◌-◌, ◌<◌, ◌≤◌, Bool, true, false, ◌&&◌, ◌==◌, not, List, [], ◌∷◌, Option, Some, None}
+use Rattle.std.proofs.Common.{◌≡◌, ℕ, ◌+◌, ◌-◌, ◌<◌, ◌≤◌, Bool, true, false, ◌&&◌, ◌==◌, not, List, [], ◌∷◌, Option}
+use Rattle.std.proofs.Common.{Some, None}
 use Rattle.std.proofs.Common.{refl, sym, ap, subst, ◌∙◌, arith, nat_le, ⊎_elim, drop}
 use Rattle.std.specs.Prelude.{IfSome, if◌then◌else◌, unwrap_or, ⊤, ◌⊎◌, take, slice_range}
 use Rattle.std.specs.List.{AllByRecursion}
@@ -15,7 +16,8 @@ use Rattle.markdown_base.specs.declared.tag.LinkType.{LinkType}
 use Rattle.markdown_base.specs.declared.tag.LinkType.TheVariants as kind
 use Rattle.markdown_brackets.specs.BracketDecision.{BracketContext, Closing, LinkReference, Progress, Wikilink, Written}
 use Rattle.markdown_brackets.specs.BracketDecision.{a_link, a_text, carried_out, decided, found, if_some, inline_target}
-use Rattle.markdown_brackets.specs.BracketDecision.{form_of, inline_title, left_for_one, looked_up, past_second, question_at}
+use Rattle.markdown_brackets.specs.BracketDecision.{form_of, inline_title, left_for_one, looked_up}
+use Rattle.markdown_brackets.specs.BracketDecision.{past_second, question_at}
 use Rattle.markdown_brackets.specs.BracketDecision.{second_end, shown_children, text_from, wikilink_by, wikilink_in}
 use Rattle.markdown_brackets.specs.ClosingBracket.{closed, footnote_from, footnote_onto, linked, put, put_decided}
 use Rattle.markdown_brackets.specs.ClosingBracket.{wikilink_target}
@@ -44,15 +46,18 @@ use Rattle.markdown_spans.specs.Closers.{Dollar, MathClose, can_close, can_open,
 use Rattle.markdown_spans.specs.Closers.{dollar_next, first_dollar, inline_close, is_dollar_of, math_close}
 use Rattle.markdown_spans.specs.Closers.{math_close_from, math_closed_by}
 use Rattle.markdown_spans.specs.Finds.{Find, SpanText, code_found, code_span, code_trees, find, find_by}
-use Rattle.markdown_spans.specs.Finds.{is_escaped, markup, markup_found, math_found, math_span, math_text_start, nothing}
+use Rattle.markdown_spans.specs.Finds.{is_escaped, markup, markup_found, math_found, math_span}
+use Rattle.markdown_spans.specs.Finds.{math_text_start, nothing}
 use Rattle.markdown_spans.specs.Finds.{prefix_below, read_tree, read_unless, span_between, trees_for}
 use Rattle.markdown_spans.specs.CodeText.{replaced_past, span_text}
 use Rattle.markdown_spans.specs.declared.span_text.SpanKind.{SpanKind}
 use Rattle.markdown_spans.specs.declared.span_text.SpanKind.TheVariants.{Code, Math}
 use Rattle.markdown_spans.proofs.SliceLemmas.{sliced_wider}
 use Rattle.markdown_resolver.specs.PassOne.{bracket_context, pass_one, put_passed, read_on, read_other}
-use Rattle.markdown_resolver.specs.SlicesInPlace.{IsInPlace, LinkIsIn, SlicesInPlace, SpanIsIn, has_pipe, shows_after_pipe}
-use Rattle.markdown_resolver.proofs.ApartLemmas.{Closing_among, LieApart, around, code_among, ends_later, math_among, next_among}
+use Rattle.markdown_resolver.specs.SlicesInPlace.{IsInPlace, LinkIsIn, SlicesInPlace, SpanIsIn}
+use Rattle.markdown_resolver.specs.SlicesInPlace.{has_pipe, shows_after_pipe}
+use Rattle.markdown_resolver.proofs.ApartLemmas.{Closing_among, LieApart, around, code_among, ends_later}
+use Rattle.markdown_resolver.proofs.ApartLemmas.{math_among, next_among}
 use Rattle.markdown_resolver.proofs.ApartLemmas.{onto}
 use Rattle.markdown_resolver.proofs.EndsWellLemmas.{IsNoSlice, looked_up_made}
 use Rattle.markdown_resolver.proofs.PassOneApartLemmas.{SoFar, closer_open, past_step, quiet_open, second_later}
@@ -344,7 +349,8 @@ module _ {A : Type 0} (w : BracketContext) (c : Closing A) (some : start_of c.no
             (reference_made r way)) (looked_up o r result now).progress goes;
         footnote = λ name. footnote_placed o.state.is_image left o name h e;
       })
-      (λ left o v end h e live is s. wikilink_put left o v end h e (second_later w c some rest c.rest end rest s) is) p.left
+      (λ left o v end h e live is s. wikilink_put left o v end h e (second_later w c some rest c.rest end rest s)
+      is) p.left
       (record { apart = apart; placed = placed }))
     where
       second : Option ℕ
@@ -408,7 +414,8 @@ module _ {A : Type 0} where
   ClosesInRow : Option (MathClose (TreeNode A)) → Type 0
   ClosesInRow o = IfSome o (λ m. start_of m.closer ≤ end_of m.last)
 
-  inline_in_row : (end : ℕ) (o : Option (Dollar (TreeNode A))) → DollarInRow o → ClosesInRow (inline_close as_item end o)
+  inline_in_row : (end : ℕ) (o : Option (Dollar (TreeNode A))) → DollarInRow o
+      → ClosesInRow (inline_close as_item end o)
   unfolding DollarInRow ClosesInRow
   inline_in_row end None h = tt
   inline_in_row end (Some d) h = by (can_close (open_body d.dollar.part.shape) && not (end == start_of d.dollar))
@@ -422,7 +429,8 @@ module _ {A : Type 0} where
   unfolding DollarInRow ClosesInRow
   display_in_row None h = tt
   display_in_row (Some d) h = by (dollar_next as_item d.after)
-      (next_among (LiesFrom (end_of d.dollar)) d.after (all_from (end_of d.dollar) (end_of d.dollar) d.after (omega arith)
+      (next_among (LiesFrom (end_of d.dollar)) d.after (all_from (end_of d.dollar) (end_of d.dollar) d.after
+      (omega arith)
       h.1))
     where
       by : (o : Option (TreeNode A)) → IfSome o (LiesFrom (end_of d.dollar))
@@ -449,7 +457,8 @@ module _ {A : Type 0} where
       of_next (Some second) = display_in_row _ (dollar_in_row (context_of opener.body) rest.0 (drop 1 cs) rest.1)
       of_next None = inline_in_row opener.end _ (dollar_in_row (context_of opener.body) i cs h)
 
-      by : (opens : Bool) → ClosesInRow (if opens then math_close as_item opener.end (context_of opener.body) cs else None)
+      by : (opens : Bool) → ClosesInRow (if opens then math_close as_item opener.end (context_of opener.body) cs
+          else None)
       by true = of_next (dollar_next as_item cs)
       by false = tt
 
@@ -496,7 +505,8 @@ module _ {A : Type 0} (s : Setting) (above : EnclosingBlocks) where
       → FindsSlice a (code_found s above a o)
   code_slice a None h = tt
   code_slice a (Some closer) h =
-      span_within s above Code (end_of a) (start_of closer) (end_of a) (end_of closer) (omega arith) h.1 (omega (arith, h.0, h.1))
+      span_within s above Code (end_of a) (start_of closer) (end_of a) (end_of closer) (omega arith) h.1
+      (omega (arith, h.0, h.1))
 
   math_start : (a : TreeNode A) (cs : List (TreeNode A)) → start_of a ≤ end_of a → InRow (end_of a) cs
       → start_of a ≤ math_text_start a cs
@@ -513,7 +523,8 @@ module _ {A : Type 0} (s : Setting) (above : EnclosingBlocks) where
   unfolding ClosesInRow
   math_slice a cs l h None k e = tt
   math_slice a cs l h (Some m) k e =
-      span_within s above Math (math_text_start a cs) (start_of m.closer) (start_of a) (end_of m.last) (math_start a cs l h) k
+      span_within s above Math (math_text_start a cs) (start_of m.closer) (start_of a) (end_of m.last)
+      (math_start a cs l h) k
       (omega (arith, l, e))
 
   less_slice : (a : TreeNode A) (followed : Bool) → FindsSlice a (markup_found s above a followed)

@@ -15,7 +15,8 @@ use Rattle.markdown_document.specs.Setting.{Setting}
 use Rattle.markdown_spans.specs.LineEnd.{line_ending}
 use Rattle.markdown_spans.specs.AfterLess.{Markup, address_at, autolink, html_at, html_markup, markup_at}
 use Rattle.markdown_spans.specs.Autolink.{uri_autolink}
-use Rattle.markdown_spans.specs.CodeText.{Piece, begins_escaped_pipe, has_outer_spaces, is_sliced, lines_joined, piece_at}
+use Rattle.markdown_spans.specs.CodeText.{Piece, begins_escaped_pipe, has_outer_spaces, is_sliced}
+use Rattle.markdown_spans.specs.CodeText.{lines_joined, piece_at}
 use Rattle.markdown_spans.specs.CodeText.{replaced_past, shown_ending, span_text, without_outer_spaces}
 use Rattle.markdown_spans.specs.Finds.{prefix_below, span_between}
 use Rattle.markdown_spans.specs.declared.after_less.AutolinkKind.TheVariants.{Uri, Email}
@@ -91,7 +92,8 @@ origin_sliced true e = refl
 origin_sliced false e = cc e
 
 pub span_slice : (s : Setting) (above : EnclosingBlocks) (kind : SpanKind) (start end : ℕ) → start ≤ end
-    → IsSlicedOf s.text start end (span_between s above kind start end).origin (span_between s above kind start end).bytes
+    → IsSlicedOf s.text start end (span_between s above kind start end).origin
+    (span_between s above kind start end).bytes
 span_slice s above kind start end order = λ is.
     let bytes = slice_range s.text start end in
     slice_inside s.text start end (length bytes) _ order

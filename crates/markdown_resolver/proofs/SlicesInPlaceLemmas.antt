@@ -77,7 +77,8 @@ turns (unresolved (body.MaybeSmartQuote quote opens closes)) single double later
     shape : Shape
     shape = unresolved (body.MaybeSmartQuote quote opens closes)
 
-    by : (b : Bool) → Turns shape (turn_by (if b then quote_kind.Single opens closes else quote_kind.Double opens closes) shape
+    by : (b : Bool) → Turns shape (turn_by (if b then quote_kind.Single opens closes else quote_kind.Double opens
+        closes) shape
         single double later last).made
     by true = inr (single_refers (single && closes), refl)
       where

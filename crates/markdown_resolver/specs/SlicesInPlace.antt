@@ -1,6 +1,6 @@
 -- Which texts of a resolved chain are slices of the source within the ranges of their own trees: code, math, the
--- destinations of autolinks, and the names of wikilinks. Only the first tree that a wikilink shows after its pipe may have
--- a slice that begins before it, since the pipe may cut off what the tree begins with.
+-- destinations of autolinks, and the names of wikilinks. Only the first tree that a wikilink shows after its pipe may
+-- have a slice that begins before it, since the pipe may cut off what the tree begins with.
 use Rattle.std.specs.Prelude.{◌≡◌, ℕ, ⊤, Bool, false, List, [], ◌∷◌}
 use Rattle.markdown_base.specs.Event.{EventView, LinkView, code, inline_math, display_math, link, image}
 use Rattle.markdown_base.specs.Forest.{Forest, nil, node}
@@ -54,8 +54,8 @@ shows_after_pipe (enclosed (link v) titles) = has_pipe v.kind
 shows_after_pipe (enclosed (image v) titles) = has_pipe v.kind
 shows_after_pipe other = false
 
--- each tree of a chain has its slices in its own range, but for the first if a pipe may have cut it; and so have those of
--- the chains below
+-- each tree of a chain has its slices in its own range, but for the first if a pipe may have cut it; and so have those
+-- of the chains below
 abbrev pub SlicesInPlace : {A : Type 0} → List ℕ → (cut : Bool) → Forest (TreeNode A) → Type 0
 SlicesInPlace source cut nil = ⊤
 SlicesInPlace source cut (node a below after) =
