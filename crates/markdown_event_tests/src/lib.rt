@@ -9,6 +9,8 @@ mod escapes;
 #[cfg(test)]
 mod events;
 #[cfg(test)]
+mod extended;
+#[cfg(test)]
 mod html;
 #[cfg(test)]
 mod merged;

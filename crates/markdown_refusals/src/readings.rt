@@ -28,6 +28,12 @@ fn of_blocks(alloc: Global, source: Source) -> Result<Parser<'static, Asked>, Fa
     Parser::from_blocks(alloc, blocks, Some(callback_for(source)))
 }
 
+/// Returns a parser by the extended entry.
+fn extended(alloc: Global, source: Source) -> Result<Parser<'static, Asked>, Fault> {
+    let callback = Some(callback_for(source));
+    Parser::new_extended(alloc, source.text, source.options(), callback)
+}
+
 /// Returns whether each constructor returns a parser, or an allocation was refused.
 fn makes(alloc: Global, source: Source) -> bool {
     is_made(Blocks::of_text(alloc, source.text, source.options()))
@@ -35,6 +41,7 @@ fn makes(alloc: Global, source: Source) -> bool {
         && is_made(Parser::new_ext(alloc, source.text, source.options()))
         && is_made(parser(alloc, source))
         && is_made(of_blocks(alloc, source))
+        && is_made(extended(alloc, source))
 }
 
 /// Returns the events of a text.

@@ -42,6 +42,16 @@ pub fn text_parser<'a>(
     or_fail(Parser::new_ext(alloc, source, options))
 }
 
+/// Returns a parser of a text that is read by the extended entry, with these options.
+pub fn extended_parser<'a>(
+    alloc: Global,
+    source: &'a str,
+    options: Options,
+) -> Result<Parser<'a>, Fail> {
+    fits(alloc, source, options.with_extended(true))?;
+    or_fail(Parser::new_extended(alloc, source, options, None))
+}
+
 /// Returns a parser of a text with no options.
 pub fn plain_parser<'a>(alloc: Global, source: &'a str) -> Result<Parser<'a>, Fail> {
     fits(alloc, source, Options::empty())?;

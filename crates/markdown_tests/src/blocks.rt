@@ -1,13 +1,14 @@
-//! Block results: empty, large and deep ones; the parts of one; and the blocks of a text.
+//! Block results: empty, large and deep ones; the parts of one, and its entry; and the blocks of a text.
 use crate::block_rules::is_well_formed;
 use crate::rows::fits;
+use bitflags::Flags;
 use markdown_base::block_parts::BlockParts;
 use markdown_base::cow_str::CowStr;
 use markdown_base::item::{Item, ItemBody};
 use markdown_base::options::Options;
 use markdown_base::tree::Tree;
 use markdown_blocks::Blocks;
-use markdown_test_helpers::parts::one_text;
+use markdown_test_helpers::parts::{no_parts, one_text};
 use markdown_test_helpers::rows::gives;
 use markdown_test_helpers::trees::{item, nested, push_items, text, tree_of};
 use std::alloc::{AllocError, Global};
@@ -49,6 +50,29 @@ fn what_was_checked_comes_back(rt: HostRuntime) -> Result<(), Fail> {
         held?.as_str(),
         "0 Paragraph 0..1;1 Text { backslash_escaped: false } 0..1;x;",
     )
+}
+
+/// Returns whether a block result is of the extended entry, and its options.
+fn entry_and_options(blocks: Blocks<'_>) -> (bool, Options) {
+    let extended = blocks.is_extended();
+    let (_, options, tree, parts) = blocks.into_parts();
+    drop(tree);
+    drop(parts);
+    (extended, options)
+}
+
+#[test]
+fn an_entry_and_all_options_come_back(rt: HostRuntime) -> Result<(), Fail> {
+    let alloc = rt.alloc();
+    let all = Options::from_bits_retain(u32::MAX);
+    let text = Blocks::of_text(alloc, "a", all)?;
+    gives("of_text", entry_and_options(text), (false, all))?;
+    let extended = Blocks::of_extended(alloc, "a", all)?;
+    gives("of_extended", entry_and_options(extended), (true, all))?;
+    let made = Blocks::checked(alloc, "a", all, Tree::new(alloc)?, no_parts(alloc))?;
+    gives("checked", entry_and_options(made), (false, all))?;
+    let made = Blocks::checked_extended(alloc, "a", all, Tree::new(alloc)?, no_parts(alloc))?;
+    gives("checked_extended", entry_and_options(made), (true, all))
 }
 
 /// Returns a body as `Debug` prints it.

@@ -14,6 +14,8 @@ mod definition_blocks;
 #[cfg(test)]
 mod definitions;
 #[cfg(test)]
+mod entries;
+#[cfg(test)]
 mod footnotes;
 #[cfg(test)]
 mod grown;

@@ -11,7 +11,9 @@ use markdown_test_helpers::rows::gives;
 use markdown_test_parsers::faults::or_fail;
 use markdown_test_parsers::html::parser_shows;
 use markdown_test_parsers::made::{Placed, tree_of_placed};
-use markdown_test_parsers::parsers::{parser_gives, parser_of, plain_parser, text_parser};
+use markdown_test_parsers::parsers::{
+    extended_parser, parser_gives, parser_of, plain_parser, text_parser,
+};
 use std::alloc::Global;
 use std::test::Fail;
 
@@ -30,6 +32,35 @@ pub fn assert_html(
 ) -> Result<(), Fail> {
     parser_shows(alloc, source, text_parser(alloc, source, options)?, wanted)?;
     merge_shows(alloc, source, text_parser(alloc, source, options)?, wanted)
+}
+
+/// Checks the HTML of a text that is read by the extended entry, merged and not.
+fn assert_extended_html(
+    alloc: Global,
+    options: Options,
+    source: &str,
+    wanted: &str,
+) -> Result<(), Fail> {
+    parser_shows(
+        alloc,
+        source,
+        extended_parser(alloc, source, options)?,
+        wanted,
+    )?;
+    merge_shows(
+        alloc,
+        source,
+        extended_parser(alloc, source, options)?,
+        wanted,
+    )
+}
+
+/// Checks the HTML of each text, read by the extended entry with these options.
+pub fn check_extended(alloc: Global, options: Options, rows: Rows) -> Result<(), Fail> {
+    for (source, wanted) in rows {
+        assert_extended_html(alloc, options, source, wanted)?;
+    }
+    Ok(())
 }
 
 /// Texts, each with what it gives.
