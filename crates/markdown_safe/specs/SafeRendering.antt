@@ -68,6 +68,12 @@ abbrev pub IsSafeTooDeepFor : {F : Type 0} → (F → Question → Option Answer
     → (text : List ℕ) → Options → Type 0
 IsSafeTooDeepFor step callback text options = IsSafeEntryTooDeepFor false step callback text options
 
+abbrev pub IsSafeRenderingOf : (bytes : List ℕ) → Options → (html : List ℕ) → Type 0
+IsSafeRenderingOf bytes options html = IsSafeEntryRenderingOf false bytes options html
+
+abbrev pub IsSafeTooDeepOf : (bytes : List ℕ) → Options → Type 0
+IsSafeTooDeepOf bytes options = IsSafeEntryTooDeepOf false bytes options
+
 -- and of the extended one
 abbrev pub IsSafeExtendedRenderingFor : {F : Type 0} → (F → Question → Option Answer → F → Type 0) → Option F
     → (text : List ℕ) → Options → (html : List ℕ) → Type 0
