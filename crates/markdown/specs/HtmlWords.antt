@@ -10,6 +10,9 @@ pub use Rattle.markdown_out.specs.HtmlCorrect.{items, IsRendered, StopsAtError, 
 pub use Rattle.markdown_out.specs.HtmlCorrect.{IsCutShort, IsCutAtEnd, GoesTooDeep}
 -- the HTML of a text, and of what is left of a parser
 pub use Rattle.markdown_render.specs.Rendering.{views_of, IsRenderingOf, IsTooDeepOf}
+pub use Rattle.markdown_render.specs.Rendering.{IsEntryRenderingOf, IsEntryTooDeepOf}
 pub use Rattle.markdown_render.specs.RenderingFor.{AreEventsFor, IsRenderingFor, AreFirstEventsFor, IsTooDeepFor}
+pub use Rattle.markdown_render.specs.RenderingFor.{IsEntryRenderingFor, IsEntryTooDeepFor}
+pub use Rattle.markdown_render.specs.RenderingFor.{IsExtendedRenderingFor, IsExtendedTooDeepFor}
 pub use Rattle.markdown_render.specs.ParserHtml.{IsHtmlOfAll, IsHtmlOfFirst}
 pub use Rattle.markdown_render.specs.Merged.{IsMergedHtmlOf, IsMergeTooDeep}

@@ -2,7 +2,7 @@
 
 -- the reading of a block result
 pub use Rattle.markdown_inline.specs.Elements.{Element, question, event, Placed, events_of, questions_of}
-pub use Rattle.markdown_inline.specs.ParserLeft.{reading_of, expansion_limit, block_definitions}
+pub use Rattle.markdown_inline.specs.ParserLeft.{reading_of, expansion_limit, block_definitions, options_read}
 pub use Rattle.markdown_document.specs.Origins.{Origin, sliced, inlined, made, IsSliceWithin}
 pub use Rattle.markdown_document.specs.LinkOrigins.{LinkOrigins, destination_origin, IsLinkFrom, IsTitleFrom}
 pub use Rattle.markdown_document.specs.Places.{follows_pipe, origin_start}
@@ -19,7 +19,7 @@ pub use Rattle.markdown_document.specs.Document.{Shape, leaf, enclosed, plain, b
 -- what is left of a parser
 pub use Rattle.markdown_inline.specs.ParserLeft.{parser_text, parser_definitions, parser_callback, parser_work}
 pub use Rattle.markdown_inline.specs.ParserLeft.{parser_steps, parser_counts, offset_parser}
-pub use Rattle.markdown_inline.specs.ParserLeft.{ReadsText, ReadsBlocks, IsOver}
+pub use Rattle.markdown_inline.specs.ParserLeft.{ReadsEntry, ReadsText, ReadsExtended, ReadsBlocks, IsOver}
 unfoldable pub use Rattle.markdown_inline.specs.ParserLeft.{elements}
 pub use Rattle.markdown_inline.specs.declared.walk.Parser.{Parser}
 pub use Rattle.markdown_inline.specs.declared.walk.OffsetIter.{OffsetIter}

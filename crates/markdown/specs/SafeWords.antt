@@ -20,3 +20,6 @@ pub use Rattle.markdown_safe.specs.declared.adapter.SafeWithOffset.{SafeWithOffs
 -- the safe HTML of a text
 pub use Rattle.markdown_safe.specs.SafeRendering.{IsSafeRenderingFor, IsSafeTooDeepFor, IsSafeRenderingOf}
 pub use Rattle.markdown_safe.specs.SafeRendering.{IsSafeTooDeepOf}
+pub use Rattle.markdown_safe.specs.SafeRendering.{IsSafeEntryRenderingFor, IsSafeEntryTooDeepFor}
+pub use Rattle.markdown_safe.specs.SafeRendering.{IsSafeEntryRenderingOf, IsSafeEntryTooDeepOf}
+pub use Rattle.markdown_safe.specs.SafeRendering.{IsSafeExtendedRenderingFor, IsSafeExtendedTooDeepFor}

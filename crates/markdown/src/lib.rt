@@ -45,6 +45,13 @@ pub mod safe {
     pub use markdown_safe::{Safe, SafeWithOffset, safe_event, safe_html};
 }
 
+/// The extended entry, which reads all of CommonMark: `Parser::new_extended` and `Blocks::of_extended`, and these calls of
+/// a text. What they lack yet is in DIFFERENCES.
+pub mod extended {
+    pub use markdown_render::render_extended;
+    pub use markdown_safe::safe_html_extended;
+}
+
 /// Tables of headings, of events with their source ranges and of block results.
 pub mod outline {
     pub use markdown_outline::{Entry, outline, outline_of};
@@ -52,6 +59,7 @@ pub mod outline {
 
 /// Laws of the definitions that the contracts cite: functions without code, each called for its clause.
 pub mod laws {
+    pub use markdown_base::laws::an_entry_keeps_the_options;
     pub use markdown_defs::laws::{
         a_key_finds_the_first_match, a_name_finds_what_matches, matching_keys_agree,
         matching_names_agree, names_are_tested_by_matching,
