@@ -64,7 +64,7 @@ extern "C" {
  */
 
 /** CommonMark 0.31.2 without extensions. E-mail addresses in angle brackets, and named entities other than `&amp;`,
- * `&lt;`, `&gt;` and `&quot;`, stay text.
+ * `&lt;`, `&gt;` and `&quot;`, stay text, unless `MARKDOWN_EXTENDED` is set.
  */
 #define MARKDOWN_DEFAULT 0
 
@@ -91,6 +91,12 @@ extern "C" {
 
 /** `[[page]]` and `[[page|text]]`. */
 #define MARKDOWN_WIKILINKS (1 << 15)
+
+/** The extended entry, which reads e-mail addresses in angle brackets and all named entities of HTML too. It is no
+ * extension: the other bits mean the same with it and without it. Libraries up to 0.8.0 take it for a bit that changes
+ * nothing.
+ */
+#define MARKDOWN_EXTENDED (1 << 30)
 
 /**
  * ## Calls

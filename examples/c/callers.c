@@ -1,5 +1,6 @@
-/* Renders the texts of a folder and compares what the calls write with what is stored beside them; then passes bytes that
- * are not UTF-8, and buffers that are too small. */
+/* Renders the texts of a folder and compares what the calls write with what is stored beside them, which both entries
+ * read alike but where a name begins with "extended"; then passes bytes that are not UTF-8, and buffers that are too
+ * small. */
 #include <inttypes.h>
 #include <stdbool.h>
 #include <stdio.h>
@@ -53,13 +54,13 @@ static struct bytes read_file(const char *folder, const char *name, const char *
 }
 
 /* The whole result: a first try with a small buffer, and a second with one of the length that was returned. */
-static struct bytes whole(markdown_call *call, struct bytes text) {
+static struct bytes whole(markdown_call *call, struct bytes text, uint32_t options) {
     struct bytes out = {room(16), 16};
-    int64_t length = call(text.at, text.length, OPTIONS, out.at, out.length);
+    int64_t length = call(text.at, text.length, options, out.at, out.length);
     if (length > (int64_t)out.length) {
         free(out.at);
         out = (struct bytes){room((size_t)length), (size_t)length};
-        length = call(text.at, text.length, OPTIONS, out.at, out.length);
+        length = call(text.at, text.length, options, out.at, out.length);
     }
     if (length < 0) {
         fail("refused", "a stored text");
@@ -78,11 +79,11 @@ static bool all_are(const uint8_t *at, size_t length, uint8_t byte) {
 }
 
 /* In a buffer that is too small nothing is written, and behind the whole nothing either. */
-static void try_buffers(markdown_call *call, struct bytes text, struct bytes stored, const char *name) {
+static void try_buffers(markdown_call *call, struct bytes text, uint32_t options, struct bytes stored, const char *name) {
     for (size_t room_for = 0; room_for <= stored.length + 2; room_for++) {
         uint8_t *out = room(room_for);
         memset(out, '?', room_for);
-        if (call(text.at, text.length, OPTIONS, out, room_for) != (int64_t)stored.length) {
+        if (call(text.at, text.length, options, out, room_for) != (int64_t)stored.length) {
             fail("another length is returned", name);
         }
         size_t written = room_for < stored.length ? 0 : stored.length;
@@ -93,17 +94,24 @@ static void try_buffers(markdown_call *call, struct bytes text, struct bytes sto
     }
 }
 
-static void try_text(markdown_call *call, const char *folder, const char *name, const char *kind) {
+static void try_stored(markdown_call *call, const char *folder, const char *name, const char *kind, uint32_t options) {
     struct bytes text = read_file(folder, name, "md");
     struct bytes stored = read_file(folder, name, kind);
-    struct bytes out = whole(call, text);
+    struct bytes out = whole(call, text, options);
     if (out.length != stored.length || memcmp(out.at, stored.at, out.length) != 0) {
         fail("not what is stored", name);
     }
-    try_buffers(call, text, stored, name);
+    try_buffers(call, text, options, stored, name);
     free(out.at);
     free(stored.at);
     free(text.at);
+}
+
+static void try_text(markdown_call *call, const char *folder, const char *name, const char *kind) {
+    try_stored(call, folder, name, kind, OPTIONS | MARKDOWN_EXTENDED);
+    if (strncmp(name, "extended", strlen("extended")) != 0) {
+        try_stored(call, folder, name, kind, OPTIONS);
+    }
 }
 
 static void try_not_utf8(markdown_call *call) {

@@ -4,6 +4,8 @@ HTML of `to_html` is not sanitised: raw HTML and destinations are as the author 
 import ctypes
 
 STRIKETHROUGH = 1 << 3
+# the extended entry, which reads e-mail addresses in angle brackets and all named entities of HTML too
+EXTENDED = 1 << 30
 
 
 class Refused(Exception):

@@ -1,9 +1,9 @@
-//! Renders the texts of a folder and compares what the calls give with what is stored beside them; then passes bytes that
-//! are not UTF-8, and buffers that are too small.
+//! Renders the texts of a folder and compares what the calls give with what is stored beside them, which both entries read
+//! alike but where a name begins with `extended`; then passes bytes that are not UTF-8, and buffers that are too small.
 
 mod markdown;
 
-use markdown::{Refusal, STRIKETHROUGH, html_into, json_into, outline_into, safe_html_into};
+use markdown::{EXTENDED, Refusal, STRIKETHROUGH, html_into, json_into, outline_into, safe_html_into};
 use markdown::{to_html, to_json, to_outline, to_safe_html};
 use std::{env, fs};
 
@@ -16,17 +16,17 @@ fn read(folder: &str, name: &str, kind: &str) -> String {
 }
 
 /// Nothing is written to a buffer that is too small, and nothing behind the whole.
-fn try_buffers(into: Into, text: &str, stored: &str) {
+fn try_buffers(into: Into, text: &str, options: u32, stored: &str) {
     for room in 0..stored.len() + 2 {
         let mut out = vec![b'?'; room];
-        assert_eq!(into(text.as_bytes(), STRIKETHROUGH, &mut out), Ok(stored.len()));
+        assert_eq!(into(text.as_bytes(), options, &mut out), Ok(stored.len()));
         let written = if room < stored.len() { "" } else { stored };
         assert!(out.starts_with(written.as_bytes()));
         assert!(out[written.len()..].iter().all(|byte| *byte == b'?'));
     }
 }
 
-fn try_text(folder: &str, name: &str) {
+fn try_calls(folder: &str, name: &str, options: u32) {
     let text = read(folder, name, "md");
     let calls: [(&str, Whole, Into); 4] = [
         ("html", to_html, html_into),
@@ -36,8 +36,15 @@ fn try_text(folder: &str, name: &str) {
     ];
     for (kind, whole, into) in calls {
         let stored = read(folder, name, kind);
-        assert_eq!(whole(&text, STRIKETHROUGH).as_deref(), Ok(stored.as_str()), "{name}.{kind}");
-        try_buffers(into, &text, &stored);
+        assert_eq!(whole(&text, options).as_deref(), Ok(stored.as_str()), "{name}.{kind}");
+        try_buffers(into, &text, options, &stored);
+    }
+}
+
+fn try_text(folder: &str, name: &str) {
+    try_calls(folder, name, STRIKETHROUGH | EXTENDED);
+    if !name.starts_with("extended") {
+        try_calls(folder, name, STRIKETHROUGH);
     }
 }
 

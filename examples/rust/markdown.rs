@@ -13,6 +13,8 @@ pub enum Refusal {
 }
 
 pub const STRIKETHROUGH: u32 = 1 << 3;
+/// The extended entry, which reads e-mail addresses in angle brackets and all named entities of HTML too.
+pub const EXTENDED: u32 = 1 << 30;
 
 type Call = unsafe extern "C" fn(*const u8, usize, u32, *mut u8, usize) -> i64;
 

@@ -2,15 +2,16 @@
 ghost use Rattle.std.specs.Prelude.{◌≡◌, ℕ, List, Result};
 ghost use Rattle.markdown_render.specs.Words.{of_bits};
 ghost use Rattle.markdown_c.specs.CallsFromC.{IsHtmlOutcome, IsJsonOutcome, IsOutlineOutcome, IsSafeHtmlOutcome};
-ghost use Rattle.markdown_c.specs.CallsFromC.{returned_number, buffer_after};
+ghost use Rattle.markdown_c.specs.CallsFromC.{asks_extended, returned_number, buffer_after};
 ghost use Rattle.markdown_c.specs.declared.readings.Refusal.{Refusal};
 
 use crate::buffer::answer;
 use crate::readings::{html_of, json_of, outline_of, safe_html_of};
 use std::alloc::Global;
 
-/// Renders a trusted text as HTML, which is not sanitised. Returns the length of the HTML in bytes, and writes the HTML to the front of `out`, if it
-/// fits; otherwise `out` is unchanged. Each bit of `options` enables an extension, as in `Options`.
+/// Renders a trusted text as HTML, which is not sanitised. Returns the length of the HTML in bytes, and writes the HTML to
+/// the front of `out`, if it fits; otherwise `out` is unchanged. Each bit of `options` enables an extension, as in
+/// `Options`, but one, which no option has: with it the extended entry reads the text.
 ///
 /// # Errors
 ///
@@ -18,7 +19,8 @@ use std::alloc::Global;
 /// one image. `out` is then unchanged.
 #[unsafe(no_mangle)]
 pub extern "C" fn markdown_to_html(alloc: Global, text: &[u8], options: u32, out: &mut [u8]) -> i64
-    ensures { (outcome : Result (List ℕ) Refusal) × IsHtmlOutcome text.now (of_bits options) outcome
+    ensures { (outcome : Result (List ℕ) Refusal)
+        × IsHtmlOutcome (asks_extended options) text.now (of_bits options) outcome
         × (result ≡ returned_number outcome) × (out.new ≡ buffer_after out.old outcome) }
 {
     answer(html_of(alloc, text, options), out)
@@ -26,7 +28,7 @@ pub extern "C" fn markdown_to_html(alloc: Global, text: &[u8], options: u32, out
 
 /// Renders a text that a stranger wrote as safe HTML: raw HTML is shown as text, and a destination whose scheme could
 /// run a script is left out. Returns the length of the HTML in bytes, and writes the HTML to the front of `out`, if it
-/// fits; otherwise `out` is unchanged. Each bit of `options` enables an extension, as in `Options`.
+/// fits; otherwise `out` is unchanged. `options` are as for `markdown_to_html`.
 ///
 /// # Errors
 ///
@@ -39,22 +41,23 @@ pub extern "C" fn markdown_to_safe_html(
     out: &mut [u8],
 ) -> i64
     ensures { (outcome : Result (List ℕ) Refusal)
-        × IsSafeHtmlOutcome text.now (of_bits options) outcome
+        × IsSafeHtmlOutcome (asks_extended options) text.now (of_bits options) outcome
         × (result ≡ returned_number outcome) × (out.new ≡ buffer_after out.old outcome) }
 {
     answer(safe_html_of(alloc, text, options), out)
 }
 
 /// Writes the events of a text as JSON: a line for each event, with its range of byte offsets in `text`. Returns the
-/// length of the lines in bytes, and writes them to the front of `out`, if they fit; otherwise `out` is unchanged. Each
-/// bit of `options` enables an extension, as in `Options`.
+/// length of the lines in bytes, and writes them to the front of `out`, if they fit; otherwise `out` is unchanged.
+/// `options` are as for `markdown_to_html`.
 ///
 /// # Errors
 ///
 /// Returns -1 if `text` is not UTF-8, and -2 if an allocation is refused. `out` is then unchanged.
 #[unsafe(no_mangle)]
 pub extern "C" fn markdown_to_json(alloc: Global, text: &[u8], options: u32, out: &mut [u8]) -> i64
-    ensures { (outcome : Result (List ℕ) Refusal) × IsJsonOutcome text.now (of_bits options) outcome
+    ensures { (outcome : Result (List ℕ) Refusal)
+        × IsJsonOutcome (asks_extended options) text.now (of_bits options) outcome
         × (result ≡ returned_number outcome) × (out.new ≡ buffer_after out.old outcome) }
 {
     answer(json_of(alloc, text, options), out)
@@ -62,7 +65,7 @@ pub extern "C" fn markdown_to_json(alloc: Global, text: &[u8], options: u32, out
 
 /// Writes the headings of a text as JSON: a line for each, with its level, its text without markup, and its range of
 /// byte offsets in `text`. Returns the length of the lines in bytes, and writes them to the front of `out`, if they
-/// fit; otherwise `out` is unchanged. Each bit of `options` enables an extension, as in `Options`.
+/// fit; otherwise `out` is unchanged. `options` are as for `markdown_to_html`.
 ///
 /// # Errors
 ///
@@ -75,7 +78,7 @@ pub extern "C" fn markdown_to_outline(
     out: &mut [u8],
 ) -> i64
     ensures { (outcome : Result (List ℕ) Refusal)
-        × IsOutlineOutcome text.now (of_bits options) outcome
+        × IsOutlineOutcome (asks_extended options) text.now (of_bits options) outcome
         × (result ≡ returned_number outcome) × (out.new ≡ buffer_after out.old outcome) }
 {
     answer(outline_of(alloc, text, options), out)

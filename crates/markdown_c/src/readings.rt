@@ -3,16 +3,16 @@ ghost use Rattle.std.specs.Prelude.{◌≡◌, IfOk, IfErr};
 ghost use Rattle.std.specs.Str.{IsUtf8};
 ghost use Rattle.markdown_render.specs.Words.{of_bits};
 ghost use Rattle.markdown_c.specs.CallsFromC.{IsHtmlOutcome, IsJsonOutcome, IsOutlineOutcome, IsSafeHtmlOutcome};
-ghost use Rattle.markdown_c.specs.CallsFromC.{bytes_of};
+ghost use Rattle.markdown_c.specs.CallsFromC.{asks_extended, bytes_of};
 ghost use Rattle.markdown_c.specs.declared.readings.Refusal.{Refusal};
 
 use bitflags::Flags;
 use markdown_base::fault::Fault;
 use markdown_base::options::Options;
 use markdown_defs::DefaultBrokenLinkCallback;
-use markdown_render::render;
-use markdown_safe::safe_html;
-use markdown_text_json::{outline_json, text_json};
+use markdown_render::{render, render_extended};
+use markdown_safe::{safe_html, safe_html_extended};
+use markdown_text_json::{outline_json, outline_json_extended, text_json, text_json_extended};
 use std::alloc::Global;
 use std::str;
 
@@ -61,36 +61,62 @@ fn options_of(bits: u32) -> Options
     Options::from_bits_retain(bits)
 }
 
+/// The bit that asks for the extended entry.
+const EXTENDED: u32 = 1 << 30;
+
+/// Returns whether these bits ask for the extended entry.
+fn asks_extended(bits: u32) -> bool
+    ensures { result ≡ asks_extended bits }
+{
+    bits & EXTENDED != 0
+}
+
 /// Returns the HTML of a text, without a callback.
 pub(crate) fn html_of(alloc: Global, bytes: &[u8], bits: u32) -> Result<String, Refusal>
-    ensures { IsHtmlOutcome bytes.now (of_bits bits) (bytes_of result) }
+    ensures { IsHtmlOutcome (asks_extended bits) bytes.now (of_bits bits) (bytes_of result) }
 {
     let text = text_of(bytes)?;
     let nobody = None::<DefaultBrokenLinkCallback>;
-    Ok(render(alloc, text, options_of(bits), nobody)?)
+    if asks_extended(bits) {
+        Ok(render_extended(alloc, text, options_of(bits), nobody)?)
+    } else {
+        Ok(render(alloc, text, options_of(bits), nobody)?)
+    }
 }
 
 /// Returns the safe HTML of a text, without a callback.
 pub(crate) fn safe_html_of(alloc: Global, bytes: &[u8], bits: u32) -> Result<String, Refusal>
-    ensures { IsSafeHtmlOutcome bytes.now (of_bits bits) (bytes_of result) }
+    ensures { IsSafeHtmlOutcome (asks_extended bits) bytes.now (of_bits bits) (bytes_of result) }
 {
     let text = text_of(bytes)?;
     let nobody = None::<DefaultBrokenLinkCallback>;
-    Ok(safe_html(alloc, text, options_of(bits), nobody)?)
+    if asks_extended(bits) {
+        Ok(safe_html_extended(alloc, text, options_of(bits), nobody)?)
+    } else {
+        Ok(safe_html(alloc, text, options_of(bits), nobody)?)
+    }
 }
 
 /// Returns the lines of the events of a text.
 pub(crate) fn json_of(alloc: Global, bytes: &[u8], bits: u32) -> Result<String, Refusal>
-    ensures { IsJsonOutcome bytes.now (of_bits bits) (bytes_of result) }
+    ensures { IsJsonOutcome (asks_extended bits) bytes.now (of_bits bits) (bytes_of result) }
 {
     let text = text_of(bytes)?;
-    Ok(text_json(alloc, text, options_of(bits))?)
+    if asks_extended(bits) {
+        Ok(text_json_extended(alloc, text, options_of(bits))?)
+    } else {
+        Ok(text_json(alloc, text, options_of(bits))?)
+    }
 }
 
 /// Returns the lines of the headings of a text.
 pub(crate) fn outline_of(alloc: Global, bytes: &[u8], bits: u32) -> Result<String, Refusal>
-    ensures { IsOutlineOutcome bytes.now (of_bits bits) (bytes_of result) }
+    ensures { IsOutlineOutcome (asks_extended bits) bytes.now (of_bits bits) (bytes_of result) }
 {
     let text = text_of(bytes)?;
-    Ok(outline_json(alloc, text, options_of(bits))?)
+    if asks_extended(bits) {
+        Ok(outline_json_extended(alloc, text, options_of(bits))?)
+    } else {
+        Ok(outline_json(alloc, text, options_of(bits))?)
+    }
 }
