@@ -108,7 +108,7 @@ module _ {A : Type 0} (source : List ℕ) where
   joined_rest (node a below after) g h = joined_rest after g h.2
 
   -- a tree that refers to no slice, with a chain below it and another after it
-  put_around : (cut : Bool) (a : TreeNode A) (below after : Forest (TreeNode A)) → refers a.part.shape ≡ false
+  pub put_around : (cut : Bool) (a : TreeNode A) (below after : Forest (TreeNode A)) → refers a.part.shape ≡ false
       → SlicesInPlace source false below → SlicesInPlace source false after
       → SlicesInPlace source cut (node a below after)
   put_around cut a below after none inner later = (
@@ -181,7 +181,7 @@ module _ {A : Type 0} (s : Setting) where
 -- ---- fresh chains
 
 -- what is not resolved refers to no slice
-unresolved_refers : (tables : Tables) (bytes : List ℕ) (b : ItemBody) → is_resolved b ≡ false
+pub unresolved_refers : (tables : Tables) (bytes : List ℕ) (b : ItemBody) → is_resolved b ≡ false
     → refers (shape_of tables bytes b) ≡ false
 unresolved_refers tables bytes (body.Code ix) e = cc e
 unresolved_refers tables bytes (body.Math ix display) e = cc e
