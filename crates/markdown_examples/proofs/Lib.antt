@@ -1,0 +1,1 @@
+-- No lemma: each function is only proved safe.

@@ -1,0 +1,1 @@
+-- No definition: the program is only run.
