@@ -56,6 +56,10 @@ REPEATED = {
     "titles": "[a]: b 'c\n",
     "labels": "[a\n",
     "ampersands": "&",
+    "named-entities": "&copy;",
+    "two-character-entities": "&nGtv;",
+    "open-names": "&CounterClockwiseContourIntegral ",
+    "unknown-names": "&" + "a" * 40 + ";",
     "escapes": "\\",
     "openers": "*a ",
     "strong": "a**",
@@ -79,6 +83,9 @@ REPEATED = {
     "ticked-words": "`a",
     "escaped-ticks": "\\``a",
     "addresses": "<ab:",
+    "email-addresses": "<a@b.c>",
+    "open-email-addresses": "<a@b.",
+    "email-labels": "<a@" + "b-" * 40,
     "closers": "]",
     "link-starts": "[a](",
     "double-brackets": "[[",
@@ -98,6 +105,7 @@ REPEATED = {
 
 OTHERS = {
     "growing": growing,
+    "one-email-address": lambda size: "<a@" + "b." * (size // 2),
     "nested-brackets": lambda size: "[" * (size // 2) + "]" * (size // 2),
     "nested-links": lambda size: "[" * (size // 5) + "a" + "](b)" * (size // 5),
     "defined-references": lambda size: "[a]: b\n\n" + "[a] " * (size // 4),
