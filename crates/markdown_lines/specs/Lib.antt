@@ -10,6 +10,8 @@ pub mod HtmlBeginnings
 pub mod HtmlKinds
 pub mod ListMarkers
 pub mod ThematicBreaks
+-- which extensions are read
+pub mod ExtendedOnly
 -- what lines are and begin, and link reference definitions: the definition of a text's blocks rests on them
 pub mod SourceLines
 pub mod BlockBeginnings

@@ -6,6 +6,7 @@ pub mod atx_heading;
 pub mod block_start;
 pub mod bytes;
 pub mod definition;
+pub mod extended_only;
 pub mod fence;
 pub mod held_line;
 pub mod html_kind;
