@@ -12,6 +12,7 @@ use Rattle.markdown_lines.specs.declared.fence.Fence.{Fence}
 use Rattle.markdown_lines.specs.declared.fence.OpeningFence.{OpeningFence}
 use Rattle.markdown_lines.specs.declared.html_kind.HtmlKind.{HtmlKind}
 use Rattle.markdown_lines.specs.declared.list_marker.ListMarker.{ListMarker}
+use Rattle.markdown_base.specs.declared.tag.BlockQuoteKind.{BlockQuoteKind}
 use Rattle.markdown_base.specs.declared.tag.HeadingLevel.{HeadingLevel}
 use Rattle.markdown_scan.specs.Beginnings.{begins_with}
 use Rattle.markdown_lines.specs.declared.block_start.Before.TheVariants as paragraph
@@ -23,7 +24,7 @@ use Rattle.markdown_scan.specs.Entity.{entity_names}
 use Rattle.markdown_lines.specs.HtmlKinds.{ends_at_blank, ends_in}
 use Rattle.markdown_scan.specs.LineStart.{LineLeft, leading_space, past_marker}
 use Rattle.markdown_lines.specs.SourceLines.{SourceLine, cut, is_blank_rest, lines_of_text, past_white, stop_of}
-use Rattle.markdown_lines.specs.SourceLines.{text_line}
+use Rattle.markdown_lines.specs.SourceLines.{end_of_line, text_line}
 
 -- what a block is; a blank line is kept where it is, since it may separate blocks
 pub data Kind : Type 0 where
@@ -37,6 +38,7 @@ pub data Kind : Type 0 where
   fenced_leaf : OpeningFence → Bool → List SourceLine → Kind
   html_leaf : HtmlKind → Bool → List SourceLine → Kind
   quote_container : Kind
+  alert_container : BlockQuoteKind → Kind
   list_container : ListMarker → Kind
   item_container : ℕ → Kind
   footnote_container : List ℕ → Kind
@@ -74,11 +76,16 @@ ends_html kind l = ends_in kind l.left.bytes
 abbrev pub new_item : (LineLeft → Forest Block) → SourceLine → ℕ → LineLeft → Forest Block
 new_item inside l indent rest = new_block (content_of l) l (item_container indent) (inside rest)
 
+-- the paragraph that may begin after the marker of an alert: nothing is left of its first line
+abbrev pub after_alert : SourceLine → Forest Block
+after_alert l = new_block (stop_of l) l (paragraph_leaf (end_of_line l ∷ [])) nil
+
 -- the block that a line begins
 abbrev pub new_blocks : (LineLeft → Forest Block) → SourceLine → Beginning → Forest Block
 new_blocks inside l (line.begins_indented rest) =
     new_block rest.scanned l (indented_leaf (record l { left = rest } ∷ [])) nil
 new_blocks inside l (line.begins_quote rest) = new_block (content_of l) l quote_container (inside rest)
+new_blocks inside l (line.begins_alert kind) = new_block (content_of l) l (alert_container kind) (after_alert l)
 new_blocks inside l (line.begins_heading found) = new_block (content_of l) l (heading_leaf found) nil
 new_blocks inside l (line.begins_fence opening) = new_block (content_of l) l (fenced_leaf opening false []) nil
 new_blocks inside l (line.begins_html kind) =
@@ -203,6 +210,7 @@ next_item s l marker =
 abbrev pub container_with : Source → SourceLine → Forest Block → (SourceLine → Option (Forest Block)) → Kind
     → Option (Forest Block)
 container_with s l below inside quote_container = with_rest s l below inside (past_quote l.left)
+container_with s l below inside (alert_container kind) = with_rest s l below inside (past_quote l.left)
 container_with s l below inside (list_container marker) =
     option_or (inside l) (option_map (followed_by below) (next_item s l marker))
 container_with s l below inside (item_container indent) =

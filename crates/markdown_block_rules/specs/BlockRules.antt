@@ -1,6 +1,7 @@
 -- The block structure of a text: the tree of its blocks with their ranges and with the open items of their lines, its
 -- link reference definitions, and its footnotes. All of it is read off the blocks that the lines made.
-use Rattle.std.specs.Prelude.{ℕ, Bool, true, false, not, ◌||◌, ◌&&◌, List, [], ◌∷◌, ◌++◌, Option, Some, None}
+use Rattle.std.specs.Prelude.{ℕ, ◌+◌, Bool, true, false, not, ◌||◌, ◌&&◌, ◌==◌, List, [], ◌∷◌, ◌++◌, Option, Some}
+use Rattle.std.specs.Prelude.{None}
 use Rattle.std.specs.Prelude.{slice_range, if◌then◌else◌}
 use Rattle.markdown_base.specs.Forest.{Forest, nil, node}
 use Rattle.markdown_lines.specs.declared.fence.OpeningFence.{OpeningFence}
@@ -10,9 +11,11 @@ use Rattle.markdown_lines.specs.BlockBeginnings.{Source}
 use Rattle.markdown_block_rules.specs.BlockGrowth as was
 use Rattle.markdown_block_rules.specs.BlockGrowth.{Block, Kind, blocks_of, followed_by}
 use Rattle.markdown_lines.specs.DefinitionRules.{Definition, divided}
-use Rattle.markdown_block_rules.specs.LineContents.{Shown, content_items, lines_items, source_lines}
+use Rattle.markdown_block_rules.specs.LineContents.{Shown, content_items, lines_items, plain_item}
+use Rattle.markdown_block_rules.specs.LineContents.{source_lines}
 use Rattle.markdown_items.specs.LineItems.{item_extensions}
-use Rattle.markdown_lines.specs.SourceLines.{SourceLine, is_blank_rest}
+use Rattle.markdown_lines.specs.SourceLines.{SourceLine, is_blank_rest, without_empty}
+use Rattle.markdown_lines.specs.TaskMarkers.{past_task, task_read}
 use Rattle.markdown_scan.specs.Entity.{entity_names}
 use Rattle.markdown_scan.specs.Unescape.{unescaped}
 
@@ -99,11 +102,33 @@ abbrev pub shown_over : ℕ → ℕ → ItemBody → Option (List ℕ) → Fores
 shown_over start end b text below =
     node (record { item = record { start = start; end = end; body = b }; text = text }) below nil
 
+-- What is around some blocks: whether they are directly in an item of a tight list; and where the first line of the item
+-- ends that they are directly in, or 0.
+pub record Around : Type 0 where
+  pub tight : Bool
+  pub marked : ℕ
+
+-- no item is directly around some blocks
+abbrev pub no_item : Around
+no_item = record { tight = false; marked = 0 }
+
+-- the items of a paragraph's lines, of which the first is `l`, after its task marker where it has one
+abbrev pub items_after_task : Source → SourceLine → List SourceLine → Option Bool → List Shown
+items_after_task s l lines None = lines_items s.text (item_extensions s.options) (l ∷ lines)
+items_after_task s l lines (Some done) =
+    plain_item l.left.scanned (l.left.scanned + 3) (body.TaskListMarker done)
+    ∷ lines_items s.text (item_extensions s.options) (without_empty (past_task l ∷ lines))
+
+-- the same; only on the line of an item's marker may there be a task marker
+abbrev pub paragraph_items : Source → (marked : ℕ) → SourceLine → List SourceLine → List Shown
+paragraph_items s marked l lines =
+    items_after_task s l lines (if l.next == marked then task_read s.options l.left.bytes else None)
+
 -- a paragraph, or the heading that it is, without the definitions at its beginning; nothing where there is nothing else
-abbrev pub shown_text : Source → Block → ItemBody → List SourceLine → Forest Shown
-shown_text s b leaf [] = nil
-shown_text s b leaf (l ∷ lines) =
-    shown_over l.left.scanned b.last leaf None (chain_of (lines_items s.text (item_extensions s.options) (l ∷ lines)))
+abbrev pub shown_text : Source → (marked : ℕ) → Block → ItemBody → List SourceLine → Forest Shown
+shown_text s marked b leaf [] = nil
+shown_text s marked b leaf (l ∷ lines) =
+    shown_over l.left.scanned b.last leaf None (chain_of (paragraph_items s marked l lines))
 
 abbrev pub paragraph_body : Bool → ItemBody
 paragraph_body tight = if tight then body.TightParagraph else body.Paragraph
@@ -113,41 +138,43 @@ abbrev pub info_of : Source → OpeningFence → List ℕ
 info_of s opening =
     unescaped (entity_names s.options) false (slice_range s.text opening.from opening.to)
 
--- One block; `below` are the blocks in it, `inside` what they become where they are directly in an item of a tight list
--- or not, `end` where it ends, and `tight` whether it is directly in such an item, or is one.
-abbrev pub shown_block : Source → Bool → Block → ℕ → Forest Block → (Bool → Forest Shown) → Kind → Forest Shown
-shown_block s tight b end below inside was.blank_line = nil
-shown_block s tight b end below inside (was.paragraph_leaf lines) =
-    shown_text s b (paragraph_body tight) (divided (entity_names s.options) s.text lines).lines
-shown_block s tight b end below inside (was.underlined_leaf level lines) =
-    shown_text s b (body.Heading level None) (divided (entity_names s.options) s.text lines).lines
-shown_block s tight b end below inside (was.heading_leaf found) =
+-- One block; `below` are the blocks in it, `inside` what they become by what is around them, `end` where it ends, and
+-- `around` what is around it.
+abbrev pub shown_block : Source → Around → Block → ℕ → Forest Block → (Around → Forest Shown) → Kind → Forest Shown
+shown_block s around b end below inside was.blank_line = nil
+shown_block s around b end below inside (was.paragraph_leaf lines) =
+    shown_text s around.marked b (paragraph_body around.tight) (divided (entity_names s.options) s.text lines).lines
+shown_block s around b end below inside (was.underlined_leaf level lines) =
+    shown_text s around.marked b (body.Heading level None) (divided (entity_names s.options) s.text lines).lines
+shown_block s around b end below inside (was.heading_leaf found) =
     shown_over b.start end (body.Heading found.level None) None
     (chain_of (content_items s.text (item_extensions s.options) found.from found.to))
-shown_block s tight b end below inside was.break_leaf = shown_over b.start end body.Rule None nil
-shown_block s tight b end below inside (was.indented_leaf lines) =
+shown_block s around b end below inside was.break_leaf = shown_over b.start end body.Rule None nil
+shown_block s around b end below inside (was.indented_leaf lines) =
     shown_over b.start end body.IndentCodeBlock None (chain_of (source_lines (body.Text false) (code_lines lines)))
-shown_block s tight b end below inside (was.fenced_leaf opening closed lines) =
+shown_block s around b end below inside (was.fenced_leaf opening closed lines) =
     shown_over b.start end (body.FencedCodeBlock (record { 0 = 0 })) (Some (info_of s opening))
     (chain_of (source_lines (body.Text false) lines))
-shown_block s tight b end below inside (was.html_leaf kind closed lines) =
+shown_block s around b end below inside (was.html_leaf kind closed lines) =
     shown_over b.start end body.HtmlBlock None (chain_of (source_lines body.Html lines))
-shown_block s tight b end below inside was.quote_container = shown_over b.start end (body.BlockQuote None) None
-    (inside false)
-shown_block s tight b end below inside (was.list_container marker) =
+shown_block s around b end below inside was.quote_container =
+    shown_over b.start end (body.BlockQuote None) None (inside no_item)
+shown_block s around b end below inside (was.alert_container kind) =
+    shown_over b.start end (body.BlockQuote (Some kind)) None (inside no_item)
+shown_block s around b end below inside (was.list_container marker) =
     shown_over b.start end (body.List (not (is_loose below)) marker.character marker.first) None
-    (inside (not (is_loose below)))
-shown_block s tight b end below inside (was.item_container indent) =
-    shown_over b.start end (body.ListItem indent) None (inside tight)
-shown_block s tight b end below inside (was.footnote_container label) =
-    shown_over b.start end (body.FootnoteDefinition (record { 0 = 0 })) (Some label) (inside false)
+    (inside (record { tight = not (is_loose below); marked = 0 }))
+shown_block s around b end below inside (was.item_container indent) =
+    shown_over b.start end (body.ListItem indent) None (inside (record { tight = around.tight; marked = b.first }))
+shown_block s around b end below inside (was.footnote_container label) =
+    shown_over b.start end (body.FootnoteDefinition (record { 0 = 0 })) (Some label) (inside no_item)
 
--- the items of some blocks, which may be directly in an item of a tight list
-unfoldable pub shown_blocks : Source → Bool → Forest Block → Forest Shown
-shown_blocks s tight nil = nil
-shown_blocks s tight (node b below after) =
-    followed_by (shown_block s tight b (block_end b (last_end b.first below) b.kind) below
-    (λ inside. shown_blocks s inside below) b.kind) (shown_blocks s tight after)
+-- the items of some blocks
+unfoldable pub shown_blocks : Source → Around → Forest Block → Forest Shown
+shown_blocks s around nil = nil
+shown_blocks s around (node b below after) =
+    followed_by (shown_block s around b (block_end b (last_end b.first below) b.kind) below
+    (λ inside. shown_blocks s inside below) b.kind) (shown_blocks s around after)
 
 -- the lines of a paragraph, or of a heading that one became
 abbrev pub paragraph_lines : Kind → List SourceLine
@@ -173,7 +200,7 @@ footnotes_in (node b below after) = label_of b.kind ++ (footnotes_in below ++ fo
 
 -- the tree of a text's blocks
 abbrev pub block_tree : Source → Forest Shown
-block_tree s = shown_blocks s false (blocks_of s)
+block_tree s = shown_blocks s no_item (blocks_of s)
 
 abbrev pub block_definitions : Source → List Definition
 block_definitions s = definitions_in s (blocks_of s)

@@ -12,7 +12,9 @@ use Rattle.markdown_lines.specs.declared.fence.OpeningFence.{OpeningFence}
 use Rattle.markdown_lines.specs.declared.html_kind.HtmlKind.{HtmlKind}
 use Rattle.markdown_lines.specs.declared.list_marker.ListMarker.{ListMarker}
 use Rattle.markdown_base.specs.declared.options.Options.{Options}
+use Rattle.markdown_base.specs.declared.tag.BlockQuoteKind.{BlockQuoteKind}
 use Rattle.markdown_base.specs.declared.tag.HeadingLevel.{HeadingLevel}
+use Rattle.markdown_lines.specs.Alerts.{alert_read}
 use Rattle.markdown_lines.specs.AtxHeadings.{atx_heading_at}
 use Rattle.markdown_scan.specs.Beginnings.{begins_with}
 use Rattle.markdown_lines.specs.CodeFences.{opening_fence_at}
@@ -46,6 +48,8 @@ pub data Beginning : Type 0 where
   begins_text : Beginning
   begins_indented : LineLeft → Beginning
   begins_quote : LineLeft → Beginning
+  -- an alert, a block quote of which the whole line is the marker
+  begins_alert : BlockQuoteKind → Beginning
   begins_heading : AtxHeading → Beginning
   begins_fence : OpeningFence → Beginning
   begins_html : HtmlKind → Beginning
@@ -63,9 +67,19 @@ past_bytes count left = record {
   bytes = drop count left.bytes;
 }
 
+-- a block quote, which is an alert of a kind or none
+abbrev pub quote_or_alert : LineLeft → Option BlockQuoteKind → Beginning
+quote_or_alert rest None = begins_quote rest
+quote_or_alert rest (Some kind) = begins_alert kind
+
+-- the same, from what is left of the line after its marker
+abbrev pub quote_of : Options → LineLeft → Beginning
+quote_of options rest = quote_or_alert rest (alert_read options rest)
+
 -- 5.1: a `>`, and at most one column of space
-abbrev pub quote_in_line : LineLeft → Option Beginning
-quote_in_line here = if begins_with (codes ">") here.bytes then Some (begins_quote (past_marker here)) else None
+abbrev pub quote_in_line : Options → LineLeft → Option Beginning
+quote_in_line options here =
+    if begins_with (codes ">") here.bytes then Some (quote_of options (past_marker here)) else None
 
 -- 4.2: one to six `#`
 abbrev pub heading_in_line : Source → LineLeft → Option Beginning
@@ -142,7 +156,7 @@ first_found (Some found ∷ others) = found
 -- what a line begins after fewer than four columns of space
 abbrev pub begins_after : Source → Before → ℕ → LineLeft → Beginning
 begins_after s before columns here =
-    first_found (quote_in_line here ∷ heading_in_line s here ∷ fence_in_line s columns here ∷ html_in_line before here ∷
+    first_found (quote_in_line s.options here ∷ heading_in_line s here ∷ fence_in_line s columns here ∷ html_in_line before here ∷
     footnote_in_line s.options here ∷ underline_in_line before here ∷ break_in_line here ∷ item_in_line s before
     columns here ∷ [])
 

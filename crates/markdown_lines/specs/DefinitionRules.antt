@@ -14,7 +14,7 @@ use Rattle.markdown_raw_html.specs.HtmlTag.{white_space}
 use Rattle.markdown_scan.specs.Label.{link_label}
 use Rattle.markdown_scan.specs.LineStart.{is_line_over}
 use Rattle.markdown_lines.specs.Lines.{is_space_or_tab}
-use Rattle.markdown_lines.specs.SourceLines.{SourceLine}
+use Rattle.markdown_lines.specs.SourceLines.{SourceLine, without_empty}
 use Rattle.markdown_scan.specs.Unescape.{unescaped}
 use Rattle.markdown_scan.specs.declared.entity.EntityNames.{EntityNames}
 
@@ -161,6 +161,7 @@ divided_in names zero text lines = record { definitions = []; lines = lines }
 divided_in names (suc n) text lines =
     more_definitions (divided_in names n text) lines (definition_in names (text_of_lines text lines))
 
--- all definitions at the beginning of a paragraph, and the lines after them
+-- All definitions at the beginning of a paragraph, and the lines after them. A first line of which nothing is left, as
+-- that of an alert's marker, is none of these.
 abbrev pub divided : EntityNames → List ℕ → List SourceLine → Divided
-divided names text lines = divided_in names (length lines) text lines
+divided names text lines = divided_in names (length lines) text (without_empty lines)

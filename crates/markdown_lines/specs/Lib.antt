@@ -12,6 +12,9 @@ pub mod ListMarkers
 pub mod ThematicBreaks
 -- which extensions are read
 pub mod ExtendedOnly
+-- what they read in a line
+pub mod Alerts
+pub mod TaskMarkers
 -- what lines are and begin, and link reference definitions: the definition of a text's blocks rests on them
 pub mod SourceLines
 pub mod BlockBeginnings

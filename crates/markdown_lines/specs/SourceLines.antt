@@ -1,5 +1,6 @@
 -- The lines of a text (CommonMark 2.1), and what is left of a line inside some containers.
-use Rattle.std.specs.Prelude.{ℕ, zero, suc, ◌+◌, ◌-◌, Bool, not, List, [], ◌∷◌, length, take, drop}
+use Rattle.std.specs.Prelude.{ℕ, zero, suc, ◌+◌, ◌-◌, Bool, not, ◌==◌, List, [], ◌∷◌, length, take, drop}
+use Rattle.std.specs.Prelude.{if◌then◌else◌}
 use Rattle.std.specs.List.{list_all, prefix_len}
 use Rattle.markdown_scan.specs.LineStart.{LineLeft, leading_space}
 use Rattle.markdown_lines.specs.Lines.{ending_length, is_line_ending, is_space_or_tab}
@@ -50,3 +51,12 @@ past_white left =
 -- a line of a paragraph, from its first byte that is not white space on
 abbrev pub text_line : SourceLine → SourceLine
 text_line l = record l { left = past_white l.left }
+
+-- the end of a line, of which nothing is left
+abbrev pub end_of_line : SourceLine → SourceLine
+end_of_line l = record l { left = record { scanned = stop_of l; owed = 0; column = 0; bytes = [] } }
+
+-- lines without a first one of which nothing is left
+abbrev pub without_empty : List SourceLine → List SourceLine
+without_empty [] = []
+without_empty (l ∷ lines) = if length l.left.bytes == 0 then lines else l ∷ lines
