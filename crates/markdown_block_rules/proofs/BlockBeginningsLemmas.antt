@@ -22,7 +22,9 @@ use Rattle.markdown_lines.specs.declared.block_start.Before.{Before}
 use Rattle.markdown_lines.specs.declared.block_start.Before.TheVariants as paragraph
 use Rattle.markdown_lines.specs.BlockBeginnings as line
 use Rattle.markdown_lines.specs.BlockBeginnings.{Source, Beginning, begins, begins_after, first_found}
-use Rattle.markdown_lines.specs.BlockBeginnings.{past_bytes}
+use Rattle.markdown_lines.specs.BlockBeginnings.{past_bytes, quote_of, quote_or_alert}
+use Rattle.markdown_lines.specs.Alerts.{alert_read}
+use Rattle.markdown_base.specs.declared.tag.BlockQuoteKind.{BlockQuoteKind}
 use Rattle.markdown_lines.specs.BlockBeginnings.{quote_in_line, heading_in_line, fence_in_line, html_in_line}
 use Rattle.markdown_lines.specs.BlockBeginnings.{footnote_in_line}
 use Rattle.markdown_lines.specs.BlockBeginnings.{footnote_marker, label_before_colon, underline_in_line, break_in_line}
@@ -102,15 +104,22 @@ marker_left b bytes scanned owed column =
     let left = past_one_byte (record { scanned = scanned; owed = owed; column = column; bytes = b ∷ bytes }) in
     omega (arith, space_left 1 left)
 
-quote_less : (scanned owed column : ℕ) (bytes : List ℕ)
-    → IfHoldsLess (length bytes) (quote_in_line
+-- an alert takes its whole line
+quote_holds : (n : ℕ) (rest : LineLeft) (alert : Option BlockQuoteKind) → length rest.bytes < n
+    → HoldsLess n (quote_or_alert rest alert)
+quote_holds n rest None less = less
+quote_holds n rest (Some kind) less = tt
+
+quote_less : (s : Source) (scanned owed column : ℕ) (bytes : List ℕ)
+    → IfHoldsLess (length bytes) (quote_in_line s
     (record { scanned = scanned; owed = owed; column = column; bytes = bytes }))
-quote_less scanned owed column [] = tt
-quote_less scanned owed column (b ∷ bytes) =
+quote_less s scanned owed column [] = tt
+quote_less s scanned owed column (b ∷ bytes) =
     let here : LineLeft = record { scanned = scanned; owed = owed; column = column; bytes = b ∷ bytes } in
+    let rest = past_marker here in
     either (IfHoldsLess (suc (length bytes))) (begins_with (codes ">") (b ∷ bytes))
-    (Some (line.begins_quote (past_marker here))) None
-    (marker_left b bytes scanned owed column) tt
+    (Some (quote_of s.options rest)) None
+    (quote_holds (suc (length bytes)) rest (alert_read s.options rest) (marker_left b bytes scanned owed column)) tt
 
 -- some bytes fewer
 dropped_less : (n : ℕ) (b : ℕ) (bytes : List ℕ) → 0 < n → length (drop n (b ∷ bytes)) < suc (length bytes)
@@ -246,11 +255,11 @@ after_less : (s : Source) (before : Before) (columns : ℕ) (here : LineLeft)
     → HoldsLess (length here.bytes) (begins_after s before columns here)
 after_less s before columns here =
     let n = length here.bytes in
-    first_less n (quote_in_line here ∷ heading_in_line s here ∷ fence_in_line s columns here ∷ html_in_line before
+    first_less n (quote_in_line s here ∷ heading_in_line s here ∷ fence_in_line s columns here ∷ html_in_line before
     here ∷
     footnote_in_line s.options here ∷ underline_in_line before here ∷ break_in_line here ∷ item_in_line s before
     columns here ∷ []) (
-      quote_less here.scanned here.owed here.column here.bytes,
+      quote_less s here.scanned here.owed here.column here.bytes,
       (
         leaf_less n line.begins_heading (atx_heading_at s.text here.scanned (here.scanned + length here.bytes))
             (λ a. tt),
@@ -301,6 +310,7 @@ new_same l (line.begins_quote rest) f g n less same = rw (same rest less) refl
 new_same l (line.begins_footnote label rest) f g n less same = rw (same rest less) refl
 new_same l (line.begins_item marker indent rest) f g n less same = rw (same rest less) refl
 new_same l line.begins_text f g n less same = refl
+new_same l (line.begins_alert kind) f g n less same = refl
 new_same l (line.begins_indented rest) f g n less same = refl
 new_same l (line.begins_heading found) f g n less same = refl
 new_same l (line.begins_fence opening) f g n less same = refl

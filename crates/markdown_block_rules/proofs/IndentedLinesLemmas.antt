@@ -53,6 +53,7 @@ grown_there s (node b below after) l =
 begun_there : (f : LineLeft → Forest Block) (l : SourceLine) (b : line.Beginning) → is_nil (new_blocks f l b) ≡ false
 begun_there f l (line.begins_indented rest) = refl
 begun_there f l (line.begins_quote rest) = refl
+begun_there f l (line.begins_alert kind) = refl
 begun_there f l (line.begins_heading found) = refl
 begun_there f l (line.begins_fence opening) = refl
 begun_there f l (line.begins_html kind) = refl

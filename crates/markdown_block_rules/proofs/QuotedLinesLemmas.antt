@@ -14,6 +14,7 @@ use Rattle.markdown_scan.specs.Beginnings.{begins_with}
 use Rattle.markdown_base.specs.Forest.{Forest}
 use Rattle.markdown_lines.specs.declared.block_start.Before.{Before}
 use Rattle.markdown_lines.specs.declared.block_start.Before.TheVariants as paragraph
+use Rattle.markdown_lines.specs.Alerts.{alert_read}
 use Rattle.markdown_lines.specs.BlockBeginnings as line
 use Rattle.markdown_lines.specs.BlockBeginnings.{Source, Beginning, begins, begins_after, quote_in_line}
 use Rattle.markdown_block_rules.specs.BlockGrowth.{Block, begun_in, goes_on, line_block}
@@ -43,16 +44,16 @@ both_right false q both = absurd (true≢false (sym both))
 not_four : (n : ℕ) → nat_lt n 4 ≡ true → (n == 4) ≡ false
 not_four n few = grind (arith, nat_tests)
 
--- a line with a marker begins a quote, whatever precedes it
+-- a line with a marker that names no alert begins a quote, whatever precedes it
 quote_begins : (s : Source) (before : Before) (l : SourceLine) (rest : LineLeft) → past_quote l.left ≡ Some rest
-    → begins s before l ≡ line.begins_quote rest
-quote_begins s before l rest marker =
+    → alert_read s.options rest ≡ None → begins s before l ≡ line.begins_quote rest
+quote_begins s before l rest marker plain =
     let space = leading_space 4 l.left in
     let near = nat_lt space.columns 4 in
     let marked = begins_with (codes ">") space.after.bytes in
     let found = chosen (near && marked) (past_marker space.after) rest marker in
     rw (not_four space.columns (both_left near marked found.0), both_right near marked found.0)
-    (ap line.begins_quote found.1)
+    (ap (line.quote_of s.options) found.1 ∙ ap (line.quote_or_alert rest) plain)
 
 -- only white space follows some space
 abbrev LeavesWhite : Space → Type 0
@@ -111,21 +112,21 @@ quote_not_blank l rest marker = decided (is_blank_rest l) refl
 
 -- the first line of a quote
 first_line_quoted : (s : Source) (l : SourceLine) (rest : LineLeft) → past_quote l.left ≡ Some rest
-    → is_blank_rest (rest_of l rest) ≡ false
+    → alert_read s.options rest ≡ None → is_blank_rest (rest_of l rest) ≡ false
     → line_block s l ≡ lone (quote_from l) (line_block s (rest_of l rest))
 unfolding begun_in
-first_line_quoted s l rest marker full =
+first_line_quoted s l rest marker plain full =
     let less : length rest.bytes < length l.left.bytes = holds_less (begins_less s paragraph.NoParagraph l) in
     let same = begun_same (length l.left.bytes) (suc (length rest.bytes)) s (rest_of l rest) less (omega arith) in
-    rw (quote_not_blank l rest marker, quote_begins s paragraph.NoParagraph l rest marker, full, same) refl
+    rw (quote_not_blank l rest marker, quote_begins s paragraph.NoParagraph l rest marker plain, full, same) refl
   where
     holds_less : HoldsLess (length l.left.bytes) (begins s paragraph.NoParagraph l)
         → length rest.bytes < length l.left.bytes
     holds_less holds =
-        subst (HoldsLess (length l.left.bytes)) (quote_begins s paragraph.NoParagraph l rest marker) holds
+        subst (HoldsLess (length l.left.bytes)) (quote_begins s paragraph.NoParagraph l rest marker plain) holds
 
 pub quoted_lines : QuotedLinesMakeQuote
 unfolding goes_on
-quoted_lines s l rest lines rests marker full more =
-    ap (λ (f : Forest Block). with_lines s f lines) (first_line_quoted s l rest marker full)
+quoted_lines s l rest lines rests marker plain full more =
+    ap (λ (f : Forest Block). with_lines s f lines) (first_line_quoted s l rest marker plain full)
     ∙ marked_lines s (quote_from l) (line_block s (rest_of l rest)) lines rests refl more

@@ -3,6 +3,7 @@ use Rattle.std.specs.Prelude.{◌≡◌, ℕ, Bool, true, false, ◌&&◌, ◌||
 use Rattle.std.specs.List.{fold}
 use Rattle.markdown_base.specs.Forest.{Forest, nil, node}
 use Rattle.markdown_lines.specs.declared.block_start.Before.TheVariants as paragraph
+use Rattle.markdown_lines.specs.Alerts.{alert_read}
 use Rattle.markdown_lines.specs.BlockBeginnings as line
 use Rattle.markdown_lines.specs.BlockBeginnings.{Source, begins}
 use Rattle.markdown_block_rules.specs.BlockGrowth.{Block, Kind, content_of, goes_on, is_nil, is_text, item_container}
@@ -58,12 +59,13 @@ MarkedLinesGoIntoQuote =
 abbrev pub quote_from : SourceLine → Block
 quote_from l = record { start = content_of l; first = l.next; last = l.next; kind = quote_container }
 
--- 5.1, basic case. Lines that all have the marker, and of which the first is not blank without it, make one block
--- quote, and in it what they make without the marker.
+-- 5.1, basic case. Lines that all have the marker, and of which the first is not blank without it and names no alert,
+-- make one block quote, and in it what they make without the marker.
 abbrev pub QuotedLinesMakeQuote : Type 0
 QuotedLinesMakeQuote =
     (s : Source) (l : SourceLine) (rest : LineLeft) (lines rests : List SourceLine)
-    → past_quote l.left ≡ Some rest → is_blank_rest (rest_of l rest) ≡ false → AreQuoted lines rests
+    → past_quote l.left ≡ Some rest → alert_read s.options rest ≡ None → is_blank_rest (rest_of l rest) ≡ false
+    → AreQuoted lines rests
     → with_lines s nil (l ∷ lines) ≡ lone (to_lines lines (quote_from l)) (with_lines s nil (rest_of l rest ∷ rests))
 
 -- 5.1, consecutiveness. A blank line without a marker ends a block quote: what follows is another block.

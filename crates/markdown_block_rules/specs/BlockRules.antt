@@ -102,15 +102,15 @@ abbrev pub shown_over : ℕ → ℕ → ItemBody → Option (List ℕ) → Fores
 shown_over start end b text below =
     node (record { item = record { start = start; end = end; body = b }; text = text }) below nil
 
--- What is around some blocks: whether they are directly in an item of a tight list; and where the first line of the item
--- ends that they are directly in, or 0.
+-- What is around some blocks: whether they are directly in an item of a tight list; and where the first line of the
+-- item ends that they are directly in, or 0.
 pub record Around : Type 0 where
   pub tight : Bool
   pub marked : ℕ
 
 -- no item is directly around some blocks
-abbrev pub no_item : Around
-no_item = record { tight = false; marked = 0 }
+abbrev pub in_no_item : Around
+in_no_item = record { tight = false; marked = 0 }
 
 -- the items of a paragraph's lines, of which the first is `l`, after its task marker where it has one
 abbrev pub items_after_task : Source → SourceLine → List SourceLine → Option Bool → List Shown
@@ -158,16 +158,16 @@ shown_block s around b end below inside (was.fenced_leaf opening closed lines) =
 shown_block s around b end below inside (was.html_leaf kind closed lines) =
     shown_over b.start end body.HtmlBlock None (chain_of (source_lines body.Html lines))
 shown_block s around b end below inside was.quote_container =
-    shown_over b.start end (body.BlockQuote None) None (inside no_item)
+    shown_over b.start end (body.BlockQuote None) None (inside in_no_item)
 shown_block s around b end below inside (was.alert_container kind) =
-    shown_over b.start end (body.BlockQuote (Some kind)) None (inside no_item)
+    shown_over b.start end (body.BlockQuote (Some kind)) None (inside in_no_item)
 shown_block s around b end below inside (was.list_container marker) =
     shown_over b.start end (body.List (not (is_loose below)) marker.character marker.first) None
     (inside (record { tight = not (is_loose below); marked = 0 }))
 shown_block s around b end below inside (was.item_container indent) =
     shown_over b.start end (body.ListItem indent) None (inside (record { tight = around.tight; marked = b.first }))
 shown_block s around b end below inside (was.footnote_container label) =
-    shown_over b.start end (body.FootnoteDefinition (record { 0 = 0 })) (Some label) (inside no_item)
+    shown_over b.start end (body.FootnoteDefinition (record { 0 = 0 })) (Some label) (inside in_no_item)
 
 -- the items of some blocks
 unfoldable pub shown_blocks : Source → Around → Forest Block → Forest Shown
@@ -200,7 +200,7 @@ footnotes_in (node b below after) = label_of b.kind ++ (footnotes_in below ++ fo
 
 -- the tree of a text's blocks
 abbrev pub block_tree : Source → Forest Shown
-block_tree s = shown_blocks s no_item (blocks_of s)
+block_tree s = shown_blocks s in_no_item (blocks_of s)
 
 abbrev pub block_definitions : Source → List Definition
 block_definitions s = definitions_in s (blocks_of s)

@@ -30,6 +30,7 @@ ends_with_its_line (was.indented_leaf lines) = false
 ends_with_its_line (was.fenced_leaf opening closed lines) = false
 ends_with_its_line (was.html_leaf kind closed lines) = false
 ends_with_its_line was.quote_container = false
+ends_with_its_line (was.alert_container kind) = false
 ends_with_its_line (was.list_container marker) = false
 ends_with_its_line (was.item_container indent) = false
 ends_with_its_line (was.footnote_container label) = false

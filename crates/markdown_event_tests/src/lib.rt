@@ -37,4 +37,6 @@ mod safe;
 #[cfg(test)]
 mod signs;
 #[cfg(test)]
+mod tasks_and_alerts;
+#[cfg(test)]
 mod whole_runs;

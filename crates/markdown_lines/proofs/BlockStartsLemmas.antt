@@ -71,8 +71,8 @@ no_run : (test : ℕ → Bool) (bytes : List ℕ) → test (slice_index bytes 0)
 no_run test [] other = refl
 no_run test (b ∷ bytes) other = rw other refl
 
-no_quote : (here : LineLeft) → (slice_index here.bytes 0 == 62) ≡ false → quote_in_line here ≡ None
-no_quote here other = rw (not_begins 62 [] here.bytes other) refl
+no_quote : (s : Source) (here : LineLeft) → (slice_index here.bytes 0 == 62) ≡ false → quote_in_line s here ≡ None
+no_quote s here other = rw (not_begins 62 [] here.bytes other) refl
 
 no_heading_at : (text : List ℕ) (at stop : ℕ) → (slice_index (slice_range text at stop) 0 == 35) ≡ false
     → atx_heading_at text at stop ≡ None
@@ -256,11 +256,11 @@ module _ (s : Source) (before : Before) (columns : ℕ) (here : LineLeft)
   )
 
   no_first : BeginsNoFirst (slice_index here.bytes 0)
-      → AllNone (quote_in_line here ∷ heading_in_line s here ∷ fence_in_line s columns here ∷ html_in_line before here ∷
-      footnote_in_line s.options here ∷ [])
+      → AllNone (quote_in_line s here ∷ heading_in_line s here ∷ fence_in_line s columns here ∷
+      html_in_line before here ∷ footnote_in_line s.options here ∷ [])
   unfolding AllNone
   no_first none = (
-    no_quote here none.quote,
+    no_quote s here none.quote,
     (
       no_heading none.heading,
       (
@@ -275,7 +275,7 @@ module _ (s : Source) (before : Before) (columns : ℕ) (here : LineLeft)
   )
 
   pub after_greater_than : slice_index here.bytes 0 ≡ 62
-      → begins_after s before columns here ≡ line.begins_quote (past_marker here)
+      → begins_after s before columns here ≡ line.quote_of s.options (past_marker here)
   after_greater_than is = rw (does_begin here.bytes is) refl
 
   pub after_hash : slice_index here.bytes 0 ≡ 35
@@ -285,8 +285,8 @@ module _ (s : Source) (before : Before) (columns : ℕ) (here : LineLeft)
       let by : (test : ℕ → Bool) → test 35 ≡ false → test (slice_index here.bytes 0) ≡ false =
       none_by (slice_index here.bytes 0) 35 is in
       let last = no_last (subst BeginsNoLast (sym is) hash_is_no_last) in
-      found_among (quote_in_line here ∷ []) (heading_in_line s here ∷ []) _
-      (no_quote here (by (λ b. b == 62) refl), tt) (
+      found_among (quote_in_line s here ∷ []) (heading_in_line s here ∷ []) _
+      (no_quote s here (by (λ b. b == 62) refl), tt) (
         no_fence s columns here (by (λ b. b == 96) refl) (by (λ b. b == 126) refl),
         (
           no_html before here
@@ -301,8 +301,8 @@ module _ (s : Source) (before : Before) (columns : ℕ) (here : LineLeft)
   after_fence_byte is =
       let b = slice_index here.bytes 0 in
       let other = fence_is_other b is in
-      found_among (quote_in_line here ∷ heading_in_line s here ∷ []) (fence_in_line s columns here ∷ []) _
-      (no_quote here other.quote, (no_heading other.heading, tt))
+      found_among (quote_in_line s here ∷ heading_in_line s here ∷ []) (fence_in_line s columns here ∷ []) _
+      (no_quote s here other.quote, (no_heading other.heading, tt))
       (no_html before here other.html, (no_footnote s.options here other.footnote, no_last (fence_is_no_last b is)))
 
   pub after_less_than : slice_index here.bytes 0 ≡ 60
@@ -311,9 +311,9 @@ module _ (s : Source) (before : Before) (columns : ℕ) (here : LineLeft)
   after_less_than is =
       let by : (test : ℕ → Bool) → test 60 ≡ false → test (slice_index here.bytes 0) ≡ false =
       none_by (slice_index here.bytes 0) 60 is in
-      found_among (quote_in_line here ∷ heading_in_line s here ∷ fence_in_line s columns here ∷ [])
+      found_among (quote_in_line s here ∷ heading_in_line s here ∷ fence_in_line s columns here ∷ [])
       (html_in_line before here ∷ []) _ (
-        no_quote here (by (λ b. b == 62) refl),
+        no_quote s here (by (λ b. b == 62) refl),
         (
           no_heading (by (λ b. b == 35) refl),
           (
@@ -332,9 +332,9 @@ module _ (s : Source) (before : Before) (columns : ℕ) (here : LineLeft)
       let by : (test : ℕ → Bool) → test 91 ≡ false → test (slice_index here.bytes 0) ≡ false =
       none_by (slice_index here.bytes 0) 91 is in
       found_among
-      (quote_in_line here ∷ heading_in_line s here ∷ fence_in_line s columns here ∷ html_in_line before here ∷ [])
+      (quote_in_line s here ∷ heading_in_line s here ∷ fence_in_line s columns here ∷ html_in_line before here ∷ [])
       (footnote_in_line s.options here ∷ []) _ (
-        no_quote here (by (λ b. b == 62) refl),
+        no_quote s here (by (λ b. b == 62) refl),
         (
           no_heading (by (λ b. b == 35) refl),
           (
@@ -352,7 +352,7 @@ module _ (s : Source) (before : Before) (columns : ℕ) (here : LineLeft)
   unfolding AllNone
   after_mark is =
       found_among
-      (quote_in_line here ∷ heading_in_line s here ∷ fence_in_line s columns here ∷ html_in_line before here ∷
+      (quote_in_line s here ∷ heading_in_line s here ∷ fence_in_line s columns here ∷ html_in_line before here ∷
       footnote_in_line s.options here ∷ [])
       (underline_in_line before here ∷ break_in_line here ∷ item_in_line s before columns here ∷ []) []
       (no_first (mark_is_no_first (slice_index here.bytes 0) is)) tt
@@ -364,7 +364,7 @@ module _ (s : Source) (before : Before) (columns : ℕ) (here : LineLeft)
       let b = slice_index here.bytes 0 in
       let other = digit_is_no_mark b digit in
       found_among
-      (quote_in_line here ∷ heading_in_line s here ∷ fence_in_line s columns here ∷ html_in_line before here ∷
+      (quote_in_line s here ∷ heading_in_line s here ∷ fence_in_line s columns here ∷ html_in_line before here ∷
       footnote_in_line s.options here ∷ underline_in_line before here ∷ break_in_line here ∷ [])
       (item_in_line s before columns here ∷ []) []
       (all_seven (no_first (digit_is_no_first b digit)) (no_underline before here other.0 other.1)
@@ -387,7 +387,7 @@ module _ (s : Source) (before : Before) (columns : ℕ) (here : LineLeft)
         digit = digit;
       } in
       found_among
-      (quote_in_line here ∷ heading_in_line s here ∷ fence_in_line s columns here ∷ html_in_line before here ∷
+      (quote_in_line s here ∷ heading_in_line s here ∷ fence_in_line s columns here ∷ html_in_line before here ∷
       footnote_in_line s.options here ∷ []) []
       (underline_in_line before here ∷ break_in_line here ∷ item_in_line s before columns here ∷ [])
       (no_first (subst BeginsNoFirst is first)) (no_last (subst BeginsNoLast is last))

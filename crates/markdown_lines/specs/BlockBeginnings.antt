@@ -77,9 +77,9 @@ abbrev pub quote_of : Options → LineLeft → Beginning
 quote_of options rest = quote_or_alert rest (alert_read options rest)
 
 -- 5.1: a `>`, and at most one column of space
-abbrev pub quote_in_line : Options → LineLeft → Option Beginning
-quote_in_line options here =
-    if begins_with (codes ">") here.bytes then Some (quote_of options (past_marker here)) else None
+abbrev pub quote_in_line : Source → LineLeft → Option Beginning
+quote_in_line s here =
+    if begins_with (codes ">") here.bytes then Some (quote_of s.options (past_marker here)) else None
 
 -- 4.2: one to six `#`
 abbrev pub heading_in_line : Source → LineLeft → Option Beginning
@@ -156,9 +156,9 @@ first_found (Some found ∷ others) = found
 -- what a line begins after fewer than four columns of space
 abbrev pub begins_after : Source → Before → ℕ → LineLeft → Beginning
 begins_after s before columns here =
-    first_found (quote_in_line s.options here ∷ heading_in_line s here ∷ fence_in_line s columns here ∷ html_in_line before here ∷
-    footnote_in_line s.options here ∷ underline_in_line before here ∷ break_in_line here ∷ item_in_line s before
-    columns here ∷ [])
+    first_found (quote_in_line s here ∷ heading_in_line s here ∷ fence_in_line s columns here ∷
+    html_in_line before here ∷ footnote_in_line s.options here ∷ underline_in_line before here ∷ break_in_line here ∷
+    item_in_line s before columns here ∷ [])
 
 -- What a line begins that is not blank. Four columns of space begin code, which does not interrupt a paragraph (4.4).
 abbrev pub begins : Source → Before → SourceLine → Beginning

@@ -27,6 +27,7 @@ beginning_found reader start.Nothing = None
 beginning_found reader start.Text = Some line.begins_text
 beginning_found reader (start.IndentedCode code) = Some (line.begins_indented (left_at reader code))
 beginning_found reader (start.Quote inside) = Some (line.begins_quote (left_at reader inside))
+beginning_found reader (start.Alert kind) = Some (line.begins_alert kind)
 beginning_found reader (start.Heading heading) = Some (line.begins_heading heading)
 beginning_found reader (start.Fence opening) = Some (line.begins_fence opening)
 beginning_found reader (start.Html kind) = Some (line.begins_html kind)

@@ -25,7 +25,7 @@ is_task_done byte = if is_task_space byte then Some false else if is_task_check 
 abbrev pub task_marker : List ℕ → Option Bool
 task_marker bytes =
     if (slice_index bytes 0 == open_bracket) && (slice_index bytes 2 == close_bracket)
-        && is_task_space (slice_index bytes 3)
+    && is_task_space (slice_index bytes 3)
     then is_task_done (slice_index bytes 1) else None
 
 -- the number of bytes of a task marker and of all white space after it

@@ -6,7 +6,7 @@ use crate::html_kind::HtmlKind;
 use crate::list_marker::ListMarker;
 use crate::position::Position;
 use markdown_base::cow_str::CowStr;
-use markdown_base::tag::HeadingLevel;
+use markdown_base::tag::{BlockQuoteKind, HeadingLevel};
 
 /// The paragraph that a line may go on with.
 #[derive(Clone, Copy, Drop)]
@@ -38,6 +38,8 @@ pub enum BlockStart<'a> {
     IndentedCode(Position),
     /// a block quote, with the place after its marker
     Quote(Position),
+    /// an alert of a kind, a block quote of which the whole line is the marker
+    Alert(BlockQuoteKind),
     /// an ATX heading
     Heading(AtxHeading),
     /// fenced code

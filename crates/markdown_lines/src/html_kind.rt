@@ -61,7 +61,7 @@ impl HtmlKind {
 }
 
 /// Returns whether bytes begin with others, ignoring the case of letters.
-fn begins_with(bytes: &[u8], beginning: &[u8]) -> bool
+pub fn begins_with(bytes: &[u8], beginning: &[u8]) -> bool
     ensures { result ≡ begins_ignoring_case bytes.now beginning.now }
 {
     beginning.len() <= bytes.len() && bytes[..beginning.len()].eq_ignore_ascii_case(beginning)

@@ -2,6 +2,7 @@
 //! paragraph contain: link reference definitions and breaks. The block pass uses it.
 #![tactic(auto)]
 
+pub mod alert;
 pub mod atx_heading;
 pub mod block_start;
 pub mod bytes;
@@ -16,4 +17,5 @@ pub mod line_reader;
 pub mod list_marker;
 pub mod position;
 pub mod space;
+pub mod task_marker;
 pub mod thematic_break;

@@ -9,6 +9,7 @@ ghost use Rattle.markdown_lines.specs.ListMarkers.{is_bullet};
 ghost use Rattle.markdown_lines.specs.ThematicBreaks.{is_break_mark};
 ghost use Rattle.markdown_lines.specs.UnbrokenLines.{IsUnbroken};
 
+use crate::alert::alert_read;
 use crate::atx_heading::atx_heading;
 use crate::block_start::{Before, Begun, BlockStart, ItemStart};
 use crate::bytes::{byte_or_zero, bytes_of, part_of, white_length};
@@ -178,7 +179,7 @@ impl<'a> LineReader<'a> {
     {
         let byte = self.first_byte(space.after);
         if byte == b'>' {
-            Ok(BlockStart::Quote(self.past_quote_marker(space.after)))
+            Ok(self.quote(space.after))
         } else if byte == b'#' {
             Ok(self.heading(space.after))
         } else if is_fence_byte(byte) {
@@ -201,6 +202,19 @@ impl<'a> LineReader<'a> {
         ensures { result ≡ slice_index (left_at self.now here).bytes 0 }
     {
         byte_or_zero(bytes_of(self.text, here.at, self.stop), 0)
+    }
+
+    /// Returns the block quote whose marker is at a place, which is an alert or none.
+    fn quote(&self, here: Position) -> BlockStart<'a>
+        requires { here.at < self.now.stop }
+        ensures { beginning_found self.now result
+            ≡ Some (line.quote_of self.now.options (past_marker (left_at self.now here))) }
+    {
+        let inside = self.past_quote_marker(here);
+        match alert_read(self.text, inside, self.stop, self.options) {
+            Some(kind) => BlockStart::Alert(kind),
+            None => BlockStart::Quote(inside),
+        }
     }
 
     /// Returns the place after the marker of a block quote, and at most one column of space.

@@ -1,11 +1,14 @@
 -- Where paragraphs end, and headings that are made of them.
 use Rattle.std.specs.Prelude.{◌≡◌, ℕ, ◌-◌, Bool, false, ◌&&◌, not, ◌==◌, List, Option, Some, None, length}
-use Rattle.std.specs.Prelude.{slice_get}
+use Rattle.std.specs.Prelude.{slice_get, slice_range, nat_le, if◌then◌else◌}
 use Rattle.std.specs.Option.{option_map_or}
 use Rattle.markdown_base.specs.declared.tag.HeadingLevel.{HeadingLevel}
 use Rattle.markdown_lines.specs.declared.held_line.HeldLine.{HeldLine}
 use Rattle.markdown_lines.specs.declared.line.Line.{Line}
-use Rattle.markdown_builder.specs.BuilderView.{BuilderView}
+use Rattle.markdown_lines.specs.TaskMarkers.{task_read}
+use Rattle.markdown_builder.specs.declared.open_block.OpenBlock.{OpenBlock}
+use Rattle.markdown_builder.specs.BuilderView.{BuilderView, innermost_block}
+use Rattle.markdown_plain.specs.ListLooseness.{is_item}
 use Rattle.markdown_plain.specs.declared.pass.Pass.{Pass}
 
 -- the byte offset after the first `count` of some lines, for a count of one or more
@@ -28,3 +31,14 @@ IsPlacedTo old new to = new ≡ record old { at = to; leaf = false; run = None; 
 -- a paragraph is open
 abbrev pub has_paragraph : Pass → Bool
 has_paragraph pass = not pass.placing.builder.leaf && not (length pass.lines.items == 0)
+
+-- an open block is an item that was opened in a line
+abbrev pub is_item_in : OpenBlock → Line → Bool
+is_item_in block line = is_item block.body && nat_le line.start block.start
+
+-- the task marker at byte offset `start` in a line, where text begins there the innermost open block, which is an item
+-- that was opened in this line
+abbrev pub task_at : Pass → Line → (start : ℕ) → Option Bool
+task_at pass line start =
+    if option_map_or (λ block. is_item_in block line) (innermost_block pass.placing.builder.blocks) false
+    then task_read pass.options (slice_range pass.placing.builder.text start line.stop) else None

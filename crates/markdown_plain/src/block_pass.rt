@@ -16,7 +16,7 @@ use markdown_base::block_parts::BlockParts;
 use markdown_base::cow_str::CowStr;
 use markdown_base::item::Item;
 use markdown_base::options::Options;
-use markdown_base::tag::HeadingLevel;
+use markdown_base::tag::{BlockQuoteKind, HeadingLevel};
 use markdown_base::tree::Tree;
 use markdown_lines::atx_heading::AtxHeading;
 use markdown_lines::block_start::{Before, BlockStart, ItemStart};
@@ -200,6 +200,7 @@ impl<'a> Pass<'a> {
             BlockStart::Text => self.read_text(rest, at),
             BlockStart::IndentedCode(code) => self.read_indented(rest, code),
             BlockStart::Quote(inside) => self.read_quote(rest, at, inside),
+            BlockStart::Alert(kind) => self.read_alert(rest, at, kind),
             BlockStart::Heading(heading) => self.read_heading(rest, at, heading),
             BlockStart::Fence(opening) => self.read_fence(rest, at, opening),
             BlockStart::Html(kind) => self.read_html(rest, kind),
@@ -253,8 +254,24 @@ impl<'a> Pass<'a> {
         ensures { IfOk result (λ _. self.new.placing.builder.text ≡ self.old.placing.builder.text) }
     {
         self.make_room(rest.depth)?;
-        self.open_quote(at)?;
+        self.open_quote(at, None)?;
         Ok(self.go_inside(rest, inside))
+    }
+
+    /// Reads the marker of an alert, which takes the whole line, and begins the paragraph that may follow it. Returns
+    /// false.
+    fn read_alert(
+        &mut self,
+        rest: &LineRest<'a>,
+        at: usize,
+        kind: BlockQuoteKind,
+    ) -> Result<bool, AllocError>
+        ensures { IfOk result (λ _. self.new.placing.builder.text ≡ self.old.placing.builder.text) }
+    {
+        self.make_room(rest.depth)?;
+        self.open_quote(at, Some(kind))?;
+        self.add_text(rest.line, rest.line.stop, self.depth())?;
+        Ok(false)
     }
 
     /// Reads an ATX heading. Returns false.
@@ -388,7 +405,13 @@ fn place_all<'a>(alloc: Global, text: &'a str, options: Options) -> Result<Placi
 ///
 /// With footnotes enabled, at most 3 spaces and `[^label]:` open a footnote definition, which may interrupt a
 /// paragraph. In GitHub's style it continues in lines that begin with 4 columns of space, in blank lines and in lazy
-/// continuation lines; in the old style up to the first blank line. The other options do not change blocks.
+/// continuation lines; in the old style up to the first blank line.
+///
+/// By the extended entry, and only by that, two more options change blocks. With task lists enabled, a paragraph that
+/// begins an item on the line of its list marker may begin with a TaskListMarker over `[ ]` or `[x]`, before white
+/// space, which is in no item. With GFM's alerts enabled, a block quote whose first line is `[!note]`, or another
+/// kind, in any case, is of this kind; that line counts as the first of a paragraph and is in no item. The other options
+/// do not change blocks.
 pub fn blocks<'a>(
     alloc: Global,
     text: &'a str,

@@ -15,6 +15,7 @@ use crate::stretches::{Ahead, FEW, Taking, next_start, starts_after, taken_by};
 use markdown_base::cow_str::CowStr;
 use markdown_base::item::ItemBody;
 use markdown_base::options::Options;
+use markdown_base::tag::BlockQuoteKind;
 use markdown_builder::open_block::OpenBlock;
 use markdown_lines::block_start::ItemStart;
 use markdown_lines::bytes::{bytes_of, content_start};
@@ -256,17 +257,17 @@ pub fn reach(pass: &Pass<'_>, line: Line) -> Reached
 }
 
 impl<'a> Pass<'a> {
-    /// Opens a block quote whose marker is at the byte offset `at`.
-    pub fn open_quote(&mut self, at: usize) -> Result<(), AllocError>
+    /// Opens a block quote, an alert of a kind or none, whose marker is at the byte offset `at`.
+    pub fn open_quote(&mut self, at: usize, kind: Option<BlockQuoteKind>) -> Result<(), AllocError>
         ensures text { IfOk result (λ _. self.new.placing.builder.text
             ≡ self.old.placing.builder.text) }
         ensures opens { IfOk result (λ _.
             IfFitted self.old.placing self.new.placing (self.new.placing.builder
-            ≡ opened self.old.placing.builder at (body.BlockQuote None))) }
+            ≡ opened self.old.placing.builder at (body.BlockQuote kind))) }
         ensures same { self.new ≡ record self.old { placing = self.new.placing } }
     {
         self.placing.step_to(at);
-        self.placing.open_block(ItemBody::BlockQuote(None))
+        self.placing.open_block(ItemBody::BlockQuote(kind))
     }
 
     /// Opens an item whose marker is at the byte offset `at`, and a list unless one continues, inside the outermost

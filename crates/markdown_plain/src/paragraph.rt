@@ -6,24 +6,27 @@ ghost use Rattle.markdown_base.specs.declared.item.ItemBody.TheVariants as body;
 ghost use Rattle.markdown_builder.specs.Bodies.{is_plain_block};
 ghost use Rattle.markdown_plain.specs.Fitting.{IfFitted, GoesOn, stepped};
 ghost use Rattle.markdown_plain.specs.OpenBlocks.{room_in, without_leaf};
-ghost use Rattle.markdown_plain.specs.Paragraphs.{end_of, has_paragraph, lines_end, paragraph_end, IsPlacedTo};
+ghost use Rattle.markdown_plain.specs.Paragraphs.{end_of, has_paragraph, is_item_in, lines_end, paragraph_end};
+ghost use Rattle.markdown_plain.specs.Paragraphs.{task_at, IsPlacedTo};
 
 use crate::pass::Pass;
 use crate::placing::Placing;
 use markdown_base::item::ItemBody;
 use markdown_base::options::Options;
 use markdown_base::tag::HeadingLevel;
+use markdown_builder::open_block::OpenBlock;
 use markdown_lines::atx_heading::trimmed_length;
 use markdown_lines::bytes::{byte_at, bytes_of};
 use markdown_lines::definition::read_definition;
 use markdown_lines::held_line::HeldLine;
 use markdown_lines::line::Line;
 use markdown_lines::line_break::line_break;
+use markdown_lines::task_marker::{task_length, task_read};
 use markdown_scan::entity::{EntityNames, entity_names};
 use std::alloc::{AllocError, Global};
 
 /// Takes the definition at the beginning of a paragraph's lines, up to the end of its last line, and returns its number
-/// of lines: 0 where there is none.
+/// of lines: 0 where there is none. A line of an alert's marker, of which nothing is left, is taken too.
 fn take_definition<'a>(
     alloc: Global,
     placing: &mut Placing<'a>,
@@ -42,6 +45,10 @@ fn take_definition<'a>(
     let Some(first) = lines.first() else {
         return Ok(0);
     };
+    if first.start == first.stop {
+        placing.step_to(first.next);
+        return Ok(1);
+    }
     if byte_at(text, first.start) != Some(b'[') {
         return Ok(0);
     }
@@ -84,7 +91,8 @@ fn take_definitions<'a>(
     Ok(taken)
 }
 
-/// Appends a line that is not the paragraph's last, and the break after it.
+/// Appends a line that is not the paragraph's last, and the break after it. There is none where the line holds nothing
+/// more after a task marker.
 fn add_broken_line(
     placing: &mut Placing<'_>,
     line: HeldLine,
@@ -94,6 +102,10 @@ fn add_broken_line(
     ensures goes_on { IfOk result (λ _. IfFitted placing.old placing.new
         (GoesOn placing.old.builder placing.new.builder line.next)) }
 {
+    if line.start == line.stop {
+        placing.step_to(line.next);
+        return Ok(());
+    }
     let text = placing.text();
     if line.stop < line.start || !text.is_char_boundary(line.stop) {
         placing.miss();
@@ -122,11 +134,36 @@ fn add_last_line(
     Ok(())
 }
 
-/// Appends the lines of the open paragraph or heading from the number `from` on.
+/// Goes to the beginning of a line, appends the task marker there, if any, and returns what follows that and the white
+/// space after it.
+fn begin_line(
+    placing: &mut Placing<'_>,
+    line: HeldLine,
+    task: Option<bool>,
+) -> Result<HeldLine, AllocError>
+    ensures text { IfOk result (λ _. placing.new.builder.text ≡ placing.old.builder.text) }
+    ensures goes_on { IfOk result (λ rest. IfFitted placing.old placing.new
+        (GoesOn placing.old.builder placing.new.builder rest.start)) }
+    ensures rest { IfOk result (λ rest. rest ≡ record line { start = rest.start }) }
+{
+    placing.step_to(line.start);
+    let Some(done) = task else {
+        return Ok(line);
+    };
+    let length = task_length(bytes_of(placing.text(), line.start, line.stop));
+    placing.add_inline(ItemBody::TaskListMarker(done), line.start.saturating_add(3))?;
+    let start = line.start.saturating_add(length);
+    placing.step_to(start);
+    Ok(HeldLine { start, ..line })
+}
+
+/// Appends the lines of the open paragraph or heading from the number `from` on, of which the first may begin with a
+/// task marker.
 fn add_lines(
     placing: &mut Placing<'_>,
     lines: &[HeldLine],
     from: usize,
+    task: Option<bool>,
     options: Options,
 ) -> Result<(), AllocError>
     ensures text { IfOk result (λ _. placing.new.builder.text ≡ placing.old.builder.text) }
@@ -134,8 +171,8 @@ fn add_lines(
         (GoesOn placing.old.builder placing.new.builder (lines_end lines.now))) }
 {
     'lines: for number in from..lines.len() {
-        let line = lines[number];
-        placing.step_to(line.start);
+        let marker = if number == from { task } else { None };
+        let line = begin_line(placing, lines[number], marker)?;
         if number == lines.len() - 1 {
             add_last_line(placing, line, options)?;
         } else {
@@ -143,6 +180,16 @@ fn add_lines(
         }
     }
     Ok(())
+}
+
+/// Returns whether an open block is an item that was opened in a line.
+fn is_item_in(block: OpenBlock, line: Line) -> bool
+    ensures { result ≡ is_item_in block line }
+{
+    match block.body {
+        ItemBody::ListItem(_) => line.start <= block.start,
+        _ => false,
+    }
 }
 
 /// Returns the body of a paragraph, or of the heading that it turned out to be.
@@ -157,32 +204,20 @@ fn body_of(heading: Option<(HeadingLevel, Line)>) -> ItemBody
     }
 }
 
-/// Places the lines from the number `from` on as a paragraph, or as a heading that ends with the line of its underline.
-#[tactic(auto, using(crate::proofs::OpenBlocksLemmas::outer_of_opened))]
-fn place_paragraph(
-    placing: &mut Placing<'_>,
-    lines: &[HeldLine],
-    from: usize,
-    heading: Option<(HeadingLevel, Line)>,
-    options: Options,
-) -> Result<(), AllocError>
-    ensures text { IfOk result (λ _. placing.new.builder.text ≡ placing.old.builder.text) }
-    ensures placed { IfOk result (λ _. from < length lines.now → IfFitted placing.old placing.new
-        (IsPlacedTo placing.old.builder placing.new.builder (paragraph_end lines.now heading))) }
-{
-    if let Some(first) = lines.get(from) {
-        placing.step_to(first.start);
-    }
-    placing.open_block(body_of(heading))?;
-    add_lines(placing, lines, from, options)?;
-    if let Some((_, underline)) = heading {
-        placing.step_to(underline.next);
-    }
-    placing.close();
-    Ok(())
-}
-
 impl<'a> Pass<'a> {
+    /// Returns the task marker at byte offset `start` in a line, if text begins there an item that was opened in this
+    /// line: whether the task is done.
+    fn task_at(&self, line: Line, start: usize) -> Option<bool>
+        ensures { result ≡ task_at self.now line start }
+    {
+        let block = self.placing.open_blocks().last()?;
+        if is_item_in(*block, line) {
+            task_read(self.placing.text(), start, line.stop, self.options)
+        } else {
+            None
+        }
+    }
+
     /// Adds a line, from its first content byte at byte offset `start` on, to the open paragraph; where none is open,
     /// begins one inside the outermost `depth` of the open blocks.
     pub fn add_text(&mut self, line: Line, start: usize, depth: usize) -> Result<(), AllocError>
@@ -197,12 +232,15 @@ impl<'a> Pass<'a> {
         ensures outside { IfOk result (λ _. has_paragraph self.old ≡ false
             → IfFitted self.old.placing self.new.placing
             (self.new.placing.builder.leaf ≡ false)) }
+        ensures task { IfOk result (λ _. has_paragraph self.old ≡ false
+            → self.new.task ≡ task_at self.new line start) }
         ensures line { IfOk result (λ _. self.new.lines.items
             ≡ (if has_paragraph self.old then self.old.lines.items else [])
             ++ record { start = start; stop = line.stop; next = line.next; owed = 0 } ∷ []) }
     {
         if !self.has_paragraph() {
             self.make_room(depth)?;
+            self.task = self.task_at(line, start);
         }
         let held = HeldLine {
             start,
@@ -211,6 +249,35 @@ impl<'a> Pass<'a> {
             owed: 0,
         };
         self.lines.push(held)?;
+        Ok(())
+    }
+
+    /// Places the lines from the number `from` on as a paragraph, or as a heading that ends with the line of its
+    /// underline. Only the first of all lines may begin with a task marker.
+    #[tactic(auto, using(crate::proofs::OpenBlocksLemmas::outer_of_opened))]
+    fn place_paragraph(
+        &mut self,
+        from: usize,
+        heading: Option<(HeadingLevel, Line)>,
+    ) -> Result<(), AllocError>
+        ensures text { IfOk result (λ _. self.new.placing.builder.text
+            ≡ self.old.placing.builder.text) }
+        ensures placed { IfOk result (λ _. from < length self.old.lines.items
+            → IfFitted self.old.placing self.new.placing
+            (IsPlacedTo self.old.placing.builder self.new.placing.builder
+            (paragraph_end self.old.lines.items heading))) }
+        ensures same { self.new ≡ record self.old { placing = self.new.placing } }
+    {
+        if let Some(first) = self.lines.get(from) {
+            self.placing.step_to(first.start);
+        }
+        self.placing.open_block(body_of(heading))?;
+        let task = if from == 0 { self.task } else { None };
+        add_lines(&mut self.placing, &self.lines, from, task, self.options)?;
+        if let Some((_, underline)) = heading {
+            self.placing.step_to(underline.next);
+        }
+        self.placing.close();
         Ok(())
     }
 
@@ -240,7 +307,7 @@ impl<'a> Pass<'a> {
         let taken = take_definitions(self.alloc, &mut self.placing, &self.lines, names)?;
         let left = taken < self.lines.len();
         if left {
-            place_paragraph(&mut self.placing, &self.lines, taken, heading, self.options)?;
+            self.place_paragraph(taken, heading)?;
         }
         self.lines.clear();
         Ok(left)

@@ -38,6 +38,8 @@ pub struct Pass<'a> {
     pub placing: Placing<'a>,
     /// the lines of the open paragraph; in an indented code block, the blank lines after which it may continue
     pub lines: Vec<HeldLine>,
+    /// the task marker that the open paragraph begins with, if any, by whether the task is done
+    pub task: Option<bool>,
     /// the kind of the code or HTML block that was opened last
     pub leaf: LeafKind,
     pub looseness: Looseness,
@@ -60,6 +62,7 @@ impl<'a> Pass<'a> {
             options,
             placing: Placing::new(alloc, text, old)?,
             lines: Vec::new(alloc),
+            task: None,
             leaf: LeafKind::Indented,
             looseness: Looseness::new(alloc),
             placed: 0,

@@ -4,6 +4,8 @@
 #![tactic(auto)]
 
 #[cfg(test)]
+mod alerts;
+#[cfg(test)]
 mod block_quotes;
 #[cfg(test)]
 mod chains;
@@ -39,6 +41,8 @@ mod rows;
 mod runs;
 #[cfg(test)]
 mod spans;
+#[cfg(test)]
+mod task_lists;
 #[cfg(test)]
 mod walks;
 #[cfg(test)]
