@@ -1,5 +1,5 @@
 -- Alerts: block quotes whose first line names a kind, such as `> [!NOTE]`.
-use Rattle.std.specs.Prelude.{ℕ, Bool, ◌==◌, ◌&&◌, List, [], ◌∷◌, Option, Some, None, codes, drop, length}
+use Rattle.std.specs.Prelude.{ℕ, Bool, ◌==◌, ◌&&◌, List, Option, Some, None, codes, drop, length}
 use Rattle.std.specs.Prelude.{if◌then◌else◌}
 use Rattle.std.specs.List.{list_all}
 use Rattle.markdown_base.specs.declared.options.Options.{Options}
