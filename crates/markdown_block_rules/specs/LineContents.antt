@@ -63,15 +63,15 @@ put_found text line more from at (found.EscapedBackticks stop) =
     ++ plain_item (at + 1) stop (body.MaybeCode (stop - (at + 1)) true) ∷ more stop stop
 put_found text line more from at (found.DelimiterRun stop flags) =
     text_between text line from at ++ run_items stop flags (stop - at) ++ more stop stop
-put_found text line more from at (found.Entity stop characters) =
-    text_between text line from at ++ synthesized_item at stop characters ∷ more stop stop
+put_found text line more from at (found.Replaced stop replacement) =
+    text_between text line from at ++ synthesized_item at stop replacement ∷ more stop stop
 
 -- the items of a line's content from byte offset `at` on, in at most `n` steps, where a text began at `from`
 unfoldable pub items_read_from : ℕ → List ℕ → Line → (from at : ℕ) → List Shown
 items_read_from zero text line from at = []
 items_read_from (suc n) text line from at =
     if nat_le line.end at then text_between text line from line.end
-    else if not (is_special (slice_index text at)) then items_read_from n text line from (at + 1)
+    else if not (is_special line.extensions.dashes (slice_index text at)) then items_read_from n text line from (at + 1)
     else put_found text line (items_read_from n text line) from at (found_at line text at)
 
 -- the items of a line's content

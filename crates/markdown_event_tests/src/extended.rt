@@ -56,6 +56,21 @@ fn events_of_names_and_addresses(rt: HostRuntime) -> Result<(), Fail> {
     Ok(())
 }
 
+/// Texts with dashes and dots, and their events with smart punctuation, each with its range.
+const DASHES_AND_DOTS: &[(&str, &str)] = &[(
+    "a--b---c\n",
+    "<p>0..9 [a]0..1 =[–]1..3 [b]3..4 =[—]4..7 [c]7..8 </p>0..9 ",
+)];
+
+#[test]
+fn events_of_dashes_and_dots(rt: HostRuntime) -> Result<(), Fail> {
+    for &(source, events) in DASHES_AND_DOTS {
+        let parser = extended_parser(rt.alloc(), source, Options::ENABLE_SMART_PUNCTUATION)?;
+        parser_gives(rt.alloc(), source, parser, events)?;
+    }
+    Ok(())
+}
+
 /// Checks the HTML of the text, with its raw HTML and made safe.
 fn shows(alloc: Global, html: &str, safe: &str) -> Result<(), Fail> {
     let nobody = None::<DefaultBrokenLinkCallback>;

@@ -1,15 +1,17 @@
 -- Where the bytes that begin items end: between characters.
-use Rattle.std.proofs.Common.{◌≡◌, ◌≢◌, ℕ, zero, suc, ◌+◌, ◌-◌, ◌<◌, ◌≤◌, List, true, false, Option, Some, None, length}
-use Rattle.std.proofs.Common.{get_or}
+use Rattle.std.proofs.Common.{◌≡◌, ◌≢◌, ℕ, zero, suc, ◌+◌, ◌-◌, ◌<◌, ◌≤◌, List, Bool, true, false, Option, Some, None}
+use Rattle.std.proofs.Common.{length, get_or}
 use Rattle.std.proofs.Common.{refl, sym, ap, ◌∙◌, arith, slice_range, slice_index}
 use Rattle.std.proofs.lemmas.Bool.Decides.{nat_tests}
 use Rattle.std.proofs.lemmas.List.Sums.{prefix_len_is}
 use Rattle.std.proofs.lemmas.Option.{same_Some}
 use Rattle.std.proofs.lemmas.Str.{IsCharBoundary-after_ascii}
-use Rattle.std.specs.Prelude.{IfSome, option_map, ◌==◌}
+use Rattle.std.specs.Prelude.{IfSome, option_map, ◌==◌, codes}
 use Rattle.std.specs.List.{prefix_len}
 use Rattle.std.specs.Str.{IsUtf8, IsCharBoundary}
 use Rattle.markdown_base.proofs.ByteListLemmas.{byte_of_part, part_length}
+use Rattle.markdown_scan.proofs.BeginsWithLemmas.{begins_with-fits, begins_with-reads}
+use Rattle.markdown_scan.specs.Beginnings.{begins_with}
 use Rattle.markdown_scan.specs.NamedEntity.{in_utf8}
 use Rattle.markdown_items.specs.Found.{entity_found}
 use Rattle.markdown_items.specs.FoundView as view
@@ -23,8 +25,8 @@ use Rattle.markdown_items.specs.declared.found.Found.TheVariants as found
 use Rattle.markdown_items.specs.declared.found.Line.{Line}
 
 -- a special byte is ASCII
-pub special_ascii : (byte : ℕ) → is_special byte ≡ true → byte < 128
-special_ascii byte h = grind (arith, nat_tests)
+pub special_ascii : (dashes : Bool) (byte : ℕ) → is_special dashes byte ≡ true → byte < 128
+special_ascii dashes byte h = grind (arith, nat_tests)
 
 -- after a special byte the text may be cut
 pub past_special : (text : List ℕ) (line : Line) (at : ℕ) → IsUtf8 text → IsAtSpecial text line at
@@ -32,7 +34,7 @@ pub past_special : (text : List ℕ) (line : Line) (at : ℕ) → IsUtf8 text �
 past_special text line at u here =
     let within = here.end in
     let more = here.more in
-    IsCharBoundary-after_ascii text at u (omega (arith, within.0, more)) (special_ascii _ here.special)
+    IsCharBoundary-after_ascii text at u (omega (arith, within.0, more)) (special_ascii _ _ here.special)
 
 -- and after a run of one
 pub past_run : (text : List ℕ) (line : Line) (at stop : ℕ) → IsUtf8 text → IsAtSpecial text line at
@@ -43,10 +45,26 @@ past_run text line at stop u here whole =
     let within = run.within in
     let same : get_or text (stop - 1) 0 ≡ get_or text at 0 =
     run.same (stop - 1) (omega (arith, more)) (omega (arith, more)) in
-    let ascii : get_or text (stop - 1) 0 < 128 = rw same (special_ascii _ here.special) in
+    let ascii : get_or text (stop - 1) 0 < 128 = rw same (special_ascii _ _ here.special) in
     let cut = IsCharBoundary-after_ascii text (stop - 1) u (omega (arith, more, within)) ascii in
     let n : (stop - 1) + 1 ≡ stop = omega (arith, more) in
     rw n at cut
+
+-- after three dots the text may be cut
+pub past_dots : (text : List ℕ) (line : Line) (at : ℕ) → IsUtf8 text → IsAtSpecial text line at
+    → begins_with (codes "...") (slice_range text at line.end) ≡ true
+    → LiesFurther line.end at (at + 3) × IsCharBoundary text (at + 3)
+past_dots text line at u here dots =
+    let end = here.end in
+    let more = here.more in
+    let few = begins_with-fits (codes "...") (slice_range text at line.end) dots in
+    let size = part_length text at line.end end.0 in
+    let last : get_or text (at + 2) 0 ≡ 46 =
+    sym (byte_of_part text at line.end 2 (omega (arith, few, size)))
+    ∙ begins_with-reads (codes "...") (slice_range text at line.end) 2 dots (omega arith) in
+    let cut = IsCharBoundary-after_ascii text (at + 2) u (omega (arith, few, size, end.0)) (omega (arith, last)) in
+    let n : (at + 2) + 1 ≡ at + 3 = omega arith in
+    (record { past = omega arith; within = omega (arith, few, size) }, rw n at cut)
 
 -- an entity has a byte
 entity_some : (part : List ℕ) (count : ℕ) → StandsBetween 38 59 part count → 0 < count
@@ -93,11 +111,11 @@ entity_fits names text line at count characters u here law value le =
 -- what is read is the entity there, or text
 pub entity_found_is : (at : ℕ) (found : Option (ℕ × List ℕ)) (count : ℕ) (characters : List ℕ)
     → Some (count, characters) ≡ option_map in_utf8 found
-    → view.Entity (at + count) characters ≡ entity_found at found
+    → view.Replaced (at + count) characters ≡ entity_found at found
 entity_found_is at None count characters e = cc
 entity_found_is at (Some r) count characters e =
     let same = same_Some (count, characters) (in_utf8 r) e in
-    ap (λ (x : ℕ × List ℕ). view.Entity (at + x.0) x.1) same
+    ap (λ (x : ℕ × List ℕ). view.Replaced (at + x.0) x.1) same
 
 pub entity_none_is : (at : ℕ) (found : Option (ℕ × List ℕ)) → None ≡ option_map in_utf8 found
     → view.Text (at + 1) ≡ entity_found at found
@@ -145,4 +163,6 @@ goes_on text end at (found.EscapedBackticks stop) more fits =
     let past = fits.0 in
     record { past = omega (arith, past.past); within = past.within }
 goes_on text end at (found.Run stop flags) more fits = fits.0
-goes_on text end at (found.Entity stop character) more fits = fits.0
+goes_on text end at (found.Entity stop characters) more fits = fits.0
+goes_on text end at (found.Dashes stop dashes) more fits = fits.0
+goes_on text end at (found.Ellipsis stop) more fits = fits.0

@@ -2,6 +2,7 @@
 use Rattle.std.specs.Prelude.{◌≡◌, ◌≢◌, ℕ, ◌<◌, ◌≤◌, Bool, true, false, not, ◌==◌, ◌&&◌, ◌||◌, nat_le, nat_lt, ◌+◌}
 use Rattle.std.specs.Prelude.{◌-◌, List, Option, Some, None, slice_index, slice_range, codes, if◌then◌else◌}
 use Rattle.markdown_base.specs.EnabledOptions.{strikethrough_on, subscript_on, superscript_on}
+use Rattle.markdown_base.specs.ExtendedOptions.{is_extended}
 use Rattle.markdown_base.specs.MarkOptions.{math_on, smart_punctuation_on}
 use Rattle.markdown_base.specs.declared.options.Options.{Options}
 use Rattle.std.specs.List.{list_any, prefix_len}
@@ -15,12 +16,13 @@ use Rattle.markdown_items.specs.declared.flanking.Flags.{Flags}
 use Rattle.markdown_items.specs.Flanking.{is_white, flags_of}
 
 -- what the options enable: `~` with strikethrough or subscript, `^` with superscript, quotation marks with smart
--- punctuation, `$` with math; and the names of entities that count
+-- punctuation, and dashes with it in the extended entry, `$` with math; and the names of entities that count
 abbrev pub item_extensions : Options → Extensions
 item_extensions options = record {
   tildes = strikethrough_on options || subscript_on options;
   carets = superscript_on options;
   quotes = smart_punctuation_on options;
+  dashes = is_extended options && smart_punctuation_on options;
   math = math_on options;
   names = entity_names options;
 }
@@ -29,25 +31,31 @@ item_extensions options = record {
 abbrev pub is_after_backslash : List ℕ → ℕ → ℕ → Bool
 is_after_backslash text start at = nat_lt start at && (slice_index text (at - 1) == backslash)
 
--- the bytes that may begin something other than text; the table in code is checked against them, and so is `is_plain`
+-- the bytes that may begin something other than text, whatever the extensions; the table in code is checked against them
 abbrev pub special_bytes : List ℕ
 special_bytes = codes "!\"$&'*<[\\]^_`~"
 
-abbrev pub is_special : ℕ → Bool
-is_special byte = list_any (λ b. b == byte) special_bytes
+-- a byte that dashes or an ellipsis are written by
+abbrev pub is_dash_byte : ℕ → Bool
+is_dash_byte byte = list_any (λ b. b == byte) (codes "-.")
+
+-- a byte may begin something other than text, where dashes are read or not
+abbrev pub is_special : (dashes : Bool) → ℕ → Bool
+is_special dashes byte = list_any (λ b. b == byte) special_bytes || (is_dash_byte byte && dashes)
 
 -- plain bytes, which most text consists of: none of them is special
-abbrev pub is_plain : ℕ → Bool
-is_plain byte =
-    nat_le byte space || (nat_le plus_sign byte && nat_le byte 90 && not (byte == less_than))
+abbrev pub is_plain : (dashes : Bool) → ℕ → Bool
+is_plain dashes byte =
+    nat_le byte space
+    || (nat_le plus_sign byte && nat_le byte 90 && not (byte == less_than) && not (is_dash_byte byte && dashes))
     || (nat_le 97 byte && not (byte == tilde))
 
 -- `found` is the first offset from `from` on whose byte may begin something other than text, or `end`
-pub record IsFirstSpecial (text : List ℕ) (from end found : ℕ) : Type 0 where
+pub record IsFirstSpecial (dashes : Bool) (text : List ℕ) (from end found : ℕ) : Type 0 where
   pub low : from ≤ found
   pub high : found ≤ end
-  pub plain : (at : ℕ) → from ≤ at → at < found → is_special (slice_index text at) ≡ false
-  pub stops : found < end → is_special (slice_index text found) ≡ true
+  pub plain : (at : ℕ) → from ≤ at → at < found → is_special dashes (slice_index text at) ≡ false
+  pub stops : found < end → is_special dashes (slice_index text found) ≡ true
 
 -- the offset after the run of the byte at `at`, in a line's content that ends at `end`
 abbrev pub run_end : List ℕ → ℕ → ℕ → ℕ

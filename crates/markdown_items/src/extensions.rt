@@ -14,6 +14,8 @@ pub struct Extensions {
     pub carets: bool,
     /// `'` and `"` are quotation marks.
     pub quotes: bool,
+    /// Two or more hyphens are dashes, and three dots an ellipsis.
+    pub dashes: bool,
     /// `$` delimits math.
     pub math: bool,
     /// The names by which entities are read.
@@ -22,7 +24,8 @@ pub struct Extensions {
 
 impl Extensions {
     /// Returns what a set of options enables: `~` with strikethrough or subscript, `^` with superscript, quotation
-    /// marks with smart punctuation, `$` with math; and the names of entities that count.
+    /// marks with smart punctuation, and dashes with it in the extended entry, `$` with math; and the names of entities
+    /// that count.
     pub fn of(options: Options) -> Extensions
         ensures { result ≡ item_extensions options }
     {
@@ -31,6 +34,7 @@ impl Extensions {
                 || options.contains(Options::ENABLE_SUBSCRIPT),
             carets: options.contains(Options::ENABLE_SUPERSCRIPT),
             quotes: options.contains(Options::ENABLE_SMART_PUNCTUATION),
+            dashes: options.is_extended() && options.contains(Options::ENABLE_SMART_PUNCTUATION),
             math: options.contains(Options::ENABLE_MATH),
             names: entity_names(options),
         }

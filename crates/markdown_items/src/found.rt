@@ -1,11 +1,13 @@
 //! What begins at a special byte of a line's content.
 ghost use Rattle.std.specs.Prelude.{◌≡◌, ◌<◌, ◌^◌, true, slice_index};
 ghost use Rattle.markdown_base.specs.WellFormed.{is_delimiter};
-ghost use Rattle.markdown_items.specs.Found.{escape_at, entity_at, image_at, run_at, mark_at, found_at};
+ghost use Rattle.markdown_items.specs.Found.{escape_at, entity_at, image_at, run_at, mark_at, hyphens_at, dots_at};
+ghost use Rattle.markdown_items.specs.Found.{found_at};
 ghost use Rattle.markdown_items.specs.FoundFits.{IsAtSpecial, FoundFits, next_after};
 ghost use Rattle.markdown_items.specs.FoundView.{found_view};
 
 use crate::around::{character_after, character_before};
+use crate::dashes::{Dashes, dashes_for};
 use crate::delimiter_run::{run_end, run_flags};
 use crate::extensions::Extensions;
 use crate::flanking::Flags;
@@ -41,6 +43,10 @@ pub enum Found {
     Run(usize, Flags),
     /// An entity up to this offset, and its characters (CommonMark 2.5).
     Entity(usize, Characters),
+    /// Hyphens up to this offset, and the dashes in their place.
+    Dashes(usize, Dashes),
+    /// Three dots up to this offset.
+    Ellipsis(usize),
 }
 
 impl Found {
@@ -56,7 +62,9 @@ impl Found {
             | Found::Backticks(next)
             | Found::EscapedBackticks(next)
             | Found::Run(next, _)
-            | Found::Entity(next, _) => next,
+            | Found::Entity(next, _)
+            | Found::Dashes(next, _)
+            | Found::Ellipsis(next) => next,
         }
     }
 }
@@ -144,6 +152,35 @@ fn find_mark(text: &str, line: Line, at: usize) -> Found
     }
 }
 
+/// Returns what the hyphens at `at` are: dashes, or text if there is one.
+#[tactic(auto, using(crate::proofs::ItemLemmas::past_run), unfolding(crate::specs::Found::hyphens_at))]
+fn find_dashes(text: &str, line: Line, at: usize) -> Found
+    requires { IsAtSpecial text.now line at }
+    ensures value { found_view result ≡ hyphens_at text.now line.end at }
+    ensures fits { FoundFits text.now line.end at result }
+{
+    let stop = run_end(text, at, line.end);
+    if stop - at < 2 {
+        Found::Text(stop)
+    } else {
+        Found::Dashes(stop, dashes_for(stop - at))
+    }
+}
+
+/// Returns what the dots at `at` are: an ellipsis, or text if there are fewer than three.
+#[tactic(auto, unfolding(crate::specs::Found::dots_at))]
+fn find_ellipsis(text: &str, line: Line, at: usize) -> Found
+    requires { IsAtSpecial text.now line at }
+    ensures value { found_view result ≡ dots_at text.now line.end at }
+    ensures fits { FoundFits text.now line.end at result }
+{
+    if text.as_bytes()[at..line.end].starts_with(b"...") {
+        Found::Ellipsis(at + 3)
+    } else {
+        Found::Text(at + 1)
+    }
+}
+
 /// Returns what begins at a special byte.
 #[tactic(auto, unfolding(crate::specs::Found::found_at))]
 pub fn find(text: &str, line: Line, at: usize) -> Found
@@ -161,6 +198,8 @@ pub fn find(text: &str, line: Line, at: usize) -> Found
         b']' => Found::Mark(ItemBody::MaybeLinkClose(true)),
         // the characters of `is_delimiter`, as `value` requires; written out, they are in the same jump as the other bytes
         b'*' | b'_' | b'~' | b'^' => find_run(text, line, at),
+        b'-' => find_dashes(text, line, at),
+        b'.' => find_ellipsis(text, line, at),
         _ => find_mark(text, line, at),
     }
 }

@@ -2,6 +2,7 @@
 #![tactic(auto)]
 
 mod around;
+mod dashes;
 mod delimiter_run;
 mod extensions;
 mod flanking;

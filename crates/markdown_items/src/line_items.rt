@@ -8,10 +8,11 @@ use crate::extensions::Extensions;
 use crate::flanking::Flags;
 use crate::found::{Found, Line, find};
 use crate::special::first_special;
+use markdown_base::cow_str::CowStr;
 use markdown_base::item::ItemBody;
 use markdown_base::options::Options;
 use markdown_builder::builder::Builder;
-use std::alloc::AllocError;
+use std::alloc::{AllocError, Global};
 
 /// Returns whether a backslash escapes the byte at `at`, at which a text of the line's content begins.
 fn is_after_backslash(bytes: &[u8], start: usize, at: usize) -> bool
@@ -66,6 +67,7 @@ fn append_run(
 /// Appends the text before `at`, and the item that was found there, if any.
 fn append_found(
     builder: &mut Builder<'_>,
+    alloc: Global,
     line: Line,
     at: usize,
     found: Found,
@@ -95,6 +97,8 @@ fn append_found(
             builder.backticks(stop, true)
         }
         Found::Entity(stop, characters) => builder.synthesize(characters.inlined(), stop),
+        Found::Dashes(stop, dashes) => builder.synthesize(dashes.text(alloc)?, stop),
+        Found::Ellipsis(stop) => builder.synthesize(CowStr::from('…'), stop),
         Found::Text(_) | Found::Run(_, _) => Ok(()),
     }
 }
@@ -102,14 +106,20 @@ fn append_found(
 /// Appends the inline items of one line's content, from the builder's position up to `end`.
 ///
 /// Items are delimiter runs with their flags (CommonMark 6.2), quotation marks with smart punctuation enabled, `$` with
-/// math enabled, backticks, `<`, `[`, `![` and `]`, and the characters of entities (2.5). A backslash before ASCII
-/// punctuation is in no item (2.4). Everything else is text, one `Text` between two of these. For the flags, the
-/// content is preceded by a line ending, and followed by what follows it in the text, such as the backslash of a hard
+/// math enabled, backticks, `<`, `[`, `![` and `]`, the characters of entities (2.5), and with smart punctuation enabled
+/// in the extended entry the dashes in place of two or more hyphens, and the ellipsis in place of three dots. A backslash
+/// before ASCII punctuation is in no item (2.4). Everything else is text, one `Text` between two of these. For the flags,
+/// the content is preceded by a line ending, and followed by what follows it in the text, such as the backslash of a hard
 /// line break.
 ///
 /// The error is a refused allocation, after which some of the items may have been appended.
 #[tactic(auto, using(crate::proofs::ItemLemmas::goes_on))]
-pub fn items(builder: &mut Builder<'_>, end: usize, options: Options) -> Result<(), AllocError>
+pub fn items(
+    builder: &mut Builder<'_>,
+    alloc: Global,
+    end: usize,
+    options: Options,
+) -> Result<(), AllocError>
     requires inside { builder.old.leaf ≡ true }
     requires low { builder.old.at ≤ end }
     requires boundary { IsCharBoundary builder.old.text end }
@@ -126,11 +136,12 @@ pub fn items(builder: &mut Builder<'_>, end: usize, options: Options) -> Result<
     };
     let text = builder.text();
     let bytes = text.as_bytes();
-    let mut at = first_special(bytes, line.start, end);
+    let dashes = line.extensions.dashes;
+    let mut at = first_special(bytes, line.start, end, dashes);
     'line: while at < end {
         let found = find(text, line, at);
-        append_found(builder, line, at, found)?;
-        at = first_special(bytes, found.next(at), end);
+        append_found(builder, alloc, line, at, found)?;
+        at = first_special(bytes, found.next(at), end, dashes);
     }
     append_text(builder, line, end)?;
     Ok(())

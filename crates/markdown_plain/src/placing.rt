@@ -17,12 +17,14 @@ use markdown_lines::definition::Definition;
 use markdown_lines::line::next_content;
 use std::alloc::{AllocError, Global};
 
-/// A builder, the number of calls that did not fit, and the stretches of the open blocks.
+/// A builder, the number of calls that did not fit, the stretches of the open blocks, and the allocator for the texts of
+/// inline items.
 #[derive(Drop)]
 pub struct Placing<'a> {
     pub builder: Builder<'a>,
     pub misfits: usize,
     pub stretches: Stretches,
+    alloc: Global,
     ghost stretched: { IsOf stretches (outer_of builder.blocks) },
 }
 
@@ -50,6 +52,7 @@ impl<'a> Placing<'a> {
             builder: Builder::new(alloc, text)?,
             misfits: 0,
             stretches: Stretches::new(alloc, old),
+            alloc,
         })
     }
 
@@ -326,7 +329,7 @@ impl<'a> Placing<'a> {
             self.miss();
             return Ok(());
         }
-        match items(&mut self.builder, end, options) {
+        match items(&mut self.builder, self.alloc, end, options) {
             Ok(()) => Ok(()),
             Err(error) => {
                 self.stretches.forget();

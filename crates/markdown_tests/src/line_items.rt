@@ -46,6 +46,7 @@ fn rows_of(alloc: Global, tree: &Tree<Item>, texts: &[CowStr<'_>]) -> Result<Str
 /// Appends a paragraph over a text, with the items of the part from `start` up to `end`.
 fn place(
     builder: &mut Builder<'_>,
+    alloc: Global,
     start: usize,
     end: usize,
     options: Options,
@@ -59,7 +60,7 @@ fn place(
 {
     builder.open(ItemBody::Paragraph)?;
     builder.skip(start);
-    items(builder, end, options)?;
+    items(builder, alloc, end, options)?;
     builder.skip(builder.text().as_bytes().len());
     builder.close();
     Ok(())
@@ -77,7 +78,7 @@ fn part_listed(
         return Ok(String::new(alloc));
     }
     let mut builder = Builder::new(alloc, text)?;
-    place(&mut builder, start, end, options)?;
+    place(&mut builder, alloc, start, end, options)?;
     if !builder.open_blocks().is_empty() {
         drop(builder);
         return Ok(String::new(alloc));
@@ -260,6 +261,58 @@ fn names_of_html(rt: HostRuntime) -> Result<(), Fail> {
     Ok(())
 }
 
+/// Texts, and their items with the options of the extended entry and smart punctuation.
+static DASHES_AND_DOTS: [(&str, &str); 9] = [
+    (
+        "a--b---c",
+        "Text 0..1;SynthesizeText(CowIndex(0)) 1..3;Text 3..4;SynthesizeText(CowIndex(1)) 4..7;Text 7..8;–;—;",
+    ),
+    (
+        "---- ----- ------- --------",
+        "SynthesizeText(CowIndex(0)) 0..4;Text 4..5;SynthesizeText(CowIndex(1)) 5..10;Text 10..11;\
+        SynthesizeText(CowIndex(2)) 11..18;Text 18..19;SynthesizeText(CowIndex(3)) 19..27;––;—–;—––;––––;",
+    ),
+    // eight em dashes are more than what is stored inline
+    (
+        "------------------------",
+        "SynthesizeText(CowIndex(0)) 0..24;————————;",
+    ),
+    (
+        "-------------------------",
+        "SynthesizeText(CowIndex(0)) 0..25;———————––;",
+    ),
+    ("a - b.c..", "Text 0..9;"),
+    (
+        "....... ..",
+        "SynthesizeText(CowIndex(0)) 0..3;SynthesizeText(CowIndex(1)) 3..6;Text 6..10;…;…;",
+    ),
+    // a run begins after an escaped byte
+    (
+        "\\--\\---\\....",
+        "Escaped 1..3;Escaped 4..5;SynthesizeText(CowIndex(0)) 5..7;Escaped 8..9;\
+        SynthesizeText(CowIndex(1)) 9..12;–;…;",
+    ),
+    // the flags are those of the source
+    (
+        "*--*\"",
+        "MaybeEmphasis(1, true, false) 0..1;SynthesizeText(CowIndex(0)) 1..3;\
+        MaybeEmphasis(1, true, true) 3..4;MaybeSmartQuote(34, false, true) 4..5;–;",
+    ),
+    (
+        "é--é",
+        "Text 0..2;SynthesizeText(CowIndex(0)) 2..4;Text 4..6;–;",
+    ),
+];
+
+#[test]
+fn dashes_and_dots(rt: HostRuntime) -> Result<(), Fail> {
+    let options = Options::ENABLE_SMART_PUNCTUATION.with_extended(true);
+    for &(text, want) in &DASHES_AND_DOTS {
+        has_items(rt.alloc(), text, options, want)?;
+    }
+    Ok(())
+}
+
 #[test]
 fn options_add_items(rt: HostRuntime) -> Result<(), Fail> {
     for &(text, options, want) in &[
@@ -286,6 +339,13 @@ fn options_add_items(rt: HostRuntime) -> Result<(), Fail> {
             Options::ENABLE_SMART_PUNCTUATION,
             "MaybeSmartQuote(34, true, false) 0..1;Text 1..2;MaybeSmartQuote(39, false, false) 2..3;\
             Text 3..4;MaybeSmartQuote(34, false, true) 4..5;",
+        ),
+        // the present entry reads no dashes, and the extended one only with smart punctuation
+        ("a--b...", Options::ENABLE_SMART_PUNCTUATION, "Text 0..7;"),
+        (
+            "a--b...",
+            Options::ENABLE_GFM.with_extended(true),
+            "Text 0..7;",
         ),
         (
             "$a$",
@@ -338,15 +398,16 @@ fn a_line_is_read_alone(rt: HostRuntime) -> Result<(), Fail> {
 }
 
 /// Appends a paragraph over a text, whose items are read up to `cut`, and then up to the end.
-fn place_cut(builder: &mut Builder<'_>, cut: usize) -> Result<(), AllocError>
+fn place_cut(builder: &mut Builder<'_>, alloc: Global, cut: usize) -> Result<(), AllocError>
     requires outside { builder.old.leaf ≡ false }
     requires fresh { builder.old.at ≡ 0 }
     requires boundary { IsCharBoundary builder.old.text cut }
 {
     builder.open(ItemBody::Paragraph)?;
-    items(builder, cut, Options::ENABLE_GFM)?;
+    items(builder, alloc, cut, Options::ENABLE_GFM)?;
     items(
         builder,
+        alloc,
         builder.text().as_bytes().len(),
         Options::ENABLE_GFM,
     )?;
@@ -365,7 +426,7 @@ fn cut_tree(
         return Ok(None);
     }
     let mut builder = Builder::new(alloc, text)?;
-    place_cut(&mut builder, cut)?;
+    place_cut(&mut builder, alloc, cut)?;
     Ok(finished(builder))
 }
 

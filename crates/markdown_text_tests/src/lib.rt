@@ -12,6 +12,8 @@ mod chains;
 #[cfg(test)]
 mod code_and_paragraphs;
 #[cfg(test)]
+mod dashes;
+#[cfg(test)]
 mod definition_blocks;
 #[cfg(test)]
 mod definitions;

@@ -9,7 +9,7 @@ invariant-line l = record {
   begun : l.fn.builder.at ≤ l.builder.at;
   placed : l.builder.at ≤ l.at;
   within : l.at ≤ l.end;
-  special : l.at < l.end → is_special (slice_index l.bytes l.at) ≡ true;
+  special : l.at < l.end → is_special l.dashes (slice_index l.bytes l.at) ≡ true;
 }
 
 abbrev pub decreases-line : goal.decreases-line

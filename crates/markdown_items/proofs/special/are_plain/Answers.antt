@@ -10,4 +10,4 @@ pub returns : goal.returns
 returns c = λ h.
     let bytes = c.args.bytes.now in
     let all = take_all c.loop-byte.byte-index bytes (omega (arith, c.loop-byte-test.false)) in
-    none_special bytes (sym (c.loop-byte.invariant ∙ ap (list_all is_plain) all) ∙ h)
+    none_special c.args.dashes bytes (sym (c.loop-byte.invariant ∙ ap (list_all (is_plain c.args.dashes)) all) ∙ h)
