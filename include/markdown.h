@@ -74,7 +74,7 @@ extern "C" {
 /** `~~a~~`, and `~a~` unless `MARKDOWN_SUBSCRIPT` is set. */
 #define MARKDOWN_STRIKETHROUGH (1 << 3)
 
-/** Curly quotes. */
+/** Curly quotes; with `MARKDOWN_EXTENDED` also dashes for `--` and `---`, and an ellipsis for `...`. */
 #define MARKDOWN_SMART (1 << 5)
 
 /** Footnotes whose references need no definition. */
@@ -92,9 +92,9 @@ extern "C" {
 /** `[[page]]` and `[[page|text]]`. */
 #define MARKDOWN_WIKILINKS (1 << 15)
 
-/** The extended entry, which reads e-mail addresses in angle brackets and all named entities of HTML too. It is no
- * extension: the other bits mean the same with it and without it. Libraries up to 0.8.0 take it for a bit that changes
- * nothing.
+/** The extended entry, which reads e-mail addresses in angle brackets and all named entities of HTML too, and dashes and
+ * dots by `MARKDOWN_SMART`. It is no extension: the other bits mean the same with it and without it. Libraries up to
+ * 0.8.0 take it for a bit that changes nothing.
  */
 #define MARKDOWN_EXTENDED (1 << 30)
 

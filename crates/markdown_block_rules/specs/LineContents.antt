@@ -1,6 +1,6 @@
 -- What the content of lines consists of: inline items, open or settled, and the breaks between lines.
 use Rattle.std.specs.Prelude.{ℕ, zero, suc, ◌+◌, ◌-◌, true, false, not, ◌==◌, nat_le, nat_lt, List, [], ◌∷◌}
-use Rattle.std.specs.Prelude.{◌++◌, Option, Some, None, length, slice_index, replicate}
+use Rattle.std.specs.Prelude.{◌++◌, Option, Some, None, length, slice_index, replicate, encode_utf8}
 use Rattle.std.specs.Prelude.{if◌then◌else◌}
 use Rattle.markdown_base.specs.Bytes.{backslash, space}
 use Rattle.markdown_items.specs.declared.extensions.Extensions.{Extensions}
@@ -9,6 +9,7 @@ use Rattle.markdown_items.specs.declared.found.Line.{Line}
 use Rattle.markdown_base.specs.declared.item.Item.{Item}
 use Rattle.markdown_base.specs.declared.item.ItemBody.{ItemBody}
 use Rattle.markdown_base.specs.declared.item.ItemBody.TheVariants as body
+use Rattle.markdown_items.specs.Dashes.{dashes_for, dashes_in_utf8, ellipsis}
 use Rattle.markdown_items.specs.Found.{found_at}
 use Rattle.markdown_items.specs.FoundView as found
 use Rattle.markdown_items.specs.FoundView.{FoundView}
@@ -63,8 +64,14 @@ put_found text line more from at (found.EscapedBackticks stop) =
     ++ plain_item (at + 1) stop (body.MaybeCode (stop - (at + 1)) true) ∷ more stop stop
 put_found text line more from at (found.DelimiterRun stop flags) =
     text_between text line from at ++ run_items stop flags (stop - at) ++ more stop stop
-put_found text line more from at (found.Replaced stop replacement) =
-    text_between text line from at ++ synthesized_item at stop replacement ∷ more stop stop
+put_found text line more from at (found.Entity stop characters) =
+    text_between text line from at ++ synthesized_item at stop characters ∷ more stop stop
+put_found text line more from at (found.Dashes stop) =
+    text_between text line from at
+    ++ synthesized_item at stop (dashes_in_utf8 (dashes_for (stop - at))) ∷ more stop stop
+put_found text line more from at found.Ellipsis =
+    text_between text line from at
+    ++ synthesized_item at (at + 3) (encode_utf8 ellipsis) ∷ more (at + 3) (at + 3)
 
 -- the items of a line's content from byte offset `at` on, in at most `n` steps, where a text began at `from`
 unfoldable pub items_read_from : ℕ → List ℕ → Line → (from at : ℕ) → List Shown

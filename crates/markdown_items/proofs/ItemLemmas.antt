@@ -53,7 +53,7 @@ past_run text line at stop u here whole =
 -- after three dots the text may be cut
 pub past_dots : (text : List ℕ) (line : Line) (at : ℕ) → IsUtf8 text → IsAtSpecial text line at
     → begins_with (codes "...") (slice_range text at line.end) ≡ true
-    → LiesFurther line.end at (at + 3) × IsCharBoundary text (at + 3)
+    → (at + 3 ≤ line.end) × IsCharBoundary text (at + 3)
 past_dots text line at u here dots =
     let end = here.end in
     let more = here.more in
@@ -64,7 +64,7 @@ past_dots text line at u here dots =
     ∙ begins_with-reads (codes "...") (slice_range text at line.end) 2 dots (omega arith) in
     let cut = IsCharBoundary-after_ascii text (at + 2) u (omega (arith, few, size, end.0)) (omega (arith, last)) in
     let n : (at + 2) + 1 ≡ at + 3 = omega arith in
-    (record { past = omega arith; within = omega (arith, few, size) }, rw n at cut)
+    (omega (arith, few, size), rw n at cut)
 
 -- an entity has a byte
 entity_some : (part : List ℕ) (count : ℕ) → StandsBetween 38 59 part count → 0 < count
@@ -111,11 +111,11 @@ entity_fits names text line at count characters u here law value le =
 -- what is read is the entity there, or text
 pub entity_found_is : (at : ℕ) (found : Option (ℕ × List ℕ)) (count : ℕ) (characters : List ℕ)
     → Some (count, characters) ≡ option_map in_utf8 found
-    → view.Replaced (at + count) characters ≡ entity_found at found
+    → view.Entity (at + count) characters ≡ entity_found at found
 entity_found_is at None count characters e = cc
 entity_found_is at (Some r) count characters e =
     let same = same_Some (count, characters) (in_utf8 r) e in
-    ap (λ (x : ℕ × List ℕ). view.Replaced (at + x.0) x.1) same
+    ap (λ (x : ℕ × List ℕ). view.Entity (at + x.0) x.1) same
 
 pub entity_none_is : (at : ℕ) (found : Option (ℕ × List ℕ)) → None ≡ option_map in_utf8 found
     → view.Text (at + 1) ≡ entity_found at found
@@ -164,5 +164,5 @@ goes_on text end at (found.EscapedBackticks stop) more fits =
     record { past = omega (arith, past.past); within = past.within }
 goes_on text end at (found.Run stop flags) more fits = fits.0
 goes_on text end at (found.Entity stop characters) more fits = fits.0
-goes_on text end at (found.Dashes stop dashes) more fits = fits.0
-goes_on text end at (found.Ellipsis stop) more fits = fits.0
+goes_on text end at (found.Dashes stop) more fits = fits.0
+goes_on text end at found.Ellipsis more fits = record { past = omega arith; within = fits.0 }

@@ -1,6 +1,6 @@
 -- What begins at a special byte of a line's content.
 use Rattle.std.specs.Prelude.{ℕ, ◌+◌, ◌-◌, true, not, ◌==◌, ◌&&◌, ◌||◌, List, Option, Some, None, slice_index}
-use Rattle.std.specs.Prelude.{nat_lt, slice_range, codes, encode_utf8, encode_utf8_all, if◌then◌else◌}
+use Rattle.std.specs.Prelude.{nat_lt, slice_range, codes, encode_utf8_all, if◌then◌else◌}
 use Rattle.std.specs.Char.{is_ascii_punctuation}
 use Rattle.markdown_base.specs.Bytes.{ampersand, apostrophe, backslash, backtick, close_bracket, dollar_sign}
 use Rattle.markdown_base.specs.Bytes.{double_quote, exclamation_mark, full_stop, hyphen, less_than, open_bracket}
@@ -9,7 +9,6 @@ use Rattle.markdown_base.specs.declared.item.ItemBody.TheVariants as body
 use Rattle.markdown_scan.specs.Beginnings.{begins_with}
 use Rattle.markdown_scan.specs.Entity.{entity}
 use Rattle.markdown_scan.specs.declared.entity.EntityNames.{EntityNames}
-use Rattle.markdown_items.specs.Dashes.{dashes_for, dashes_in_utf8, ellipsis}
 use Rattle.markdown_items.specs.declared.flanking.Flags.{Flags}
 use Rattle.markdown_items.specs.FoundView as found
 use Rattle.markdown_items.specs.FoundView.{FoundView}
@@ -28,7 +27,7 @@ escape_at text end at =
 -- the entity read at an offset, if any, and otherwise text
 abbrev pub entity_found : ℕ → Option (ℕ × List ℕ) → FoundView
 entity_found at None = found.Text (at + 1)
-entity_found at (Some read) = found.Replaced (at + read.0) (encode_utf8_all read.1)
+entity_found at (Some read) = found.Entity (at + read.0) (encode_utf8_all read.1)
 
 -- an entity by one of these names, or by a number, that ends within the line's content
 unfoldable pub entity_at : EntityNames → List ℕ → ℕ → ℕ → FoundView
@@ -62,17 +61,15 @@ mark_at line text at =
     then found.Mark (quote_mark byte before after)
     else found.Text (at + 1)
 
--- the whole run of hyphens at an offset, which dashes stand in place of; one hyphen is text
+-- the whole run of hyphens at an offset, which are dashes; one hyphen is text
 unfoldable pub hyphens_at : List ℕ → ℕ → ℕ → FoundView
 hyphens_at text end at =
-    let stop = run_end text at end in
-    if nat_lt (stop - at) 2 then found.Text stop else found.Replaced stop (dashes_in_utf8 (dashes_for (stop - at)))
+    let stop = run_end text at end in if nat_lt (stop - at) 2 then found.Text stop else found.Dashes stop
 
--- three dots at an offset, which an ellipsis stands in place of; fewer are text
+-- three dots at an offset are an ellipsis, and fewer are text
 unfoldable pub dots_at : List ℕ → ℕ → ℕ → FoundView
 dots_at text end at =
-    if begins_with (codes "...") (slice_range text at end) then found.Replaced (at + 3) (encode_utf8 ellipsis)
-    else found.Text (at + 1)
+    if begins_with (codes "...") (slice_range text at end) then found.Ellipsis else found.Text (at + 1)
 
 -- what begins at an offset in a line's content, by its byte, which is special
 unfoldable pub found_at : Line → List ℕ → ℕ → FoundView

@@ -1,12 +1,12 @@
 -- For private clauses: what is found in a line's content fits it, and the builder after it is appended.
-use Rattle.std.specs.Prelude.{◌≡◌, ℕ, ◌+◌, ◌<◌, ◌≤◌, true, nat_lt, List, [], ◌∷◌, ◌++◌, Option, Some, None}
+use Rattle.std.specs.Prelude.{◌≡◌, ℕ, ◌+◌, ◌-◌, ◌<◌, ◌≤◌, true, nat_lt, List, [], ◌∷◌, ◌++◌, Option, Some, None}
 use Rattle.std.specs.Prelude.{length, slice_index, encode_utf8, if◌then◌else◌}
 use Rattle.std.specs.Str.{IsCharBoundary}
 use Rattle.markdown_base.specs.Bytes.{backtick, exclamation_mark, open_bracket}
 use Rattle.markdown_base.specs.WellFormed.{is_delimiter}
 use Rattle.markdown_builder.specs.Bodies.{mark_byte}
 use Rattle.markdown_builder.specs.BuilderView.{BuilderView, IsRunOf, follows_run}
-use Rattle.markdown_items.specs.Dashes.{dashes_in_utf8, ellipsis}
+use Rattle.markdown_items.specs.Dashes.{dashes_for, dashes_in_utf8, ellipsis}
 use Rattle.markdown_items.specs.declared.found.Found.{Found}
 use Rattle.markdown_items.specs.declared.found.Found.TheVariants as found
 use Rattle.markdown_items.specs.declared.found.Line.{Line}
@@ -31,8 +31,8 @@ next_after at (found.Backticks stop) = stop
 next_after at (found.EscapedBackticks stop) = stop
 next_after at (found.Run stop flags) = stop
 next_after at (found.Entity stop characters) = stop
-next_after at (found.Dashes stop dashes) = stop
-next_after at (found.Ellipsis stop) = stop
+next_after at (found.Dashes stop) = stop
+next_after at found.Ellipsis = at + 3
 
 -- one offset is after another, in a line's content that ends at `end`
 pub record LiesFurther (end at next : ℕ) : Type 0 where
@@ -53,8 +53,9 @@ FoundFits text end at (found.Run stop flags) =
     LiesFurther end at stop × IsRunOf (slice_index text at) text at stop × (is_delimiter (slice_index text at) ≡ true)
 FoundFits text end at (found.Entity stop characters) =
     LiesFurther end at stop × IsCharBoundary text stop × (length (text_in_utf8 characters) ≤ 6)
-FoundFits text end at (found.Dashes stop dashes) = LiesFurther end at stop × IsCharBoundary text stop
-FoundFits text end at (found.Ellipsis stop) = LiesFurther end at stop × IsCharBoundary text stop
+FoundFits text end at (found.Dashes stop) =
+    LiesFurther end at stop × IsCharBoundary text stop × (at + 2 ≤ stop)
+FoundFits text end at found.Ellipsis = (at + 3 ≤ end) × IsCharBoundary text (at + 3)
 
 -- the character of the run appended last, after the text up to an offset is appended: none if there is any such text
 abbrev pub run_after_text : BuilderView → ℕ → Option ℕ
@@ -74,7 +75,7 @@ view_after view at (found.Run stop flags) =
     else record view { at = stop; run = Some (slice_index view.text at) }
 view_after view at (found.Entity stop characters) =
     record view { at = stop; run = None; texts = view.texts ++ text_in_utf8 characters ∷ [] }
-view_after view at (found.Dashes stop dashes) =
-    record view { at = stop; run = None; texts = view.texts ++ dashes_in_utf8 dashes ∷ [] }
-view_after view at (found.Ellipsis stop) =
-    record view { at = stop; run = None; texts = view.texts ++ encode_utf8 ellipsis ∷ [] }
+view_after view at (found.Dashes stop) =
+    record view { at = stop; run = None; texts = view.texts ++ dashes_in_utf8 (dashes_for (stop - at)) ∷ [] }
+view_after view at found.Ellipsis =
+    record view { at = at + 3; run = None; texts = view.texts ++ encode_utf8 ellipsis ∷ [] }

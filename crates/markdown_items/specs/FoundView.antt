@@ -1,16 +1,15 @@
 -- What begins at a special byte of a line's content, as definitions describe it. Numbers are the byte offsets in the
 -- text at which it ends.
-use Rattle.std.specs.Prelude.{ℕ, List, encode_utf8}
+use Rattle.std.specs.Prelude.{ℕ, List}
 use Rattle.markdown_base.specs.declared.item.ItemBody.{ItemBody}
-use Rattle.markdown_items.specs.Dashes.{dashes_in_utf8, ellipsis}
 use Rattle.markdown_items.specs.declared.flanking.Flags.{Flags}
 use Rattle.markdown_items.specs.declared.found.Found.{Found}
 use Rattle.markdown_items.specs.declared.found.Found.TheVariants as variant
 use Rattle.markdown_scan.specs.Entity.{text_in_utf8}
 
 -- text, up to an offset at least; a backslash that is in no item; an open item of one byte; a `![`; backticks, perhaps
--- after a backslash that is in no item; a delimiter run; or what a text stands in place of, an entity, hyphens or dots,
--- with this text in UTF-8
+-- after a backslash that is in no item; a delimiter run; an entity, with its characters in UTF-8; hyphens that are
+-- dashes; or three dots
 pub data FoundView : Type 0 where
   Text : ℕ → FoundView
   Escape : FoundView
@@ -19,7 +18,9 @@ pub data FoundView : Type 0 where
   Backticks : ℕ → FoundView
   EscapedBackticks : ℕ → FoundView
   DelimiterRun : ℕ → Flags → FoundView
-  Replaced : ℕ → List ℕ → FoundView
+  Entity : ℕ → List ℕ → FoundView
+  Dashes : ℕ → FoundView
+  Ellipsis : FoundView
 
 abbrev pub found_view : Found → FoundView
 found_view (variant.Text next) = Text next
@@ -29,6 +30,6 @@ found_view variant.Image = Image
 found_view (variant.Backticks stop) = Backticks stop
 found_view (variant.EscapedBackticks stop) = EscapedBackticks stop
 found_view (variant.Run stop flags) = DelimiterRun stop flags
-found_view (variant.Entity stop characters) = Replaced stop (text_in_utf8 characters)
-found_view (variant.Dashes stop dashes) = Replaced stop (dashes_in_utf8 dashes)
-found_view (variant.Ellipsis stop) = Replaced stop (encode_utf8 ellipsis)
+found_view (variant.Entity stop characters) = Entity stop (text_in_utf8 characters)
+found_view (variant.Dashes stop) = Dashes stop
+found_view variant.Ellipsis = Ellipsis

@@ -31,7 +31,7 @@ item_extensions options = record {
 abbrev pub is_after_backslash : List ℕ → ℕ → ℕ → Bool
 is_after_backslash text start at = nat_lt start at && (slice_index text (at - 1) == backslash)
 
--- the bytes that may begin something other than text, whatever the extensions; the table in code is checked against them
+-- the bytes that may begin something other than text, with any extensions; the table in code is checked against them
 abbrev pub special_bytes : List ℕ
 special_bytes = codes "!\"$&'*<[\\]^_`~"
 

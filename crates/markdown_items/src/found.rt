@@ -7,7 +7,6 @@ ghost use Rattle.markdown_items.specs.FoundFits.{IsAtSpecial, FoundFits, next_af
 ghost use Rattle.markdown_items.specs.FoundView.{found_view};
 
 use crate::around::{character_after, character_before};
-use crate::dashes::{Dashes, dashes_for};
 use crate::delimiter_run::{run_end, run_flags};
 use crate::extensions::Extensions;
 use crate::flanking::Flags;
@@ -43,10 +42,10 @@ pub enum Found {
     Run(usize, Flags),
     /// An entity up to this offset, and its characters (CommonMark 2.5).
     Entity(usize, Characters),
-    /// Hyphens up to this offset, and the dashes in their place.
-    Dashes(usize, Dashes),
-    /// Three dots up to this offset.
-    Ellipsis(usize),
+    /// Hyphens up to this offset, at least two.
+    Dashes(usize),
+    /// Three dots.
+    Ellipsis,
 }
 
 impl Found {
@@ -58,13 +57,13 @@ impl Found {
         match self {
             Found::Escape | Found::Image => at + 2,
             Found::Mark(_) => at + 1,
+            Found::Ellipsis => at + 3,
             Found::Text(next)
             | Found::Backticks(next)
             | Found::EscapedBackticks(next)
             | Found::Run(next, _)
             | Found::Entity(next, _)
-            | Found::Dashes(next, _)
-            | Found::Ellipsis(next) => next,
+            | Found::Dashes(next) => next,
         }
     }
 }
@@ -153,6 +152,8 @@ fn find_mark(text: &str, line: Line, at: usize) -> Found
 }
 
 /// Returns what the hyphens at `at` are: dashes, or text if there is one.
+// not inlined, nor is what follows: most texts are read without dashes
+#[inline(never)]
 #[tactic(auto, using(crate::proofs::ItemLemmas::past_run), unfolding(crate::specs::Found::hyphens_at))]
 fn find_dashes(text: &str, line: Line, at: usize) -> Found
     requires { IsAtSpecial text.now line at }
@@ -163,11 +164,12 @@ fn find_dashes(text: &str, line: Line, at: usize) -> Found
     if stop - at < 2 {
         Found::Text(stop)
     } else {
-        Found::Dashes(stop, dashes_for(stop - at))
+        Found::Dashes(stop)
     }
 }
 
 /// Returns what the dots at `at` are: an ellipsis, or text if there are fewer than three.
+#[inline(never)]
 #[tactic(auto, unfolding(crate::specs::Found::dots_at))]
 fn find_ellipsis(text: &str, line: Line, at: usize) -> Found
     requires { IsAtSpecial text.now line at }
@@ -175,7 +177,7 @@ fn find_ellipsis(text: &str, line: Line, at: usize) -> Found
     ensures fits { FoundFits text.now line.end at result }
 {
     if text.as_bytes()[at..line.end].starts_with(b"...") {
-        Found::Ellipsis(at + 3)
+        Found::Ellipsis
     } else {
         Found::Text(at + 1)
     }

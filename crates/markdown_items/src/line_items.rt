@@ -1,9 +1,11 @@
 //! The items of a line's content, read in one pass over its bytes.
-ghost use Rattle.std.specs.Prelude.{◌≡◌, ◌≤◌, true, length, IfOk};
+ghost use Rattle.std.specs.Prelude.{◌≡◌, ◌≤◌, ◌+◌, ◌-◌, ◌++◌, ◌∷◌, [], true, None, length, encode_utf8, IfOk};
 ghost use Rattle.std.specs.Str.{IsCharBoundary};
+ghost use Rattle.markdown_items.specs.Dashes.{dashes_for, dashes_in_utf8, ellipsis};
 ghost use Rattle.markdown_items.specs.LineItems.{is_after_backslash};
 ghost use Rattle.markdown_items.specs.FoundFits.{IsAtSpecial, FoundFits, run_after_text, view_after};
 
+use crate::dashes::dashes_for;
 use crate::extensions::Extensions;
 use crate::flanking::Flags;
 use crate::found::{Found, Line, find};
@@ -64,6 +66,38 @@ fn append_run(
     Ok(())
 }
 
+/// Appends the dashes for the hyphens up to `stop`. The error is a refused allocation.
+// not inlined, nor is what follows: most texts are read without dashes
+#[inline(never)]
+fn append_dashes(builder: &mut Builder<'_>, alloc: Global, stop: usize) -> Result<(), AllocError>
+    requires inside { builder.old.leaf ≡ true }
+    requires several { builder.old.at + 2 ≤ stop }
+    requires boundary { IsCharBoundary builder.old.text stop }
+    ensures { IfOk result (λ _. builder.new ≡ record builder.old {
+      at = stop;
+      run = None;
+      texts = builder.old.texts ++ dashes_in_utf8 (dashes_for (stop - builder.old.at)) ∷ [];
+    }) }
+{
+    let dashes = dashes_for(stop - builder.at()).text(alloc)?;
+    builder.synthesize(dashes, stop)
+}
+
+/// Appends an ellipsis for the dots up to `stop`. The error is a refused allocation.
+#[inline(never)]
+fn append_ellipsis(builder: &mut Builder<'_>, stop: usize) -> Result<(), AllocError>
+    requires inside { builder.old.leaf ≡ true }
+    requires low { builder.old.at ≤ stop }
+    requires boundary { IsCharBoundary builder.old.text stop }
+    ensures { IfOk result (λ _. builder.new ≡ record builder.old {
+      at = stop;
+      run = None;
+      texts = builder.old.texts ++ encode_utf8 ellipsis ∷ [];
+    }) }
+{
+    builder.synthesize(CowStr::from('…'), stop)
+}
+
 /// Appends the text before `at`, and the item that was found there, if any.
 fn append_found(
     builder: &mut Builder<'_>,
@@ -97,8 +131,8 @@ fn append_found(
             builder.backticks(stop, true)
         }
         Found::Entity(stop, characters) => builder.synthesize(characters.inlined(), stop),
-        Found::Dashes(stop, dashes) => builder.synthesize(dashes.text(alloc)?, stop),
-        Found::Ellipsis(stop) => builder.synthesize(CowStr::from('…'), stop),
+        Found::Dashes(stop) => append_dashes(builder, alloc, stop),
+        Found::Ellipsis => append_ellipsis(builder, at + 3),
         Found::Text(_) | Found::Run(_, _) => Ok(()),
     }
 }

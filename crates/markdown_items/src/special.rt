@@ -83,12 +83,23 @@ pub fn first_special(bytes: &[u8], from: usize, end: usize, dashes: bool) -> usi
     requires within { end ≤ length bytes.now }
     ensures { IsFirstSpecial dashes bytes.now from end result }
 {
-    // a search of its own for each value, so that no byte's test has to ask for it
+    // a scan of its own for each value, so that no byte's test has to ask for it
     if dashes {
-        scan_to_special(bytes, from, end, true)
+        scan_with_dashes(bytes, from, end)
     } else {
         scan_to_special(bytes, from, end, false)
     }
+}
+
+/// Returns what `first_special` does where dashes are read.
+// not inlined: most texts are read without dashes
+#[inline(never)]
+fn scan_with_dashes(bytes: &[u8], from: usize, end: usize) -> usize
+    requires ordered { from ≤ end }
+    requires within { end ≤ length bytes.now }
+    ensures { IsFirstSpecial true bytes.now from end result }
+{
+    scan_to_special(bytes, from, end, true)
 }
 
 /// Returns what `first_special` does.

@@ -426,6 +426,7 @@ pub fn blocks<'a>(
         builder,
         misfits: _,
         stretches,
+        alloc: _,
     } = place_all(alloc, text, options)?;
     drop(stretches);
     Ok(builder.finish())

@@ -24,7 +24,7 @@ pub struct Placing<'a> {
     pub builder: Builder<'a>,
     pub misfits: usize,
     pub stretches: Stretches,
-    alloc: Global,
+    pub alloc: Global,
     ghost stretched: { IsOf stretches (outer_of builder.blocks) },
 }
 

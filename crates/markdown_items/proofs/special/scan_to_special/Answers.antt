@@ -14,6 +14,7 @@ plain-preserved c =
     let low = kept.low in
     let high = kept.high in
     let bytes = c.args.bytes.now in
+    let dashes = c.args.dashes in
     let start = c.plain.start in
     let within : start + 16 ≤ length bytes =
     omega (arith, c.plain-test.true, c.min-last.ensures, c.saturating_sub.ensures) in
@@ -23,11 +24,11 @@ plain-preserved c =
       plain = elim c.if-not-are_plain.branch [
         | then-not-are_plain+else-before-lt-TOGETHER w ↦ λ p low high.
             let full = w.if-before-lt-TOGETHER.false in
-            plain_through c.args.dashes bytes c.args.from start (start + 16) w.length_before_special-before.result (omega arith)
-            within
-            kept.plain w.length_before_special-before.ensures p low (omega (arith, high, full))
-        | else-not-are_plain w ↦ none_further (is_special c.args.dashes) bytes c.args.from start (start + 16) (omega arith) within
-            kept.plain (c.are_plain.ensures w.if-not-are_plain.false)
+            plain_through dashes bytes c.args.from start (start + 16)
+            w.length_before_special-before.result (omega arith) within kept.plain
+            w.length_before_special-before.ensures p low (omega (arith, high, full))
+        | else-not-are_plain w ↦ none_further (is_special dashes) bytes c.args.from start (start + 16) (omega arith)
+            within kept.plain (c.are_plain.ensures w.if-not-are_plain.false)
       ];
     }
 
@@ -57,6 +58,6 @@ returns-then-start-end c =
     let within = c.requires.within in
     let least : start + before ≡ min c.args.end (start + before) =
     omega (arith, few, part_length bytes start c.args.end within, some) in
-    first_special_in c.args.dashes bytes c.args.from c.args.end start c.args.end before (start + before) low (omega (arith, some))
-    within
+    first_special_in c.args.dashes bytes c.args.from c.args.end start c.args.end before (start + before) low
+    (omega (arith, some)) within
     (omega (arith, some)) kept.plain first (λ (h : start + before < c.args.end). omega (arith, h)) least
