@@ -1,6 +1,7 @@
 //! The items of a line's content, read in one pass over its bytes.
 ghost use Rattle.std.specs.Prelude.{◌≡◌, ◌≤◌, ◌+◌, ◌-◌, ◌++◌, ◌∷◌, [], true, None, length, encode_utf8, IfOk};
 ghost use Rattle.std.specs.Str.{IsCharBoundary};
+ghost use Rattle.markdown_scan.specs.Entity.{text_in_utf8};
 ghost use Rattle.markdown_items.specs.Dashes.{dashes_for, dashes_in_utf8, ellipsis};
 ghost use Rattle.markdown_items.specs.LineItems.{is_after_backslash};
 ghost use Rattle.markdown_items.specs.FoundFits.{IsAtSpecial, FoundFits, run_after_text, view_after};
@@ -14,6 +15,7 @@ use markdown_base::cow_str::CowStr;
 use markdown_base::item::ItemBody;
 use markdown_base::options::Options;
 use markdown_builder::builder::Builder;
+use markdown_scan::entity::Characters;
 use std::alloc::{AllocError, Global};
 
 /// Returns whether a backslash escapes the byte at `at`, at which a text of the line's content begins.
@@ -66,8 +68,28 @@ fn append_run(
     Ok(())
 }
 
+/// Appends the characters of the entity up to `stop`. The error is a refused allocation.
+// not inlined, nor are the two that follow: they are rare, and room for their texts would be cleared for each item
+#[inline(never)]
+fn append_entity(
+    builder: &mut Builder<'_>,
+    stop: usize,
+    characters: Characters,
+) -> Result<(), AllocError>
+    requires inside { builder.old.leaf ≡ true }
+    requires low { builder.old.at ≤ stop }
+    requires boundary { IsCharBoundary builder.old.text stop }
+    requires few { length (text_in_utf8 characters) ≤ 6 }
+    ensures { IfOk result (λ _. builder.new ≡ record builder.old {
+      at = stop;
+      run = None;
+      texts = builder.old.texts ++ text_in_utf8 characters ∷ [];
+    }) }
+{
+    builder.synthesize(characters.inlined(), stop)
+}
+
 /// Appends the dashes for the hyphens up to `stop`. The error is a refused allocation.
-// not inlined, nor is what follows: most texts are read without dashes
 #[inline(never)]
 fn append_dashes(builder: &mut Builder<'_>, alloc: Global, stop: usize) -> Result<(), AllocError>
     requires inside { builder.old.leaf ≡ true }
@@ -130,7 +152,7 @@ fn append_found(
             builder.skip(at + 1);
             builder.backticks(stop, true)
         }
-        Found::Entity(stop, characters) => builder.synthesize(characters.inlined(), stop),
+        Found::Entity(stop, characters) => append_entity(builder, stop, characters),
         Found::Dashes(stop) => append_dashes(builder, alloc, stop),
         Found::Ellipsis => append_ellipsis(builder, at + 3),
         Found::Text(_) | Found::Run(_, _) => Ok(()),
