@@ -152,8 +152,6 @@ fn find_mark(text: &str, line: Line, at: usize) -> Found
 }
 
 /// Returns what the hyphens at `at` are: dashes, or text if there is one.
-// not inlined, nor is what follows: most texts are read without dashes
-#[inline(never)]
 #[tactic(auto, using(crate::proofs::ItemLemmas::past_run), unfolding(crate::specs::Found::hyphens_at))]
 fn find_dashes(text: &str, line: Line, at: usize) -> Found
     requires { IsAtSpecial text.now line at }
@@ -169,7 +167,6 @@ fn find_dashes(text: &str, line: Line, at: usize) -> Found
 }
 
 /// Returns what the dots at `at` are: an ellipsis, or text if there are fewer than three.
-#[inline(never)]
 #[tactic(auto, unfolding(crate::specs::Found::dots_at))]
 fn find_ellipsis(text: &str, line: Line, at: usize) -> Found
     requires { IsAtSpecial text.now line at }
