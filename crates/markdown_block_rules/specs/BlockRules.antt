@@ -1,15 +1,20 @@
 -- The block structure of a text: the tree of its blocks with their ranges and with the open items of their lines, its
 -- link reference definitions, and its footnotes. All of it is read off the blocks that the lines made.
-use Rattle.std.specs.Prelude.{ℕ, Bool, true, false, not, ◌||◌, ◌&&◌, List, [], ◌∷◌, ◌++◌, Option, Some, None}
-use Rattle.std.specs.Prelude.{slice_range, if◌then◌else◌}
+use Rattle.std.specs.Prelude.{ℕ, ◌-◌, Bool, true, false, not, ◌||◌, ◌&&◌, List, [], ◌∷◌, ◌++◌, Option, Some, None}
+use Rattle.std.specs.Prelude.{slice_range, take, if◌then◌else◌}
+use Rattle.std.specs.Option.{option_map}
 use Rattle.markdown_base.specs.Forest.{Forest, nil, node}
+use Rattle.markdown_lines.specs.declared.braces.Braces.{Braces}
 use Rattle.markdown_lines.specs.declared.fence.OpeningFence.{OpeningFence}
 use Rattle.markdown_base.specs.declared.item.ItemBody.{ItemBody}
 use Rattle.markdown_base.specs.declared.item.ItemBody.TheVariants as body
+use Rattle.markdown_base.specs.declared.options.Options.{Options}
+use Rattle.markdown_base.specs.declared.tag.HeadingLevel.{HeadingLevel}
 use Rattle.markdown_lines.specs.BlockBeginnings.{Source}
 use Rattle.markdown_block_rules.specs.BlockGrowth as was
 use Rattle.markdown_block_rules.specs.BlockGrowth.{Block, Kind, blocks_of, followed_by}
 use Rattle.markdown_lines.specs.DefinitionRules.{Definition, divided}
+use Rattle.markdown_lines.specs.HeadingAttributes.{attributes_read, braces_from, braces_in, heading_of_words, words_in}
 use Rattle.markdown_block_rules.specs.LineContents.{Shown, content_items, lines_items, source_lines}
 use Rattle.markdown_items.specs.LineItems.{item_extensions}
 use Rattle.markdown_lines.specs.SourceLines.{SourceLine, is_blank_rest}
@@ -97,13 +102,49 @@ chain_of (a ∷ items) = node a nil (chain_of items)
 -- a block of a body, and of the text that it refers to
 abbrev pub shown_over : ℕ → ℕ → ItemBody → Option (List ℕ) → Forest Shown → Forest Shown
 shown_over start end b text below =
-    node (record { item = record { start = start; end = end; body = b }; text = text }) below nil
+    node (record { item = record { start = start; end = end; body = b }; text = text; heading = None }) below nil
 
--- a paragraph, or the heading that it is, without the definitions at its beginning; nothing where there is nothing else
+-- a paragraph, without the definitions at its beginning; nothing where there is nothing else
 abbrev pub shown_text : Source → Block → ItemBody → List SourceLine → Forest Shown
 shown_text s b leaf [] = nil
 shown_text s b leaf (l ∷ lines) =
     shown_over l.left.scanned b.last leaf None (chain_of (lines_items s.text (item_extensions s.options) (l ∷ lines)))
+
+-- a heading of a level from one byte offset up to another, with attributes where there are braces
+abbrev pub shown_heading : Source → ℕ → ℕ → HeadingLevel → Option Braces → Forest Shown → Forest Shown
+shown_heading s start end level None below = shown_over start end (body.Heading level None) None below
+shown_heading s start end level (Some braces) below =
+    node (record {
+      item = record { start = start; end = end; body = body.Heading level (Some (record { 0 = 1 })) };
+      text = None;
+      heading = Some (heading_of_words level (words_in s.text braces));
+    }) below nil
+
+-- the braces at the end of the last line of a setext heading, where attributes are read, by byte offsets
+abbrev pub last_braces : Options → List SourceLine → Option Braces
+last_braces options [] = None
+last_braces options (l ∷ []) =
+    if attributes_read options then option_map (braces_from l.left.scanned) (braces_in l.left.bytes) else None
+last_braces options (l ∷ m ∷ lines) = last_braces options (m ∷ lines)
+
+-- lines, of which the last is cut off at the `{`
+abbrev pub cut_at : Option Braces → SourceLine → SourceLine
+cut_at None l = l
+cut_at (Some braces) l =
+    record l { left = record l.left { bytes = take (braces.open - l.left.scanned) l.left.bytes } }
+
+abbrev pub before_braces : Option Braces → List SourceLine → List SourceLine
+before_braces braces [] = []
+before_braces braces (l ∷ []) = cut_at braces l ∷ []
+before_braces braces (l ∷ m ∷ lines) = l ∷ before_braces braces (m ∷ lines)
+
+-- a setext heading, without the definitions at its beginning
+abbrev pub shown_setext : Source → Block → HeadingLevel → List SourceLine → Forest Shown
+shown_setext s b level [] = nil
+shown_setext s b level (l ∷ lines) =
+    let braces = last_braces s.options (l ∷ lines) in
+    shown_heading s l.left.scanned b.last level braces
+    (chain_of (lines_items s.text (item_extensions s.options) (before_braces braces (l ∷ lines))))
 
 abbrev pub paragraph_body : Bool → ItemBody
 paragraph_body tight = if tight then body.TightParagraph else body.Paragraph
@@ -120,9 +161,9 @@ shown_block s tight b end below inside was.blank_line = nil
 shown_block s tight b end below inside (was.paragraph_leaf lines) =
     shown_text s b (paragraph_body tight) (divided (entity_names s.options) s.text lines).lines
 shown_block s tight b end below inside (was.underlined_leaf level lines) =
-    shown_text s b (body.Heading level None) (divided (entity_names s.options) s.text lines).lines
+    shown_setext s b level (divided (entity_names s.options) s.text lines).lines
 shown_block s tight b end below inside (was.heading_leaf found) =
-    shown_over b.start end (body.Heading found.level None) None
+    shown_heading s b.start end found.level found.braces
     (chain_of (content_items s.text (item_extensions s.options) found.from found.to))
 shown_block s tight b end below inside was.break_leaf = shown_over b.start end body.Rule None nil
 shown_block s tight b end below inside (was.indented_leaf lines) =

@@ -1,6 +1,6 @@
 -- What a line begins (CommonMark, chapter 4, 5.1 and 5.2), from the bytes that are left of it inside the containers
 -- that go on in it, and from whether a paragraph is open that it may go on with.
-use Rattle.std.specs.Prelude.{ℕ, ◌+◌, ◌%◌, Bool, true, false, not, ◌==◌, ◌&&◌, ◌||◌, nat_lt, List, [], ◌∷◌, Option}
+use Rattle.std.specs.Prelude.{ℕ, ◌+◌, ◌-◌, ◌%◌, Bool, true, false, not, ◌==◌, ◌&&◌, ◌||◌, nat_lt, List, [], ◌∷◌, Option}
 use Rattle.std.specs.Prelude.{Some, None, length, drop, slice_index, codes, if◌then◌else◌}
 use Rattle.std.specs.Option.{option_map}
 use Rattle.markdown_base.specs.Bytes.{backtick, colon, tilde}
@@ -16,6 +16,7 @@ use Rattle.markdown_base.specs.declared.tag.HeadingLevel.{HeadingLevel}
 use Rattle.markdown_lines.specs.AtxHeadings.{atx_heading_at}
 use Rattle.markdown_scan.specs.Beginnings.{begins_with}
 use Rattle.markdown_lines.specs.CodeFences.{opening_fence_at}
+use Rattle.markdown_lines.specs.HeadingAttributes.{attributed, attributes_read}
 use Rattle.markdown_lines.specs.HtmlBeginnings.{html_kind_of, in_one_line}
 use Rattle.markdown_scan.specs.Label.{link_label}
 use Rattle.markdown_scan.specs.LineStart.{LineLeft, Space, leading_space, past_marker}
@@ -67,9 +68,14 @@ past_bytes count left = record {
 abbrev pub quote_in_line : LineLeft → Option Beginning
 quote_in_line here = if begins_with (codes ">") here.bytes then Some (begins_quote (past_marker here)) else None
 
+-- an ATX heading with what is read of attributes at the end of its line
+abbrev pub whole_heading : Options → LineLeft → AtxHeading → AtxHeading
+whole_heading options here heading =
+    if attributes_read options then attributed (drop (heading.from - here.scanned) here.bytes) heading else heading
+
 -- 4.2: one to six `#`
 abbrev pub heading_in_line : Source → LineLeft → Option Beginning
-heading_in_line s here = option_map begins_heading
+heading_in_line s here = option_map (λ heading. begins_heading (whole_heading s.options here heading))
     (atx_heading_at s.text here.scanned (here.scanned + length here.bytes))
 
 -- 4.5: three or more backticks or tildes

@@ -12,6 +12,8 @@ pub mod ListMarkers
 pub mod ThematicBreaks
 -- which extensions are read
 pub mod ExtendedOnly
+-- what only they read
+pub mod HeadingAttributes
 -- what lines are and begin, and link reference definitions: the definition of a text's blocks rests on them
 pub mod SourceLines
 pub mod BlockBeginnings

@@ -4,10 +4,12 @@
 
 pub mod atx_heading;
 pub mod block_start;
+pub mod braces;
 pub mod bytes;
 pub mod definition;
 pub mod extended_only;
 pub mod fence;
+pub mod heading_attributes;
 pub mod held_line;
 pub mod html_kind;
 pub mod line;

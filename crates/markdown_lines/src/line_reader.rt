@@ -13,6 +13,7 @@ use crate::atx_heading::atx_heading;
 use crate::block_start::{Before, Begun, BlockStart, ItemStart};
 use crate::bytes::{byte_or_zero, bytes_of, part_of, white_length};
 use crate::fence::opening_fence;
+use crate::heading_attributes::{attributed, attributes_read};
 use crate::html_kind::html_kind;
 use crate::list_marker::list_marker;
 use crate::position::Position;
@@ -217,6 +218,9 @@ impl<'a> LineReader<'a> {
             (line.heading_in_line (source_read self.now) (left_at self.now here) ∷ []) result }
     {
         match atx_heading(self.text, here.at, self.stop) {
+            Some(heading) if attributes_read(self.options) => {
+                BlockStart::Heading(attributed(self.text, heading, self.stop))
+            }
             Some(heading) => BlockStart::Heading(heading),
             None => BlockStart::Text,
         }

@@ -7,15 +7,18 @@ ghost use Rattle.markdown_scan.specs.Unescape.{unescaped};
 ghost use Rattle.markdown_lines.specs.LineBytes.{IsPartOf};
 ghost use Rattle.markdown_plain.specs.declared.pass.LeafKind.TheVariants as leaf_kind;
 ghost use Rattle.markdown_plain.specs.CodeLines.{after_line, code_after, ends_html_at, held, is_closed_at};
-ghost use Rattle.markdown_plain.specs.Fitting.{IfFitted, GoesOn, OpensFenced, OpensHtml, closed, extended, opened};
+ghost use Rattle.markdown_plain.specs.Fitting.{IfFitted, GoesOn, OpensFenced, OpensHeading, OpensHtml, closed, extended, opened};
 ghost use Rattle.markdown_plain.specs.Paragraphs.{IsPlacedTo};
 
 use crate::pass::{LeafKind, Pass};
 use crate::placing::Placing;
 use markdown_base::item::ItemBody;
+use markdown_base::tag::HeadingLevel;
 use markdown_lines::atx_heading::AtxHeading;
+use markdown_lines::braces::Braces;
 use markdown_lines::bytes::{bytes_of, part_of};
 use markdown_lines::fence::{Fence, OpeningFence, is_closing_fence};
+use markdown_lines::heading_attributes::heading_attributes;
 use markdown_lines::held_line::HeldLine;
 use markdown_lines::html_kind::HtmlKind;
 use markdown_lines::line::Line;
@@ -23,7 +26,7 @@ use markdown_lines::position::Position;
 use markdown_lines::space::read_space;
 use markdown_scan::entity::entity_names;
 use markdown_scan::unescape::unescape;
-use std::alloc::AllocError;
+use std::alloc::{AllocError, Global};
 
 /// Appends a line of a code block, with its line ending: a Text, after the columns that a partly read tab owes.
 fn add_code(placing: &mut Placing<'_>, line: HeldLine) -> Result<(), AllocError>
@@ -52,6 +55,25 @@ fn add_codes(placing: &mut Placing<'_>, lines: &[HeldLine]) -> Result<(), AllocE
         add_code(placing, *line)?;
     }
     Ok(())
+}
+
+/// Opens a heading at the current byte offset, with the attributes that stand between braces.
+#[tactic(auto, using(crate::proofs::OpenBlocksLemmas::outer_of_opened))]
+pub fn open_heading(
+    alloc: Global,
+    placing: &mut Placing<'_>,
+    level: HeadingLevel,
+    braces: Option<Braces>,
+) -> Result<(), AllocError>
+    ensures text { IfOk result (λ _. placing.new.builder.text ≡ placing.old.builder.text) }
+    ensures opens { IfOk result (λ _. IfFitted placing.old placing.new
+        (OpensHeading placing.old.builder placing.new.builder level)) }
+{
+    let Some(braces) = braces else {
+        return placing.open_block(ItemBody::Heading(level, None));
+    };
+    let attributes = heading_attributes(alloc, placing.text(), braces)?;
+    placing.open_attributed(level, attributes)
 }
 
 /// Returns the rest of a line from a place on.
@@ -88,8 +110,12 @@ impl<'a> Pass<'a> {
             (IsPlacedTo self.old.placing.builder self.new.placing.builder line.next)) }
         ensures same { self.new ≡ record self.old { placing = self.new.placing } }
     {
-        self.placing
-            .open_block(ItemBody::Heading(heading.level, None))?;
+        open_heading(
+            self.alloc,
+            &mut self.placing,
+            heading.level,
+            heading.braces,
+        )?;
         self.placing.step_to(heading.from);
         self.placing.add_items(heading.to, self.options)?;
         self.placing.step_to(line.next);

@@ -3,19 +3,22 @@
 ghost use Rattle.std.specs.Prelude.{◌≡◌, ◌<◌, ◌≤◌, ◌++◌, ◌∷◌, [], true, false, None, length, IfOk, MatchOption};
 ghost use Rattle.std.specs.Prelude.{if◌then◌else◌};
 ghost use Rattle.markdown_base.specs.declared.item.ItemBody.TheVariants as body;
-ghost use Rattle.markdown_builder.specs.Bodies.{is_plain_block};
-ghost use Rattle.markdown_plain.specs.Fitting.{IfFitted, GoesOn, stepped};
+ghost use Rattle.markdown_builder.specs.BuilderView.{Opens};
+ghost use Rattle.markdown_plain.specs.Fitting.{IfFitted, GoesOn, OpensHeading, stepped};
 ghost use Rattle.markdown_plain.specs.OpenBlocks.{room_in, without_leaf};
 ghost use Rattle.markdown_plain.specs.Paragraphs.{end_of, has_paragraph, lines_end, paragraph_end, IsPlacedTo};
 
+use crate::leaves::open_heading;
 use crate::pass::Pass;
 use crate::placing::Placing;
 use markdown_base::item::ItemBody;
 use markdown_base::options::Options;
 use markdown_base::tag::HeadingLevel;
 use markdown_lines::atx_heading::trimmed_length;
+use markdown_lines::braces::Braces;
 use markdown_lines::bytes::{byte_at, bytes_of};
 use markdown_lines::definition::read_definition;
+use markdown_lines::heading_attributes::{attributes_read, braces_at};
 use markdown_lines::held_line::HeldLine;
 use markdown_lines::line::Line;
 use markdown_lines::line_break::line_break;
@@ -122,11 +125,27 @@ fn add_last_line(
     Ok(())
 }
 
-/// Appends the lines of the open paragraph or heading from the number `from` on.
+/// Returns a line that is cut off where braces open.
+fn cut_off(line: HeldLine, braces: Option<Braces>) -> HeldLine
+    ensures { result ≡ record line { stop = result.stop } }
+{
+    match braces {
+        Some(braces) => HeldLine {
+            start: line.start,
+            stop: braces.open,
+            next: line.next,
+            owed: line.owed,
+        },
+        None => line,
+    }
+}
+
+/// Appends the lines of the open paragraph or heading from the number `from` on, up to the braces at the end of the last.
 fn add_lines(
     placing: &mut Placing<'_>,
     lines: &[HeldLine],
     from: usize,
+    braces: Option<Braces>,
     options: Options,
 ) -> Result<(), AllocError>
     ensures text { IfOk result (λ _. placing.new.builder.text ≡ placing.old.builder.text) }
@@ -137,7 +156,7 @@ fn add_lines(
         let line = lines[number];
         placing.step_to(line.start);
         if number == lines.len() - 1 {
-            add_last_line(placing, line, options)?;
+            add_last_line(placing, cut_off(line, braces), options)?;
         } else {
             add_broken_line(placing, line, options)?;
         }
@@ -145,41 +164,23 @@ fn add_lines(
     Ok(())
 }
 
-/// Returns the body of a paragraph, or of the heading that it turned out to be.
-fn body_of(heading: Option<(HeadingLevel, Line)>) -> ItemBody
-    ensures value { MatchOption heading (result ≡ body.Paragraph) (λ h. result
-        ≡ body.Heading h.0 None) }
-    ensures plain { is_plain_block result ≡ true }
-{
-    match heading {
-        Some((level, _)) => ItemBody::Heading(level, None),
-        None => ItemBody::Paragraph,
-    }
-}
-
-/// Places the lines from the number `from` on as a paragraph, or as a heading that ends with the line of its underline.
-#[tactic(auto, using(crate::proofs::OpenBlocksLemmas::outer_of_opened))]
-fn place_paragraph(
+/// Opens a paragraph, or the heading that it turned out to be.
+fn open_text(
+    alloc: Global,
     placing: &mut Placing<'_>,
-    lines: &[HeldLine],
-    from: usize,
     heading: Option<(HeadingLevel, Line)>,
-    options: Options,
+    braces: Option<Braces>,
 ) -> Result<(), AllocError>
     ensures text { IfOk result (λ _. placing.new.builder.text ≡ placing.old.builder.text) }
-    ensures placed { IfOk result (λ _. from < length lines.now → IfFitted placing.old placing.new
-        (IsPlacedTo placing.old.builder placing.new.builder (paragraph_end lines.now heading))) }
+    ensures opens { IfOk result (λ _. IfFitted placing.old placing.new
+        (MatchOption heading
+        (Opens placing.old.builder placing.new.builder body.Paragraph)
+        (λ h. OpensHeading placing.old.builder placing.new.builder h.0))) }
 {
-    if let Some(first) = lines.get(from) {
-        placing.step_to(first.start);
+    match heading {
+        Some((level, _)) => open_heading(alloc, placing, level, braces),
+        None => placing.open_block(ItemBody::Paragraph),
     }
-    placing.open_block(body_of(heading))?;
-    add_lines(placing, lines, from, options)?;
-    if let Some((_, underline)) = heading {
-        placing.step_to(underline.next);
-    }
-    placing.close();
-    Ok(())
 }
 
 impl<'a> Pass<'a> {
@@ -214,6 +215,44 @@ impl<'a> Pass<'a> {
         Ok(())
     }
 
+    /// Returns the braces at the end of the last line, where it is that of a heading and attributes are read.
+    fn last_braces(&self, heading: Option<(HeadingLevel, Line)>) -> Option<Braces> {
+        if heading.is_none() || !attributes_read(self.options) {
+            return None;
+        }
+        let last = self.lines.last()?;
+        braces_at(self.placing.text(), last.start, last.stop)
+    }
+
+    /// Places the lines from the number `from` on as a paragraph, or as a heading that ends with the line of its
+    /// underline.
+    #[tactic(auto, using(crate::proofs::OpenBlocksLemmas::outer_of_opened))]
+    fn place_paragraph(
+        &mut self,
+        from: usize,
+        heading: Option<(HeadingLevel, Line)>,
+    ) -> Result<(), AllocError>
+        ensures text { IfOk result (λ _. self.new.placing.builder.text
+            ≡ self.old.placing.builder.text) }
+        ensures placed { IfOk result (λ _. from < length self.old.lines.items
+            → IfFitted self.old.placing self.new.placing
+            (IsPlacedTo self.old.placing.builder self.new.placing.builder
+            (paragraph_end self.old.lines.items heading))) }
+        ensures same { self.new ≡ record self.old { placing = self.new.placing } }
+    {
+        if let Some(first) = self.lines.get(from) {
+            self.placing.step_to(first.start);
+        }
+        let braces = self.last_braces(heading);
+        open_text(self.alloc, &mut self.placing, heading, braces)?;
+        add_lines(&mut self.placing, &self.lines, from, braces, self.options)?;
+        if let Some((_, underline)) = heading {
+            self.placing.step_to(underline.next);
+        }
+        self.placing.close();
+        Ok(())
+    }
+
     /// Ends the open paragraph, or makes it a heading that ends with the line of its underline. Returns whether it
     /// contained more than definitions; otherwise it ends with the last line of these.
     pub fn end_paragraph(
@@ -240,7 +279,7 @@ impl<'a> Pass<'a> {
         let taken = take_definitions(self.alloc, &mut self.placing, &self.lines, names)?;
         let left = taken < self.lines.len();
         if left {
-            place_paragraph(&mut self.placing, &self.lines, taken, heading, self.options)?;
+            self.place_paragraph(taken, heading)?;
         }
         self.lines.clear();
         Ok(left)
