@@ -31,18 +31,19 @@ close_brace = 125
 abbrev pub attributes_read : Options → Bool
 attributes_read = is_read ENABLE_HEADING_ATTRIBUTES
 
--- a byte that cannot stand between the braces: a brace, an angle bracket or a backslash
-abbrev pub ends_attributes : ℕ → Bool
-ends_attributes byte =
-    (byte == open_brace) || (byte == close_brace) || (byte == less_than) || (byte == greater_than) || (byte == backslash)
+-- a byte that may stand between the braces: no brace, no angle bracket, and no backslash
+abbrev pub is_enclosed : ℕ → Bool
+is_enclosed byte =
+    not ((byte == open_brace) || (byte == close_brace) || (byte == less_than) || (byte == greater_than)
+    || (byte == backslash))
 
--- the indexes of the braces that bytes end with, the `}` at this one: the nearest byte before it that cannot stand
+-- the indexes of the braces that bytes end with, the `}` at this one: the nearest byte before it that may not stand
 -- between them is a `{`
 abbrev pub braces_to : ℕ → List ℕ → Option Braces
 braces_to close bytes =
-    let opened = without_end (λ b. not (ends_attributes b)) (take close bytes) in
+    let opened = without_end is_enclosed (take close bytes) in
     let last = length opened - 1 in
-    if slice_index opened last == open_brace then Some (record { open = last; close = close }) else None
+    if slice_index opened last == open_brace then Some (record { opening = last; closing = close }) else None
 
 -- the indexes of the braces at the end of a line's content, with spaces and tabs after them
 abbrev pub braces_in : List ℕ → Option Braces
@@ -53,14 +54,14 @@ braces_in content =
 
 -- the same as byte offsets, where the content begins at one
 abbrev pub braces_from : ℕ → Braces → Braces
-braces_from start braces = record { open = start + braces.open; close = start + braces.close }
+braces_from start braces = record { opening = start + braces.opening; closing = start + braces.closing }
 
 -- an ATX heading with attributes, from the content of its line: its content is what is before the braces, without a
 -- closing sequence
 abbrev pub attributed_by : List ℕ → AtxHeading → Option Braces → AtxHeading
 attributed_by content heading None = heading
 attributed_by content heading (Some braces) = record heading {
-  to = heading.from + length (heading_content (take braces.open content));
+  to = heading.from + length (heading_content (take braces.opening content));
   braces = Some (braces_from heading.from braces);
 }
 
@@ -73,7 +74,7 @@ parts_words byte = is_space_or_tab byte || (byte == form_feed)
 
 -- the words between braces; empty ones are among them
 abbrev pub words_in : List ℕ → Braces → List (List ℕ)
-words_in text braces = slice_split parts_words (slice_range text (braces.open + 1) braces.close)
+words_in text braces = slice_split parts_words (slice_range text (braces.opening + 1) braces.closing)
 
 -- a word of this first byte, and of more than that
 abbrev pub is_marked : ℕ → List ℕ → Bool

@@ -14,10 +14,12 @@ pub mod ThematicBreaks
 pub mod ExtendedOnly
 -- what only they read
 pub mod HeadingAttributes
+pub mod MetadataBlocks
 -- what lines are and begin, and link reference definitions: the definition of a text's blocks rests on them
 pub mod SourceLines
 pub mod BlockBeginnings
 pub mod DefinitionRules
 -- what a reader of lines finds
 pub mod UnbrokenLines
+pub mod UnclosedMetadata
 pub mod BlockStarts

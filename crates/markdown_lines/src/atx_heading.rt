@@ -1,5 +1,5 @@
 //! ATX headings (CommonMark 4.2).
-ghost use Rattle.std.specs.Prelude.{◌≡◌, ◌≤◌, ◌-◌, length};
+ghost use Rattle.std.specs.Prelude.{◌≡◌, ◌≤◌, ◌-◌, length, IfSome};
 ghost use Rattle.std.specs.List.{suffix_len};
 ghost use Rattle.markdown_base.specs.HeadingLevels.{level_of};
 ghost use Rattle.markdown_lines.specs.AtxHeadings.{is_hash, heading_content, atx_heading_at};
@@ -71,7 +71,8 @@ pub fn content_length(content: &[u8]) -> usize
 /// Returns the ATX heading whose first `#` is at byte offset `at`, in a line whose content ends before `stop`. Braces
 /// are not looked for.
 pub fn atx_heading(text: &str, at: usize, stop: usize) -> Option<AtxHeading>
-    ensures { result ≡ atx_heading_at text.now at stop }
+    ensures value { result ≡ atx_heading_at text.now at stop }
+    ensures after { IfSome result (λ heading. at ≤ heading.from) }
 {
     let line = bytes_of(text, at, stop);
     let count = run_length(line, b'#');

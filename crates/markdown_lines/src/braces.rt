@@ -3,6 +3,6 @@
 /// Braces around attributes: where the `{` is, and where the `}` is.
 #[derive(Clone, Copy, Drop)]
 pub struct Braces {
-    pub open: usize,
-    pub close: usize,
+    pub opening: usize,
+    pub closing: usize,
 }

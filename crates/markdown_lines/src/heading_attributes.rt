@@ -8,7 +8,7 @@ ghost use Rattle.std.specs.Str.{IsCharBoundary};
 ghost use Rattle.markdown_base.specs.CowText.{text_of};
 ghost use Rattle.markdown_base.specs.Event.{attribute_view};
 ghost use Rattle.markdown_lines.specs.HeadingAttributes.{attributed, attributes_read, braces_from, braces_in, braces_to};
-ghost use Rattle.markdown_lines.specs.HeadingAttributes.{ends_attributes, is_class, is_named, named, own_id};
+ghost use Rattle.markdown_lines.specs.HeadingAttributes.{is_class, is_enclosed, is_named, named, own_id};
 ghost use Rattle.markdown_lines.specs.HeadingAttributes.{parts_words, words_in, AreAttributes};
 
 use crate::atx_heading::{AtxHeading, content_length, trimmed_length};
@@ -28,24 +28,23 @@ pub fn attributes_read(options: Options) -> bool
     is_read(Options::ENABLE_HEADING_ATTRIBUTES, options)
 }
 
-/// Returns whether a byte cannot stand between the braces.
-fn ends_attributes(byte: u8) -> bool
-    ensures { result ≡ ends_attributes byte }
+/// Returns whether a byte may stand between the braces.
+fn is_enclosed(byte: u8) -> bool
+    ensures { result ≡ is_enclosed byte }
 {
     match byte {
-        b'{' | b'}' | b'<' | b'>' | b'\\' => true,
-        _ => false,
+        b'{' | b'}' | b'<' | b'>' | b'\\' => false,
+        _ => true,
     }
 }
 
 /// Returns the length of the bytes without those at their end that may stand between the braces.
 fn opened_length(bytes: &[u8]) -> usize
-    ensures value { result
-        ≡ length bytes.now - suffix_len (λ b. not (ends_attributes b)) bytes.now }
+    ensures value { result ≡ length bytes.now - suffix_len is_enclosed bytes.now }
     ensures within { result ≤ length bytes.now }
 {
     let mut end = bytes.len();
-    'inside: while end > 0 && !ends_attributes(bytes[end - 1]) {
+    'inside: while end > 0 && is_enclosed(bytes[end - 1]) {
         end -= 1;
     }
     end
@@ -55,14 +54,14 @@ fn opened_length(bytes: &[u8]) -> usize
 fn braces_to(bytes: &[u8], close: usize) -> Option<Braces>
     requires { close < length bytes.now }
     ensures value { result ≡ braces_to close bytes.now }
-    ensures within { IfSome result (λ braces. (braces.open < braces.close)
-        × (braces.close < length bytes.now)) }
+    ensures within { IfSome result (λ braces. (braces.opening < braces.closing)
+        × (braces.closing < length bytes.now)) }
 {
     let opened = opened_length(&bytes[..close]);
     if opened > 0 && bytes[opened - 1] == b'{' {
         Some(Braces {
-            open: opened - 1,
-            close,
+            opening: opened - 1,
+            closing: close,
         })
     } else {
         None
@@ -72,8 +71,8 @@ fn braces_to(bytes: &[u8], close: usize) -> Option<Braces>
 /// Returns the indexes of the braces at the end of a line's content.
 fn braces_in(content: &[u8]) -> Option<Braces>
     ensures value { result ≡ braces_in content.now }
-    ensures within { IfSome result (λ braces. (braces.open < braces.close)
-        × (braces.close < length content.now)) }
+    ensures within { IfSome result (λ braces. (braces.opening < braces.closing)
+        × (braces.closing < length content.now)) }
 {
     let end = trimmed_length(content);
     if end > 0 && content[end - 1] == b'}' {
@@ -90,8 +89,8 @@ pub fn braces_at(text: &str, from: usize, stop: usize) -> Option<Braces>
 {
     let braces = braces_in(bytes_of(text, from, stop))?;
     Some(Braces {
-        open: from.saturating_add(braces.open),
-        close: from.saturating_add(braces.close),
+        opening: from.saturating_add(braces.opening),
+        closing: from.saturating_add(braces.closing),
     })
 }
 
@@ -108,10 +107,10 @@ pub fn attributed(text: &str, heading: AtxHeading, stop: usize) -> AtxHeading
     AtxHeading {
         level: heading.level,
         from,
-        to: from.saturating_add(content_length(&content[..braces.open])),
+        to: from.saturating_add(content_length(&content[..braces.opening])),
         braces: Some(Braces {
-            open: from.saturating_add(braces.open),
-            close: from.saturating_add(braces.close),
+            opening: from.saturating_add(braces.opening),
+            closing: from.saturating_add(braces.closing),
         }),
     }
 }
@@ -138,7 +137,8 @@ fn word_length(bytes: &[u8]) -> usize
 
 /// Returns the first word of a text, and what follows the byte after it, if there is one.
 fn first_word(text: &str) -> (&str, Option<&str>)
-    ensures { MatchOption result.1
+    ensures shorter { IfSome result.1 (λ rest. length rest.now < length text.now) }
+    ensures cut { MatchOption result.1
         (slice_split parts_words text.now ≡ result.0.now ∷ [])
         (λ rest. slice_split parts_words text.now
         ≡ result.0.now ∷ slice_split parts_words rest.now) }
@@ -147,8 +147,8 @@ fn first_word(text: &str) -> (&str, Option<&str>)
     if length == text.len() {
         return (text, None);
     }
-    let (word, rest) = text.split_at(length);
-    (word, Some(rest.split_at(1).1))
+    let rest = text.split_at(length + 1).1;
+    (text.split_at(length).0, Some(rest))
 }
 
 /// Returns a name, and its value if it has one.
@@ -185,25 +185,35 @@ fn add_word<'a>(attributes: &mut HeadingAttributes<'a>, word: &'a str) -> Result
     Ok(())
 }
 
-/// Returns the attributes that the words between braces are, which are given by their byte offsets.
-pub fn heading_attributes<'a>(
-    alloc: Global,
-    text: &'a str,
-    braces: Braces,
-) -> Result<HeadingAttributes<'a>, AllocError>
-    ensures { IfOk result (λ made. IsCharBoundary text.now (braces.open + 1)
-        → IsCharBoundary text.now braces.close → AreAttributes made (words_in text.now braces)) }
+/// Returns the attributes that words are, which white space parts.
+fn attributes_of<'a>(alloc: Global, words: &'a str) -> Result<HeadingAttributes<'a>, AllocError>
+    ensures { IfOk result (λ made. AreAttributes made (slice_split parts_words words.now)) }
 {
     let mut attributes = HeadingAttributes {
         id: None,
         classes: Vec::new(alloc),
         attrs: Vec::new(alloc),
     };
-    let mut left = Some(part_of(text, braces.open.saturating_add(1), braces.close));
-    'words: while let Some(words) = left {
-        let (word, rest) = first_word(words);
+    let mut left = Some(words);
+    'words: while let Some(more) = left {
+        let (word, rest) = first_word(more);
         add_word(&mut attributes, word)?;
         left = rest;
     }
     Ok(attributes)
+}
+
+/// Returns the attributes that the words between braces are, which are given by their byte offsets.
+pub fn heading_attributes<'a>(
+    alloc: Global,
+    text: &'a str,
+    braces: Braces,
+) -> Result<HeadingAttributes<'a>, AllocError>
+    ensures { IfOk result (λ made. IsCharBoundary text.now (braces.opening + 1)
+        → IsCharBoundary text.now braces.closing → AreAttributes made (words_in text.now braces)) }
+{
+    attributes_of(
+        alloc,
+        part_of(text, braces.opening.saturating_add(1), braces.closing),
+    )
 }
