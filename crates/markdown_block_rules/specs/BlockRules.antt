@@ -131,7 +131,7 @@ last_braces options (l ∷ m ∷ lines) = last_braces options (m ∷ lines)
 abbrev pub cut_at : Option Braces → SourceLine → SourceLine
 cut_at None l = l
 cut_at (Some braces) l =
-    record l { left = record l.left { bytes = take (braces.open - l.left.scanned) l.left.bytes } }
+    record l { left = record l.left { bytes = take (braces.opening - l.left.scanned) l.left.bytes } }
 
 abbrev pub before_braces : Option Braces → List SourceLine → List SourceLine
 before_braces braces [] = []
@@ -173,6 +173,8 @@ shown_block s tight b end below inside (was.fenced_leaf opening closed lines) =
     (chain_of (source_lines (body.Text false) lines))
 shown_block s tight b end below inside (was.html_leaf kind closed lines) =
     shown_over b.start end body.HtmlBlock None (chain_of (source_lines body.Html lines))
+shown_block s tight b end below inside (was.metadata_leaf kind closed lines) =
+    shown_over b.start end (body.MetadataBlock kind) None (chain_of (source_lines (body.Text false) lines))
 shown_block s tight b end below inside was.quote_container = shown_over b.start end (body.BlockQuote None) None
     (inside false)
 shown_block s tight b end below inside (was.list_container marker) =

@@ -132,7 +132,7 @@ fn cut_off(line: HeldLine, braces: Option<Braces>) -> HeldLine
     match braces {
         Some(braces) => HeldLine {
             start: line.start,
-            stop: braces.open,
+            stop: braces.opening,
             next: line.next,
             owed: line.owed,
         },
