@@ -26,7 +26,7 @@ use Rattle.markdown_lines.specs.BlockBeginnings as line
 use Rattle.markdown_lines.specs.BlockBeginnings.{Source, Beginning, begins, begins_after, first_found}
 use Rattle.markdown_lines.specs.BlockBeginnings.{past_bytes}
 use Rattle.markdown_lines.specs.BlockBeginnings.{quote_in_line, heading_in_line, fence_in_line, html_in_line}
-use Rattle.markdown_lines.specs.BlockBeginnings.{footnote_in_line, metadata_after, metadata_in_line, whole_heading}
+use Rattle.markdown_lines.specs.BlockBeginnings.{footnote_in_line, metadata_begun, metadata_in_line, whole_heading}
 use Rattle.markdown_lines.specs.BlockBeginnings.{footnote_marker, label_before_colon, underline_in_line, break_in_line}
 use Rattle.markdown_lines.specs.BlockBeginnings.{is_paragraph, is_reached, item_in_line, item_of, item_space}
 use Rattle.markdown_lines.specs.ListMarkers.{decimal, ends_number, is_bullet, marker_of, ordered_marker}
@@ -285,14 +285,14 @@ more_holds n m (line.begins_item marker indent rest) more less = omega (arith, m
 more_holds n m other more less = tt
 
 -- metadata holds nothing
-metadata_less : (n : ℕ) (before : Before) (kind : MetadataBlockKind) → IfHoldsLess n (metadata_after before kind)
+metadata_less : (n : ℕ) (before : Before) (kind : MetadataBlockKind) → IfHoldsLess n (metadata_begun before kind)
 metadata_less n before metadata.YamlStyle =
     either (IfHoldsLess n) (is_reached before) None (Some (line.begins_metadata metadata.YamlStyle)) tt tt
 metadata_less n before metadata.PlusesStyle =
     either (IfHoldsLess n) (is_paragraph before) None (Some (line.begins_metadata metadata.PlusesStyle)) tt tt
 
 opened_less : (n : ℕ) (before : Before) (found : Option MetadataBlockKind)
-    → IfHoldsLess n (option_and_then (metadata_after before) found)
+    → IfHoldsLess n (option_and_then (metadata_begun before) found)
 opened_less n before None = tt
 opened_less n before (Some kind) = metadata_less n before kind
 
@@ -313,7 +313,7 @@ begins_less s before l =
     (found_or_less (length l.left.bytes) (metadata_in_line s before l)
     (begins_after s before space.columns space.after)
     (either (IfHoldsLess (length l.left.bytes)) l.outermost
-    (option_and_then (metadata_after before) (metadata_opened s.options s.text l.left.bytes l.next)) None
+    (option_and_then (metadata_begun before) (metadata_opened s.options s.text l.left.bytes l.next)) None
     (opened_less (length l.left.bytes) before (metadata_opened s.options s.text l.left.bytes l.next)) tt)
     (more_holds (length space.after.bytes) (length l.left.bytes) (begins_after s before space.columns space.after)
     (space_left 4 l.left) (after_less s before space.columns space.after)))

@@ -128,14 +128,14 @@ last_braces options (l ∷ []) =
 last_braces options (l ∷ m ∷ lines) = last_braces options (m ∷ lines)
 
 -- lines, of which the last is cut off at the `{`
-abbrev pub cut_at : Option Braces → SourceLine → SourceLine
-cut_at None l = l
-cut_at (Some braces) l =
+abbrev pub cut_before_braces : Option Braces → SourceLine → SourceLine
+cut_before_braces None l = l
+cut_before_braces (Some braces) l =
     record l { left = record l.left { bytes = take (braces.opening - l.left.scanned) l.left.bytes } }
 
 abbrev pub before_braces : Option Braces → List SourceLine → List SourceLine
 before_braces braces [] = []
-before_braces braces (l ∷ []) = cut_at braces l ∷ []
+before_braces braces (l ∷ []) = cut_before_braces braces l ∷ []
 before_braces braces (l ∷ m ∷ lines) = l ∷ before_braces braces (m ∷ lines)
 
 -- a setext heading, without the definitions at its beginning

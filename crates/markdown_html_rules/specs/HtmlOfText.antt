@@ -30,14 +30,14 @@ tables_for None = no_tables
 tables_for (Some text) = record no_tables { cows = cow_of text ∷ [] }
 
 -- a node, or that of a heading with attributes
-abbrev pub with_heading : Option HeadingView → Plain → Plain
-with_heading None node = node
-with_heading (Some view) node = shaped (enclosed (heading view) []) node
+abbrev pub node_with_heading : Option HeadingView → Plain → Plain
+node_with_heading None node = node
+node_with_heading (Some view) node = shaped (enclosed (heading view) []) node
 
 -- the tree of a document
 abbrev pub document_of : Source → Forest Plain
 document_of s =
-    relabelled (λ a. with_heading a.heading (tree_node_of s.text (tables_for a.text) a.item)) (block_tree s)
+    relabelled (λ a. node_with_heading a.heading (tree_node_of s.text (tables_for a.text) a.item)) (block_tree s)
 
 -- a definition with its label
 abbrev pub labelled : Definition → Labelled

@@ -14,7 +14,7 @@ use Rattle.markdown_base.specs.declared.tag.MetadataBlockKind.TheVariants as kin
 use Rattle.markdown_scan.specs.LineEnd.{begins_line_feed}
 use Rattle.markdown_lines.specs.declared.line.Line.{Line}
 use Rattle.markdown_lines.specs.Lines.{IsLineFrom, ending_length, is_line_ending, is_space_or_tab}
-use Rattle.markdown_lines.specs.MetadataBlocks.{are_of_metadata, closes_metadata, lines_after, one_closes}
+use Rattle.markdown_lines.specs.MetadataBlocks.{are_of_metadata, closes_metadata, lines_at, one_closes}
 use Rattle.markdown_lines.specs.SourceLines.{SourceLine, first_line, lines_from}
 use Rattle.markdown_lines.specs.UnclosedMetadata.{IsUnclosed}
 
@@ -270,7 +270,7 @@ line_read text at line found =
 
 -- the lines from a byte offset on are the line there and those after it
 step_of : (text : List ℕ) (at : ℕ) (bytes : List ℕ) → bytes ≡ drop at text → 0 < length bytes
-    → lines_from (length bytes) at bytes ≡ first_line at bytes ∷ lines_after text (first_line at bytes).next
+    → lines_from (length bytes) at bytes ≡ first_line at bytes ∷ lines_at text (first_line at bytes).next
 unfolding lines_from
 step_of text at [] is some = absurd (omega (arith, some))
 step_of text at (b ∷ bytes) is some =
@@ -284,8 +284,8 @@ step_of text at (b ∷ bytes) is some =
     ∙ ap (λ (xs : List ℕ). lines_from (length xs) line.next xs) rest_is)
 
 pub lines_step : (text : List ℕ) (at : ℕ) → at < length text
-    → lines_after text at
-    ≡ first_line at (drop at text) ∷ lines_after text (first_line at (drop at text)).next
+    → lines_at text at
+    ≡ first_line at (drop at text) ∷ lines_at text (first_line at (drop at text)).next
 lines_step text at less = step_of text at (drop at text) refl (omega (arith, less, length-drop at text))
 
 -- there are none from the end on
@@ -293,7 +293,7 @@ nothing_left : (at : ℕ) → lines_from 0 at [] ≡ []
 unfolding lines_from
 nothing_left at = refl
 
-pub no_lines : (text : List ℕ) (at : ℕ) → length text ≤ at → lines_after text at ≡ []
+pub no_lines : (text : List ℕ) (at : ℕ) → length text ≤ at → lines_at text at ≡ []
 no_lines text at most =
     subst (λ (xs : List ℕ). lines_from (length xs) at xs ≡ []) (sym (drop_all at text most)) (nothing_left at)
 
@@ -308,27 +308,27 @@ any_here k l lines closes = rw closes refl
 -- a line that closes nothing is passed over
 pub passed_over : (k : MetadataBlockKind) (text : List ℕ) (at : ℕ) (line : Line) → at < length text
     → IsLineFrom text at line → closes_metadata k (slice_range text line.start line.stop) ≡ false
-    → one_closes k (lines_after text line.next) ≡ one_closes k (lines_after text at)
+    → one_closes k (lines_at text line.next) ≡ one_closes k (lines_at text at)
 passed_over k text at line less found none =
     let read = line_read text at line found in
     let l = first_line at (drop at text) in
-    ap (λ n. one_closes k (lines_after text n)) (sym read.1)
-    ∙ (any_more k l (lines_after text l.next) (ap (closes_metadata k) read.0 ∙ none)
+    ap (λ n. one_closes k (lines_at text n)) (sym read.1)
+    ∙ (any_more k l (lines_at text l.next) (ap (closes_metadata k) read.0 ∙ none)
     ∙ ap (one_closes k) (sym (lines_step text at less)))
 
 -- a line that closes metadata is one of those that do
 pub closed_here : (k : MetadataBlockKind) (text : List ℕ) (at : ℕ) (line : Line) → at < length text
     → IsLineFrom text at line → closes_metadata k (slice_range text line.start line.stop) ≡ true
-    → true ≡ one_closes k (lines_after text at)
+    → true ≡ one_closes k (lines_at text at)
 closed_here k text at line less found closes =
     let read = line_read text at line found in
     let l = first_line at (drop at text) in
-    any_here k l (lines_after text l.next) (ap (closes_metadata k) read.0 ∙ closes)
+    any_here k l (lines_at text l.next) (ap (closes_metadata k) read.0 ∙ closes)
     ∙ ap (one_closes k) (sym (lines_step text at less))
 
 -- none does from the end on
 pub none_at_end : (k : MetadataBlockKind) (text : List ℕ) (at : ℕ) → length text ≤ at
-    → false ≡ one_closes k (lines_after text at)
+    → false ≡ one_closes k (lines_at text at)
 none_at_end k text at most = ap (one_closes k) (sym (no_lines text at most))
 
 -- after a line the next one begins after a line ending, or none does
@@ -349,17 +349,17 @@ pub of_metadata : (k : MetadataBlockKind) (text : List ℕ) (at : ℕ) (line : L
     → at < length text → IsLineFrom text at line
     → white ≡ list_all is_space_or_tab (slice_range text line.start line.stop)
     → closes ≡ closes_metadata k (slice_range text line.start line.stop)
-    → more ≡ one_closes k (lines_after text line.next)
-    → (not white && not closes && more) ≡ are_of_metadata k (lines_after text at)
+    → more ≡ one_closes k (lines_at text line.next)
+    → (not white && not closes && more) ≡ are_of_metadata k (lines_at text at)
 of_metadata k text at line white closes more less found w c m =
     let read = line_read text at line found in
     let l = first_line at (drop at text) in
     let whites : white ≡ list_all is_space_or_tab l.left.bytes = w ∙ ap (list_all is_space_or_tab) (sym read.0) in
     let close : closes ≡ closes_metadata k l.left.bytes = c ∙ ap (closes_metadata k) (sym read.0) in
-    let others : more ≡ one_closes k (lines_after text l.next) =
-    m ∙ ap (λ n. one_closes k (lines_after text n)) (sym read.1) in
+    let others : more ≡ one_closes k (lines_at text l.next) =
+    m ∙ ap (λ n. one_closes k (lines_at text n)) (sym read.1) in
     rw (whites, close, others) (ap (are_of_metadata k) (sym (lines_step text at less)))
 
 pub of_none : (k : MetadataBlockKind) (text : List ℕ) (at : ℕ) → length text ≤ at
-    → false ≡ are_of_metadata k (lines_after text at)
+    → false ≡ are_of_metadata k (lines_at text at)
 of_none k text at most = ap (are_of_metadata k) (sym (no_lines text at most))

@@ -145,17 +145,17 @@ item_in_line s before columns here =
 
 -- metadata that a line opens begins where the line does not reach a paragraph; that of pluses, where it is no text of
 -- one either
-abbrev pub metadata_after : Before → MetadataBlockKind → Option Beginning
-metadata_after before metadata.YamlStyle =
+abbrev pub metadata_begun : Before → MetadataBlockKind → Option Beginning
+metadata_begun before metadata.YamlStyle =
     if is_reached before then None else Some (begins_metadata metadata.YamlStyle)
-metadata_after before metadata.PlusesStyle =
+metadata_begun before metadata.PlusesStyle =
     if is_paragraph before then None else Some (begins_metadata metadata.PlusesStyle)
 
 -- metadata, directly under the root
 abbrev pub metadata_in_line : Source → Before → SourceLine → Option Beginning
 metadata_in_line s before l =
     if l.outermost
-    then option_and_then (metadata_after before) (metadata_opened s.options s.text l.left.bytes l.next) else None
+    then option_and_then (metadata_begun before) (metadata_opened s.options s.text l.left.bytes l.next) else None
 
 -- the first that is there, and otherwise text
 abbrev pub first_found : List (Option Beginning) → Beginning

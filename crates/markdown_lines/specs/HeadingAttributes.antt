@@ -98,8 +98,8 @@ value_of word =
     if nat_lt (position_or_len (λ b. b == equals_sign) word) (length word)
     then Some (after_first (λ b. b == equals_sign) word) else None
 
-abbrev pub named : List ℕ → List ℕ × Option (List ℕ)
-named word = (before_first (λ b. b == equals_sign) word, value_of word)
+abbrev pub name_and_value : List ℕ → List ℕ × Option (List ℕ)
+name_and_value word = (before_first (λ b. b == equals_sign) word, value_of word)
 
 -- the id that a word is
 abbrev pub own_id : List ℕ → Option (List ℕ)
@@ -114,7 +114,7 @@ abbrev pub classes_among : List (List ℕ) → List (List ℕ)
 classes_among words = map (drop 1) (filter is_class words)
 
 abbrev pub names_among : List (List ℕ) → List (List ℕ × Option (List ℕ))
-names_among words = map named (filter is_named words)
+names_among words = map name_and_value (filter is_named words)
 
 -- a heading of a level, with the attributes that these words are
 abbrev pub heading_of_words : HeadingLevel → List (List ℕ) → HeadingView

@@ -36,8 +36,8 @@ metadata_option kind.YamlStyle = ENABLE_YAML_STYLE_METADATA_BLOCKS
 metadata_option kind.PlusesStyle = ENABLE_PLUSES_DELIMITED_METADATA_BLOCKS
 
 -- the lines of a text from a byte offset on
-abbrev pub lines_after : List ℕ → ℕ → List SourceLine
-lines_after text at = lines_from (length (drop at text)) at (drop at text)
+abbrev pub lines_at : List ℕ → ℕ → List SourceLine
+lines_at text at = lines_from (length (drop at text)) at (drop at text)
 
 -- one of these lines closes metadata of a kind
 abbrev pub one_closes : MetadataBlockKind → List SourceLine → Bool
@@ -52,7 +52,7 @@ are_of_metadata kind (l ∷ lines) =
 -- metadata of a kind, where it is enabled, and lines that begin at a byte offset are its lines
 abbrev pub opened_before : Options → List ℕ → ℕ → MetadataBlockKind → Option MetadataBlockKind
 opened_before options text next kind =
-    if is_read (metadata_option kind) options && are_of_metadata kind (lines_after text next) then Some kind else None
+    if is_read (metadata_option kind) options && are_of_metadata kind (lines_at text next) then Some kind else None
 
 -- the metadata that a line of this content opens, after which the next line begins at `next`
 abbrev pub metadata_opened : Options → List ℕ → List ℕ → ℕ → Option MetadataBlockKind

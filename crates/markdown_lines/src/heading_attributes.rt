@@ -8,7 +8,7 @@ ghost use Rattle.std.specs.Str.{IsCharBoundary};
 ghost use Rattle.markdown_base.specs.CowText.{text_of};
 ghost use Rattle.markdown_base.specs.Event.{attribute_view};
 ghost use Rattle.markdown_lines.specs.HeadingAttributes.{attributed, attributes_read, braces_from, braces_in, braces_to};
-ghost use Rattle.markdown_lines.specs.HeadingAttributes.{is_class, is_enclosed, is_named, named, own_id};
+ghost use Rattle.markdown_lines.specs.HeadingAttributes.{is_class, is_enclosed, is_named, name_and_value, own_id};
 ghost use Rattle.markdown_lines.specs.HeadingAttributes.{parts_words, words_in, AreAttributes};
 
 use crate::atx_heading::{AtxHeading, content_length, trimmed_length};
@@ -152,8 +152,8 @@ fn first_word(text: &str) -> (&str, Option<&str>)
 }
 
 /// Returns a name, and its value if it has one.
-fn named(word: &str) -> (CowStr<'_>, Option<CowStr<'_>>)
-    ensures { attribute_view result ≡ named word.now }
+fn name_and_value(word: &str) -> (CowStr<'_>, Option<CowStr<'_>>)
+    ensures { attribute_view result ≡ name_and_value word.now }
 {
     match word.split_once('=') {
         Some((name, value)) => (CowStr::Borrowed(name), Some(CowStr::Borrowed(value))),
@@ -170,7 +170,7 @@ fn add_word<'a>(attributes: &mut HeadingAttributes<'a>, word: &'a str) -> Result
         ++ map (drop 1) (filter is_class (word.now ∷ []))) }
     ensures names { IfOk result (λ _. map attribute_view attributes.new.attrs.items
         ≡ map attribute_view attributes.old.attrs.items
-        ++ map named (filter is_named (word.now ∷ []))) }
+        ++ map name_and_value (filter is_named (word.now ∷ []))) }
 {
     if word.len() < 2 {
         return Ok(());
@@ -180,7 +180,7 @@ fn add_word<'a>(attributes: &mut HeadingAttributes<'a>, word: &'a str) -> Result
         b'.' => attributes
             .classes
             .push(CowStr::Borrowed(word.split_at(1).1))?,
-        _ => attributes.attrs.push(named(word))?,
+        _ => attributes.attrs.push(name_and_value(word))?,
     }
     Ok(())
 }

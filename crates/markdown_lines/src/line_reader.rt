@@ -6,7 +6,7 @@ ghost use Rattle.std.specs.Str.{IsCharBoundary};
 ghost use Rattle.markdown_base.specs.Bytes.{backtick, equals_sign, tilde};
 ghost use Rattle.markdown_base.specs.CowText.{text_of};
 ghost use Rattle.markdown_lines.specs.BlockBeginnings.{begins_metadata, footnote_marker, is_paragraph, is_reached};
-ghost use Rattle.markdown_lines.specs.BlockBeginnings.{metadata_after};
+ghost use Rattle.markdown_lines.specs.BlockBeginnings.{metadata_begun};
 ghost use Rattle.markdown_lines.specs.ListMarkers.{is_bullet};
 ghost use Rattle.markdown_lines.specs.MetadataBlocks.{metadata_opened};
 ghost use Rattle.markdown_lines.specs.ThematicBreaks.{is_break_mark};
@@ -78,7 +78,7 @@ fn is_reached(before: Before) -> bool
 
 /// Returns whether metadata of a kind that a line opens begins there.
 fn begins_after(before: Before, kind: MetadataBlockKind) -> bool
-    ensures { metadata_after before kind
+    ensures { metadata_begun before kind
         ≡ (if result then Some (begins_metadata kind) else None) }
 {
     match kind {

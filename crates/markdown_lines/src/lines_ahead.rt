@@ -1,7 +1,7 @@
 //! The lines of a text that are ahead of a line, as far as they decide what it begins.
 ghost use Rattle.std.specs.Prelude.{◌≡◌, ◌≤◌, true, false, length};
 ghost use Rattle.markdown_base.specs.declared.tag.MetadataBlockKind.TheVariants as kind;
-ghost use Rattle.markdown_lines.specs.MetadataBlocks.{lines_after, one_closes};
+ghost use Rattle.markdown_lines.specs.MetadataBlocks.{lines_at, one_closes};
 ghost use Rattle.markdown_lines.specs.UnclosedMetadata.{IsUnclosed};
 
 use crate::bytes::{bytes_of, is_white};
@@ -13,7 +13,7 @@ use markdown_base::tag::MetadataBlockKind;
 
 /// Returns whether a line closes metadata of a kind that begins at byte offset `from` or after it.
 fn one_closes(text: &str, kind: MetadataBlockKind, from: usize) -> bool
-    ensures { result ≡ one_closes kind (lines_after text.now from) }
+    ensures { result ≡ one_closes kind (lines_at text.now from) }
 {
     let mut at = from;
     'lines: while at < text.len() {
@@ -40,7 +40,7 @@ pub struct LinesAhead<'a> {
 impl<'a> LinesAhead<'a> {
     ghost use Rattle.std.specs.Prelude.{◌≡◌, ◌≤◌, ◌⊎◌, ◌-◌, true, length, slice_index, slice_range};
     ghost use Rattle.markdown_lines.specs.Lines.{is_line_ending};
-    ghost use Rattle.markdown_lines.specs.MetadataBlocks.{are_of_metadata, lines_after, metadata_opened, one_closes};
+    ghost use Rattle.markdown_lines.specs.MetadataBlocks.{are_of_metadata, lines_at, metadata_opened, one_closes};
     ghost use Rattle.markdown_lines.specs.UnclosedMetadata.{IsUnclosed};
 
     /// Returns the lines of a text, at which nothing was looked yet.
@@ -80,7 +80,7 @@ impl<'a> LinesAhead<'a> {
     fn is_closed(&mut self, kind: MetadataBlockKind, from: usize) -> bool
         requires { (length self.old.text.now ≤ from)
             ⊎ (is_line_ending (slice_index self.old.text.now (from - 1)) ≡ true) }
-        ensures value { result ≡ one_closes kind (lines_after self.old.text.now from) }
+        ensures value { result ≡ one_closes kind (lines_at self.old.text.now from) }
         ensures same { self.new.text.now ≡ self.old.text.now }
     {
         if self.unclosed_from(kind) <= from {
@@ -95,7 +95,7 @@ impl<'a> LinesAhead<'a> {
 
     /// Returns whether the lines that begin at byte offset `next` or after it are those of metadata of a kind.
     fn are_of_metadata(&mut self, kind: MetadataBlockKind, next: usize) -> bool
-        ensures value { result ≡ are_of_metadata kind (lines_after self.old.text.now next) }
+        ensures value { result ≡ are_of_metadata kind (lines_at self.old.text.now next) }
         ensures same { self.new.text.now ≡ self.old.text.now }
     {
         if next >= self.text.len() {
