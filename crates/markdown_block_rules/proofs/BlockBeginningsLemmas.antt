@@ -4,8 +4,8 @@ use Rattle.std.proofs.Common.{◌≡◌, ℕ, zero, suc, ◌+◌, ◌-◌, ◌<�
 use Rattle.std.proofs.Common.{None}
 use Rattle.std.proofs.Common.{refl, arith, length, drop, take, not, ◌&&◌, ◌||◌, ◌==◌, codes, nat_lt}
 use Rattle.std.proofs.Common.{nat_le}
-use Rattle.std.specs.Prelude.{⊤, if◌then◌else◌, slice_range, slice_index}
-use Rattle.std.specs.Option.{option_map}
+use Rattle.std.specs.Prelude.{⊤, if◌then◌else◌, slice_range, slice_index, unwrap_or}
+use Rattle.std.specs.Option.{option_and_then, option_map}
 use Rattle.std.proofs.lemmas.List.{length-drop}
 use Rattle.markdown_scan.specs.Beginnings.{begins_with}
 use Rattle.markdown_base.specs.EnabledOptions.{footnotes_on}
@@ -18,6 +18,8 @@ use Rattle.markdown_lines.specs.CodeFences.{opening_fence_at}
 use Rattle.markdown_lines.specs.ThematicBreaks.{is_thematic_break, setext_level}
 use Rattle.markdown_base.specs.Forest.{Forest}
 use Rattle.markdown_block_rules.specs.BlockGrowth.{Block, begun_in, inside_of, new_blocks}
+use Rattle.markdown_base.specs.declared.tag.MetadataBlockKind.{MetadataBlockKind}
+use Rattle.markdown_base.specs.declared.tag.MetadataBlockKind.TheVariants as metadata
 use Rattle.markdown_lines.specs.declared.block_start.Before.{Before}
 use Rattle.markdown_lines.specs.declared.block_start.Before.TheVariants as paragraph
 use Rattle.markdown_lines.specs.BlockBeginnings as line
@@ -26,7 +28,7 @@ use Rattle.markdown_lines.specs.BlockBeginnings.{past_bytes, quote_of, quote_or_
 use Rattle.markdown_lines.specs.Alerts.{alert_read}
 use Rattle.markdown_base.specs.declared.tag.BlockQuoteKind.{BlockQuoteKind}
 use Rattle.markdown_lines.specs.BlockBeginnings.{quote_in_line, heading_in_line, fence_in_line, html_in_line}
-use Rattle.markdown_lines.specs.BlockBeginnings.{footnote_in_line}
+use Rattle.markdown_lines.specs.BlockBeginnings.{footnote_in_line, metadata_begun, metadata_in_line, whole_heading}
 use Rattle.markdown_lines.specs.BlockBeginnings.{footnote_marker, label_before_colon, underline_in_line, break_in_line}
 use Rattle.markdown_lines.specs.BlockBeginnings.{is_paragraph, is_reached, item_in_line, item_of, item_space}
 use Rattle.markdown_lines.specs.ListMarkers.{decimal, ends_number, is_bullet, marker_of, ordered_marker}
@@ -34,7 +36,8 @@ use Rattle.markdown_lines.specs.ListMarkers.{stands_before, ordered_marker_of, i
 use Rattle.markdown_scan.specs.LineStart.{LineLeft, Space, leading_space, space_from, past_marker, past_one_byte}
 use Rattle.markdown_scan.specs.LineStart.{space_width, no_space, wider, column_after}
 use Rattle.markdown_lines.specs.declared.list_marker.ListMarker.{ListMarker}
-use Rattle.markdown_lines.specs.SourceLines.{SourceLine}
+use Rattle.markdown_lines.specs.MetadataBlocks.{metadata_opened}
+use Rattle.markdown_lines.specs.SourceLines.{SourceLine, rest_inside}
 
 -- a container has fewer than `n` bytes of the line inside it
 abbrev pub HoldsLess : ℕ → Beginning → Type 0
@@ -261,8 +264,8 @@ after_less s before columns here =
     columns here ∷ []) (
       quote_less s here.scanned here.owed here.column here.bytes,
       (
-        leaf_less n line.begins_heading (atx_heading_at s.text here.scanned (here.scanned + length here.bytes))
-            (λ a. tt),
+        leaf_less n (λ heading. line.begins_heading (whole_heading s.options here heading))
+            (atx_heading_at s.text here.scanned (here.scanned + length here.bytes)) (λ a. tt),
         (
           fence_less s columns here,
           (
@@ -290,17 +293,39 @@ more_holds n m (line.begins_footnote label rest) more less = omega (arith, more,
 more_holds n m (line.begins_item marker indent rest) more less = omega (arith, more, less)
 more_holds n m other more less = tt
 
+-- metadata holds nothing
+metadata_less : (n : ℕ) (before : Before) (kind : MetadataBlockKind) → IfHoldsLess n (metadata_begun before kind)
+metadata_less n before metadata.YamlStyle =
+    either (IfHoldsLess n) (is_reached before) None (Some (line.begins_metadata metadata.YamlStyle)) tt tt
+metadata_less n before metadata.PlusesStyle =
+    either (IfHoldsLess n) (is_paragraph before) None (Some (line.begins_metadata metadata.PlusesStyle)) tt tt
+
+opened_less : (n : ℕ) (before : Before) (found : Option MetadataBlockKind)
+    → IfHoldsLess n (option_and_then (metadata_begun before) found)
+opened_less n before None = tt
+opened_less n before (Some kind) = metadata_less n before kind
+
+found_or_less : (n : ℕ) (found : Option Beginning) (other : Beginning) → IfHoldsLess n found → HoldsLess n other
+    → HoldsLess n (unwrap_or found other)
+found_or_less n None other less more = more
+found_or_less n (Some b) other less more = less
+
 -- what a line begins holds less than the line
 pub begins_less : (s : Source) (before : Before) (l : SourceLine) → HoldsLess (length l.left.bytes) (begins s before l)
 begins_less s before l =
     let space = leading_space 4 l.left in
     either (HoldsLess (length l.left.bytes)) (space.columns == 4)
     (if is_paragraph before then line.begins_text else line.begins_indented space.after)
-    (begins_after s before space.columns space.after)
+    (unwrap_or (metadata_in_line s before l) (begins_after s before space.columns space.after))
     (either (HoldsLess (length l.left.bytes)) (is_paragraph before) line.begins_text
     (line.begins_indented space.after) tt tt)
+    (found_or_less (length l.left.bytes) (metadata_in_line s before l)
+    (begins_after s before space.columns space.after)
+    (either (IfHoldsLess (length l.left.bytes)) l.outermost
+    (option_and_then (metadata_begun before) (metadata_opened s.options s.text l.left.bytes l.next)) None
+    (opened_less (length l.left.bytes) before (metadata_opened s.options s.text l.left.bytes l.next)) tt)
     (more_holds (length space.after.bytes) (length l.left.bytes) (begins_after s before space.columns space.after)
-    (space_left 4 l.left) (after_less s before space.columns space.after))
+    (space_left 4 l.left) (after_less s before space.columns space.after)))
 
 -- the blocks that a line begins, from what begins with its rest
 new_same : (l : SourceLine) (b : Beginning) (f g : LineLeft → Forest Block) (n : ℕ) → HoldsLess n b
@@ -317,6 +342,7 @@ new_same l (line.begins_fence opening) f g n less same = refl
 new_same l (line.begins_html kind) f g n less same = refl
 new_same l (line.begins_underline level) f g n less same = refl
 new_same l line.begins_break f g n less same = refl
+new_same l (line.begins_metadata kind) f g n less same = refl
 
 -- where it is large enough, the number of containers that may be in each other does not matter
 pub begun_same : (n m : ℕ) (s : Source) (l : SourceLine) → length l.left.bytes < n → length l.left.bytes < m
@@ -329,8 +355,8 @@ begun_same (suc n) (suc m) s l low high =
     (length l.left.bytes)
     (begins_less s paragraph.NoParagraph l)
     (λ rest less. inside_same rest
-    (begun_same n m s (record l { left = rest }) (omega (arith, less, low)) (omega (arith, less, high))))
+    (begun_same n m s (rest_inside rest l) (omega (arith, less, low)) (omega (arith, less, high))))
   where
-    inside_same : (rest : LineLeft) → begun_in n s (record l { left = rest }) ≡ begun_in m s (record l { left = rest })
+    inside_same : (rest : LineLeft) → begun_in n s (rest_inside rest l) ≡ begun_in m s (rest_inside rest l)
         → inside_of (begun_in n s) l rest ≡ inside_of (begun_in m s) l rest
     inside_same rest same = rw same refl

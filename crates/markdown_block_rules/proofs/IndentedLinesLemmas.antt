@@ -59,6 +59,7 @@ begun_there f l (line.begins_fence opening) = refl
 begun_there f l (line.begins_html kind) = refl
 begun_there f l (line.begins_footnote label rest) = refl
 begun_there f l line.begins_break = refl
+begun_there f l (line.begins_metadata kind) = refl
 begun_there f l (line.begins_item marker indent rest) = refl
 begun_there f l line.begins_text = refl
 begun_there f l (line.begins_underline level) = refl

@@ -9,6 +9,7 @@ use Rattle.markdown_block_rules.specs.BlockGrowth.{Block, Kind, container_with, 
 use Rattle.markdown_block_rules.specs.LeafLaws.{HeadingsAndBreaksEnd, IndentedCodeEndsBeforeText, FencedCodeGoesOn}
 use Rattle.markdown_block_rules.specs.LeafLaws.{ClosingFenceClosesCode, ClosedCodeEnds, HtmlGoesOn}
 use Rattle.markdown_block_rules.specs.LeafLaws.{EndConditionEndsHtml}
+use Rattle.markdown_block_rules.specs.LeafLaws.{ClosedMetadataEnds, ClosingLineClosesMetadata, MetadataGoesOn}
 use Rattle.markdown_block_rules.specs.LeafLaws.{BlankLineEndsHtml, BlankLineEndsParagraph, ends_with_its_line}
 
 -- no line goes on in a block that ends with its line
@@ -23,6 +24,7 @@ no_line_more s l was.break_leaf inside is = (refl, refl)
 no_line_more s l (was.indented_leaf lines) inside is = cc
 no_line_more s l (was.fenced_leaf opening closed lines) inside is = cc
 no_line_more s l (was.html_leaf kind closed lines) inside is = cc
+no_line_more s l (was.metadata_leaf kind closed lines) inside is = cc
 no_line_more s l was.quote_container inside is = cc
 no_line_more s l (was.alert_container kind) inside is = cc
 no_line_more s l (was.list_container marker) inside is = cc
@@ -61,6 +63,18 @@ end_condition_ends s b l html lines is = rw is refl
 pub blank_line_ends_html : BlankLineEndsHtml
 unfolding goes_on
 blank_line_ends_html s b l html lines is blank = rw (is, blank) refl
+
+pub metadata_goes_on : MetadataGoesOn
+unfolding goes_on
+metadata_goes_on s b l kind lines is other = rw (is, other) refl
+
+pub closing_line_closes : ClosingLineClosesMetadata
+unfolding goes_on
+closing_line_closes s b l kind lines is closing = rw (is, closing) refl
+
+pub closed_metadata_ends : ClosedMetadataEnds
+unfolding goes_on
+closed_metadata_ends s b l kind lines is = rw is refl
 
 pub blank_line_ends_paragraph : BlankLineEndsParagraph
 unfolding goes_on

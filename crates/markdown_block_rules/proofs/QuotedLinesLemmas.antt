@@ -2,7 +2,8 @@
 use Rattle.std.proofs.Common.{◌≡◌, ℕ, suc, ◌+◌, ◌-◌, ◌<◌, Bool, true, false, List, [], ◌∷◌, ◌++◌}
 use Rattle.std.proofs.Common.{Some, None}
 use Rattle.std.proofs.Common.{subst, refl, sym, ap, ◌∙◌, arith, length, drop, ◌&&◌, ◌||◌, ◌==◌, codes, nat_lt}
-use Rattle.std.proofs.Common.{nat_le}
+use Rattle.std.proofs.Common.{nat_le, ⊎_elim}
+use Rattle.std.proofs.lemmas.Bool.{cases_Bool}
 use Rattle.std.specs.Prelude.{if◌then◌else◌}
 use Rattle.std.specs.List.{list_all}
 use Rattle.std.specs.Option.{is_some}
@@ -16,7 +17,9 @@ use Rattle.markdown_lines.specs.declared.block_start.Before.{Before}
 use Rattle.markdown_lines.specs.declared.block_start.Before.TheVariants as paragraph
 use Rattle.markdown_lines.specs.Alerts.{alert_read}
 use Rattle.markdown_lines.specs.BlockBeginnings as line
-use Rattle.markdown_lines.specs.BlockBeginnings.{Source, Beginning, begins, begins_after, quote_in_line}
+use Rattle.markdown_lines.specs.BlockBeginnings.{Source, Beginning, begins, begins_after, metadata_in_line}
+use Rattle.markdown_lines.specs.BlockBeginnings.{quote_in_line}
+use Rattle.markdown_lines.specs.MetadataBlocks.{line_opens}
 use Rattle.markdown_block_rules.specs.BlockGrowth.{Block, begun_in, goes_on, line_block}
 use Rattle.markdown_block_rules.specs.BlockGrowth.{past_quote}
 use Rattle.markdown_block_rules.specs.BlockLaws.{QuotedLinesMakeQuote, lone, quote_from, rest_of}
@@ -44,6 +47,61 @@ both_right false q both = absurd (true≢false (sym both))
 not_four : (n : ℕ) → nat_lt n 4 ≡ true → (n == 4) ≡ false
 not_four n few = grind (arith, nat_tests)
 
+-- what begins with white space or with a marker opens no metadata
+opens_nothing : (b : ℕ) (bytes : List ℕ) → (b == 45) ≡ false → (b == 43) ≡ false → line_opens (b ∷ bytes) ≡ None
+opens_nothing b bytes hyphen plus = rw (hyphen, plus) refl
+
+white_opens : (b : ℕ) (bytes : List ℕ) → is_space_or_tab b ≡ true → line_opens (b ∷ bytes) ≡ None
+white_opens b bytes white =
+    opens_nothing b bytes (grind (arith, nat_tests, white)) (grind (arith, nat_tests, white))
+
+marker_opens : (bytes : List ℕ) → begins_with (codes ">") bytes ≡ true → line_opens bytes ≡ None
+marker_opens bytes there =
+    let is : bytes ≡ codes ">" ++ drop 1 bytes =
+    (starts_is Decides-eqb bytes (codes ">") (begins_with (codes ">") bytes) refl).0 there in
+    rw is refl
+
+-- where no white space stands, no byte is read
+either_true : (test : Bool) → (test || true) ≡ true
+either_true true = refl
+either_true false = refl
+
+no_byte_read : (n scanned column b : ℕ) (bytes : List ℕ) → is_space_or_tab b ≡ false
+    → (space_from n scanned column (b ∷ bytes)).after.bytes ≡ b ∷ bytes
+no_byte_read n scanned column b bytes other =
+    let blank : (b == 32) ≡ false = grind (arith, nat_tests, other) in
+    let tab : (b == 9) ≡ false = grind (arith, nat_tests, other) in
+    let width : space_width column b ≡ 0 = rw (blank, tab) refl in
+    rw (width, either_true (n == 0)) refl
+
+nothing_read : (n : ℕ) (left : LineLeft) (b : ℕ) (bytes : List ℕ) → b ∷ bytes ≡ left.bytes
+    → is_space_or_tab b ≡ false → b ∷ bytes ≡ (leading_space n left).after.bytes
+nothing_read n left b bytes is other =
+    either (λ (space : Space). b ∷ bytes ≡ space.after.bytes) (nat_le n left.owed)
+    (record { columns = n; after = record left { owed = left.owed - n } })
+    (wider left.owed (space_from (n - left.owed) left.scanned left.column left.bytes)) is
+    (subst (λ (xs : List ℕ). b ∷ bytes ≡ (space_from (n - left.owed) left.scanned left.column xs).after.bytes) is
+    (sym (no_byte_read (n - left.owed) left.scanned left.column b bytes other)))
+
+-- so a line with a marker opens none
+quote_opens : (left : LineLeft) (bytes : List ℕ) → bytes ≡ left.bytes
+    → begins_with (codes ">") (leading_space 4 left).after.bytes ≡ true → line_opens bytes ≡ None
+quote_opens left [] is marked = refl
+quote_opens left (b ∷ bytes) is marked =
+    ⊎_elim (λ (white : is_space_or_tab b ≡ true). white_opens b bytes white)
+    (λ (other : is_space_or_tab b ≡ false).
+    marker_opens (b ∷ bytes) (subst (λ (xs : List ℕ). begins_with (codes ">") xs ≡ true)
+    (sym (nothing_read 4 left b bytes is other)) marked))
+    (cases_Bool (is_space_or_tab b))
+
+no_metadata : (s : Source) (before : Before) (l : SourceLine) → line_opens l.left.bytes ≡ None
+    → metadata_in_line s before l ≡ None
+no_metadata s before l none = rw none (either_none l.outermost)
+  where
+    either_none : (test : Bool) → (if test then None else None) ≡ None
+    either_none true = refl
+    either_none false = refl
+
 -- a line with a marker that names no alert begins a quote, whatever precedes it
 quote_begins : (s : Source) (before : Before) (l : SourceLine) (rest : LineLeft) → past_quote l.left ≡ Some rest
     → alert_read s.options rest ≡ None → begins s before l ≡ line.begins_quote rest
@@ -52,8 +110,12 @@ quote_begins s before l rest marker plain =
     let near = nat_lt space.columns 4 in
     let marked = begins_with (codes ">") space.after.bytes in
     let found = chosen (near && marked) (past_marker space.after) rest marker in
-    rw (not_four space.columns (both_left near marked found.0), both_right near marked found.0)
-    (ap (line.quote_of s.options) found.1 ∙ ap (line.quote_or_alert rest) plain)
+    let there = both_right near marked found.0 in
+    rw (
+      not_four space.columns (both_left near marked found.0),
+      no_metadata s before l (quote_opens l.left l.left.bytes refl there),
+      there,
+    ) (ap (line.quote_of s.options) found.1 ∙ ap (line.quote_or_alert rest) plain)
 
 -- only white space follows some space
 abbrev LeavesWhite : Space → Type 0

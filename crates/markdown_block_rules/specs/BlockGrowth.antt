@@ -14,6 +14,7 @@ use Rattle.markdown_lines.specs.declared.html_kind.HtmlKind.{HtmlKind}
 use Rattle.markdown_lines.specs.declared.list_marker.ListMarker.{ListMarker}
 use Rattle.markdown_base.specs.declared.tag.BlockQuoteKind.{BlockQuoteKind}
 use Rattle.markdown_base.specs.declared.tag.HeadingLevel.{HeadingLevel}
+use Rattle.markdown_base.specs.declared.tag.MetadataBlockKind.{MetadataBlockKind}
 use Rattle.markdown_scan.specs.Beginnings.{begins_with}
 use Rattle.markdown_lines.specs.declared.block_start.Before.TheVariants as paragraph
 use Rattle.markdown_lines.specs.BlockBeginnings as line
@@ -23,8 +24,9 @@ use Rattle.markdown_lines.specs.DefinitionRules.{divided}
 use Rattle.markdown_scan.specs.Entity.{entity_names}
 use Rattle.markdown_lines.specs.HtmlKinds.{ends_at_blank, ends_in}
 use Rattle.markdown_scan.specs.LineStart.{LineLeft, leading_space, past_marker}
-use Rattle.markdown_lines.specs.SourceLines.{SourceLine, cut, is_blank_rest, lines_of_text, past_white, stop_of}
-use Rattle.markdown_lines.specs.SourceLines.{end_of_line, text_line}
+use Rattle.markdown_lines.specs.MetadataBlocks.{closes_metadata}
+use Rattle.markdown_lines.specs.SourceLines.{SourceLine, cut, is_blank_rest, lines_of_text, past_white, rest_inside}
+use Rattle.markdown_lines.specs.SourceLines.{end_of_line, stop_of, text_line}
 
 -- what a block is; a blank line is kept where it is, since it may separate blocks
 pub data Kind : Type 0 where
@@ -37,6 +39,7 @@ pub data Kind : Type 0 where
   -- whether it is closed
   fenced_leaf : OpeningFence → Bool → List SourceLine → Kind
   html_leaf : HtmlKind → Bool → List SourceLine → Kind
+  metadata_leaf : MetadataBlockKind → Bool → List SourceLine → Kind
   quote_container : Kind
   alert_container : BlockQuoteKind → Kind
   list_container : ListMarker → Kind
@@ -95,12 +98,13 @@ new_blocks inside l (line.begins_footnote label rest) =
 new_blocks inside l line.begins_break = new_block (content_of l) l break_leaf nil
 new_blocks inside l (line.begins_item marker indent rest) =
     new_block (content_of l) l (list_container marker) (new_item inside l indent rest)
+new_blocks inside l (line.begins_metadata kind) = new_block (content_of l) l (metadata_leaf kind false []) nil
 new_blocks inside l other = new_block (content_of l) l (paragraph_leaf (text_line l ∷ [])) nil
 
 -- the blocks that begin with the rest of a line: none where it is blank
 abbrev pub inside_of : (SourceLine → Forest Block) → SourceLine → LineLeft → Forest Block
 inside_of begun l rest =
-    if is_blank_rest (record l { left = rest }) then nil else begun (record l { left = rest })
+    if is_blank_rest (rest_inside rest l) then nil else begun (rest_inside rest l)
 
 -- the blocks that begin with a line that is not blank, containers in containers at most `n` deep
 unfoldable pub begun_in : ℕ → Source → SourceLine → Forest Block
@@ -144,6 +148,10 @@ leaf_with s l (fenced_leaf opening closed lines) =
 leaf_with s l (html_leaf kind closed lines) =
     if closed || (is_blank_rest l && ends_at_blank kind) then None
     else Some (html_leaf kind (ends_html kind l) (lines ++ l ∷ []))
+leaf_with s l (metadata_leaf kind closed lines) =
+    if closed then None
+    else if closes_metadata kind l.left.bytes then Some (metadata_leaf kind true lines)
+    else Some (metadata_leaf kind false (lines ++ l ∷ []))
 leaf_with s l other = None
 
 -- the rest of a line after what a container takes of it, where the container goes on in it
@@ -192,8 +200,7 @@ abbrev pub with_rest : Source → SourceLine → Forest Block → (SourceLine �
     → Option (Forest Block)
 with_rest s l below inside None = lazily s l below
 with_rest s l below inside (Some rest) =
-    let rest_of_line = record l { left = rest } in
-    Some (unwrap_or (inside rest_of_line) (followed_by below (line_block s rest_of_line)))
+    Some (unwrap_or (inside (rest_inside rest l)) (followed_by below (line_block s (rest_inside rest l))))
 
 -- another item of a list, where a line begins one of its kind
 abbrev pub another_item : Source → SourceLine → ListMarker → Beginning → Option (Forest Block)

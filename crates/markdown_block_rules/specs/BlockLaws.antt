@@ -12,7 +12,7 @@ use Rattle.markdown_block_rules.specs.BlockGrowth.{followed_by, line_block, para
 use Rattle.markdown_block_rules.specs.BlockGrowth.{past_indentation, past_quote, quote_container, with_lazy, with_line}
 use Rattle.markdown_lines.specs.declared.list_marker.ListMarker.{ListMarker}
 use Rattle.markdown_scan.specs.LineStart.{LineLeft}
-use Rattle.markdown_lines.specs.SourceLines.{SourceLine, is_blank_rest, text_line}
+use Rattle.markdown_lines.specs.SourceLines.{SourceLine, is_blank_rest, rest_inside, text_line}
 
 -- a block with a line more
 abbrev pub to_line : SourceLine → Block → Block
@@ -20,7 +20,7 @@ to_line l b = record b { last = l.next }
 
 -- the rest of a line inside a container
 abbrev pub rest_of : SourceLine → LineLeft → SourceLine
-rest_of l rest = record l { left = rest }
+rest_of l rest = rest_inside rest l
 
 -- one block, with these blocks in it
 abbrev pub lone : Block → Forest Block → Forest Block

@@ -1,16 +1,20 @@
 -- The block structure of a text: the tree of its blocks with their ranges and with the open items of their lines, its
 -- link reference definitions, and its footnotes. All of it is read off the blocks that the lines made.
-use Rattle.std.specs.Prelude.{ℕ, ◌+◌, Bool, true, false, not, ◌||◌, ◌&&◌, ◌==◌, List, [], ◌∷◌, ◌++◌, Option, Some}
-use Rattle.std.specs.Prelude.{None}
-use Rattle.std.specs.Prelude.{slice_range, if◌then◌else◌}
+use Rattle.std.specs.Prelude.{ℕ, ◌+◌, ◌-◌, Bool, true, false, not, ◌||◌, ◌&&◌, ◌==◌, List, [], ◌∷◌, ◌++◌, Option, Some}
+use Rattle.std.specs.Prelude.{None, slice_range, take, if◌then◌else◌}
+use Rattle.std.specs.Option.{option_map}
 use Rattle.markdown_base.specs.Forest.{Forest, nil, node}
+use Rattle.markdown_lines.specs.declared.braces.Braces.{Braces}
 use Rattle.markdown_lines.specs.declared.fence.OpeningFence.{OpeningFence}
 use Rattle.markdown_base.specs.declared.item.ItemBody.{ItemBody}
 use Rattle.markdown_base.specs.declared.item.ItemBody.TheVariants as body
+use Rattle.markdown_base.specs.declared.options.Options.{Options}
+use Rattle.markdown_base.specs.declared.tag.HeadingLevel.{HeadingLevel}
 use Rattle.markdown_lines.specs.BlockBeginnings.{Source}
 use Rattle.markdown_block_rules.specs.BlockGrowth as was
 use Rattle.markdown_block_rules.specs.BlockGrowth.{Block, Kind, blocks_of, followed_by}
 use Rattle.markdown_lines.specs.DefinitionRules.{Definition, divided}
+use Rattle.markdown_lines.specs.HeadingAttributes.{attributes_read, braces_from, braces_in, heading_of_words, words_in}
 use Rattle.markdown_block_rules.specs.LineContents.{Shown, content_items, lines_items, plain_item}
 use Rattle.markdown_block_rules.specs.LineContents.{source_lines}
 use Rattle.markdown_items.specs.LineItems.{item_extensions}
@@ -100,7 +104,7 @@ chain_of (a ∷ items) = node a nil (chain_of items)
 -- a block of a body, and of the text that it refers to
 abbrev pub shown_over : ℕ → ℕ → ItemBody → Option (List ℕ) → Forest Shown → Forest Shown
 shown_over start end b text below =
-    node (record { item = record { start = start; end = end; body = b }; text = text }) below nil
+    node (record { item = record { start = start; end = end; body = b }; text = text; heading = None }) below nil
 
 -- What is around some blocks: whether they are directly in an item of a tight list; and where the first line of the
 -- item ends that they are directly in, or 0.
@@ -120,15 +124,52 @@ items_after_task s l lines (Some done) =
     ∷ lines_items s.text (item_extensions s.options) (without_empty (past_task l ∷ lines))
 
 -- the same; only on the line of an item's marker may there be a task marker
-abbrev pub paragraph_items : Source → (marked : ℕ) → SourceLine → List SourceLine → List Shown
-paragraph_items s marked l lines =
+abbrev pub paragraph_items : Source → (marked : ℕ) → List SourceLine → List Shown
+paragraph_items s marked [] = []
+paragraph_items s marked (l ∷ lines) =
     items_after_task s l lines (if l.next == marked then task_read s.options l.left.bytes else None)
 
--- a paragraph, or the heading that it is, without the definitions at its beginning; nothing where there is nothing else
+-- a paragraph, without the definitions at its beginning; nothing where there is nothing else
 abbrev pub shown_text : Source → (marked : ℕ) → Block → ItemBody → List SourceLine → Forest Shown
 shown_text s marked b leaf [] = nil
 shown_text s marked b leaf (l ∷ lines) =
-    shown_over l.left.scanned b.last leaf None (chain_of (paragraph_items s marked l lines))
+    shown_over l.left.scanned b.last leaf None (chain_of (paragraph_items s marked (l ∷ lines)))
+
+-- a heading of a level from one byte offset up to another, with attributes where there are braces
+abbrev pub shown_heading : Source → ℕ → ℕ → HeadingLevel → Option Braces → Forest Shown → Forest Shown
+shown_heading s start end level None below = shown_over start end (body.Heading level None) None below
+shown_heading s start end level (Some braces) below =
+    node (record {
+      item = record { start = start; end = end; body = body.Heading level (Some (record { 0 = 1 })) };
+      text = None;
+      heading = Some (heading_of_words level (words_in s.text braces));
+    }) below nil
+
+-- the braces at the end of the last line of a setext heading, where attributes are read, by byte offsets
+abbrev pub last_braces : Options → List SourceLine → Option Braces
+last_braces options [] = None
+last_braces options (l ∷ []) =
+    if attributes_read options then option_map (braces_from l.left.scanned) (braces_in l.left.bytes) else None
+last_braces options (l ∷ m ∷ lines) = last_braces options (m ∷ lines)
+
+-- lines, of which the last is cut off at the `{`
+abbrev pub cut_before_braces : Option Braces → SourceLine → SourceLine
+cut_before_braces None l = l
+cut_before_braces (Some braces) l =
+    record l { left = record l.left { bytes = take (braces.opening - l.left.scanned) l.left.bytes } }
+
+abbrev pub before_braces : Option Braces → List SourceLine → List SourceLine
+before_braces braces [] = []
+before_braces braces (l ∷ []) = cut_before_braces braces l ∷ []
+before_braces braces (l ∷ m ∷ lines) = l ∷ before_braces braces (m ∷ lines)
+
+-- a setext heading, without the definitions at its beginning
+abbrev pub shown_setext : Source → (marked : ℕ) → Block → HeadingLevel → List SourceLine → Forest Shown
+shown_setext s marked b level [] = nil
+shown_setext s marked b level (l ∷ lines) =
+    let braces = last_braces s.options (l ∷ lines) in
+    shown_heading s l.left.scanned b.last level braces
+    (chain_of (paragraph_items s marked (before_braces braces (l ∷ lines))))
 
 abbrev pub paragraph_body : Bool → ItemBody
 paragraph_body tight = if tight then body.TightParagraph else body.Paragraph
@@ -145,9 +186,9 @@ shown_block s around b end below inside was.blank_line = nil
 shown_block s around b end below inside (was.paragraph_leaf lines) =
     shown_text s around.marked b (paragraph_body around.tight) (divided (entity_names s.options) s.text lines).lines
 shown_block s around b end below inside (was.underlined_leaf level lines) =
-    shown_text s around.marked b (body.Heading level None) (divided (entity_names s.options) s.text lines).lines
+    shown_setext s around.marked b level (divided (entity_names s.options) s.text lines).lines
 shown_block s around b end below inside (was.heading_leaf found) =
-    shown_over b.start end (body.Heading found.level None) None
+    shown_heading s b.start end found.level found.braces
     (chain_of (content_items s.text (item_extensions s.options) found.from found.to))
 shown_block s around b end below inside was.break_leaf = shown_over b.start end body.Rule None nil
 shown_block s around b end below inside (was.indented_leaf lines) =
@@ -157,6 +198,8 @@ shown_block s around b end below inside (was.fenced_leaf opening closed lines) =
     (chain_of (source_lines (body.Text false) lines))
 shown_block s around b end below inside (was.html_leaf kind closed lines) =
     shown_over b.start end body.HtmlBlock None (chain_of (source_lines body.Html lines))
+shown_block s around b end below inside (was.metadata_leaf kind closed lines) =
+    shown_over b.start end (body.MetadataBlock kind) None (chain_of (source_lines (body.Text false) lines))
 shown_block s around b end below inside was.quote_container =
     shown_over b.start end (body.BlockQuote None) None (inside in_no_item)
 shown_block s around b end below inside (was.alert_container kind) =

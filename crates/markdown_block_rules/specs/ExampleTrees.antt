@@ -1,5 +1,5 @@
 -- Examples: a text, the tree of its blocks, and its link reference definitions.
-use Rattle.std.specs.Prelude.{◌≡◌, ℕ, ◌+◌, List, [], ◌∷◌, ◌++◌, Option, Some, map}
+use Rattle.std.specs.Prelude.{◌≡◌, ℕ, ◌+◌, List, [], ◌∷◌, ◌++◌, Option, Some, None, map}
 use Rattle.markdown_base.specs.EnabledOptions.{no_options}
 use Rattle.markdown_base.specs.Forest.{Forest, nil, node}
 use Rattle.markdown_base.specs.declared.index.CowIndex.{CowIndex}
@@ -30,6 +30,7 @@ naming_at depth start end body text = (
   record {
     item = record { start = start; end = end; body = body (record { 0 = 0 }) };
     text = Some text;
+    heading = None;
   },
 )
 

@@ -3,8 +3,10 @@ use Rattle.std.specs.Prelude.{◌≡◌, Bool, true, false, ◌&&◌, ◌==◌, 
 use Rattle.markdown_base.specs.Forest.{nil, node}
 use Rattle.markdown_lines.specs.declared.fence.OpeningFence.{OpeningFence}
 use Rattle.markdown_lines.specs.declared.html_kind.HtmlKind.{HtmlKind}
+use Rattle.markdown_base.specs.declared.tag.MetadataBlockKind.{MetadataBlockKind}
 use Rattle.markdown_lines.specs.BlockBeginnings.{Source}
 use Rattle.markdown_lines.specs.HtmlKinds.{ends_at_blank}
+use Rattle.markdown_lines.specs.MetadataBlocks.{closes_metadata}
 use Rattle.markdown_lines.specs.SourceLines.{SourceLine, cut, is_blank_rest}
 use Rattle.markdown_scan.specs.LineStart.{leading_space}
 use Rattle.markdown_block_rules.specs.BlockGrowth as was
@@ -29,6 +31,7 @@ ends_with_its_line was.break_leaf = true
 ends_with_its_line (was.indented_leaf lines) = false
 ends_with_its_line (was.fenced_leaf opening closed lines) = false
 ends_with_its_line (was.html_leaf kind closed lines) = false
+ends_with_its_line (was.metadata_leaf kind closed lines) = false
 ends_with_its_line was.quote_container = false
 ends_with_its_line (was.alert_container kind) = false
 ends_with_its_line (was.list_container marker) = false
@@ -80,6 +83,24 @@ abbrev pub BlankLineEndsHtml : Type 0
 BlankLineEndsHtml =
     (s : Source) (b : Block) (l : SourceLine) (html : HtmlKind) (lines : List SourceLine)
     → b.kind ≡ was.html_leaf html false lines → (is_blank_rest l && ends_at_blank html) ≡ true → EndsBefore s b l
+
+-- metadata goes on in all lines, whatever they contain, up to one that closes it, and ends with that
+abbrev pub MetadataGoesOn : Type 0
+MetadataGoesOn =
+    (s : Source) (b : Block) (l : SourceLine) (kind : MetadataBlockKind) (lines : List SourceLine)
+    → b.kind ≡ was.metadata_leaf kind false lines → closes_metadata kind l.left.bytes ≡ false
+    → GoesOnIn s b l (was.metadata_leaf kind false (lines ++ l ∷ []))
+
+abbrev pub ClosingLineClosesMetadata : Type 0
+ClosingLineClosesMetadata =
+    (s : Source) (b : Block) (l : SourceLine) (kind : MetadataBlockKind) (lines : List SourceLine)
+    → b.kind ≡ was.metadata_leaf kind false lines → closes_metadata kind l.left.bytes ≡ true
+    → GoesOnIn s b l (was.metadata_leaf kind true lines)
+
+abbrev pub ClosedMetadataEnds : Type 0
+ClosedMetadataEnds =
+    (s : Source) (b : Block) (l : SourceLine) (kind : MetadataBlockKind) (lines : List SourceLine)
+    → b.kind ≡ was.metadata_leaf kind true lines → EndsBefore s b l
 
 -- 4.8: a paragraph ends before a blank line
 abbrev pub BlankLineEndsParagraph : Type 0

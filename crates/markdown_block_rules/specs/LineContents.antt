@@ -3,6 +3,7 @@ use Rattle.std.specs.Prelude.{ℕ, zero, suc, ◌+◌, ◌-◌, true, false, not
 use Rattle.std.specs.Prelude.{◌++◌, Option, Some, None, length, slice_index, replicate, encode_utf8}
 use Rattle.std.specs.Prelude.{if◌then◌else◌}
 use Rattle.markdown_base.specs.Bytes.{backslash, space}
+use Rattle.markdown_base.specs.Event.{HeadingView}
 use Rattle.markdown_items.specs.declared.extensions.Extensions.{Extensions}
 use Rattle.markdown_items.specs.declared.flanking.Flags.{Flags}
 use Rattle.markdown_items.specs.declared.found.Line.{Line}
@@ -20,20 +21,24 @@ use Rattle.markdown_lines.specs.LineBytes.{without_end}
 use Rattle.markdown_lines.specs.Lines.{is_space_or_tab}
 use Rattle.markdown_lines.specs.SourceLines.{SourceLine}
 
--- an item, and the text that its body refers to, if it refers to one: its number is 0 here
+-- an item, and the text that its body refers to, if it refers to one: its number is 0 here; or the heading that it is
+-- with the attributes that its body refers to, whose number is 1
 pub record Shown : Type 0 where
   pub item : Item
   pub text : Option (List ℕ)
+  pub heading : Option HeadingView
 
 -- an item that refers to no text
 abbrev pub plain_item : ℕ → ℕ → ItemBody → Shown
-plain_item start end b = record { item = record { start = start; end = end; body = b }; text = None }
+plain_item start end b =
+    record { item = record { start = start; end = end; body = b }; text = None; heading = None }
 
 -- a text in place of the bytes of a range
 abbrev pub synthesized_item : ℕ → ℕ → List ℕ → Shown
 synthesized_item start end text = record {
   item = record { start = start; end = end; body = body.SynthesizeText (record { 0 = 0 }) };
   text = Some text;
+  heading = None;
 }
 
 -- the text from one byte offset up to another, if there is any

@@ -12,7 +12,7 @@ is_in_line b = not (is_line_ending b)
 -- a line with this content, after which the next line begins at a byte offset
 abbrev pub content_line : ℕ → List ℕ → ℕ → SourceLine
 content_line at content next =
-    record { left = record { scanned = at; owed = 0; column = 0; bytes = content }; next = next }
+    record { left = record { scanned = at; owed = 0; column = 0; bytes = content }; next = next; outermost = true }
 
 -- 2.1. Bytes that are no line endings, and a line ending, are a line with these bytes, be it a line feed, a carriage
 -- return that no line feed follows, or both.

@@ -8,6 +8,7 @@ ghost use Rattle.markdown_block_rules.specs.BlockLaws.{QuotedLinesMakeQuote};
 ghost use Rattle.markdown_block_rules.specs.LeafLaws.{HeadingsAndBreaksEnd, IndentedCodeEndsBeforeText, FencedCodeGoesOn};
 ghost use Rattle.markdown_block_rules.specs.LeafLaws.{ClosedCodeEnds, ClosingFenceClosesCode, HtmlGoesOn, EndConditionEndsHtml};
 ghost use Rattle.markdown_block_rules.specs.LeafLaws.{BlankLineEndsHtml, BlankLineEndsParagraph};
+ghost use Rattle.markdown_block_rules.specs.LeafLaws.{MetadataGoesOn, ClosingLineClosesMetadata, ClosedMetadataEnds};
 ghost use Rattle.markdown_block_rules.specs.LineLaws.{LineIsItsContent};
 ghost use Rattle.markdown_block_rules.specs.ListLaws.{ListIsLooseAsSaid};
 
@@ -113,6 +114,21 @@ pub fn an_end_condition_ends_html()
 /// States that a blank line ends an HTML block of a kind that ends there (4.6).
 pub fn a_blank_line_ends_html()
     ensures { BlankLineEndsHtml }
+{}
+
+/// States that metadata goes on in each line that does not close it.
+pub fn metadata_goes_on_to_its_closing_line()
+    ensures { MetadataGoesOn }
+{}
+
+/// States that a closing line closes metadata.
+pub fn a_closing_line_closes_metadata()
+    ensures { ClosingLineClosesMetadata }
+{}
+
+/// States that closed metadata ends before the next line.
+pub fn closed_metadata_ends_before_a_line()
+    ensures { ClosedMetadataEnds }
 {}
 
 /// States that a blank line ends a paragraph (4.8).

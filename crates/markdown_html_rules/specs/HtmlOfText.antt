@@ -9,7 +9,8 @@ use Rattle.markdown_base.specs.declared.cow_str.CowStr.TheVariants.{Borrowed}
 use Rattle.markdown_block_rules.specs.BlockRules.{block_definitions, block_footnotes, block_tree}
 use Rattle.markdown_defs.specs.Definitions.{Labelled, firsts}
 use Rattle.markdown_defs.specs.Folding.{is_match}
-use Rattle.markdown_document.specs.Document.{Plain, tree_node_of, no_notes}
+use Rattle.markdown_base.specs.Event.{HeadingView, heading}
+use Rattle.markdown_document.specs.Document.{Plain, enclosed, shaped, tree_node_of, no_notes}
 use Rattle.markdown_document.specs.EnclosingBlocks.{no_blocks}
 use Rattle.markdown_document.specs.Setting.{ReferenceState, Rules, setting_of}
 use Rattle.markdown_document.specs.Tables.{Tables, no_tables}
@@ -28,9 +29,15 @@ abbrev pub tables_for : Option (List ℕ) → Tables
 tables_for None = no_tables
 tables_for (Some text) = record no_tables { cows = cow_of text ∷ [] }
 
+-- a node, or that of a heading with attributes
+abbrev pub node_with_heading : Option HeadingView → Plain → Plain
+node_with_heading None node = node
+node_with_heading (Some view) node = shaped (enclosed (heading view) []) node
+
 -- the tree of a document
 abbrev pub document_of : Source → Forest Plain
-document_of s = relabelled (λ a. tree_node_of s.text (tables_for a.text) a.item) (block_tree s)
+document_of s =
+    relabelled (λ a. node_with_heading a.heading (tree_node_of s.text (tables_for a.text) a.item)) (block_tree s)
 
 -- a definition with its label
 abbrev pub labelled : Definition → Labelled

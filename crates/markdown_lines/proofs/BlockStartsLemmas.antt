@@ -4,7 +4,7 @@ use Rattle.std.proofs.Common.{Some, None}
 use Rattle.std.proofs.Common.{length, take, drop, get_or, refl, sym, ◌∙◌, ap, subst, arith, ◌||◌, ◌==◌, codes}
 use Rattle.std.proofs.lemmas.Bool.{cases_Bool}
 use Rattle.std.proofs.lemmas.Bool.Decides.{nat_tests}
-use Rattle.std.specs.Prelude.{◌++◌, slice_index, slice_range, if◌then◌else◌}
+use Rattle.std.specs.Prelude.{◌++◌, slice_index, slice_range, unwrap_or, if◌then◌else◌}
 use Rattle.std.specs.Char.{is_ascii_digit}
 use Rattle.std.specs.List.{prefix_len, list_all}
 use Rattle.std.specs.Option.{option_map}
@@ -24,7 +24,8 @@ use Rattle.markdown_lines.specs.BlockBeginnings.{Source, Beginning, begins, begi
 use Rattle.markdown_lines.specs.BlockBeginnings.{is_reached}
 use Rattle.markdown_lines.specs.BlockBeginnings.{quote_in_line, heading_in_line, fence_in_line, html_in_line}
 use Rattle.markdown_lines.specs.BlockBeginnings.{footnote_in_line, underline_in_line, break_in_line, item_in_line}
-use Rattle.markdown_lines.specs.BlockBeginnings.{footnote_marker, item_space, past_bytes}
+use Rattle.markdown_lines.specs.BlockBeginnings.{footnote_marker, item_space, metadata_in_line, past_bytes}
+use Rattle.markdown_lines.specs.BlockBeginnings.{whole_heading}
 use Rattle.markdown_lines.specs.BlockStarts.{begins_unless_blank}
 use Rattle.markdown_lines.specs.CodeFences.{opening_fence_at}
 use Rattle.markdown_lines.specs.LineBytes.{is_parted}
@@ -230,7 +231,7 @@ module _ (s : Source) (before : Before) (columns : ℕ) (here : LineLeft)
     (own : slice_range s.text here.scanned (here.scanned + length here.bytes) ≡ here.bytes) where
   no_heading : (slice_index here.bytes 0 == 35) ≡ false → heading_in_line s here ≡ None
   no_heading other =
-      ap (λ (found : Option AtxHeading). option_map line.begins_heading found)
+      ap (λ (found : Option AtxHeading). option_map (λ h. line.begins_heading (whole_heading s.options here h)) found)
       (no_heading_at s.text here.scanned (here.scanned + length here.bytes)
       (ap (λ (bytes : List ℕ). slice_index bytes 0 == 35) own ∙ other))
 
@@ -395,9 +396,11 @@ module _ (s : Source) (before : Before) (columns : ℕ) (here : LineLeft)
 -- what was found at a byte offset was found in the line
 pub heading_read : (s : Source) (position : Position) (stop : ℕ) (found : Option AtxHeading)
     → found ≡ atx_heading_at s.text position.at stop
-    → option_map line.begins_heading found ≡ heading_in_line s (left_from s.text position stop)
+    → option_map (λ h. line.begins_heading (whole_heading s.options (left_from s.text position stop) h)) found
+    ≡ heading_in_line s (left_from s.text position stop)
 heading_read s position stop found is =
-    ap (λ (found : Option AtxHeading). option_map line.begins_heading found)
+    ap (λ (found : Option AtxHeading).
+    option_map (λ h. line.begins_heading (whole_heading s.options (left_from s.text position stop) h)) found)
     (is ∙ sym (again s.text position.at stop))
   where
     again : (text : List ℕ) (at stop : ℕ)
@@ -460,18 +463,19 @@ cut_before text at stop byte is ascii =
     not_empty [] none = absurd (omega (arith, none))
     not_empty (b ∷ bytes) some = omega arith
 
--- what begins after fewer than four columns of space
+-- what begins after fewer than four columns of space: metadata, or what the first byte begins
 pub begins_few : (s : Source) (before : Before) (l : SourceLine) (columns : ℕ) (after : LineLeft)
     → columns ≡ (leading_space 4 l.left).columns → after ≡ (leading_space 4 l.left).after → columns < 4
-    → begins_after s before columns after ≡ begins s before l
+    → unwrap_or (metadata_in_line s before l) (begins_after s before columns after) ≡ begins s before l
 begins_few s before l columns after same_columns same_after few =
     let space = leading_space 4 l.left in
     let test : (space.columns == 4) ≡ false = grind (arith, nat_tests) in
-    ap (λ n. begins_after s before n after) same_columns
-    ∙ (ap (λ (left : LineLeft). begins_after s before space.columns left) same_after
+    let found = metadata_in_line s before l in
+    ap (λ n. unwrap_or found (begins_after s before n after)) same_columns
+    ∙ (ap (λ (left : LineLeft). unwrap_or found (begins_after s before space.columns left)) same_after
     ∙ otherwise (space.columns == 4) (if is_paragraph before then line.begins_text else line.begins_indented
     space.after)
-    (begins_after s before space.columns space.after) test)
+    (unwrap_or found (begins_after s before space.columns space.after)) test)
   where
     otherwise : (test : Bool) (x y : Beginning) → test ≡ false → y ≡ (if test then x else y)
     otherwise test x y fails = rw fails refl

@@ -2,9 +2,11 @@ pub mod LinesLemmas
 pub mod LineBytesLemmas
 pub mod PositionsLemmas
 pub mod AtxHeadingsLemmas
+pub mod HeadingAttributesLemmas
 pub mod CodeFencesLemmas
 pub mod ListMarkersLemmas
 pub mod ThematicBreaksLemmas
 pub mod HtmlKindsLemmas
 pub mod BlockStartsLemmas
 pub mod UnbrokenLinesLemmas
+pub mod LinesAheadLemmas

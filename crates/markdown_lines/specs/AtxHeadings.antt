@@ -22,10 +22,15 @@ heading_content bytes =
     let before = without_end is_space_or_tab unclosed in
     if nat_lt (length before) (length unclosed) || (length unclosed == 0) then before else trimmed
 
--- the heading of a level, where there is a level, whose content begins at byte offset `from`
+-- the heading of a level, where there is a level, whose content begins at byte offset `from`; without attributes
 abbrev pub heading_from : Option HeadingLevel → ℕ → List ℕ → Option AtxHeading
 heading_from None from content = None
-heading_from (Some l) from content = Some (record { level = l; from = from; to = from + length content })
+heading_from (Some l) from content = Some (record {
+  level = l;
+  from = from;
+  to = from + length content;
+  braces = None;
+})
 
 -- the heading that begins at byte offset `at` in a line whose content ends before `stop`: one to six `#`, and white
 -- space or nothing after them

@@ -1,8 +1,8 @@
 -- What a line begins (CommonMark, chapter 4, 5.1 and 5.2), from the bytes that are left of it inside the containers
 -- that go on in it, and from whether a paragraph is open that it may go on with.
-use Rattle.std.specs.Prelude.{ℕ, ◌+◌, ◌%◌, Bool, true, false, not, ◌==◌, ◌&&◌, ◌||◌, nat_lt, List, [], ◌∷◌, Option}
-use Rattle.std.specs.Prelude.{Some, None, length, drop, slice_index, codes, if◌then◌else◌}
-use Rattle.std.specs.Option.{option_map}
+use Rattle.std.specs.Prelude.{ℕ, ◌+◌, ◌-◌, ◌%◌, Bool, true, false, not, ◌==◌, ◌&&◌, ◌||◌, nat_lt, List, [], ◌∷◌, Option}
+use Rattle.std.specs.Prelude.{Some, None, length, drop, slice_index, unwrap_or, codes, if◌then◌else◌}
+use Rattle.std.specs.Option.{option_and_then, option_map}
 use Rattle.markdown_base.specs.Bytes.{backtick, colon, tilde}
 use Rattle.markdown_base.specs.EnabledOptions.{footnotes_on}
 use Rattle.markdown_lines.specs.declared.atx_heading.AtxHeading.{AtxHeading}
@@ -14,14 +14,18 @@ use Rattle.markdown_lines.specs.declared.list_marker.ListMarker.{ListMarker}
 use Rattle.markdown_base.specs.declared.options.Options.{Options}
 use Rattle.markdown_base.specs.declared.tag.BlockQuoteKind.{BlockQuoteKind}
 use Rattle.markdown_base.specs.declared.tag.HeadingLevel.{HeadingLevel}
+use Rattle.markdown_base.specs.declared.tag.MetadataBlockKind.{MetadataBlockKind}
+use Rattle.markdown_base.specs.declared.tag.MetadataBlockKind.TheVariants as metadata
 use Rattle.markdown_lines.specs.Alerts.{alert_read}
 use Rattle.markdown_lines.specs.AtxHeadings.{atx_heading_at}
 use Rattle.markdown_scan.specs.Beginnings.{begins_with}
 use Rattle.markdown_lines.specs.CodeFences.{opening_fence_at}
+use Rattle.markdown_lines.specs.HeadingAttributes.{attributed, attributes_read}
 use Rattle.markdown_lines.specs.HtmlBeginnings.{html_kind_of, in_one_line}
 use Rattle.markdown_scan.specs.Label.{link_label}
 use Rattle.markdown_scan.specs.LineStart.{LineLeft, Space, leading_space, past_marker}
 use Rattle.markdown_lines.specs.ListMarkers.{list_marker_at}
+use Rattle.markdown_lines.specs.MetadataBlocks.{metadata_opened}
 use Rattle.markdown_lines.specs.SourceLines.{SourceLine}
 use Rattle.markdown_lines.specs.ThematicBreaks.{is_thematic_break, setext_level}
 
@@ -57,6 +61,7 @@ pub data Beginning : Type 0 where
   begins_underline : HeadingLevel → Beginning
   begins_break : Beginning
   begins_item : ListMarker → ℕ → LineLeft → Beginning
+  begins_metadata : MetadataBlockKind → Beginning
 
 -- after `count` bytes of one column each
 abbrev pub past_bytes : ℕ → LineLeft → LineLeft
@@ -81,9 +86,14 @@ abbrev pub quote_in_line : Source → LineLeft → Option Beginning
 quote_in_line s here =
     if begins_with (codes ">") here.bytes then Some (quote_of s.options (past_marker here)) else None
 
+-- an ATX heading with what is read of attributes at the end of its line
+abbrev pub whole_heading : Options → LineLeft → AtxHeading → AtxHeading
+whole_heading options here heading =
+    if attributes_read options then attributed (drop (heading.from - here.scanned) here.bytes) heading else heading
+
 -- 4.2: one to six `#`
 abbrev pub heading_in_line : Source → LineLeft → Option Beginning
-heading_in_line s here = option_map begins_heading
+heading_in_line s here = option_map (λ heading. begins_heading (whole_heading s.options here heading))
     (atx_heading_at s.text here.scanned (here.scanned + length here.bytes))
 
 -- 4.5: three or more backticks or tildes
@@ -147,6 +157,20 @@ item_in_line s before columns here =
     option_map (item_of columns here)
     (list_marker_at s.text here.scanned (here.scanned + length here.bytes) (is_reached before))
 
+-- metadata that a line opens begins where the line does not reach a paragraph; that of pluses, where it is no text of
+-- one either
+abbrev pub metadata_begun : Before → MetadataBlockKind → Option Beginning
+metadata_begun before metadata.YamlStyle =
+    if is_reached before then None else Some (begins_metadata metadata.YamlStyle)
+metadata_begun before metadata.PlusesStyle =
+    if is_paragraph before then None else Some (begins_metadata metadata.PlusesStyle)
+
+-- metadata, directly under the root
+abbrev pub metadata_in_line : Source → Before → SourceLine → Option Beginning
+metadata_in_line s before l =
+    if l.outermost
+    then option_and_then (metadata_begun before) (metadata_opened s.options s.text l.left.bytes l.next) else None
+
 -- the first that is there, and otherwise text
 abbrev pub first_found : List (Option Beginning) → Beginning
 first_found [] = begins_text
@@ -165,4 +189,4 @@ abbrev pub begins : Source → Before → SourceLine → Beginning
 begins s before l =
     let space = leading_space 4 l.left in
     if space.columns == 4 then (if is_paragraph before then begins_text else begins_indented space.after)
-    else begins_after s before space.columns space.after
+    else unwrap_or (metadata_in_line s before l) (begins_after s before space.columns space.after)

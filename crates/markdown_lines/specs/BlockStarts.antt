@@ -1,6 +1,6 @@
 -- What a reader of lines finds: what the rest of a line begins, as it is defined, with places in the text for what is
 -- left of the line.
-use Rattle.std.specs.Prelude.{◌≡◌, List, Option, Some, None, if◌then◌else◌}
+use Rattle.std.specs.Prelude.{◌≡◌, ◌==◌, ◌&&◌, List, Option, Some, None, if◌then◌else◌}
 use Rattle.markdown_base.specs.CowText.{text_of}
 use Rattle.markdown_lines.specs.declared.block_start.Before.{Before}
 use Rattle.markdown_lines.specs.declared.block_start.BlockStart.{BlockStart}
@@ -37,10 +37,15 @@ beginning_found reader (start.Underline level) = Some (line.begins_underline lev
 beginning_found reader start.ThematicBreak = Some line.begins_break
 beginning_found reader (start.Item item) =
     Some (line.begins_item item.marker item.indent (left_at reader item.inside))
+beginning_found reader (start.Metadata kind) = Some (line.begins_metadata kind)
 
--- that as a line; where the next line begins does not matter
+-- that as a line
 abbrev pub line_at : LineReader → Position → SourceLine
-line_at reader position = record { left = left_at reader position; next = reader.stop }
+line_at reader position = record {
+  left = left_at reader position;
+  next = reader.next;
+  outermost = reader.outermost && (position.at == reader.start);
+}
 
 -- what a line begins, and nothing where it is blank
 abbrev pub begins_unless_blank : Source → Before → SourceLine → Option Beginning
@@ -54,4 +59,7 @@ IsFirstOf reader beginnings found = beginning_found reader found ≡ Some (first
 pub record IsSameLine (old new : LineReader) : Type 0 where
   pub text : new.text.now ≡ old.text.now
   pub options : new.options ≡ old.options
+  pub start : new.start ≡ old.start
   pub stop : new.stop ≡ old.stop
+  pub next : new.next ≡ old.next
+  pub outermost : new.outermost ≡ old.outermost

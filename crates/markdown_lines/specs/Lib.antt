@@ -12,8 +12,10 @@ pub mod ListMarkers
 pub mod ThematicBreaks
 -- which extensions are read
 pub mod ExtendedOnly
--- what they read in a line
+-- what only they read
 pub mod Alerts
+pub mod HeadingAttributes
+pub mod MetadataBlocks
 pub mod TaskMarkers
 -- what lines are and begin, and link reference definitions: the definition of a text's blocks rests on them
 pub mod SourceLines
@@ -21,4 +23,5 @@ pub mod BlockBeginnings
 pub mod DefinitionRules
 -- what a reader of lines finds
 pub mod UnbrokenLines
+pub mod UnclosedMetadata
 pub mod BlockStarts

@@ -1,14 +1,16 @@
 -- The lines of a text (CommonMark 2.1), and what is left of a line inside some containers.
-use Rattle.std.specs.Prelude.{ℕ, zero, suc, ◌+◌, ◌-◌, Bool, not, ◌==◌, List, [], ◌∷◌, length, take, drop}
+use Rattle.std.specs.Prelude.{ℕ, zero, suc, ◌+◌, ◌-◌, Bool, true, false, not, ◌==◌, List, [], ◌∷◌, length, take, drop}
 use Rattle.std.specs.Prelude.{if◌then◌else◌}
 use Rattle.std.specs.List.{list_all, prefix_len}
 use Rattle.markdown_scan.specs.LineStart.{LineLeft, leading_space}
 use Rattle.markdown_lines.specs.Lines.{ending_length, is_line_ending, is_space_or_tab}
 
--- what is left of a line, and the byte offset at which the next line begins
+-- what is left of a line, the byte offset at which the next line begins, and whether the line is directly under the
+-- root: in no container but a list
 pub record SourceLine : Type 0 where
   pub left : LineLeft
   pub next : ℕ
+  pub outermost : Bool
 
 -- the byte offset at which a line's content ends
 abbrev pub stop_of : SourceLine → ℕ
@@ -21,6 +23,7 @@ first_line at bytes =
     record {
       left = record { scanned = at; owed = 0; column = 0; bytes = take content bytes };
       next = at + content + ending_length (drop content bytes);
+      outermost = true;
     }
 
 -- at most `n` lines from a byte offset on
@@ -42,19 +45,23 @@ is_blank_rest l = list_all is_space_or_tab l.left.bytes
 abbrev pub cut : ℕ → SourceLine → SourceLine
 cut columns l = record l { left = (leading_space columns l.left).after }
 
+-- the rest of a line inside a container
+abbrev pub rest_inside : LineLeft → SourceLine → SourceLine
+rest_inside rest l = record l { left = rest; outermost = false }
+
 -- what is left of a line after all white space
 abbrev pub past_white : LineLeft → LineLeft
 past_white left =
     let white = prefix_len is_space_or_tab left.bytes in
     record { scanned = left.scanned + white; owed = 0; column = 0; bytes = drop white left.bytes }
 
--- a line of a paragraph, from its first byte that is not white space on
+-- a line of a paragraph, from its first byte that is not white space on, wherever the paragraph is
 abbrev pub text_line : SourceLine → SourceLine
-text_line l = record l { left = past_white l.left }
+text_line l = rest_inside (past_white l.left) l
 
--- the end of a line, of which nothing is left
+-- the end of a line, of which nothing is left, wherever the paragraph is
 abbrev pub end_of_line : SourceLine → SourceLine
-end_of_line l = record l { left = record { scanned = stop_of l; owed = 0; column = 0; bytes = [] } }
+end_of_line l = rest_inside (record { scanned = stop_of l; owed = 0; column = 0; bytes = [] }) l
 
 -- lines without a first one of which nothing is left
 abbrev pub without_empty : List SourceLine → List SourceLine

@@ -1,21 +1,24 @@
 //! ATX headings (CommonMark 4.2).
-ghost use Rattle.std.specs.Prelude.{◌≡◌, ◌≤◌, ◌-◌, length};
+ghost use Rattle.std.specs.Prelude.{◌≡◌, ◌≤◌, ◌-◌, length, IfSome};
 ghost use Rattle.std.specs.List.{suffix_len};
 ghost use Rattle.markdown_base.specs.HeadingLevels.{level_of};
 ghost use Rattle.markdown_lines.specs.AtxHeadings.{is_hash, heading_content, atx_heading_at};
 ghost use Rattle.markdown_lines.specs.Lines.{is_space_or_tab};
 
+use crate::braces::Braces;
 use crate::bytes::{bytes_of, is_parted, run_length, white_length};
 use crate::line::is_space_or_tab;
 use markdown_base::tag::HeadingLevel;
 use std::convert::TryFrom;
 
-/// An ATX heading: its level, and its content, from byte offset `from` up to `to`.
+/// An ATX heading: its level, its content, from byte offset `from` up to `to`, and the braces around its attributes, by
+/// byte offsets.
 #[derive(Clone, Copy, Drop)]
 pub struct AtxHeading {
     pub level: HeadingLevel,
     pub from: usize,
     pub to: usize,
+    pub braces: Option<Braces>,
 }
 
 /// Returns the level of an opening sequence of `count` characters, or `None` where there are none or more than six.
@@ -51,7 +54,7 @@ fn unclosed_length(content: &[u8]) -> usize
 
 /// Returns the length of a heading's content without the white space at its end, and without a closing sequence: a run
 /// of `#` after white space or at the beginning.
-fn content_length(content: &[u8]) -> usize
+pub fn content_length(content: &[u8]) -> usize
     ensures value { result ≡ length (heading_content content.now) }
     ensures within { result ≤ length content.now }
 {
@@ -65,9 +68,11 @@ fn content_length(content: &[u8]) -> usize
     }
 }
 
-/// Returns the ATX heading whose first `#` is at byte offset `at`, in a line whose content ends before `stop`.
+/// Returns the ATX heading whose first `#` is at byte offset `at`, in a line whose content ends before `stop`. Braces
+/// are not looked for.
 pub fn atx_heading(text: &str, at: usize, stop: usize) -> Option<AtxHeading>
-    ensures { result ≡ atx_heading_at text.now at stop }
+    ensures value { result ≡ atx_heading_at text.now at stop }
+    ensures after { IfSome result (λ heading. at ≤ heading.from) }
 {
     let line = bytes_of(text, at, stop);
     let count = run_length(line, b'#');
@@ -82,5 +87,6 @@ pub fn atx_heading(text: &str, at: usize, stop: usize) -> Option<AtxHeading>
         level,
         from,
         to: from.saturating_add(content_length(&rest[white..])),
+        braces: None,
     })
 }

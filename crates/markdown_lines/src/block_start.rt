@@ -6,7 +6,7 @@ use crate::html_kind::HtmlKind;
 use crate::list_marker::ListMarker;
 use crate::position::Position;
 use markdown_base::cow_str::CowStr;
-use markdown_base::tag::{BlockQuoteKind, HeadingLevel};
+use markdown_base::tag::{BlockQuoteKind, HeadingLevel, MetadataBlockKind};
 
 /// The paragraph that a line may go on with.
 #[derive(Clone, Copy, Drop)]
@@ -54,6 +54,8 @@ pub enum BlockStart<'a> {
     ThematicBreak,
     /// a list item
     Item(ItemStart),
+    /// metadata of a kind, with the line that opens it
+    Metadata(MetadataBlockKind),
 }
 
 /// What the rest of a line begins, and the byte offset of the first byte of it that is neither a space nor a tab, or of

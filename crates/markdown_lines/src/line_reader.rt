@@ -1,43 +1,60 @@
 //! What a line begins, decided apart from making it.
-ghost use Rattle.std.specs.Prelude.{◌≡◌, ◌≤◌, ◌==◌, ◌||◌, IfOk, IfSome, length};
+ghost use Rattle.std.specs.Prelude.{◌≡◌, ◌≤◌, ◌==◌, ◌||◌, true, Some, None, IfOk, IfSome, length, slice_range};
+ghost use Rattle.std.specs.Prelude.{if◌then◌else◌};
 ghost use Rattle.std.specs.Option.{option_map};
 ghost use Rattle.std.specs.Str.{IsCharBoundary};
 ghost use Rattle.markdown_base.specs.Bytes.{backtick, equals_sign, tilde};
 ghost use Rattle.markdown_base.specs.CowText.{text_of};
-ghost use Rattle.markdown_lines.specs.BlockBeginnings.{footnote_marker, is_paragraph, is_reached};
+ghost use Rattle.markdown_lines.specs.BlockBeginnings.{begins_metadata, footnote_marker, is_paragraph, is_reached};
+ghost use Rattle.markdown_lines.specs.BlockBeginnings.{metadata_begun};
 ghost use Rattle.markdown_lines.specs.ListMarkers.{is_bullet};
+ghost use Rattle.markdown_lines.specs.MetadataBlocks.{metadata_opened};
 ghost use Rattle.markdown_lines.specs.ThematicBreaks.{is_break_mark};
 ghost use Rattle.markdown_lines.specs.UnbrokenLines.{IsUnbroken};
 
 use crate::alert::alert_read;
-use crate::atx_heading::atx_heading;
+use crate::atx_heading::{AtxHeading, atx_heading};
 use crate::block_start::{Before, Begun, BlockStart, ItemStart};
 use crate::bytes::{byte_or_zero, bytes_of, part_of, white_length};
 use crate::fence::opening_fence;
+use crate::heading_attributes::{attributed, attributes_read};
 use crate::html_kind::html_kind;
+use crate::line::Line;
+use crate::lines_ahead::LinesAhead;
 use crate::list_marker::list_marker;
 use crate::position::Position;
 use crate::space::{Space, read_space};
 use crate::thematic_break::{setext_underline, thematic_break};
 use markdown_base::cow_str::CowStr;
 use markdown_base::options::Options;
+use markdown_base::tag::MetadataBlockKind;
 use markdown_scan::label::scan_link_label;
 use markdown_scan::line_rule::OneLine;
 use std::alloc::{AllocError, Global};
 
-/// A line that is read for what it begins, and again inside each container that it begins. Its content ends before the
-/// byte offset `stop`. The reader remembers where no thematic break begins, so that a line of many list markers takes
+/// A line that is read for what it begins, and again inside each container that it begins. Its content is from byte
+/// offset `start` up to `stop`. The reader remembers where no thematic break begins, so that a line of many list markers takes
 /// linear time; no result depends on that.
 #[derive(Clone, Copy, Drop)]
 pub struct LineReader<'a> {
     pub alloc: Global,
     pub text: &'a str,
     pub options: Options,
+    /// the byte offset at which the line begins
+    pub start: usize,
     pub stop: usize,
+    /// the byte offset at which the next line begins
+    pub next: usize,
+    /// whether the line is directly under the root: in no open container but a list
+    pub outermost: bool,
+    /// the metadata that the line opens there
+    opening: Option<MetadataBlockKind>,
     unbroken_from: usize,
     unbroken_to: usize,
     ghost boundary: { IsCharBoundary text.now stop },
     ghost unbroken: { IsUnbroken text.now stop unbroken_from unbroken_to },
+    ghost opens: { outermost ≡ true
+        → opening ≡ metadata_opened options text.now (slice_range text.now start stop) next },
 }
 
 /// Returns whether a line may go on with a paragraph.
@@ -57,6 +74,17 @@ fn is_reached(before: Before) -> bool
     match before {
         Before::Reached => true,
         Before::NoParagraph | Before::Lazy => false,
+    }
+}
+
+/// Returns whether metadata of a kind that a line opens begins there.
+fn begins_after(before: Before, kind: MetadataBlockKind) -> bool
+    ensures { metadata_begun before kind
+        ≡ (if result then Some (begins_metadata kind) else None) }
+{
+    match kind {
+        MetadataBlockKind::YamlStyle => !is_reached(before),
+        MetadataBlockKind::PlusesStyle => !is_paragraph(before),
     }
 }
 
@@ -105,6 +133,7 @@ impl<'a> LineReader<'a> {
     ghost use Rattle.std.specs.Prelude.{◌≡◌, ◌+◌, ◌≤◌, ◌<◌, ◌∷◌, ◌==◌, ◌||◌, [], Some, IfOk};
     ghost use Rattle.std.specs.Prelude.{slice_index, slice_range, true};
     ghost use Rattle.std.specs.List.{prefix_len};
+    ghost use Rattle.std.specs.Option.{option_map};
     ghost use Rattle.std.specs.Str.{IsCharBoundary};
     ghost use Rattle.markdown_base.specs.Bytes.{backtick, less_than, open_bracket, tilde};
     ghost use Rattle.markdown_lines.specs.BlockBeginnings as line;
@@ -114,18 +143,38 @@ impl<'a> LineReader<'a> {
     ghost use Rattle.markdown_lines.specs.ThematicBreaks.{is_thematic_break};
     ghost use Rattle.markdown_scan.specs.LineStart.{past_marker};
 
-    /// Returns a reader of the line whose content ends before the byte offset `stop`.
-    pub fn new(alloc: Global, text: &'a str, options: Options, stop: usize) -> LineReader<'a>
-        requires { IsCharBoundary text.now stop }
-        ensures text { result.text.now ≡ text.now }
+    /// Returns a reader of a line of the text whose lines are `ahead`. `outermost` is whether the line is directly under
+    /// the root: in no open container but a list.
+    pub fn new(
+        alloc: Global,
+        ahead: &mut LinesAhead<'a>,
+        options: Options,
+        line: Line,
+        outermost: bool,
+    ) -> LineReader<'a>
+        requires { IsCharBoundary ahead.old.text.now line.stop }
+        ensures text { result.text.now ≡ ahead.old.text.now }
         ensures options { result.options ≡ options }
-        ensures stop { result.stop ≡ stop }
+        ensures start { result.start ≡ line.start }
+        ensures stop { result.stop ≡ line.stop }
+        ensures next { result.next ≡ line.next }
+        ensures outermost { result.outermost ≡ outermost }
+        ensures same { ahead.new.text.now ≡ ahead.old.text.now }
     {
+        let opening = if outermost {
+            ahead.opened(line, options)
+        } else {
+            None
+        };
         LineReader {
             alloc,
-            text,
+            text: ahead.text,
             options,
-            stop,
+            start: line.start,
+            stop: line.stop,
+            next: line.next,
+            outermost,
+            opening,
             unbroken_from: 0,
             unbroken_to: 0,
         }
@@ -161,7 +210,10 @@ impl<'a> LineReader<'a> {
     {
         let space = read_space(self.text, position, self.stop, 4);
         if space.columns < 4 {
-            self.begun_after(space, before)
+            match self.metadata(position, before) {
+                Some(kind) => Ok(BlockStart::Metadata(kind)),
+                None => self.begun_after(space, before),
+            }
         } else if is_paragraph(before) {
             Ok(BlockStart::Text)
         } else {
@@ -169,7 +221,23 @@ impl<'a> LineReader<'a> {
         }
     }
 
-    /// Returns what the line begins after fewer than four columns of space, by the first byte there.
+    /// Returns the kind of the metadata that begins at a place: at the beginning of the line, if anywhere.
+    fn metadata(&self, position: Position, before: Before) -> Option<MetadataBlockKind>
+        ensures { option_map line.begins_metadata result
+            ≡ line.metadata_in_line (source_read self.now) before (line_at self.now position) }
+    {
+        if !self.outermost || position.at != self.start {
+            return None;
+        }
+        let kind = self.opening?;
+        if begins_after(before, kind) {
+            Some(kind)
+        } else {
+            None
+        }
+    }
+
+    /// Returns what the line begins after fewer than four columns of space, by the first byte there, other than metadata.
     fn begun_after(&mut self, space: Space, before: Before) -> Result<BlockStart<'a>, AllocError>
         requires { space.columns < 4 }
         ensures begins { IfOk result (λ start. beginning_found self.old start
@@ -231,8 +299,21 @@ impl<'a> LineReader<'a> {
             (line.heading_in_line (source_read self.now) (left_at self.now here) ∷ []) result }
     {
         match atx_heading(self.text, here.at, self.stop) {
-            Some(heading) => BlockStart::Heading(heading),
+            Some(heading) => BlockStart::Heading(self.whole_heading(here, heading)),
             None => BlockStart::Text,
+        }
+    }
+
+    /// Returns an ATX heading of the line with what is read of attributes at its end.
+    fn whole_heading(&self, here: Position, heading: AtxHeading) -> AtxHeading
+        requires { here.at ≤ heading.from }
+        ensures { result
+            ≡ line.whole_heading self.now.options (left_at self.now here) heading }
+    {
+        if attributes_read(self.options) {
+            attributed(self.text, heading, self.stop)
+        } else {
+            heading
         }
     }
 

@@ -1,11 +1,13 @@
 -- Calls that fit. What a call does is stated for the case that it and all calls before it fitted: one that does not fit
 -- is counted, and makes nothing.
-use Rattle.std.specs.Prelude.{◌≡◌, ℕ, ◌≤◌, false, [], ◌∷◌, ◌++◌, List, Some, None, length}
+use Rattle.std.specs.Prelude.{◌≡◌, ℕ, ◌≤◌, false, [], ◌∷◌, ◌++◌, List, Option, Some, None, length}
 use Rattle.std.specs.Str.{IsCharBoundary}
 use Rattle.markdown_base.specs.declared.item.ItemBody.{ItemBody}
 use Rattle.markdown_base.specs.declared.item.ItemBody.TheVariants as body
 use Rattle.markdown_builder.specs.Bodies.{is_leaf}
-use Rattle.markdown_builder.specs.BuilderView.{BuilderView}
+use Rattle.markdown_base.specs.declared.index.HeadingIndex.{HeadingIndex}
+use Rattle.markdown_base.specs.declared.tag.HeadingLevel.{HeadingLevel}
+use Rattle.markdown_builder.specs.BuilderView.{BuilderView, Opens}
 use Rattle.markdown_lines.specs.Lines.{AllPass, is_in_blank_line, IsNextContent}
 use Rattle.markdown_plain.specs.declared.placing.Placing.{Placing}
 use Rattle.markdown_plain.specs.CodeLines.{after_line}
@@ -61,6 +63,10 @@ pub record BeginsAtContent (old new : BuilderView) : Type 0 where
   pub start : ℕ
   pub blocks : InnermostBecomes old.blocks new.blocks (λ block. record block { start = start })
   pub content : IsNextContent old.text blocks.block.start (Some start)
+
+-- a heading of a level was opened, with attributes or without
+abbrev pub OpensHeading : BuilderView → BuilderView → HeadingLevel → Type 0
+OpensHeading old new level = (ix : Option HeadingIndex) × Opens old new (body.Heading level ix)
 
 -- a fenced code block was opened at a byte offset, with an info string, and its first line ends before `next`
 abbrev pub OpensFenced : BuilderView → BuilderView → (at next : ℕ) → List ℕ → Type 0

@@ -14,10 +14,11 @@ use crate::pass::{LeafKind, Pass};
 use crate::placing::Placing;
 use markdown_base::block_parts::BlockParts;
 use markdown_base::cow_str::CowStr;
-use markdown_base::item::Item;
+use markdown_base::item::{Item, ItemBody};
 use markdown_base::options::Options;
-use markdown_base::tag::{BlockQuoteKind, HeadingLevel};
+use markdown_base::tag::{BlockQuoteKind, HeadingLevel, MetadataBlockKind};
 use markdown_base::tree::Tree;
+use markdown_builder::open_block::OpenBlock;
 use markdown_lines::atx_heading::AtxHeading;
 use markdown_lines::block_start::{Before, BlockStart, ItemStart};
 use markdown_lines::bytes::{byte_at, bytes_of, is_white};
@@ -25,6 +26,7 @@ use markdown_lines::fence::OpeningFence;
 use markdown_lines::html_kind::HtmlKind;
 use markdown_lines::line::{Line, is_space_or_tab, line_from};
 use markdown_lines::line_reader::LineReader;
+use markdown_lines::lines_ahead::LinesAhead;
 use markdown_lines::position::Position;
 use markdown_lines::space::read_space;
 use std::alloc::{AllocError, Global};
@@ -62,16 +64,31 @@ fn begins_text(text: &str, at: usize, stop: usize) -> bool {
         }
 }
 
+/// Returns whether the outermost `depth` of the open blocks are lists, so that what a line begins in them is directly
+/// under the root.
+fn are_lists(blocks: &[OpenBlock], depth: usize) -> bool {
+    for block in blocks.iter().take(depth) {
+        match block.body {
+            ItemBody::List(_, _, _) => {}
+            _ => return false,
+        }
+    }
+    true
+}
+
 impl<'a> Pass<'a> {
-    /// Reads a line. Where no block is open, the first byte of most lines shows that they are text.
-    fn read_line(&mut self, line: Line) -> Result<(), AllocError>
-        requires { IsCharBoundary self.old.placing.builder.text line.stop }
-        ensures { IfOk result (λ _. self.new.placing.builder.text ≡ self.old.placing.builder.text) }
+    /// Reads a line, where `ahead` are the lines of the text. Where no block is open, the first byte of most lines shows
+    /// that they are text.
+    fn read_line(&mut self, line: Line, ahead: &mut LinesAhead<'a>) -> Result<(), AllocError>
+        requires { IsCharBoundary ahead.old.text.now line.stop }
+        ensures text { IfOk result (λ _. self.new.placing.builder.text
+            ≡ self.old.placing.builder.text) }
+        ensures ahead { ahead.new.text.now ≡ ahead.old.text.now }
     {
         if !self.placing.open_blocks().is_empty()
             || !begins_text(self.placing.text(), line.start, line.stop)
         {
-            return self.read_any_line(line);
+            return self.read_any_line(line, ahead);
         }
         self.add_text(line, line.start, 0)?;
         self.see_content(line);
@@ -88,9 +105,11 @@ impl<'a> Pass<'a> {
 
     /// Reads a line, whatever blocks continue or begin in it.
     #[inline(never)]
-    fn read_any_line(&mut self, line: Line) -> Result<(), AllocError>
-        requires { IsCharBoundary self.old.placing.builder.text line.stop }
-        ensures { IfOk result (λ _. self.new.placing.builder.text ≡ self.old.placing.builder.text) }
+    fn read_any_line(&mut self, line: Line, ahead: &mut LinesAhead<'a>) -> Result<(), AllocError>
+        requires { IsCharBoundary ahead.old.text.now line.stop }
+        ensures text { IfOk result (λ _. self.new.placing.builder.text
+            ≡ self.old.placing.builder.text) }
+        ensures ahead { ahead.new.text.now ≡ ahead.old.text.now }
     {
         let reached = reach(self, line);
         if reached.all && self.placing.is_in_leaf() && self.goes_on(line, reached)? {
@@ -100,10 +119,10 @@ impl<'a> Pass<'a> {
         if reached.content >= line.stop {
             return self.read_blank(line, reached);
         }
-        let text = self.placing.text();
+        let outermost = are_lists(self.placing.open_blocks(), reached.depth);
         let rest = LineRest {
             line,
-            reader: LineReader::new(self.alloc, text, self.options, line.stop),
+            reader: LineReader::new(self.alloc, ahead, self.options, line, outermost),
             position: reached.position,
             depth: reached.depth,
             before: self.paragraph_before(reached.all),
@@ -133,6 +152,7 @@ impl<'a> Pass<'a> {
                 }
                 self.add_indented(line, before.after)?;
             }
+            LeafKind::Metadata(kind) => self.add_metadata(kind, line)?,
         }
         Ok(true)
     }
@@ -208,6 +228,7 @@ impl<'a> Pass<'a> {
             BlockStart::Underline(level) => self.read_underline(rest, level),
             BlockStart::ThematicBreak => self.read_break(rest, at),
             BlockStart::Item(item) => self.read_item(rest, at, item),
+            BlockStart::Metadata(kind) => self.read_metadata(rest, kind),
         }
     }
 
@@ -363,15 +384,29 @@ impl<'a> Pass<'a> {
         Ok(self.go_inside(rest, item.inside))
     }
 
+    /// Reads the line that opens metadata. Returns false.
+    fn read_metadata(
+        &mut self,
+        rest: &LineRest<'a>,
+        kind: MetadataBlockKind,
+    ) -> Result<bool, AllocError>
+        ensures { IfOk result (λ _. self.new.placing.builder.text ≡ self.old.placing.builder.text) }
+    {
+        self.make_room(rest.depth)?;
+        self.open_metadata(kind, rest.line)?;
+        Ok(false)
+    }
+
     /// Reads all lines of the text, and closes all blocks.
     fn read_lines(&mut self) -> Result<(), AllocError>
         ensures { IfOk result (λ _. self.new.placing.builder.text ≡ self.old.placing.builder.text) }
     {
         let text = self.placing.text();
+        let mut ahead = LinesAhead::new(text);
         let mut from = 0;
         'lines: while from < text.as_bytes().len() {
             let line = line_from(text, from);
-            self.read_line(line)?;
+            self.read_line(line, &mut ahead)?;
             from = line.next;
         }
         self.close_down(0)

@@ -1,29 +1,34 @@
 //! Leaf blocks other than paragraphs (CommonMark 4.1 to 4.6): how they are opened, and how they continue. Functions
 //! that return a `Result` fail only where memory is refused.
-ghost use Rattle.std.specs.Prelude.{◌≡◌, ◌++◌, ◌∷◌, [], true, false, ℕ, List, IfOk};
+ghost use Rattle.std.specs.Prelude.{◌≡◌, ◌++◌, ◌∷◌, [], true, false, ℕ, List, IfOk, slice_range};
 ghost use Rattle.markdown_base.specs.declared.item.ItemBody.TheVariants as body;
 ghost use Rattle.markdown_scan.specs.Entity.{entity_names};
 ghost use Rattle.markdown_scan.specs.Unescape.{unescaped};
 ghost use Rattle.markdown_lines.specs.LineBytes.{IsPartOf};
+ghost use Rattle.markdown_lines.specs.MetadataBlocks.{closes_metadata};
 ghost use Rattle.markdown_plain.specs.declared.pass.LeafKind.TheVariants as leaf_kind;
 ghost use Rattle.markdown_plain.specs.CodeLines.{after_line, code_after, ends_html_at, held, is_closed_at};
-ghost use Rattle.markdown_plain.specs.Fitting.{IfFitted, GoesOn, OpensFenced, OpensHtml, closed, extended, opened};
+ghost use Rattle.markdown_plain.specs.Fitting.{IfFitted, GoesOn, OpensFenced, OpensHeading, OpensHtml, closed, extended, opened};
 ghost use Rattle.markdown_plain.specs.Paragraphs.{IsPlacedTo};
 
 use crate::pass::{LeafKind, Pass};
 use crate::placing::Placing;
 use markdown_base::item::ItemBody;
+use markdown_base::tag::{HeadingLevel, MetadataBlockKind};
 use markdown_lines::atx_heading::AtxHeading;
+use markdown_lines::braces::Braces;
 use markdown_lines::bytes::{bytes_of, part_of};
 use markdown_lines::fence::{Fence, OpeningFence, is_closing_fence};
+use markdown_lines::heading_attributes::heading_attributes;
 use markdown_lines::held_line::HeldLine;
 use markdown_lines::html_kind::HtmlKind;
 use markdown_lines::line::Line;
+use markdown_lines::metadata_block::closes_metadata;
 use markdown_lines::position::Position;
 use markdown_lines::space::read_space;
 use markdown_scan::entity::entity_names;
 use markdown_scan::unescape::unescape;
-use std::alloc::AllocError;
+use std::alloc::{AllocError, Global};
 
 /// Appends a line of a code block, with its line ending: a Text, after the columns that a partly read tab owes.
 fn add_code(placing: &mut Placing<'_>, line: HeldLine) -> Result<(), AllocError>
@@ -52,6 +57,25 @@ fn add_codes(placing: &mut Placing<'_>, lines: &[HeldLine]) -> Result<(), AllocE
         add_code(placing, *line)?;
     }
     Ok(())
+}
+
+/// Opens a heading at the current byte offset, with the attributes that stand between braces.
+#[tactic(auto, using(crate::proofs::OpenBlocksLemmas::outer_of_opened))]
+pub fn open_heading(
+    alloc: Global,
+    placing: &mut Placing<'_>,
+    level: HeadingLevel,
+    braces: Option<Braces>,
+) -> Result<(), AllocError>
+    ensures text { IfOk result (λ _. placing.new.builder.text ≡ placing.old.builder.text) }
+    ensures opens { IfOk result (λ _. IfFitted placing.old placing.new
+        (OpensHeading placing.old.builder placing.new.builder level)) }
+{
+    let Some(braces) = braces else {
+        return placing.open_block(ItemBody::Heading(level, None));
+    };
+    let attributes = heading_attributes(alloc, placing.text(), braces)?;
+    placing.open_attributed(level, attributes)
 }
 
 /// Returns the rest of a line from a place on.
@@ -88,8 +112,7 @@ impl<'a> Pass<'a> {
             (IsPlacedTo self.old.placing.builder self.new.placing.builder line.next)) }
         ensures same { self.new ≡ record self.old { placing = self.new.placing } }
     {
-        self.placing
-            .open_block(ItemBody::Heading(heading.level, None))?;
+        open_heading(self.alloc, &mut self.placing, heading.level, heading.braces)?;
         self.placing.step_to(heading.from);
         self.placing.add_items(heading.to, self.options)?;
         self.placing.step_to(line.next);
@@ -156,6 +179,56 @@ impl<'a> Pass<'a> {
         }
         let code = read_space(text, position, line.stop, fence.indent).after;
         add_code(&mut self.placing, rest_of(line, code))
+    }
+
+    /// Opens metadata of a kind with a line.
+    #[tactic(auto, using(crate::proofs::OpenBlocksLemmas::outer_of_opened))]
+    pub fn open_metadata(&mut self, kind: MetadataBlockKind, line: Line) -> Result<(), AllocError>
+        ensures text { IfOk result (λ _. self.new.placing.builder.text
+            ≡ self.old.placing.builder.text) }
+        ensures opens { IfOk result (λ _. IfFitted self.old.placing self.new.placing
+            (self.new.placing.builder
+            ≡ record (opened self.old.placing.builder line.start (body.MetadataBlock kind))
+            { at = line.next })) }
+        ensures kind { IfOk result (λ _. self.new.leaf ≡ leaf_kind.Metadata kind) }
+        ensures same { self.new
+            ≡ record self.old { placing = self.new.placing; leaf = self.new.leaf } }
+    {
+        self.placing.step_to(line.start);
+        self.placing.open_block(ItemBody::MetadataBlock(kind))?;
+        self.placing.step_to(line.next);
+        self.leaf = LeafKind::Metadata(kind);
+        Ok(())
+    }
+
+    /// Adds a line to the open metadata, or closes it with the line.
+    pub fn add_metadata(&mut self, kind: MetadataBlockKind, line: Line) -> Result<(), AllocError>
+        ensures text { IfOk result (λ _. self.new.placing.builder.text
+            ≡ self.old.placing.builder.text) }
+        ensures closes { IfOk result (λ _. closes_metadata kind
+            (slice_range self.old.placing.builder.text line.start line.stop) ≡ true →
+            IfFitted self.old.placing self.new.placing (self.new.placing.builder
+            ≡ record (closed self.old.placing.builder) { at = line.next })) }
+        ensures text_line { IfOk result (λ _. closes_metadata kind
+            (slice_range self.old.placing.builder.text line.start line.stop) ≡ false →
+            IfFitted self.old.placing self.new.placing
+            (GoesOn self.old.placing.builder self.new.placing.builder
+            (after_line line.start line.next))) }
+        ensures same { self.new ≡ record self.old { placing = self.new.placing } }
+    {
+        let content = bytes_of(self.placing.text(), line.start, line.stop);
+        if closes_metadata(kind, content) {
+            self.placing.step_to(line.next);
+            self.placing.close();
+            return Ok(());
+        }
+        let whole = HeldLine {
+            start: line.start,
+            stop: line.stop,
+            next: line.next,
+            owed: 0,
+        };
+        add_code(&mut self.placing, whole)
     }
 
     /// Opens an HTML block with a line whose rest begins at a place. The block starts at the line's first content byte;

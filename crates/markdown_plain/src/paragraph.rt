@@ -3,12 +3,13 @@
 ghost use Rattle.std.specs.Prelude.{◌≡◌, ◌<◌, ◌≤◌, ◌++◌, ◌∷◌, [], true, false, None, length, IfOk, MatchOption};
 ghost use Rattle.std.specs.Prelude.{if◌then◌else◌};
 ghost use Rattle.markdown_base.specs.declared.item.ItemBody.TheVariants as body;
-ghost use Rattle.markdown_builder.specs.Bodies.{is_plain_block};
-ghost use Rattle.markdown_plain.specs.Fitting.{IfFitted, GoesOn, stepped};
+ghost use Rattle.markdown_builder.specs.BuilderView.{Opens};
+ghost use Rattle.markdown_plain.specs.Fitting.{IfFitted, GoesOn, OpensHeading, stepped};
 ghost use Rattle.markdown_plain.specs.OpenBlocks.{room_in, without_leaf};
 ghost use Rattle.markdown_plain.specs.Paragraphs.{end_of, has_paragraph, is_item_in, lines_end, paragraph_end};
 ghost use Rattle.markdown_plain.specs.Paragraphs.{task_at, IsPlacedTo};
 
+use crate::leaves::open_heading;
 use crate::pass::Pass;
 use crate::placing::Placing;
 use markdown_base::item::ItemBody;
@@ -16,8 +17,10 @@ use markdown_base::options::Options;
 use markdown_base::tag::HeadingLevel;
 use markdown_builder::open_block::OpenBlock;
 use markdown_lines::atx_heading::trimmed_length;
+use markdown_lines::braces::Braces;
 use markdown_lines::bytes::{byte_at, bytes_of};
 use markdown_lines::definition::read_definition;
+use markdown_lines::heading_attributes::{attributes_read, braces_at};
 use markdown_lines::held_line::HeldLine;
 use markdown_lines::line::Line;
 use markdown_lines::line_break::line_break;
@@ -134,6 +137,14 @@ fn add_last_line(
     Ok(())
 }
 
+/// What is no content of a paragraph's or a heading's lines: the task marker at the beginning of the first, by whether
+/// the task is done, and the braces at the end of the last.
+#[derive(Clone, Copy, Drop)]
+struct Ends {
+    task: Option<bool>,
+    braces: Option<Braces>,
+}
+
 /// Goes to the beginning of a line, appends the task marker there, if any, and returns what follows that and the white
 /// space after it.
 fn begin_line(
@@ -157,13 +168,25 @@ fn begin_line(
     Ok(HeldLine { start, ..line })
 }
 
-/// Appends the lines of the open paragraph or heading from the number `from` on, of which the first may begin with a
-/// task marker.
+/// Returns a line that is cut off where braces open.
+fn cut_off(line: HeldLine, braces: Option<Braces>) -> HeldLine
+    ensures { result ≡ record line { stop = result.stop } }
+{
+    match braces {
+        Some(braces) => HeldLine {
+            stop: braces.opening,
+            ..line
+        },
+        None => line,
+    }
+}
+
+/// Appends the lines of the open paragraph or heading from the number `from` on, without what is at their ends.
 fn add_lines(
     placing: &mut Placing<'_>,
     lines: &[HeldLine],
     from: usize,
-    task: Option<bool>,
+    ends: Ends,
     options: Options,
 ) -> Result<(), AllocError>
     ensures text { IfOk result (λ _. placing.new.builder.text ≡ placing.old.builder.text) }
@@ -171,10 +194,10 @@ fn add_lines(
         (GoesOn placing.old.builder placing.new.builder (lines_end lines.now))) }
 {
     'lines: for number in from..lines.len() {
-        let marker = if number == from { task } else { None };
+        let marker = if number == from { ends.task } else { None };
         let line = begin_line(placing, lines[number], marker)?;
         if number == lines.len() - 1 {
-            add_last_line(placing, line, options)?;
+            add_last_line(placing, cut_off(line, ends.braces), options)?;
         } else {
             add_broken_line(placing, line, options)?;
         }
@@ -192,15 +215,22 @@ fn is_item_in(block: OpenBlock, line: Line) -> bool
     }
 }
 
-/// Returns the body of a paragraph, or of the heading that it turned out to be.
-fn body_of(heading: Option<(HeadingLevel, Line)>) -> ItemBody
-    ensures value { MatchOption heading (result ≡ body.Paragraph) (λ h. result
-        ≡ body.Heading h.0 None) }
-    ensures plain { is_plain_block result ≡ true }
+/// Opens a paragraph, or the heading that it turned out to be.
+fn open_text(
+    alloc: Global,
+    placing: &mut Placing<'_>,
+    heading: Option<(HeadingLevel, Line)>,
+    braces: Option<Braces>,
+) -> Result<(), AllocError>
+    ensures text { IfOk result (λ _. placing.new.builder.text ≡ placing.old.builder.text) }
+    ensures opens { IfOk result (λ _. IfFitted placing.old placing.new
+        (MatchOption heading
+        (Opens placing.old.builder placing.new.builder body.Paragraph)
+        (λ h. OpensHeading placing.old.builder placing.new.builder h.0))) }
 {
     match heading {
-        Some((level, _)) => ItemBody::Heading(level, None),
-        None => ItemBody::Paragraph,
+        Some((level, _)) => open_heading(alloc, placing, level, braces),
+        None => placing.open_block(ItemBody::Paragraph),
     }
 }
 
@@ -252,6 +282,15 @@ impl<'a> Pass<'a> {
         Ok(())
     }
 
+    /// Returns the braces at the end of the last line, where it is that of a heading and attributes are read.
+    fn last_braces(&self, heading: Option<(HeadingLevel, Line)>) -> Option<Braces> {
+        if heading.is_none() || !attributes_read(self.options) {
+            return None;
+        }
+        let last = self.lines.last()?;
+        braces_at(self.placing.text(), last.start, last.stop)
+    }
+
     /// Places the lines from the number `from` on as a paragraph, or as a heading that ends with the line of its
     /// underline. Only the first of all lines may begin with a task marker.
     #[tactic(auto, using(crate::proofs::OpenBlocksLemmas::outer_of_opened))]
@@ -271,9 +310,12 @@ impl<'a> Pass<'a> {
         if let Some(first) = self.lines.get(from) {
             self.placing.step_to(first.start);
         }
-        self.placing.open_block(body_of(heading))?;
-        let task = if from == 0 { self.task } else { None };
-        add_lines(&mut self.placing, &self.lines, from, task, self.options)?;
+        let ends = Ends {
+            task: if from == 0 { self.task } else { None },
+            braces: self.last_braces(heading),
+        };
+        open_text(self.alloc, &mut self.placing, heading, ends.braces)?;
+        add_lines(&mut self.placing, &self.lines, from, ends, self.options)?;
         if let Some((_, underline)) = heading {
             self.placing.step_to(underline.next);
         }

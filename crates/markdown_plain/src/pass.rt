@@ -13,6 +13,7 @@ use crate::looseness::Looseness;
 use crate::placing::Placing;
 use markdown_base::item::ItemBody;
 use markdown_base::options::Options;
+use markdown_base::tag::MetadataBlockKind;
 use markdown_lines::fence::Fence;
 use markdown_lines::held_line::HeldLine;
 use markdown_lines::html_kind::HtmlKind;
@@ -27,6 +28,8 @@ pub enum LeafKind {
     Fenced(Fence),
     /// in all lines up to one that ends a block of its kind
     Html(HtmlKind),
+    /// in all lines up to one that closes metadata of its kind
+    Metadata(MetadataBlockKind),
 }
 
 /// The block pass between two lines. The builder has the open blocks, except that a paragraph is not opened before it

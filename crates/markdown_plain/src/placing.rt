@@ -7,9 +7,11 @@ ghost use Rattle.markdown_plain.specs.OpenBlocks.{outer_of};
 ghost use Rattle.markdown_plain.specs.Stretches.{IsOf};
 
 use crate::stretches::{Ahead, Stretches};
+use markdown_base::block_parts::HeadingAttributes;
 use markdown_base::cow_str::CowStr;
 use markdown_base::item::ItemBody;
 use markdown_base::options::Options;
+use markdown_base::tag::HeadingLevel;
 use markdown_builder::builder::Builder;
 use markdown_builder::open_block::OpenBlock;
 use markdown_items::items;
@@ -34,6 +36,7 @@ impl<'a> Placing<'a> {
     ghost use Rattle.std.specs.Str.{IsCharBoundary};
     ghost use Rattle.markdown_base.specs.declared.item.ItemBody.TheVariants as body;
     ghost use Rattle.markdown_base.specs.CowText.{text_of};
+    ghost use Rattle.markdown_base.specs.declared.index.HeadingIndex.{HeadingIndex};
     ghost use Rattle.markdown_plain.specs.CodeLines.{owed_spaces};
     ghost use Rattle.markdown_plain.specs.OpenBlocks.{outer_of};
     ghost use Rattle.markdown_plain.specs.Stretches.{deep_starts};
@@ -170,6 +173,34 @@ impl<'a> Placing<'a> {
         }
         self.stretches.enter(self.builder.open_blocks())?;
         match self.builder.open_fenced(info) {
+            Ok(()) => Ok(()),
+            Err(error) => {
+                self.stretches.forget();
+                Err(error)
+            }
+        }
+    }
+
+    /// Opens a heading with attributes at the current byte offset.
+    pub fn open_attributed(
+        &mut self,
+        level: HeadingLevel,
+        attributes: HeadingAttributes<'a>,
+    ) -> Result<(), AllocError>
+        ensures text { IfOk result (λ _. self.new.builder.text ≡ self.old.builder.text) }
+        ensures opens { IfOk result (λ _. IfFitted self.old self.new
+            ((ix : HeadingIndex)
+            × Opens self.old.builder self.new.builder (body.Heading level (Some ix)))) }
+        ensures fits { IfOk result (λ _. self.old.builder.leaf ≡ false
+            → self.new.misfits ≡ self.old.misfits) }
+    {
+        if self.builder.is_in_leaf() {
+            self.miss();
+            drop(attributes);
+            return Ok(());
+        }
+        self.stretches.enter(self.builder.open_blocks())?;
+        match self.builder.open_heading(level, attributes) {
             Ok(()) => Ok(()),
             Err(error) => {
                 self.stretches.forget();

@@ -24,6 +24,8 @@ mod footnotes;
 #[cfg(test)]
 mod grown;
 #[cfg(test)]
+mod heading_attributes;
+#[cfg(test)]
 mod headings;
 #[cfg(test)]
 mod html_blocks;
@@ -33,6 +35,8 @@ mod links;
 mod list_items;
 #[cfg(test)]
 mod lists;
+#[cfg(test)]
+mod metadata;
 #[cfg(test)]
 mod pairing;
 #[cfg(test)]

@@ -63,6 +63,19 @@ pub fn check_extended(alloc: Global, options: Options, rows: Rows) -> Result<(),
     Ok(())
 }
 
+/// Checks the events of each text with their ranges, read by the extended entry with these options.
+pub fn check_extended_events(alloc: Global, options: Options, rows: Rows) -> Result<(), Fail> {
+    for (source, wanted) in rows {
+        parser_gives(
+            alloc,
+            source,
+            extended_parser(alloc, source, options)?,
+            wanted,
+        )?;
+    }
+    Ok(())
+}
+
 /// Texts, each with what it gives.
 pub type Rows = &'static [(&'static str, &'static str)];
 

@@ -4,8 +4,8 @@ use Rattle.markdown_lines.proofs.AtxHeadingsLemmas.{level_some, heading_is}
 use Rattle.markdown_lines.proofs.LineBytesLemmas.{tail_of, counted_within}
 use Rattle.markdown_lines.proofs.atx_heading.atx_heading.Goals as goal
 
-pub returns : goal.returns
-returns c =
+pub returns-clause-value : goal.returns-clause-value
+returns-clause-value c =
     let within = counted_within c.args.text.now c.bytes_of-line.result.now _ _ c.args.at c.args.stop
     c.run_length-count.result c.white_length-white.result c.content_length.result c.bytes_of-line.ensures
     (tail_of c.run_length-count.result c.bytes_of-line.result.now) (tail_of c.white_length-white.result _)

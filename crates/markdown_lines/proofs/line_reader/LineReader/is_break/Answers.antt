@@ -7,6 +7,7 @@ use Rattle.markdown_lines.proofs.line_reader.LineReader.is_break.Goals as goal
 pub invariant_of-self : goal.invariant_of-self
 invariant_of-self c = record {
   boundary = c.args.self.now.boundary;
+  opens = c.args.self.now.opens;
   unbroken = unbroken c.args.self.now.text.now c.args.at c.args.self.now.stop c.in-Err.length
       c.saturating_add-self.result
       (subst (λ (bytes : List ℕ). IsBrokenOff bytes c.in-Err.length) c.bytes_of.ensures c.in-Err.ensures)

@@ -6,6 +6,7 @@ abbrev pub invariant-lines : goal.invariant-lines
 invariant-lines l = record {
   same : l.self.placing.builder.text ≡ l.fn.self.placing.builder.text;
   text : l.text ≡ l.fn.self.placing.builder.text;
+  ahead : l.ahead.text.now ≡ l.text;
 }
 
 abbrev pub decreases-lines : goal.decreases-lines
