@@ -4,6 +4,7 @@ pub mod PositionsLemmas
 pub mod AtxHeadingsLemmas
 pub mod CodeFencesLemmas
 pub mod ListMarkersLemmas
+pub mod TableRowsLemmas
 pub mod ThematicBreaksLemmas
 pub mod HtmlKindsLemmas
 pub mod BlockStartsLemmas

@@ -16,4 +16,5 @@ pub mod line_reader;
 pub mod list_marker;
 pub mod position;
 pub mod space;
+pub mod table_row;
 pub mod thematic_break;
