@@ -1,12 +1,11 @@
 -- Rows: their parts, their cells, and the alignments of a delimiter row, one after the other.
-use Rattle.std.proofs.Common.{◌≡◌, ℕ, ◌+◌, ◌<◌, ◌≤◌, List, [], ◌∷◌, ◌++◌, Bool, true, false, not, ◌&&◌, ◌||◌, ◌==◌}
+use Rattle.std.proofs.Common.{◌≡◌, ℕ, ◌+◌, ◌<◌, ◌≤◌, List, [], ◌∷◌, ◌++◌, Bool, true, false, not, ◌&&◌, ◌==◌}
 use Rattle.std.proofs.Common.{Option, Some, None, length, take, drop, get_or, refl, sym, ap, ◌∙◌, arith, append_assoc}
 use Rattle.std.proofs.Common.{append-nil, length-take, length-take-le, take_all, nat_eq, nat_lt, codes}
 use Rattle.std.proofs.Common.{slice_index, slice_range, ◌-◌}
 use Rattle.std.proofs.lemmas.List.{drop_all, drop_more, take_more}
 use Rattle.std.proofs.lemmas.Bool.{true≢false}
 use Rattle.std.proofs.lemmas.Bool.Decides.{nat_tests}
-use Rattle.std.specs.Prelude.{if◌then◌else◌}
 use Rattle.std.specs.List.{list_all, prefix_len}
 use Rattle.markdown_base.specs.Bytes.{backslash, pipe}
 use Rattle.markdown_base.specs.declared.tag.Alignment.{Alignment}
@@ -313,6 +312,13 @@ piece_ends bytes at less is pair =
     ap piece_length ahead
     ∙ pair_ends (get_or bytes at 0) (get_or bytes (at + 1) 0) (drop (at + 2) bytes) is
     (ap (begins_with (codes "\\\\|")) (sym ahead) ∙ pair)
+
+pub is_backslash : (byte : ℕ) → not (byte == backslash) ≡ false → byte ≡ backslash
+is_backslash byte is = decided (byte == backslash) refl
+  where
+    decided : (test : Bool) → (byte == backslash) ≡ test → byte ≡ backslash
+    decided true same = grind (arith, nat_tests)
+    decided false other = absurd (true≢false (sym (ap not other) ∙ is))
 
 pub piece_on : (bytes : List ℕ) (at more : ℕ) → piece_length bytes ≡ at + piece_length (drop at bytes)
     → piece_length (drop at bytes) ≡ more + piece_length (drop (at + more) bytes)

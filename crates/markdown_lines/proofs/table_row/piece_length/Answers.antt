@@ -1,10 +1,10 @@
 -- One byte more or two, or the end of the piece.
-use Rattle.std.proofs.Common.{◌≡◌, ◌+◌, ◌<◌, ◌≤◌, ◌∙◌, sym, ap, arith, length, ne_eqb, drop, true≢false, codes}
+use Rattle.std.proofs.Common.{◌≡◌, ◌+◌, ◌<◌, ◌≤◌, ◌∙◌, sym, ap, arith, length, ne_eqb, drop, codes}
 use Rattle.markdown_scan.specs.Beginnings.{begins_with}
 use Rattle.std.proofs.lemmas.Bool.Decides.{nat_tests}
 use Rattle.std.proofs.lemmas.List.{drop_all}
 use Rattle.markdown_lines.specs.TableRows.{piece_length}
-use Rattle.markdown_lines.proofs.TableRowsLemmas.{one_last, one_plain, piece_ends, piece_on, two_escaped}
+use Rattle.markdown_lines.proofs.TableRowsLemmas.{is_backslash, one_last, one_plain, piece_ends, piece_on, two_escaped}
 use Rattle.markdown_lines.proofs.table_row.piece_length.Goals.{then-bytes-at-ne92, else-bytes-at-ne92}
 use Rattle.markdown_lines.proofs.table_row.piece_length.Goals as goal
 
@@ -27,7 +27,8 @@ returns-then-is_escaped_pair-clause-value c =
     let at = c.escapes.at in
     let less : at < length bytes = c.escapes-test.true in
     elim c.if-bytes-at-ne92.branch [
-      | then-bytes-at-ne92 w ↦ absurd (true≢false (sym w.value-is ∙ c.if-at-bytes.false))
+      | then-bytes-at-ne92 w ↦ absurd
+          (w.if-bytes-at-ne92.true (is_backslash _ (sym w.value-is ∙ c.if-at-bytes.false)))
       | else-bytes-at-ne92 w ↦
           let more : at + 1 < length bytes = grind (arith, nat_tests, w.value-is, c.if-at-bytes.false, less) in
           let none = piece_ends bytes at more w.if-bytes-at-ne92.false
@@ -42,7 +43,8 @@ escapes-preserved c =
     let at = c.escapes.at in
     let less : at < length bytes = c.escapes-test.true in
     elim c.if-bytes-at-ne92.branch [
-      | then-bytes-at-ne92 w ↦ absurd (true≢false (sym w.value-is ∙ c.if-at-bytes.false))
+      | then-bytes-at-ne92 w ↦ absurd
+          (w.if-bytes-at-ne92.true (is_backslash _ (sym w.value-is ∙ c.if-at-bytes.false)))
       | else-bytes-at-ne92 w ↦
           let more : at + 1 < length bytes = grind (arith, nat_tests, w.value-is, c.if-at-bytes.false, less) in
           record {
