@@ -1,16 +1,20 @@
 -- The block structure of a text: the tree of its blocks with their ranges and with the open items of their lines, its
 -- link reference definitions, and its footnotes. All of it is read off the blocks that the lines made.
-use Rattle.std.specs.Prelude.{ℕ, Bool, true, false, not, ◌||◌, ◌&&◌, List, [], ◌∷◌, ◌++◌, Option, Some, None}
+use Rattle.std.specs.Prelude.{ℕ, zero, suc, length, take, Bool, true, false, not, ◌||◌, ◌&&◌, List, [], ◌∷◌, ◌++◌, Option, Some, None}
 use Rattle.std.specs.Prelude.{slice_range, if◌then◌else◌}
 use Rattle.markdown_base.specs.Forest.{Forest, nil, node}
 use Rattle.markdown_lines.specs.declared.fence.OpeningFence.{OpeningFence}
 use Rattle.markdown_base.specs.declared.item.ItemBody.{ItemBody}
 use Rattle.markdown_base.specs.declared.item.ItemBody.TheVariants as body
+use Rattle.markdown_base.specs.declared.tag.Alignment.{Alignment}
+use Rattle.markdown_lines.specs.declared.table_row.Cell.{Cell}
 use Rattle.markdown_lines.specs.BlockBeginnings.{Source}
 use Rattle.markdown_block_rules.specs.BlockGrowth as was
 use Rattle.markdown_block_rules.specs.BlockGrowth.{Block, Kind, blocks_of, followed_by}
 use Rattle.markdown_lines.specs.DefinitionRules.{Definition, divided}
-use Rattle.markdown_block_rules.specs.LineContents.{Shown, content_items, lines_items, source_lines}
+use Rattle.markdown_block_rules.specs.LineContents.{Shown, cell_items, content_items, lines_items, plain_item}
+use Rattle.markdown_block_rules.specs.LineContents.{source_lines}
+use Rattle.markdown_block_rules.specs.TableLines.{cells_added, cells_of}
 use Rattle.markdown_items.specs.LineItems.{item_extensions}
 use Rattle.markdown_lines.specs.SourceLines.{SourceLine, is_blank_rest}
 use Rattle.markdown_scan.specs.Entity.{entity_names}
@@ -97,7 +101,41 @@ chain_of (a ∷ items) = node a nil (chain_of items)
 -- a block of a body, and of the text that it refers to
 abbrev pub shown_over : ℕ → ℕ → ItemBody → Option (List ℕ) → Forest Shown → Forest Shown
 shown_over start end b text below =
-    node (record { item = record { start = start; end = end; body = b }; text = text }) below nil
+    node (record { item = record { start = start; end = end; body = b }; text = text; alignments = [] }) below nil
+
+-- cells of a row, with their items
+abbrev pub shown_cells : Source → List Cell → Forest Shown
+shown_cells s [] = nil
+shown_cells s (cell ∷ cells) =
+    node (plain_item cell.start cell.end body.TableCell)
+    (chain_of (cell_items s.text (item_extensions s.options) cell.from cell.to)) (shown_cells s cells)
+
+-- empty cells at a byte offset
+abbrev pub empty_cells : ℕ → ℕ → Forest Shown
+empty_cells zero at = nil
+empty_cells (suc count) at = node (plain_item at at body.TableCell) nil (empty_cells count at)
+
+-- the cells of a row of a table of this many columns: those beyond them are dropped, and those that it lacks are empty
+-- ones at its end
+abbrev pub cells_shown : Source → (columns : ℕ) → SourceLine → Forest Shown
+cells_shown s columns l =
+    followed_by (shown_cells s (take columns (cells_of l))) (empty_cells (cells_added columns l) l.next)
+
+abbrev pub shown_row : Source → (columns : ℕ) → ItemBody → SourceLine → Forest Shown
+shown_row s columns b l = shown_over l.left.scanned l.next b None (cells_shown s columns l)
+
+abbrev pub shown_rows : Source → (columns : ℕ) → List SourceLine → Forest Shown
+shown_rows s columns [] = nil
+shown_rows s columns (l ∷ rows) = followed_by (shown_row s columns body.TableRow l) (shown_rows s columns rows)
+
+abbrev pub shown_table : Source → (start end : ℕ) → SourceLine → List Alignment → List SourceLine → Forest Shown
+shown_table s start end head alignments rows =
+    node (record {
+      item = record { start = start; end = end; body = body.Table (record { 0 = 0 }) };
+      text = None;
+      alignments = alignments;
+    })
+    (followed_by (shown_row s (length alignments) body.TableHead head) (shown_rows s (length alignments) rows)) nil
 
 -- a paragraph, or the heading that it is, without the definitions at its beginning; nothing where there is nothing else
 abbrev pub shown_text : Source → Block → ItemBody → List SourceLine → Forest Shown
@@ -132,6 +170,8 @@ shown_block s tight b end below inside (was.fenced_leaf opening closed lines) =
     (chain_of (source_lines (body.Text false) lines))
 shown_block s tight b end below inside (was.html_leaf kind closed lines) =
     shown_over b.start end body.HtmlBlock None (chain_of (source_lines body.Html lines))
+shown_block s tight b end below inside (was.table_leaf ended head alignments rows) =
+    shown_table s b.start end head alignments rows
 shown_block s tight b end below inside was.quote_container = shown_over b.start end (body.BlockQuote None) None
     (inside false)
 shown_block s tight b end below inside (was.list_container marker) =

@@ -30,6 +30,7 @@ naming_at depth start end body text = (
   record {
     item = record { start = start; end = end; body = body (record { 0 = 0 }) };
     text = Some text;
+    alignments = [];
   },
 )
 

@@ -39,7 +39,7 @@ beginning_found reader (start.Item item) =
 
 -- that as a line; where the next line begins does not matter
 abbrev pub line_at : LineReader → Position → SourceLine
-line_at reader position = record { left = left_at reader position; next = reader.stop }
+line_at reader position = record { left = left_at reader position; next = reader.stop; indent = None }
 
 -- what a line begins, and nothing where it is blank
 abbrev pub begins_unless_blank : Source → Before → SourceLine → Option Beginning
