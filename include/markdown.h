@@ -68,6 +68,9 @@ extern "C" {
  */
 #define MARKDOWN_DEFAULT 0
 
+/** Tables, with `MARKDOWN_EXTENDED`; without it the bit changes nothing. */
+#define MARKDOWN_TABLES (1 << 1)
+
 /** Footnotes in GitHub's style: `[^a]` and its definition `[^a]: text`. */
 #define MARKDOWN_FOOTNOTES (1 << 2)
 
@@ -93,8 +96,8 @@ extern "C" {
 #define MARKDOWN_WIKILINKS (1 << 15)
 
 /** The extended entry, which reads e-mail addresses in angle brackets and all named entities of HTML too. It is no
- * extension: the other bits mean the same with it and without it. Libraries up to 0.8.0 take it for a bit that changes
- * nothing.
+ * extension: the other bits mean the same with it and without it, but for those that say so. Libraries up to 0.8.0 take
+ * it for a bit that changes nothing.
  */
 #define MARKDOWN_EXTENDED (1 << 30)
 

@@ -40,6 +40,8 @@ mod runs;
 #[cfg(test)]
 mod spans;
 #[cfg(test)]
+mod tables;
+#[cfg(test)]
 mod walks;
 #[cfg(test)]
 mod white_space;
