@@ -68,6 +68,9 @@ extern "C" {
  */
 #define MARKDOWN_DEFAULT 0
 
+/** Tables, with `MARKDOWN_EXTENDED`; without it the bit changes nothing. */
+#define MARKDOWN_TABLES (1 << 1)
+
 /** Footnotes in GitHub's style: `[^a]` and its definition `[^a]: text`. */
 #define MARKDOWN_FOOTNOTES (1 << 2)
 

@@ -131,12 +131,33 @@ OTHERS = {
     "old-footnotes-and-lists": lambda size: below("- [^a]: ", size // 16, "a", "\n", size),
 }
 
+def wide_head(size):
+    """A head of many cells, and rows of one."""
+    columns = size // 8
+    text = "|a" * columns + "|\n" + "|-" * columns + "|\n"
+    return text + "x\n" * ((size - len(text)) // 2)
+
+
+OTHERS.update({
+    "wide-head": wide_head,
+    "wide-white-row": lambda size: "|a" * (size // 8) + "|\n" + "|-" * (size // 8) + "|\na|" + " " * (size // 2),
+    "light-heads": lambda size: '[a]: /u "\n' + "a|b\n-|-\n" * (size // 8),
+    "unfit-heads": lambda size: "|a|\n|-|-|\n" * (size // 10),
+    "table-pipes": lambda size: "|a|\n|-|\n" + "|" * size,
+    "pipe-rows": lambda size: "|a|\n|-|\n" + "||||||||\n" * (size // 9),
+    "escaped-pipes": lambda size: "|a|\n|-|\n|" + "\\|" * (size // 2),
+    "paired-backslashes": lambda size: "|a|\n|-|\n|" + "\\\\|" * (size // 3),
+    "table-lines": lambda size: "|a|\n|-|\n\n" * (size // 9),
+})
+TABLES = "wide-head wide-white-row light-heads unfit-heads table-pipes pipe-rows escaped-pipes paired-backslashes table-lines".split()
+
 # the extensions that a kind needs, as the program and `pulldown-cmark` name them; the others have none of them
 EXTENSIONS = {
     "blank-in-footnotes": ("footnotes", "-F"),
     "old-footnotes": ("old-footnotes", "-F"),
     "old-footnotes-and-quotes": ("old-footnotes", "-F"),
     "old-footnotes-and-lists": ("old-footnotes", "-F"),
+    **{kind: ("tables", "-T") for kind in TABLES},
 }
 
 

@@ -116,7 +116,7 @@ mapped_twice : {A B C : Type 0} (f : B → C) (g : A → B) (o : Option A)
 mapped_twice f g None = refl
 mapped_twice f g (Some x) = refl
 
-ends_in_block : (before : Forest Block) (b : Block) (below : Forest Block)
+pub ends_in_block : (before : Forest Block) (b : Block) (below : Forest Block)
     → is_nil (followed_by before (node b below nil)) ≡ false
 ends_in_block nil b below = refl
 ends_in_block (node c inside after) b below = refl

@@ -1,9 +1,10 @@
 -- Lines with a list marker, or with the indentation of an item.
-use Rattle.std.proofs.Common.{◌≡◌, ℕ, suc, ◌<◌, Bool, true, false, List, [], ◌∷◌, Option, Some, None}
-use Rattle.std.proofs.Common.{subst, refl, ap, ◌∙◌, arith, length, ◌&&◌}
+use Rattle.std.proofs.Common.{◌≡◌, ℕ, suc, ◌<◌, Bool, true, false, List, [], ◌∷◌, ◌++◌, Option, Some, None}
+use Rattle.std.proofs.Common.{subst, refl, ap, ◌∙◌, arith, length, not, ◌&&◌, ◌||◌}
 use Rattle.std.specs.Prelude.{⊤, unwrap_or}
 use Rattle.std.specs.Option.{option_map, option_or}
 use Rattle.markdown_base.specs.Forest.{Forest, nil, node}
+use Rattle.markdown_base.specs.declared.tag.Alignment.{Alignment}
 use Rattle.markdown_lines.specs.declared.block_start.Before.TheVariants as paragraph
 use Rattle.markdown_lines.specs.BlockBeginnings as line
 use Rattle.markdown_lines.specs.BlockBeginnings.{Source, begins}
@@ -11,7 +12,9 @@ use Rattle.markdown_block_rules.specs.BlockGrowth.{Block, begun_in, block_with, 
 use Rattle.markdown_block_rules.specs.BlockGrowth.{goes_on, inside_of, is_nil}
 use Rattle.markdown_block_rules.specs.BlockGrowth.{item_container, list_container, followed_by, leaf_with}
 use Rattle.markdown_block_rules.specs.BlockGrowth.{line_block, new_blocks}
-use Rattle.markdown_block_rules.specs.BlockGrowth.{with_line}
+use Rattle.markdown_block_rules.specs.BlockGrowth.{Kind, cut_paragraph, paragraph_leaf, table_after, table_leaf}
+use Rattle.markdown_block_rules.specs.BlockGrowth.{table_of_lines, table_with, with_line}
+use Rattle.markdown_block_rules.specs.TableLines.{alignments_for, reads_tables}
 use Rattle.markdown_block_rules.specs.BlockLaws.{AreIndented, no_indented, one_indented, IndentedLinesMakeItem}
 use Rattle.markdown_block_rules.specs.BlockLaws.{ItemMayBeginWithBlankLine}
 use Rattle.markdown_block_rules.specs.BlockLaws.{item_from, list_from, lone, one_item_list, rest_of, to_line, to_lines}
@@ -20,7 +23,7 @@ use Rattle.markdown_scan.specs.LineStart.{LineLeft}
 use Rattle.markdown_lines.specs.SourceLines.{SourceLine, is_blank_rest}
 use Rattle.markdown_lines.specs.declared.list_marker.ListMarker.{ListMarker}
 use Rattle.markdown_block_rules.proofs.BlockBeginningsLemmas.{HoldsLess, begins_less, begun_same, either}
-use Rattle.markdown_block_rules.proofs.BlockLawsLemmas.{indented_line}
+use Rattle.markdown_block_rules.proofs.BlockLawsLemmas.{ends_in_block, indented_line}
 
 -- there are blocks, where there is a result
 abbrev IfThere : Option (Forest Block) → Type 0
@@ -36,18 +39,48 @@ one_there : (a b : Option (Forest Block)) → IfThere a → IfThere b → IfTher
 one_there None b first second = second
 one_there (Some blocks) b first second = first
 
+-- a table is there after the lines before it
+after_there : (l : SourceLine) (before : Forest Block) (head : SourceLine) (found : Option (List Alignment))
+    → IfThere (table_after l before head found)
+after_there l before head None = tt
+after_there l before head (Some alignments) =
+    ends_in_block before (record {
+      start = head.left.scanned;
+      first = head.next;
+      last = l.next;
+      kind = table_leaf false head alignments [];
+    }) nil
+
+lines_there : (s : Source) (l : SourceLine) (b : Block) (end : ℕ) (before lines : List SourceLine)
+    → IfThere (table_of_lines s l b end before lines)
+lines_there s l b end before [] = tt
+lines_there s l b end before (head ∷ []) =
+    after_there l (cut_paragraph b end before) head (alignments_for s l before head)
+lines_there s l b end before (first ∷ next ∷ lines) =
+    lines_there s l b first.next (before ++ first ∷ []) (next ∷ lines)
+
+table_there : (s : Source) (l : SourceLine) (b : Block) (kind : Kind) → IfThere (table_with s l b kind)
+table_there s l b (paragraph_leaf lines) =
+    either IfThere (is_blank_rest l || not (reads_tables s)) None (table_of_lines s l b b.first [] lines) tt
+    (lines_there s l b b.first [] lines)
+table_there s l b other = tt
+
 grown_there : (s : Source) (blocks : Forest Block) (l : SourceLine) → IfThere (goes_on s blocks l)
 unfolding goes_on
 grown_there s nil l = tt
 grown_there s (node b below after) l =
     either IfThere (is_nil after) (block_with s l b below (goes_on s below))
     (option_map (node b below) (goes_on s after l))
+    (one_there (table_with s l b b.kind)
+    (option_or (option_map (λ kind. node (record b { last = l.next; kind = kind }) below nil) (leaf_with s l b.kind))
+    (option_map (λ f. node (record b { last = l.next }) f nil) (container_with s l below (goes_on s below) b.kind)))
+    (table_there s l b b.kind)
     (one_there
     (option_map (λ kind. node (record b { last = l.next; kind = kind }) below nil) (leaf_with s l b.kind))
     (option_map (λ f. node (record b { last = l.next }) f nil) (container_with s l below (goes_on s below) b.kind))
     (mapped_there (λ kind. node (record b { last = l.next; kind = kind }) below nil) (leaf_with s l b.kind) (λ a. refl))
     (mapped_there (λ f. node (record b { last = l.next }) f nil) (container_with s l below (goes_on s below) b.kind)
-    (λ a. refl)))
+    (λ a. refl))))
     (mapped_there (node b below) (goes_on s after l) (λ a. refl))
 
 begun_there : (f : LineLeft → Forest Block) (l : SourceLine) (b : line.Beginning) → is_nil (new_blocks f l b) ≡ false

@@ -25,6 +25,7 @@ no_line_more s l (was.indented_leaf lines) inside is = cc
 no_line_more s l (was.fenced_leaf opening closed lines) inside is = cc
 no_line_more s l (was.html_leaf kind closed lines) inside is = cc
 no_line_more s l (was.metadata_leaf kind closed lines) inside is = cc
+no_line_more s l (was.table_leaf ended head alignments rows) inside is = cc
 no_line_more s l was.quote_container inside is = cc
 no_line_more s l (was.alert_container kind) inside is = cc
 no_line_more s l (was.list_container marker) inside is = cc

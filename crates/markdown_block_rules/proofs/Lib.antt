@@ -5,3 +5,4 @@ mod LeafLawsLemmas
 mod LineLawsLemmas
 mod ListLawsLemmas
 mod QuotedLinesLemmas
+mod TableLawsLemmas

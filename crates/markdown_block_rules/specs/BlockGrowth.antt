@@ -2,7 +2,7 @@
 -- block begins, or the line is blank (CommonMark, chapters 4 and 5, and the appendix on parsing, phase 1). Nothing is
 -- known of the tree but the tree: the blocks that are open are those on its right edge.
 use Rattle.std.specs.Prelude.{ℕ, zero, suc, Bool, true, false, not, ◌==◌, ◌&&◌, ◌||◌, nat_lt, List, [], ◌∷◌}
-use Rattle.std.specs.Prelude.{◌++◌, Option, Some, None, length, unwrap_or, codes, if◌then◌else◌}
+use Rattle.std.specs.Prelude.{◌+◌, ◌++◌, nat_le, Option, Some, None, length, unwrap_or, codes, if◌then◌else◌}
 use Rattle.std.specs.List.{fold}
 use Rattle.std.specs.Option.{option_map, option_or}
 use Rattle.markdown_base.specs.Forest.{Forest, nil, node}
@@ -12,6 +12,7 @@ use Rattle.markdown_lines.specs.declared.fence.Fence.{Fence}
 use Rattle.markdown_lines.specs.declared.fence.OpeningFence.{OpeningFence}
 use Rattle.markdown_lines.specs.declared.html_kind.HtmlKind.{HtmlKind}
 use Rattle.markdown_lines.specs.declared.list_marker.ListMarker.{ListMarker}
+use Rattle.markdown_base.specs.declared.tag.Alignment.{Alignment}
 use Rattle.markdown_base.specs.declared.tag.BlockQuoteKind.{BlockQuoteKind}
 use Rattle.markdown_base.specs.declared.tag.HeadingLevel.{HeadingLevel}
 use Rattle.markdown_base.specs.declared.tag.MetadataBlockKind.{MetadataBlockKind}
@@ -27,6 +28,8 @@ use Rattle.markdown_scan.specs.LineStart.{LineLeft, leading_space, past_marker}
 use Rattle.markdown_lines.specs.MetadataBlocks.{closes_metadata}
 use Rattle.markdown_lines.specs.SourceLines.{SourceLine, cut, is_blank_rest, lines_of_text, past_white, rest_inside}
 use Rattle.markdown_lines.specs.SourceLines.{end_of_line, stop_of, text_line}
+use Rattle.markdown_block_rules.specs.TableLines.{all_added, alignments_for, further_line, is_row, most_added}
+use Rattle.markdown_block_rules.specs.TableLines.{reads_tables}
 
 -- what a block is; a blank line is kept where it is, since it may separate blocks
 pub data Kind : Type 0 where
@@ -40,6 +43,8 @@ pub data Kind : Type 0 where
   fenced_leaf : OpeningFence → Bool → List SourceLine → Kind
   html_leaf : HtmlKind → Bool → List SourceLine → Kind
   metadata_leaf : MetadataBlockKind → Bool → List SourceLine → Kind
+  -- whether it is ended, its head, the alignments of its columns, and its rows
+  table_leaf : Bool → SourceLine → List Alignment → List SourceLine → Kind
   quote_container : Kind
   alert_container : BlockQuoteKind → Kind
   list_container : ListMarker → Kind
@@ -128,7 +133,7 @@ closes s l opening =
 -- a paragraph with one more line, where that begins nothing else: as text, or as the heading that its underline makes
 -- of it, unless it holds definitions only
 abbrev pub paragraph_with : Source → SourceLine → List SourceLine → Beginning → Option Kind
-paragraph_with s l lines line.begins_text = Some (paragraph_leaf (lines ++ text_line l ∷ []))
+paragraph_with s l lines line.begins_text = Some (paragraph_leaf (lines ++ further_line s l ∷ []))
 paragraph_with s l lines (line.begins_underline level) =
     if length (divided (entity_names s.options) s.text lines).lines == 0
     then None else Some (underlined_leaf level lines)
@@ -152,7 +157,41 @@ leaf_with s l (metadata_leaf kind closed lines) =
     if closed then None
     else if closes_metadata kind l.left.bytes then Some (metadata_leaf kind true lines)
     else Some (metadata_leaf kind false (lines ++ l ∷ []))
+leaf_with s l (table_leaf ended head alignments rows) =
+    if ended || is_blank_rest l || not (is_row s (text_line l)) then None
+    else Some (table_leaf false head alignments (rows ++ text_line l ∷ []))
 leaf_with s l other = None
+
+-- the lines of a paragraph before a table's head, of which the last ends at a byte offset
+abbrev pub cut_paragraph : Block → ℕ → List SourceLine → Forest Block
+cut_paragraph b end [] = nil
+cut_paragraph b end (l ∷ lines) = node (record b { last = end; kind = paragraph_leaf (l ∷ lines) }) nil nil
+
+-- a table with these alignments, after the lines before it; nothing where there are no alignments
+abbrev pub table_after : SourceLine → Forest Block → SourceLine → Option (List Alignment) → Option (Forest Block)
+table_after l before head None = None
+table_after l before head (Some alignments) = Some (followed_by before (node (record {
+  start = head.left.scanned;
+  first = head.next;
+  last = l.next;
+  kind = table_leaf false head alignments [];
+}) nil nil))
+
+-- The last of some lines as the head of a table, of which a line is the delimiter row; `before` are the lines before
+-- these, and the last of those ends at `end`.
+abbrev pub table_of_lines : Source → SourceLine → Block → (end : ℕ) → (before lines : List SourceLine)
+    → Option (Forest Block)
+table_of_lines s l b end before [] = None
+table_of_lines s l b end before (head ∷ []) =
+    table_after l (cut_paragraph b end before) head (alignments_for s l before head)
+table_of_lines s l b end before (first ∷ next ∷ lines) =
+    table_of_lines s l b first.next (before ++ first ∷ []) (next ∷ lines)
+
+-- a paragraph that a line makes end with a table, as its delimiter row
+abbrev pub table_with : Source → SourceLine → Block → Kind → Option (Forest Block)
+table_with s l b (paragraph_leaf lines) =
+    if is_blank_rest l || not (reads_tables s) then None else table_of_lines s l b b.first [] lines
+table_with s l b other = None
 
 -- the rest of a line after what a container takes of it, where the container goes on in it
 abbrev pub past_quote : LineLeft → Option LineLeft
@@ -229,8 +268,9 @@ container_with s l below inside other = None
 abbrev pub block_with : Source → SourceLine → Block → Forest Block → (SourceLine → Option (Forest Block))
     → Option (Forest Block)
 block_with s l b below inside =
-    option_or (option_map (λ kind. node (record b { last = l.next; kind = kind }) below nil) (leaf_with s l b.kind))
-    (option_map (λ f. node (record b { last = l.next }) f nil) (container_with s l below inside b.kind))
+    option_or (table_with s l b b.kind)
+    (option_or (option_map (λ kind. node (record b { last = l.next; kind = kind }) below nil) (leaf_with s l b.kind))
+    (option_map (λ f. node (record b { last = l.next }) f nil) (container_with s l below inside b.kind)))
 
 -- blocks with one more line, where the last of them goes on in it
 unfoldable pub goes_on : Source → Forest Block → SourceLine → Option (Forest Block)
@@ -243,6 +283,37 @@ goes_on s (node b below after) l =
 abbrev pub with_line : Source → Forest Block → SourceLine → Forest Block
 with_line s blocks l = unwrap_or (goes_on s blocks l) (followed_by blocks (line_block s l))
 
+-- the cells that are added to the rows of a block, and of some blocks
+abbrev pub added_in_block : Kind → ℕ
+added_in_block (table_leaf ended head alignments rows) = all_added (length alignments) rows
+added_in_block other = 0
+
+abbrev pub added_in : Forest Block → ℕ
+added_in nil = 0
+added_in (node b below after) = added_in_block b.kind + (added_in below + added_in after)
+
+abbrev pub ended : Kind → Kind
+ended (table_leaf done head alignments rows) = table_leaf true head alignments rows
+ended other = other
+
+-- blocks of which the last, at any depth, is ended where it is a table
+abbrev pub with_ended_table : Forest Block → Forest Block
+with_ended_table nil = nil
+with_ended_table (node b below after) =
+    if is_nil after then node (record b { kind = ended b.kind }) (with_ended_table below) nil
+    else node b below (with_ended_table after)
+
+-- blocks that a line makes of others, or what they are where it is no row: a row adds no more cells to a text than may be
+-- added
+abbrev pub within_limit : Source → SourceLine → (before grown : Forest Block) → Forest Block
+within_limit s l before grown =
+    if nat_le (added_in grown) (most_added s.text) then grown else with_line s (with_ended_table before) l
+
+-- blocks of a text with one more line of it
+abbrev pub with_next_line : Source → Forest Block → SourceLine → Forest Block
+with_next_line s blocks l =
+    if reads_tables s then within_limit s l blocks (with_line s blocks l) else with_line s blocks l
+
 -- the blocks of a text
 abbrev pub blocks_of : Source → Forest Block
-blocks_of s = fold (with_line s) nil (lines_of_text s.text)
+blocks_of s = fold (with_next_line s) nil (lines_of_text s.text)

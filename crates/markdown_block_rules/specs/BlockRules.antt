@@ -1,7 +1,7 @@
 -- The block structure of a text: the tree of its blocks with their ranges and with the open items of their lines, its
 -- link reference definitions, and its footnotes. All of it is read off the blocks that the lines made.
-use Rattle.std.specs.Prelude.{ℕ, ◌+◌, ◌-◌, Bool, true, false, not, ◌||◌, ◌&&◌, ◌==◌, List, [], ◌∷◌, ◌++◌, Option, Some}
-use Rattle.std.specs.Prelude.{None, slice_range, take, if◌then◌else◌}
+use Rattle.std.specs.Prelude.{ℕ, zero, suc, ◌+◌, ◌-◌, length, take, Bool, true, false, not, ◌||◌, ◌&&◌, ◌==◌}
+use Rattle.std.specs.Prelude.{List, [], ◌∷◌, ◌++◌, Option, Some, None, slice_range, if◌then◌else◌}
 use Rattle.std.specs.Option.{option_map}
 use Rattle.markdown_base.specs.Forest.{Forest, nil, node}
 use Rattle.markdown_lines.specs.declared.braces.Braces.{Braces}
@@ -9,14 +9,17 @@ use Rattle.markdown_lines.specs.declared.fence.OpeningFence.{OpeningFence}
 use Rattle.markdown_base.specs.declared.item.ItemBody.{ItemBody}
 use Rattle.markdown_base.specs.declared.item.ItemBody.TheVariants as body
 use Rattle.markdown_base.specs.declared.options.Options.{Options}
+use Rattle.markdown_base.specs.declared.tag.Alignment.{Alignment}
 use Rattle.markdown_base.specs.declared.tag.HeadingLevel.{HeadingLevel}
+use Rattle.markdown_lines.specs.declared.table_row.Cell.{Cell}
 use Rattle.markdown_lines.specs.BlockBeginnings.{Source}
 use Rattle.markdown_block_rules.specs.BlockGrowth as was
 use Rattle.markdown_block_rules.specs.BlockGrowth.{Block, Kind, blocks_of, followed_by}
 use Rattle.markdown_lines.specs.DefinitionRules.{Definition, divided}
 use Rattle.markdown_lines.specs.HeadingAttributes.{attributes_read, braces_from, braces_in, heading_of_words, words_in}
-use Rattle.markdown_block_rules.specs.LineContents.{Shown, content_items, lines_items, plain_item}
+use Rattle.markdown_block_rules.specs.LineContents.{Shown, cell_items, content_items, lines_items, plain_item}
 use Rattle.markdown_block_rules.specs.LineContents.{source_lines}
+use Rattle.markdown_block_rules.specs.TableLines.{cells_added, cells_of}
 use Rattle.markdown_items.specs.LineItems.{item_extensions}
 use Rattle.markdown_lines.specs.SourceLines.{SourceLine, is_blank_rest, without_empty}
 use Rattle.markdown_lines.specs.TaskMarkers.{past_task, task_read}
@@ -104,7 +107,47 @@ chain_of (a ∷ items) = node a nil (chain_of items)
 -- a block of a body, and of the text that it refers to
 abbrev pub shown_over : ℕ → ℕ → ItemBody → Option (List ℕ) → Forest Shown → Forest Shown
 shown_over start end b text below =
-    node (record { item = record { start = start; end = end; body = b }; text = text; heading = None }) below nil
+    node (record {
+      item = record { start = start; end = end; body = b };
+      text = text;
+      heading = None;
+      alignments = [];
+    }) below nil
+
+-- cells of a row, with their items
+abbrev pub shown_cells : Source → List Cell → Forest Shown
+shown_cells s [] = nil
+shown_cells s (cell ∷ cells) =
+    node (plain_item cell.start cell.end body.TableCell)
+    (chain_of (cell_items s.text (item_extensions s.options) cell.from cell.to)) (shown_cells s cells)
+
+-- empty cells at a byte offset
+abbrev pub empty_cells : ℕ → ℕ → Forest Shown
+empty_cells zero at = nil
+empty_cells (suc count) at = node (plain_item at at body.TableCell) nil (empty_cells count at)
+
+-- the cells of a row of a table of this many columns: those beyond them are dropped, and those that it lacks are empty
+-- ones at its end
+abbrev pub cells_shown : Source → (columns : ℕ) → SourceLine → Forest Shown
+cells_shown s columns l =
+    followed_by (shown_cells s (take columns (cells_of l))) (empty_cells (cells_added columns l) l.next)
+
+abbrev pub shown_row : Source → (columns : ℕ) → ItemBody → SourceLine → Forest Shown
+shown_row s columns b l = shown_over l.left.scanned l.next b None (cells_shown s columns l)
+
+abbrev pub shown_rows : Source → (columns : ℕ) → List SourceLine → Forest Shown
+shown_rows s columns [] = nil
+shown_rows s columns (l ∷ rows) = followed_by (shown_row s columns body.TableRow l) (shown_rows s columns rows)
+
+abbrev pub shown_table : Source → (start end : ℕ) → SourceLine → List Alignment → List SourceLine → Forest Shown
+shown_table s start end head alignments rows =
+    node (record {
+      item = record { start = start; end = end; body = body.Table (record { 0 = 0 }) };
+      text = None;
+      heading = None;
+      alignments = alignments;
+    })
+    (followed_by (shown_row s (length alignments) body.TableHead head) (shown_rows s (length alignments) rows)) nil
 
 -- What is around some blocks: whether they are directly in an item of a tight list; and where the first line of the
 -- item ends that they are directly in, or 0.
@@ -143,6 +186,7 @@ shown_heading s start end level (Some braces) below =
       item = record { start = start; end = end; body = body.Heading level (Some (record { 0 = 1 })) };
       text = None;
       heading = Some (heading_of_words level (words_in s.text braces));
+      alignments = [];
     }) below nil
 
 -- the braces at the end of the last line of a setext heading, where attributes are read, by byte offsets
@@ -200,6 +244,8 @@ shown_block s around b end below inside (was.html_leaf kind closed lines) =
     shown_over b.start end body.HtmlBlock None (chain_of (source_lines body.Html lines))
 shown_block s around b end below inside (was.metadata_leaf kind closed lines) =
     shown_over b.start end (body.MetadataBlock kind) None (chain_of (source_lines (body.Text false) lines))
+shown_block s around b end below inside (was.table_leaf ended head alignments rows) =
+    shown_table s b.start end head alignments rows
 shown_block s around b end below inside was.quote_container =
     shown_over b.start end (body.BlockQuote None) None (inside in_no_item)
 shown_block s around b end below inside (was.alert_container kind) =

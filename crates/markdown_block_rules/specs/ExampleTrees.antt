@@ -31,6 +31,7 @@ naming_at depth start end body text = (
     item = record { start = start; end = end; body = body (record { 0 = 0 }) };
     text = Some text;
     heading = None;
+    alignments = [];
   },
 )
 

@@ -32,6 +32,7 @@ ends_with_its_line (was.indented_leaf lines) = false
 ends_with_its_line (was.fenced_leaf opening closed lines) = false
 ends_with_its_line (was.html_leaf kind closed lines) = false
 ends_with_its_line (was.metadata_leaf kind closed lines) = false
+ends_with_its_line (was.table_leaf ended head alignments rows) = false
 ends_with_its_line was.quote_container = false
 ends_with_its_line (was.alert_container kind) = false
 ends_with_its_line (was.list_container marker) = false

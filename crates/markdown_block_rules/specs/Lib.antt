@@ -1,4 +1,5 @@
 -- what a text's blocks are
+pub mod TableLines
 pub mod BlockGrowth
 pub mod LineContents
 pub mod BlockRules
@@ -7,6 +8,8 @@ pub mod LineLaws
 pub mod BlockLaws
 pub mod ListLaws
 pub mod LeafLaws
+-- what the tables that are read have
+pub mod TableLaws
 -- CommonMark's examples
 pub mod ExampleTrees
 pub mod ExamplesOfLines

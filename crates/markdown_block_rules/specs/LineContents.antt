@@ -1,6 +1,6 @@
 -- What the content of lines consists of: inline items, open or settled, and the breaks between lines.
 use Rattle.std.specs.Prelude.{ℕ, zero, suc, ◌+◌, ◌-◌, true, false, not, ◌==◌, nat_le, nat_lt, List, [], ◌∷◌}
-use Rattle.std.specs.Prelude.{◌++◌, Option, Some, None, length, slice_index, replicate, encode_utf8}
+use Rattle.std.specs.Prelude.{◌++◌, Option, Some, None, length, slice_index, slice_range, replicate, encode_utf8}
 use Rattle.std.specs.Prelude.{if◌then◌else◌}
 use Rattle.markdown_base.specs.Bytes.{backslash, space}
 use Rattle.markdown_base.specs.Event.{HeadingView}
@@ -10,6 +10,7 @@ use Rattle.markdown_items.specs.declared.found.Line.{Line}
 use Rattle.markdown_base.specs.declared.item.Item.{Item}
 use Rattle.markdown_base.specs.declared.item.ItemBody.{ItemBody}
 use Rattle.markdown_base.specs.declared.item.ItemBody.TheVariants as body
+use Rattle.markdown_base.specs.declared.tag.Alignment.{Alignment}
 use Rattle.markdown_items.specs.Dashes.{dashes_for, dashes_in_utf8, ellipsis}
 use Rattle.markdown_items.specs.Found.{found_at}
 use Rattle.markdown_items.specs.FoundView as found
@@ -20,18 +21,20 @@ use Rattle.markdown_lines.specs.LineBreaks.{break_after}
 use Rattle.markdown_lines.specs.LineBytes.{without_end}
 use Rattle.markdown_lines.specs.Lines.{is_space_or_tab}
 use Rattle.markdown_lines.specs.SourceLines.{SourceLine}
+use Rattle.markdown_lines.specs.TableRows.{piece_length}
 
--- an item, and the text that its body refers to, if it refers to one: its number is 0 here; or the heading that it is
--- with the attributes that its body refers to, whose number is 1
+-- an item, and what its body refers to by a number, in place of which there is 0 here (1 for a heading): a text; a heading
+-- with its attributes; or the alignments of a table's columns
 pub record Shown : Type 0 where
   pub item : Item
   pub text : Option (List ℕ)
   pub heading : Option HeadingView
+  pub alignments : List Alignment
 
 -- an item that refers to no text
 abbrev pub plain_item : ℕ → ℕ → ItemBody → Shown
 plain_item start end b =
-    record { item = record { start = start; end = end; body = b }; text = None; heading = None }
+    record { item = record { start = start; end = end; body = b }; text = None; heading = None; alignments = [] }
 
 -- a text in place of the bytes of a range
 abbrev pub synthesized_item : ℕ → ℕ → List ℕ → Shown
@@ -39,6 +42,7 @@ synthesized_item start end text = record {
   item = record { start = start; end = end; body = body.SynthesizeText (record { 0 = 0 }) };
   text = Some text;
   heading = None;
+  alignments = [];
 }
 
 -- the text from one byte offset up to another, if there is any
@@ -90,6 +94,19 @@ items_read_from (suc n) text line from at =
 abbrev pub content_items : List ℕ → Extensions → (start end : ℕ) → List Shown
 content_items text extensions start end =
     items_read_from (suc (end - start)) text (record { start = start; end = end; extensions = extensions }) start start
+
+-- The items of a cell's content, read in at most `n` pieces. Between two pieces there are two backslashes that are in no
+-- item, since a `|` is directly after them.
+unfoldable pub pieces_items : ℕ → List ℕ → Extensions → (start end : ℕ) → List Shown
+pieces_items zero text extensions start end = []
+pieces_items (suc n) text extensions start end =
+    let stop = start + piece_length (slice_range text start end) in
+    content_items text extensions start stop
+    ++ (if nat_lt stop end then pieces_items n text extensions (stop + 2) end else [])
+
+-- the items of a cell's content
+abbrev pub cell_items : List ℕ → Extensions → (start end : ℕ) → List Shown
+cell_items text extensions start end = pieces_items (suc (end - start)) text extensions start end
 
 -- the break after a line whose content begins at a byte offset and has these bytes
 abbrev pub break_between : ℕ → List ℕ → LineBreak

@@ -1,5 +1,5 @@
 -- What a line is, whatever ends it (CommonMark 2.1).
-use Rattle.std.specs.Prelude.{◌≡◌, ℕ, ◌+◌, Bool, true, not, List, ◌++◌, Some, length}
+use Rattle.std.specs.Prelude.{◌≡◌, ℕ, ◌+◌, Bool, true, not, List, ◌++◌, Some, None, length}
 use Rattle.std.specs.List.{list_all}
 use Rattle.markdown_scan.specs.LineEnd.{line_ending}
 use Rattle.markdown_lines.specs.Lines.{is_line_ending}
@@ -11,8 +11,12 @@ is_in_line b = not (is_line_ending b)
 
 -- a line with this content, after which the next line begins at a byte offset
 abbrev pub content_line : ℕ → List ℕ → ℕ → SourceLine
-content_line at content next =
-    record { left = record { scanned = at; owed = 0; column = 0; bytes = content }; next = next; outermost = true }
+content_line at content next = record {
+  left = record { scanned = at; owed = 0; column = 0; bytes = content };
+  next = next;
+  outermost = true;
+  indent = None;
+}
 
 -- 2.1. Bytes that are no line endings, and a line ending, are a line with these bytes, be it a line feed, a carriage
 -- return that no line feed follows, or both.

@@ -11,6 +11,7 @@ ghost use Rattle.markdown_block_rules.specs.LeafLaws.{BlankLineEndsHtml, BlankLi
 ghost use Rattle.markdown_block_rules.specs.LeafLaws.{MetadataGoesOn, ClosingLineClosesMetadata, ClosedMetadataEnds};
 ghost use Rattle.markdown_block_rules.specs.LineLaws.{LineIsItsContent};
 ghost use Rattle.markdown_block_rules.specs.ListLaws.{ListIsLooseAsSaid};
+ghost use Rattle.markdown_block_rules.specs.TableLaws.{RowsAreEven};
 
 /// States that bytes without line endings, and a line ending of any kind, are a line with these bytes (2.1).
 pub fn a_line_is_its_content()
@@ -134,4 +135,9 @@ pub fn closed_metadata_ends_before_a_line()
 /// States that a blank line ends a paragraph (4.8).
 pub fn a_blank_line_ends_a_paragraph()
     ensures { BlankLineEndsParagraph }
+{}
+
+/// States that each row of a table, its head included, has as many cells as the table has alignments.
+pub fn rows_are_even()
+    ensures { RowsAreEven }
 {}

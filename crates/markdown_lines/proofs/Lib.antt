@@ -5,6 +5,7 @@ pub mod AtxHeadingsLemmas
 pub mod HeadingAttributesLemmas
 pub mod CodeFencesLemmas
 pub mod ListMarkersLemmas
+pub mod TableRowsLemmas
 pub mod ThematicBreaksLemmas
 pub mod HtmlKindsLemmas
 pub mod BlockStartsLemmas

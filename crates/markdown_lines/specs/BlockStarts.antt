@@ -45,6 +45,7 @@ line_at reader position = record {
   left = left_at reader position;
   next = reader.next;
   outermost = reader.outermost && (position.at == reader.start);
+  indent = None;
 }
 
 -- what a line begins, and nothing where it is blank

@@ -9,6 +9,7 @@ pub mod CodeFences
 pub mod HtmlBeginnings
 pub mod HtmlKinds
 pub mod ListMarkers
+pub mod TableRows
 pub mod ThematicBreaks
 -- which extensions are read
 pub mod ExtendedOnly

@@ -1,6 +1,6 @@
 -- The lines of a text (CommonMark 2.1), and what is left of a line inside some containers.
-use Rattle.std.specs.Prelude.{ℕ, zero, suc, ◌+◌, ◌-◌, Bool, true, false, not, ◌==◌, List, [], ◌∷◌, length, take, drop}
-use Rattle.std.specs.Prelude.{if◌then◌else◌}
+use Rattle.std.specs.Prelude.{ℕ, zero, suc, ◌+◌, ◌-◌, Bool, true, false, not, ◌==◌, List, [], ◌∷◌, Option, None}
+use Rattle.std.specs.Prelude.{length, take, drop, if◌then◌else◌}
 use Rattle.std.specs.List.{list_all, prefix_len}
 use Rattle.markdown_scan.specs.LineStart.{LineLeft, leading_space}
 use Rattle.markdown_lines.specs.Lines.{ending_length, is_line_ending, is_space_or_tab}
@@ -11,6 +11,8 @@ pub record SourceLine : Type 0 where
   pub left : LineLeft
   pub next : ℕ
   pub outermost : Bool
+  -- of a further line of a paragraph that it reaches, where tables are read: the columns of space before it, at most 4
+  pub indent : Option ℕ
 
 -- the byte offset at which a line's content ends
 abbrev pub stop_of : SourceLine → ℕ
@@ -24,6 +26,7 @@ first_line at bytes =
       left = record { scanned = at; owed = 0; column = 0; bytes = take content bytes };
       next = at + content + ending_length (drop content bytes);
       outermost = true;
+      indent = None;
     }
 
 -- at most `n` lines from a byte offset on

@@ -21,5 +21,6 @@ pub mod list_marker;
 pub mod metadata_block;
 pub mod position;
 pub mod space;
+pub mod table_row;
 pub mod task_marker;
 pub mod thematic_break;

@@ -22,6 +22,7 @@ use markdown_builder::open_block::OpenBlock;
 use markdown_lines::atx_heading::AtxHeading;
 use markdown_lines::block_start::{Before, BlockStart, ItemStart};
 use markdown_lines::bytes::{byte_at, bytes_of, is_white};
+use markdown_lines::extended_only::is_read;
 use markdown_lines::fence::OpeningFence;
 use markdown_lines::html_kind::HtmlKind;
 use markdown_lines::line::{Line, is_space_or_tab, line_from};
@@ -44,17 +45,19 @@ struct LineRest<'a> {
     before: Before,
 }
 
-/// Returns whether a line with this first byte after white space may begin a block other than a paragraph.
+/// Returns whether a line with this first byte after white space may begin a block other than a paragraph, or be the
+/// delimiter row of a table.
 fn may_begin_block(byte: u8) -> bool {
     match byte {
         b'>' | b'#' | b'`' | b'~' | b'<' | b'[' => true,
         b'=' | b'-' | b'_' | b'*' | b'+' | b'0'..=b'9' => true,
+        b'|' | b':' => true,
         _ => false,
     }
 }
 
-/// Returns whether the byte at an offset in a line is not white space and begins no block other than a paragraph. In
-/// most lines the first byte is a letter.
+/// Returns whether the byte at an offset in a line is not white space and begins no block other than a paragraph, nor a
+/// delimiter row. In most lines the first byte is a letter.
 fn begins_text(text: &str, at: usize, stop: usize) -> bool {
     at < stop
         && match byte_at(text, at) {
@@ -118,6 +121,10 @@ impl<'a> Pass<'a> {
         }
         if reached.content >= line.stop {
             return self.read_blank(line, reached);
+        }
+        if reached.all && self.is_in_table() && self.add_row(line, reached.content, ahead)? {
+            self.see_content(line);
+            return Ok(());
         }
         let outermost = are_lists(self.placing.open_blocks(), reached.depth);
         let rest = LineRest {
@@ -213,6 +220,9 @@ impl<'a> Pass<'a> {
     fn read_block(&mut self, rest: &mut LineRest<'a>) -> Result<bool, AllocError>
         ensures { IfOk result (λ _. self.new.placing.builder.text ≡ self.old.placing.builder.text) }
     {
+        if self.reads_table(rest)? {
+            return Ok(false);
+        }
         let begun = rest.reader.beginning(rest.position, rest.before)?;
         let at = begun.at;
         match begun.start {
@@ -229,6 +239,18 @@ impl<'a> Pass<'a> {
             BlockStart::ThematicBreak => self.read_break(rest, at),
             BlockStart::Item(item) => self.read_item(rest, at, item),
             BlockStart::Metadata(kind) => self.read_metadata(rest, kind),
+        }
+    }
+
+    /// Reads the delimiter row of a table, where tables are read, and returns whether the rest of the line is one.
+    fn reads_table(&mut self, rest: &LineRest<'a>) -> Result<bool, AllocError>
+        ensures { IfOk result (λ _. self.new.placing.builder.text ≡ self.old.placing.builder.text) }
+    {
+        match rest.before {
+            Before::Reached if is_read(Options::ENABLE_TABLES, self.options) => {
+                self.begin_table(rest.line, rest.position)
+            }
+            _ => Ok(false),
         }
     }
 
@@ -442,11 +464,14 @@ fn place_all<'a>(alloc: Global, text: &'a str, options: Options) -> Result<Placi
 /// paragraph. In GitHub's style it continues in lines that begin with 4 columns of space, in blank lines and in lazy
 /// continuation lines; in the old style up to the first blank line.
 ///
-/// By the extended entry, and only by that, two more options change blocks. With task lists enabled, a paragraph that
-/// begins an item on the line of its list marker may begin with a TaskListMarker over `[ ]` or `[x]`, before white
-/// space, which is in no item. With GFM's alerts enabled, a block quote whose first line is `[!note]`, or another
-/// kind, in any case, is of this kind; that line counts as the first of a paragraph and is in no item. The other options
-/// do not change blocks.
+/// By the extended entry, and only by that, more options change blocks. With tables enabled, a delimiter row makes the
+/// line before it, the last of a paragraph, the head of a table, whose rows have as many cells. With task lists enabled,
+/// a paragraph that begins an item on the line of its list marker may begin with a TaskListMarker over `[ ]` or `[x]`,
+/// before white space, which is in no item. With GFM's alerts enabled, a block quote whose first line is `[!note]`, or
+/// another kind, in any case, is of this kind; that line counts as the first of a paragraph and is in no item. With
+/// heading attributes enabled, `{..}` at the end of a heading's last line is in no item, and its words are the heading's
+/// attributes. With metadata blocks of a kind enabled, a line `---` or `+++` directly under the root, and the lines up to
+/// one that closes it, are a MetadataBlock.
 pub fn blocks<'a>(
     alloc: Global,
     text: &'a str,

@@ -9,5 +9,7 @@ mod paragraph;
 mod pass;
 mod placing;
 mod stretches;
+mod table_state;
+mod tables;
 
 pub use block_pass::{blocks, misfits};

@@ -11,6 +11,7 @@ ghost use Rattle.markdown_plain.specs.Paragraphs.{has_paragraph};
 
 use crate::looseness::Looseness;
 use crate::placing::Placing;
+use crate::table_state::Tables;
 use markdown_base::item::ItemBody;
 use markdown_base::options::Options;
 use markdown_base::tag::MetadataBlockKind;
@@ -48,6 +49,7 @@ pub struct Pass<'a> {
     pub looseness: Looseness,
     /// the byte offset from which on all lines that were read are blank for all open blocks
     pub placed: usize,
+    pub tables: Tables,
 }
 
 impl<'a> Pass<'a> {
@@ -69,6 +71,7 @@ impl<'a> Pass<'a> {
             leaf: LeafKind::Indented,
             looseness: Looseness::new(alloc),
             placed: 0,
+            tables: Tables::new(text.as_bytes().len()),
         })
     }
 

@@ -11,7 +11,7 @@ use markdown_base::block_parts::HeadingAttributes;
 use markdown_base::cow_str::CowStr;
 use markdown_base::item::ItemBody;
 use markdown_base::options::Options;
-use markdown_base::tag::HeadingLevel;
+use markdown_base::tag::{Alignment, HeadingLevel};
 use markdown_builder::builder::Builder;
 use markdown_builder::open_block::OpenBlock;
 use markdown_items::items;
@@ -229,6 +229,29 @@ impl<'a> Placing<'a> {
         }
         self.stretches.enter(self.builder.open_blocks())?;
         match self.builder.open_footnote(name, listed) {
+            Ok(()) => Ok(()),
+            Err(error) => {
+                self.stretches.forget();
+                Err(error)
+            }
+        }
+    }
+
+    /// Opens a table at the current byte offset, with the alignments of its columns.
+    pub fn open_table(&mut self, alignments: Vec<Alignment>) -> Result<(), AllocError>
+        ensures text { IfOk result (λ _. self.new.builder.text ≡ self.old.builder.text) }
+        ensures opens { IfOk result (λ _. IfFitted self.old self.new ((ix : _)
+            × Opens self.old.builder self.new.builder (body.Table ix))) }
+        ensures fits { IfOk result (λ _. self.old.builder.leaf ≡ false
+            → self.new.misfits ≡ self.old.misfits) }
+    {
+        if self.builder.is_in_leaf() {
+            self.miss();
+            drop(alignments);
+            return Ok(());
+        }
+        self.stretches.enter(self.builder.open_blocks())?;
+        match self.builder.open_table(alignments) {
             Ok(()) => Ok(()),
             Err(error) => {
                 self.stretches.forget();

@@ -48,6 +48,8 @@ mod runs;
 #[cfg(test)]
 mod spans;
 #[cfg(test)]
+mod tables;
+#[cfg(test)]
 mod task_lists;
 #[cfg(test)]
 mod walks;

@@ -1,0 +1,318 @@
+//! Tables: how one begins at its delimiter row, and its rows. Functions that return a `Result` fail only where memory is
+//! refused.
+ghost use Rattle.std.specs.Prelude.{◌≡◌, ◌≤◌, false, true, length, IfOk};
+ghost use Rattle.std.specs.Str.{IsCharBoundary};
+ghost use Rattle.markdown_builder.specs.Bodies.{is_leaf, is_plain_block};
+ghost use Rattle.markdown_plain.specs.Fitting.{GoesOn, IfFitted};
+ghost use Rattle.markdown_plain.specs.Paragraphs.{IsPlacedTo};
+
+use crate::containers::reach;
+use crate::pass::{Pass, innermost};
+use crate::placing::Placing;
+use markdown_base::item::ItemBody;
+use markdown_base::options::Options;
+use markdown_base::tag::Alignment;
+use markdown_lines::block_start::{Before, BlockStart};
+use markdown_lines::bytes::{byte_at, bytes_of};
+use markdown_lines::definition::read_definition;
+use markdown_lines::extended_only::is_read;
+use markdown_lines::held_line::HeldLine;
+use markdown_lines::line::Line;
+use markdown_lines::line_reader::LineReader;
+use markdown_lines::lines_ahead::LinesAhead;
+use markdown_lines::position::Position;
+use markdown_lines::space::read_space;
+use markdown_lines::table_row::{Cell, cells_start, count_cells, delimiter_row, has_cut, next_cell, piece_length};
+use markdown_scan::entity::{EntityNames, entity_names};
+use std::alloc::{AllocError, Global};
+
+/// Appends the items of a cell's content, up to the byte offset `to`. Two backslashes that a `|` directly follows are in
+/// no item.
+fn add_cell_items(
+    placing: &mut Placing<'_>,
+    cell: Cell,
+    options: Options,
+) -> Result<(), AllocError>
+    ensures text { IfOk result (λ _. placing.new.builder.text ≡ placing.old.builder.text) }
+    ensures goes_on { IfOk result (λ _. IfFitted placing.old placing.new
+        (GoesOn placing.old.builder placing.new.builder placing.new.builder.at)) }
+{
+    let mut from = cell.from;
+    'pieces: while from < cell.to {
+        let length = piece_length(bytes_of(placing.text(), from, cell.to));
+        let end = from.saturating_add(length);
+        placing.step_to(from);
+        placing.add_items(end, options)?;
+        from = end.saturating_add(2);
+    }
+    Ok(())
+}
+
+/// Places a cell.
+#[tactic(auto, using(crate::proofs::OpenBlocksLemmas::outer_of_opened))]
+fn place_cell(placing: &mut Placing<'_>, cell: Cell, options: Options) -> Result<(), AllocError>
+    ensures text { IfOk result (λ _. placing.new.builder.text ≡ placing.old.builder.text) }
+    ensures placed { IfOk result (λ _. IfFitted placing.old placing.new
+        (IsPlacedTo placing.old.builder placing.new.builder cell.end)) }
+{
+    placing.step_to(cell.start);
+    placing.open_block(ItemBody::TableCell)?;
+    add_cell_items(placing, cell, options)?;
+    placing.step_to(cell.end);
+    placing.close();
+    Ok(())
+}
+
+/// Places an empty cell at a byte offset.
+#[tactic(auto, using(crate::proofs::OpenBlocksLemmas::outer_of_opened))]
+fn place_empty_cell(placing: &mut Placing<'_>, at: usize) -> Result<(), AllocError>
+    ensures text { IfOk result (λ _. placing.new.builder.text ≡ placing.old.builder.text) }
+    ensures placed { IfOk result (λ _. IfFitted placing.old placing.new
+        (IsPlacedTo placing.old.builder placing.new.builder at)) }
+{
+    placing.step_to(at);
+    placing.open_block(ItemBody::TableCell)?;
+    placing.close();
+    Ok(())
+}
+
+/// Places a line as a row of this many cells: those beyond them are in no item, and those that it lacks are empty ones at
+/// its end.
+#[tactic(auto, using(crate::proofs::OpenBlocksLemmas::outer_of_opened))]
+fn place_row(
+    placing: &mut Placing<'_>,
+    row: ItemBody,
+    line: HeldLine,
+    columns: usize,
+    options: Options,
+) -> Result<(), AllocError>
+    requires block { is_plain_block row ≡ true }
+    requires outside { is_leaf row ≡ false }
+    ensures text { IfOk result (λ _. placing.new.builder.text ≡ placing.old.builder.text) }
+    ensures placed { IfOk result (λ _. IfFitted placing.old placing.new
+        (IsPlacedTo placing.old.builder placing.new.builder line.next)) }
+{
+    let text = placing.text();
+    placing.step_to(line.start);
+    placing.open_block(row)?;
+    let mut start = cells_start(text, line.start, line.stop);
+    'cells: for _ in 0..columns {
+        match next_cell(text, start, line.stop) {
+            Some(cell) => {
+                place_cell(placing, cell, options)?;
+                start = cell.end.saturating_add(1);
+            }
+            None => {
+                place_empty_cell(placing, line.next)?;
+                start = line.stop;
+            }
+        }
+    }
+    placing.step_to(line.next);
+    placing.close();
+    Ok(())
+}
+
+/// Returns whether lines are definitions alone.
+fn are_definitions(
+    alloc: Global,
+    text: &str,
+    lines: &[HeldLine],
+    names: EntityNames,
+) -> Result<bool, AllocError> {
+    let mut taken: usize = 0;
+    'definitions: for _ in 0..lines.len() {
+        let Some(first) = lines.get(taken) else {
+            break;
+        };
+        if byte_at(text, first.start) != Some(b'[') {
+            return Ok(false);
+        }
+        match read_definition(alloc, text, &lines[taken..], first.start, names)? {
+            Some(found) => taken = found.lines.max(1).saturating_add(taken),
+            None => return Ok(false),
+        }
+    }
+    Ok(true)
+}
+
+/// Returns the alignments of the delimiter row from byte offset `at` on, in a line whose content ends before `stop`, for
+/// the line before it: it has a cut, and as many cells.
+fn alignments_for(
+    alloc: Global,
+    text: &str,
+    head: HeldLine,
+    at: usize,
+    stop: usize,
+) -> Result<Option<Vec<Alignment>>, AllocError> {
+    if !has_cut(bytes_of(text, head.start, head.stop)) {
+        return Ok(None);
+    }
+    let Some(alignments) = delimiter_row(alloc, text, at, stop)? else {
+        return Ok(None);
+    };
+    if count_cells(text, head.start, head.stop) == alignments.len() {
+        Ok(Some(alignments))
+    } else {
+        drop(alignments);
+        Ok(None)
+    }
+}
+
+/// Returns whether a delimiter row may begin with this byte.
+fn begins_delimiter_row(byte: Option<u8>) -> bool {
+    match byte {
+        Some(b'|' | b':' | b'-') => true,
+        _ => false,
+    }
+}
+
+impl<'a> Pass<'a> {
+    /// Returns whether a table is open.
+    pub fn is_in_table(&self) -> bool {
+        match innermost(&self.placing) {
+            Some(ItemBody::Table(_)) => true,
+            _ => false,
+        }
+    }
+
+    /// Makes the last line of the open paragraph the head of a table, if the rest of a line from a place on is the
+    /// delimiter row for it, and returns whether it is. The lines before the head end as a paragraph.
+    pub fn begin_table(&mut self, line: Line, position: Position) -> Result<bool, AllocError>
+        ensures { IfOk result (λ _. self.new.placing.builder.text ≡ self.old.placing.builder.text) }
+    {
+        let text = self.placing.text();
+        let space = read_space(text, position, line.stop, 4);
+        if space.columns >= 4 || !begins_delimiter_row(byte_at(text, space.after.at)) {
+            return Ok(false);
+        }
+        let Some(head) = self.last_line() else {
+            return Ok(false);
+        };
+        let Some(alignments) = alignments_for(self.alloc, text, head, space.after.at, line.stop)?
+        else {
+            return Ok(false);
+        };
+        if !self.may_be_head(head)? {
+            drop(alignments);
+            return Ok(false);
+        }
+        self.open_table(head, alignments)?;
+        self.placing.step_to(line.next);
+        Ok(true)
+    }
+
+    /// Returns the last line of the open paragraph.
+    fn last_line(&self) -> Option<HeldLine> {
+        match self.lines.last() {
+            Some(line) => Some(*line),
+            None => None,
+        }
+    }
+
+    /// Returns whether the last line of the open paragraph may be the head of a table, as far as the lines before it
+    /// matter: it is the first, or not lazy and begins with a `|`, or not lazy and after definitions alone. The last is
+    /// tried once in a paragraph.
+    fn may_be_head(&mut self, head: HeldLine) -> Result<bool, AllocError>
+        ensures { self.new ≡ record self.old { tables = self.new.tables } }
+    {
+        let before = self.lines.len().saturating_sub(1);
+        if before == 0 {
+            return Ok(true);
+        }
+        let line = Line {
+            start: self.lines[before - 1].next,
+            stop: head.stop,
+            next: head.next,
+        };
+        let reached = reach(self, line);
+        if !reached.all {
+            return Ok(false);
+        }
+        let text = self.placing.text();
+        let columns = read_space(text, reached.position, head.stop, 4).columns;
+        if columns < 4 && byte_at(text, head.start) == Some(b'|') {
+            return Ok(true);
+        }
+        self.is_after_definitions(before)
+    }
+
+    /// Returns whether the first lines of the open paragraph, of this number, are definitions alone, and false where that
+    /// was tried before.
+    fn is_after_definitions(&mut self, before: usize) -> Result<bool, AllocError>
+        requires { before ≤ length self.old.lines.items }
+        ensures { self.new ≡ record self.old { tables = self.new.tables } }
+    {
+        let first = match self.lines.first() {
+            Some(line) => Some(line.start),
+            None => None,
+        };
+        if self.tables.tried == first {
+            return Ok(false);
+        }
+        self.tables.tried = first;
+        let names = entity_names(self.options);
+        are_definitions(self.alloc, self.placing.text(), &self.lines[..before], names)
+    }
+
+    /// Opens a table with the last line of the open paragraph as its head; the lines before it end as a paragraph.
+    fn open_table(&mut self, head: HeldLine, alignments: Vec<Alignment>) -> Result<(), AllocError>
+        ensures { IfOk result (λ _. self.new.placing.builder.text ≡ self.old.placing.builder.text) }
+    {
+        let _head = self.lines.pop();
+        self.end_leaf()?;
+        let columns = alignments.len();
+        self.tables.columns = columns;
+        self.placing.step_to(head.start);
+        self.placing.open_table(alignments)?;
+        place_row(&mut self.placing, ItemBody::TableHead, head, columns, self.options)
+    }
+
+    /// Adds a row to the open table, if a line of the text whose lines are `ahead` is one, and returns whether it is. Its
+    /// first byte that is neither a space nor a tab is at the byte offset `start`.
+    pub fn add_row(
+        &mut self,
+        line: Line,
+        start: usize,
+        ahead: &mut LinesAhead<'a>,
+    ) -> Result<bool, AllocError>
+        requires { IsCharBoundary ahead.old.text.now line.stop }
+        ensures text { IfOk result (λ _. self.new.placing.builder.text
+            ≡ self.old.placing.builder.text) }
+        ensures ahead { ahead.new.text.now ≡ ahead.old.text.now }
+    {
+        let text = self.placing.text();
+        let count = count_cells(text, start, line.stop);
+        if count == 0 || self.ends_table(line, start, ahead)? || !self.tables.add(count) {
+            return Ok(false);
+        }
+        let row = HeldLine {
+            start,
+            stop: line.stop,
+            next: line.next,
+            owed: 0,
+        };
+        let columns = self.tables.columns;
+        place_row(&mut self.placing, ItemBody::TableRow, row, columns, self.options)?;
+        Ok(true)
+    }
+
+    /// Returns whether a line begins a block that ends a table, at the byte offset `start`: one that would end a
+    /// paragraph which the line continued lazily.
+    fn ends_table(
+        &self,
+        line: Line,
+        start: usize,
+        ahead: &mut LinesAhead<'a>,
+    ) -> Result<bool, AllocError>
+        requires { IsCharBoundary ahead.old.text.now line.stop }
+        ensures { ahead.new.text.now ≡ ahead.old.text.now }
+    {
+        let mut reader = LineReader::new(self.alloc, ahead, self.options, line, false);
+        let begun = reader.beginning(Position::new(start), Before::Lazy)?;
+        match begun.start {
+            BlockStart::Text => Ok(false),
+            _ => Ok(true),
+        }
+    }
+}
