@@ -22,17 +22,15 @@ use markdown_lines::line_reader::LineReader;
 use markdown_lines::lines_ahead::LinesAhead;
 use markdown_lines::position::Position;
 use markdown_lines::space::read_space;
-use markdown_lines::table_row::{Cell, cells_start, count_cells, delimiter_row, has_cut, next_cell, piece_length};
+use markdown_lines::table_row::{
+    Cell, cells_start, count_cells, delimiter_row, has_cut, next_cell, piece_length,
+};
 use markdown_scan::entity::{EntityNames, entity_names};
 use std::alloc::{AllocError, Global};
 
 /// Appends the items of a cell's content, up to the byte offset `to`. Two backslashes that a `|` directly follows are in
 /// no item.
-fn add_cell_items(
-    placing: &mut Placing<'_>,
-    cell: Cell,
-    options: Options,
-) -> Result<(), AllocError>
+fn add_cell_items(placing: &mut Placing<'_>, cell: Cell, options: Options) -> Result<(), AllocError>
     ensures text { IfOk result (λ _. placing.new.builder.text ≡ placing.old.builder.text) }
     ensures goes_on { IfOk result (λ _. IfFitted placing.old placing.new
         (GoesOn placing.old.builder placing.new.builder placing.new.builder.at)) }
@@ -252,7 +250,12 @@ impl<'a> Pass<'a> {
         }
         self.tables.tried = first;
         let names = entity_names(self.options);
-        are_definitions(self.alloc, self.placing.text(), &self.lines[..before], names)
+        are_definitions(
+            self.alloc,
+            self.placing.text(),
+            &self.lines[..before],
+            names,
+        )
     }
 
     /// Opens a table with the last line of the open paragraph as its head; the lines before it end as a paragraph.
@@ -265,7 +268,13 @@ impl<'a> Pass<'a> {
         self.tables.columns = columns;
         self.placing.step_to(head.start);
         self.placing.open_table(alignments)?;
-        place_row(&mut self.placing, ItemBody::TableHead, head, columns, self.options)
+        place_row(
+            &mut self.placing,
+            ItemBody::TableHead,
+            head,
+            columns,
+            self.options,
+        )
     }
 
     /// Adds a row to the open table, if a line of the text whose lines are `ahead` is one, and returns whether it is. Its
@@ -293,7 +302,13 @@ impl<'a> Pass<'a> {
             owed: 0,
         };
         let columns = self.tables.columns;
-        place_row(&mut self.placing, ItemBody::TableRow, row, columns, self.options)?;
+        place_row(
+            &mut self.placing,
+            ItemBody::TableRow,
+            row,
+            columns,
+            self.options,
+        )?;
         Ok(true)
     }
 
