@@ -292,19 +292,19 @@ abbrev pub added_in : Forest Block → ℕ
 added_in nil = 0
 added_in (node b below after) = added_in_block b.kind + (added_in below + added_in after)
 
-abbrev pub ended : Kind → Kind
-ended (table_leaf done head alignments rows) = table_leaf true head alignments rows
-ended other = other
+abbrev pub table_ended : Kind → Kind
+table_ended (table_leaf done head alignments rows) = table_leaf true head alignments rows
+table_ended other = other
 
 -- blocks of which the last, at any depth, is ended where it is a table
 abbrev pub with_ended_table : Forest Block → Forest Block
 with_ended_table nil = nil
 with_ended_table (node b below after) =
-    if is_nil after then node (record b { kind = ended b.kind }) (with_ended_table below) nil
+    if is_nil after then node (record b { kind = table_ended b.kind }) (with_ended_table below) nil
     else node b below (with_ended_table after)
 
--- blocks that a line makes of others, or what they are where it is no row: a row adds no more cells to a text than may be
--- added
+-- blocks that a line makes of others, or what they are where it is no row: a row adds no more cells to a text than may
+-- be added
 abbrev pub within_limit : Source → SourceLine → (before grown : Forest Block) → Forest Block
 within_limit s l before grown =
     if nat_le (added_in grown) (most_added s.text) then grown else with_line s (with_ended_table before) l

@@ -95,8 +95,8 @@ abbrev pub content_items : List ℕ → Extensions → (start end : ℕ) → Lis
 content_items text extensions start end =
     items_read_from (suc (end - start)) text (record { start = start; end = end; extensions = extensions }) start start
 
--- The items of a cell's content, read in at most `n` pieces. Between two pieces there are two backslashes that are in no
--- item, since a `|` is directly after them.
+-- The items of a cell's content, read in at most `n` pieces. Between two pieces there are two backslashes that are in
+-- no item, since a `|` is directly after them.
 unfoldable pub pieces_items : ℕ → List ℕ → Extensions → (start end : ℕ) → List Shown
 pieces_items zero text extensions start end = []
 pieces_items (suc n) text extensions start end =

@@ -1,5 +1,6 @@
 -- Tables, where the extended entry reads them: which line of a paragraph is the head of one, and which lines are rows.
-use Rattle.std.specs.Prelude.{ℕ, ◌-◌, ◌+◌, Bool, true, false, not, ◌==◌, ◌&&◌, ◌||◌, nat_lt, List, [], ◌∷◌, ◌++◌, Option}
+use Rattle.std.specs.Prelude.{ℕ, ◌-◌, ◌+◌, Bool, true, false, not, ◌==◌, ◌&&◌, ◌||◌, nat_lt, List, [], ◌∷◌}
+use Rattle.std.specs.Prelude.{◌++◌, Option}
 use Rattle.std.specs.Prelude.{Some, None, length, max, codes, if◌then◌else◌}
 use Rattle.std.specs.List.{list_all}
 use Rattle.std.specs.Option.{is_some}
@@ -36,8 +37,8 @@ is_near None = false
 is_near (Some columns) = nat_lt columns 4
 
 -- the alignments of the delimiter row that a further line of a paragraph is
-abbrev pub delimiter_of : Source → SourceLine → Option (List Alignment)
-delimiter_of s l = if is_near l.indent then delimiter_row_at s.text l.left.scanned (stop_of l) else None
+abbrev pub delimiter_row_of : Source → SourceLine → Option (List Alignment)
+delimiter_row_of s l = if is_near l.indent then delimiter_row_at s.text l.left.scanned (stop_of l) else None
 
 -- these alignments, if there are as many
 abbrev pub as_many : ℕ → Option (List Alignment) → Option (List Alignment)
@@ -46,7 +47,7 @@ as_many count (Some alignments) = if length alignments == count then Some alignm
 
 -- the alignments of the delimiter row that a line is, for the line before it: that one has a cut, and as many cells
 abbrev pub fitting : Source → (head row : SourceLine) → Option (List Alignment)
-fitting s head row = if has_cut head.left.bytes then as_many (length (cells_of head)) (delimiter_of s row) else None
+fitting s head row = if has_cut head.left.bytes then as_many (length (cells_of head)) (delimiter_row_of s row) else None
 
 -- of two further lines, one after the other, the second is a delimiter row for the first
 abbrev pub hold_fitting : Source → List SourceLine → Bool

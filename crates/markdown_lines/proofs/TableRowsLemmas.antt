@@ -10,7 +10,8 @@ use Rattle.std.specs.List.{list_all, prefix_len}
 use Rattle.markdown_base.specs.Bytes.{backslash, pipe}
 use Rattle.markdown_base.specs.declared.tag.Alignment.{Alignment}
 use Rattle.markdown_lines.specs.declared.table_row.Cell.{Cell}
-use Rattle.markdown_lines.specs.TableRows.{IsPart, before_alignments, cell_over, cells_from, cells_over, has_cut, is_cut}
+use Rattle.markdown_lines.specs.TableRows.{IsPart, before_alignments, cell_over, cells_from, cells_over, has_cut}
+use Rattle.markdown_lines.specs.TableRows.{is_cut}
 use Rattle.markdown_lines.specs.TableRows.{cells_left, content_of_part, is_row_white, onto_first, parts_after}
 use Rattle.markdown_lines.specs.TableRows.{piece_length, row_cells_at}
 use Rattle.markdown_lines.proofs.PositionsLemmas.{rest_of_part}
@@ -82,7 +83,8 @@ unfolding parts_after
 part_is_all bytes at before all is = record {
   within = omega arith;
   parts = is ∙ (ap (λ xs. onto (take at bytes) (parts_after before xs)) (drop_all at bytes all)
-      ∙ (ap (λ part. part ∷ []) (append-nil (take at bytes) ∙ (take_all at bytes all ∙ sym (take_all (length bytes) bytes (omega arith))))
+      ∙ (ap (λ part. part ∷ []) (append-nil (take at bytes)
+      ∙ (take_all at bytes all ∙ sym (take_all (length bytes) bytes (omega arith))))
       ∙ rw (alike (length bytes)) refl));
 }
 
@@ -120,7 +122,8 @@ cut_is bytes count part = decided (count == length bytes) refl
         let within = part.within in
         let there = first_part pipe (drop (count + 1) bytes) in
         let less : nat_lt count (length bytes) ≡ true = grind (arith, nat_tests) in
-        let more : nat_lt 1 (length (take count bytes ∷ there.first ∷ there.others)) ≡ true = grind (arith, nat_tests) in
+        let more : nat_lt 1 (length (take count bytes ∷ there.first ∷ there.others)) ≡ true =
+            grind (arith, nat_tests) in
         let parts : parts_after pipe bytes ≡ take count bytes ∷ there.first ∷ there.others =
         part.parts ∙ rw is (ap (λ others. take count bytes ∷ others) there.is) in
         less ∙ sym (ap (λ parts. nat_lt 1 (length parts)) parts ∙ more)
@@ -160,7 +163,8 @@ cell_found start count bytes filled part = decided (count == length bytes) refl
         let none : drop (count + 1) bytes ≡ [] = drop_all (count + 1) bytes (omega (arith, same)) in
         let one : parts_after pipe bytes ≡ bytes ∷ [] = part.parts ∙ rw (is, whole) refl in
         let alone : cells_from start bytes ≡ cell_over start bytes ∷ [] = ap (cells_over start) one ∙ rw filled refl in
-        rw (none, whole) (alone ∙ ap (λ cells. cell_over start bytes ∷ cells) (sym (no_cell (start + count + 1) [] refl)))
+        rw (none, whole) (alone
+        ∙ ap (λ cells. cell_over start bytes ∷ cells) (sym (no_cell (start + count + 1) [] refl)))
     decided false is =
         let there = first_part pipe (drop (count + 1) bytes) in
         let size : length (take count bytes) ≡ count = length-take-le count bytes part.within in
