@@ -60,6 +60,8 @@ REPEATED = {
     "two-character-entities": "&nGtv;",
     "open-names": "&CounterClockwiseContourIntegral ",
     "unknown-names": "&" + "a" * 40 + ";",
+    "hyphens-and-letters": "a--",
+    "dots": ".",
     "escapes": "\\",
     "openers": "*a ",
     "strong": "a**",
@@ -105,6 +107,7 @@ REPEATED = {
 
 OTHERS = {
     "growing": growing,
+    "one-run-of-hyphens": lambda size: "a" + "-" * (size - 1),
     "one-email-address": lambda size: "<a@" + "b." * (size // 2),
     "nested-brackets": lambda size: "[" * (size // 2) + "]" * (size // 2),
     "nested-links": lambda size: "[" * (size // 5) + "a" + "](b)" * (size // 5),
