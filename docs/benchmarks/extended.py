@@ -122,7 +122,7 @@ BACK = re.compile(r'\s*<a href="#fnref-[^>]*>↩(?:<sup[^>]*>[^<]*</sup>)?</a>')
 
 def same_form(html):
     """HTML in which boxes and tables are written alike, and what `same_written` makes the same."""
-    html = BOX.sub(lambda box: "[x] " if "checked" in box[1] else "[ ] ", html)
+    html = re.sub(r"[ \t]+\n", "\n", BOX.sub(lambda box: "[x] " if "checked" in box[1] else "[ ] ", html))
     html = same_written(re.sub(r"<tbody>\s*</tbody>", "", html))
     return re.sub(r"[ \t]+(?=\n|</|$)", "", html)
 
