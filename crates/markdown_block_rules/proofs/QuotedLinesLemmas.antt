@@ -94,13 +94,13 @@ quote_opens left (b ∷ bytes) is marked =
     (sym (nothing_read 4 left b bytes is other)) marked))
     (cases_Bool (is_space_or_tab b))
 
+either_same : (test : Bool) (found : Option Beginning) → (if test then found else found) ≡ found
+either_same true found = refl
+either_same false found = refl
+
 no_metadata : (s : Source) (before : Before) (l : SourceLine) → line_opens l.left.bytes ≡ None
     → metadata_in_line s before l ≡ None
-no_metadata s before l none = rw none (either_none l.outermost)
-  where
-    either_none : (test : Bool) → (if test then None else None) ≡ None
-    either_none true = refl
-    either_none false = refl
+no_metadata s before l none = rw none (either_same l.outermost None)
 
 -- a line with a marker that names no alert begins a quote, whatever precedes it
 quote_begins : (s : Source) (before : Before) (l : SourceLine) (rest : LineLeft) → past_quote l.left ≡ Some rest
