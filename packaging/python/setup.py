@@ -1,0 +1,22 @@
+"""Makes a wheel for a platform: the package has a shared object for x86-64 Linux, and no module that is compiled for one Python."""
+from pathlib import Path
+
+from setuptools import Distribution, setup
+from wheel.bdist_wheel import bdist_wheel
+
+
+class PlatformDistribution(Distribution):
+    def has_ext_modules(self):
+        return True
+
+
+class PlatformWheel(bdist_wheel):
+    def get_tag(self):
+        # (packaging/check-library checks that the shared object fits this tag)
+        return "py3", "none", "manylinux_2_17_x86_64"
+
+
+if not Path("src/markdown_inline/libmarkdown_inline.so").exists():
+    raise SystemExit("the package lacks its shared object: `make wheel` in packaging/ puts it there, and builds the wheel")
+
+setup(distclass=PlatformDistribution, cmdclass={"bdist_wheel": PlatformWheel})
