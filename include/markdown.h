@@ -7,37 +7,39 @@
  *
  * # DESCRIPTION
  *
- * The calls of the library `libmarkdown_inline`, which `packaging/` makes. The calls of the first kind work as `snprintf`
- * does: each returns the length of the whole result in bytes, and writes the result to the caller's buffer if the whole
- * fits. A caller tries with some buffer, or with none to learn the length, and if the number is greater than the length of
- * the buffer, once more with a buffer of that length. Those of the second kind, whose names end in `_alloc`, return the
- * result in memory that the caller frees.
+ * The calls of the library `libmarkdown_inline`. Those into a buffer work as `snprintf` does: each returns the length of
+ * the whole result in bytes, and writes the result to the caller's buffer if the whole fits. A caller tries with some
+ * buffer, or with none to learn the length, and if the number is greater than the length of the buffer, once more with a
+ * buffer of that length. Those whose names end in `_alloc` return the result in memory that the caller frees.
  *
  * ## Whose texts
  *
- * `markdown_to_safe_html` and `markdown_safe_html_alloc` are for texts that strangers wrote: their authors have no markup
- * of their own in the page. The HTML of the other calls is not sanitised: they are for trusted texts, whose raw HTML and
- * destinations, `javascript:` among them, come through as the text's author wrote them. The JSON has them too.
+ * `markdown_to_safe_html` and `markdown_safe_html_alloc` are for texts that strangers wrote: their authors have no
+ * markup of their own in the page. The HTML of the other calls is not sanitised: they are for trusted texts, whose
+ * raw HTML and destinations, `javascript:` among them, come through as the text's author wrote them. The JSON has
+ * them too.
  *
  * ## Pointers and lengths
  *
- * Lengths count bytes. No text that is passed in ends with a NUL: none is read past `text_length` bytes, and it may hold any
- * bytes, NUL among them. `text` and `out` may be NULL where their length is 0. `text` is only read. `out` is written only in
- * its first `out_length` bytes, without a NUL at the end. The two may not overlap. No pointer is kept after the call.
+ * Lengths count bytes. No text that is passed in ends with a NUL: none is read past `text_length` bytes, and it may
+ * hold any bytes, NUL among them. `text` and `out` may be NULL where their length is 0. `text` is only read. `out` is
+ * written only in its first `out_length` bytes, without a NUL at the end. The two may not overlap. No pointer is kept
+ * after the call.
  *
  * ## Memory
  *
- * A call allocates memory by `malloc` and `realloc`, and frees all of it before it returns, but the result of a call that ends
- * in `_alloc`.
+ * A call allocates memory by `malloc` and `realloc`, and frees all of it before it returns, but the result of a call
+ * that ends in `_alloc`.
  *
  * ## Stack
  *
- * A call takes less than 48 KiB of stack, whatever the text: no call recurses. A thread with a stack of 64 KiB is large enough.
+ * A call takes less than 48 KiB of stack, whatever the text: no call recurses. A thread with a stack of 64 KiB is
+ * large enough.
  *
  * ## Threads
  *
- * A call reads and writes only its arguments and memory of its own. Any number of threads may call at the same time, each
- * with its own `out`; they may share a `text`. Do not call from a signal handler, or from the forked child of a
+ * A call reads and writes only its arguments and memory of its own. Any number of threads may call at the same time,
+ * each with its own `out`; they may share a `text`. Do not call from a signal handler, or from the forked child of a
  * process that has threads.
  *
  * ## Platform
@@ -167,9 +169,9 @@ int64_t markdown_to_outline(const uint8_t *text, size_t text_length, uint32_t op
 /**
  * ## Calls that allocate
  *
- * Each takes the arguments of the call into a buffer of its name, and returns the result in memory from `malloc`, with a NUL
- * after it, or NULL on an error. If `length` is not NULL, `*length` is then the length of the result in bytes, without that
- * NUL, or the status. Free the result by `markdown_free`.
+ * Each takes the arguments of the call into a buffer of its name, and returns the result in memory from `malloc`,
+ * with a NUL after it, or NULL on an error. If `length` is not NULL, `*length` is then the length of the result in
+ * bytes, without that NUL, or the status. Free the result by `markdown_free`.
  */
 
 /** The HTML of `markdown_to_html`, which is not sanitised. */
@@ -191,7 +193,7 @@ void markdown_free(void *result);
  * ## Other calls
  */
 
-/** Returns the version of the library, as `"0.10.0"`. The text is static. */
+/** Returns the version of the library, in the form of `MARKDOWN_VERSION`. The text is static. */
 const char *markdown_version(void);
 
 #ifdef __cplusplus

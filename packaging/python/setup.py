@@ -2,7 +2,12 @@
 from pathlib import Path
 
 from setuptools import Distribution, setup
-from wheel.bdist_wheel import bdist_wheel
+
+try:
+    from setuptools.command.bdist_wheel import bdist_wheel
+except ImportError:
+    # (before setuptools 70.1)
+    from wheel.bdist_wheel import bdist_wheel
 
 
 class PlatformDistribution(Distribution):

@@ -42,7 +42,7 @@ pub struct Extensions(u32);
 
 impl Extensions {
     /// CommonMark without extensions.
-    pub const NONE: Extensions = Extensions(sys::MARKDOWN_DEFAULT);
+    pub const NONE: Extensions = Extensions(0);
     /// Footnotes in GitHub's style: `[^a]` and its definition `[^a]: text`.
     pub const FOOTNOTES: Extensions = Extensions(sys::MARKDOWN_FOOTNOTES);
     /// Footnotes whose references need no definition.
