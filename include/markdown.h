@@ -33,8 +33,8 @@
  *
  * ## Stack
  *
- * A call takes less than 48 KiB of stack, whatever the text: no call recurses. A thread with a stack of 64 KiB is
- * large enough.
+ * A call takes 16 KiB of stack, however deeply the text nests: as measured on usual and on hostile texts, and not proved.
+ * A thread whose stack has 64 KiB can make every call; one of 20 KiB cannot.
  *
  * ## Threads
  *
@@ -44,7 +44,7 @@
  *
  * ## Platform
  *
- * Linux with glibc, on any x86-64 processor: nothing newer than the first of them is needed.
+ * Linux with glibc from 2.17 on, on any x86-64 processor.
  */
 
 #include <stddef.h>

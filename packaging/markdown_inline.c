@@ -77,7 +77,7 @@ char *markdown_safe_html_alloc(const char *text, size_t text_length, uint32_t op
 }
 
 char *markdown_json_alloc(const char *text, size_t text_length, uint32_t options, int64_t *length) {
-    return whole(proved_markdown_to_json, text, text_length, options, likely_room(text_length, 32, 1024), length);
+    return whole(proved_markdown_to_json, text, text_length, options, likely_room(text_length, 12, 1024), length);
 }
 
 char *markdown_outline_alloc(const char *text, size_t text_length, uint32_t options, int64_t *length) {

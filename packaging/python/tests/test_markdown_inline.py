@@ -100,7 +100,7 @@ class Threads(unittest.TestCase):
 class Program(unittest.TestCase):
     def test_program(self):
         self.assertEqual(run([], "\ufeff*é*".encode()).stdout, "<p><em>é</em></p>\n".encode())
-        self.assertEqual(run(["--unsafe"], b"<b>").stdout, b"<p><b></p>\n")
+        self.assertEqual(run(["--unsafe"], b"a<b>").stdout, b"<p>a<b></p>\n")
         self.assertEqual(run(["-t", "outline", "-"], b"# a").stdout, b'{"level":1,"text":"a","range":{"start":0,"end":3}}\n')
 
     def test_failures(self):

@@ -124,7 +124,7 @@ mod tests {
     #[test]
     fn results() {
         assert_eq!(to_html("<b> &copy;", Extensions::NONE).as_deref(), Ok("<p><b> ©</p>\n"));
-        assert_eq!(to_safe_html("<b>", Extensions::NONE).as_deref(), Ok("<p>&lt;b&gt;</p>\n"));
+        assert_eq!(to_safe_html("a<b>", Extensions::NONE).as_deref(), Ok("<p>a&lt;b&gt;</p>\n"));
         let both = Extensions::SUBSCRIPT | Extensions::SUPERSCRIPT;
         assert_eq!(to_html("~a~ ^b^", both).as_deref(), Ok("<p><sub>a</sub> <sup>b</sup></p>\n"));
         let outline = "{\"level\":1,\"text\":\"é\",\"range\":{\"start\":0,\"end\":4}}\n";
