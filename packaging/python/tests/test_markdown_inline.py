@@ -109,6 +109,15 @@ class Program(unittest.TestCase):
         self.assertEqual(run(["/nothing"], b"").returncode, 1)
         self.assertEqual(run(["--nothing"], b"").returncode, 2)
 
+    def test_closed_pipe(self):
+        for unbuffered in ([], ["-u"]):
+            words = [sys.executable, *unbuffered, "-m", "markdown_inline"]
+            with subprocess.Popen(words, stdin=subprocess.PIPE, stdout=subprocess.PIPE, stderr=subprocess.PIPE) as program:
+                program.stdout.close()
+                program.stdin.write(b"*a* " * 100000)
+                program.stdin.close()
+                self.assertEqual((program.wait(), program.stderr.read()), (1, b""))
+
 
 if __name__ == "__main__":
     unittest.main()

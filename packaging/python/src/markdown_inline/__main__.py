@@ -52,8 +52,11 @@ def main(words: Optional[List[str]] = None) -> int:
 
 
 def _print(written: str) -> int:
+    rest = memoryview(written.encode())
     try:
-        sys.stdout.buffer.write(written.encode())
+        # (an unbuffered write may write a part)
+        while rest:
+            rest = rest[sys.stdout.buffer.write(rest) :]
         sys.stdout.buffer.flush()
     except BrokenPipeError:
         # (Python flushes once more at its end, which would fail again)
