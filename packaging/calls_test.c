@@ -109,8 +109,9 @@ int main(void) {
     for (size_t i = 0; i < CALL_COUNT; i++) {
         test_call(&all_calls[i]);
     }
-    static const char *const parts[] = {"> ", "- ", "> 1. ", "*a ", "**a *b ", "![", "[a](", "# a\n",  "<a href=\"",
-                                        "$`", "&copy;", "[^a]", "~a^b", "\"a' ", "<!-- ", "a\n\n- b\n\n    c\n", "[a]: <b> 'c'\n\n"};
+    static const char *const parts[] = {"> ", "- ", "> 1. ", "*a ", "**a *b ", "![", "[a](", "# a\n", "<a href=\"",
+                                        "$`", "&copy;", "[^a]", "~a^b", "\"a' ", "<!-- ", "a\n\n- b\n\n    c\n",
+                                        "[a]: <b> 'c'\n\n"};
     for (size_t i = 0; i < sizeof parts / sizeof parts[0]; i++) {
         test_small_stack(parts[i]);
     }

@@ -1,4 +1,4 @@
-"""Makes a wheel for a platform: the package has a shared object for x86-64 Linux, and no module that is compiled for one Python."""
+"""Makes a wheel for x86-64 Linux and any Python: the package has a shared object, and no module that is compiled for Python."""
 from pathlib import Path
 
 from setuptools import Distribution, setup
