@@ -7,32 +7,44 @@
  *
  * # DESCRIPTION
  *
- * The calls of the static library `libmarkdown_c.a`. Each works as `snprintf` does: it returns the length of the whole
- * result in bytes, and writes the result to the caller's buffer if the whole fits. A caller tries with some buffer, and
- * if the number is greater than the length of the buffer, once more with a buffer of that length.
+ * The calls of the library `libmarkdown_inline`. Those into a buffer work as `snprintf` does: each returns the length of
+ * the whole result in bytes, and writes the result to the caller's buffer if the whole fits. A caller tries with some
+ * buffer, or with none to learn the length, and if the number is greater than the length of the buffer, once more with a
+ * buffer of that length. Those whose names end in `_alloc` return the result in memory that the caller frees.
  *
  * ## Whose texts
  *
- * `markdown_to_safe_html` is for texts that strangers wrote: their authors have no markup of their own in the page.
- * `markdown_to_html` is for trusted texts: raw HTML and destinations, `javascript:` among them, are as the author of the
- * text wrote them. The JSON of both other calls has them too.
+ * `markdown_to_safe_html` and `markdown_safe_html_alloc` are for texts that strangers wrote: their authors have no
+ * markup of their own in the page. The HTML of the other calls is not sanitised: they are for trusted texts, whose
+ * raw HTML and destinations, `javascript:` among them, come through as the text's author wrote them. The JSON has
+ * them too.
  *
  * ## Pointers and lengths
  *
- * Lengths count bytes. No text ends with a NUL: none is read past `text_length` bytes, and none is written. No
- * pointer may be NULL, not even where its length is 0; `""` and the address of any byte are fine then. `text` is only
- * read, and may hold any bytes, NUL among them. `out` is written only in its first `out_length` bytes. The two may not
- * overlap. No pointer is kept after the call.
+ * Lengths count bytes. No text that is passed in ends with a NUL: none is read past `text_length` bytes, and it may
+ * hold any bytes, NUL among them. `text` and `out` may be NULL where their length is 0. `text` is only read. `out` is
+ * written only in its first `out_length` bytes, without a NUL at the end. The two may not overlap. No pointer is kept
+ * after the call.
  *
  * ## Memory
  *
- * A call allocates memory by `malloc` and `realloc`, and frees all of it before it returns.
+ * A call allocates memory by `malloc` and `realloc`, and frees all of it before it returns, but the result of a call
+ * that ends in `_alloc`.
+ *
+ * ## Stack
+ *
+ * A call takes about 16 KiB of stack, however deeply the text nests: as measured on usual and on hostile texts, not proved.
+ * A thread whose stack has 64 KiB can make every call; one of 20 KiB cannot.
  *
  * ## Threads
  *
- * A call reads and writes only its arguments and memory of its own. Any number of threads may call at the same time, each
- * with its own `out`; they may share a `text`. Do not call from a signal handler, or from the forked child of a
+ * A call reads and writes only its arguments and memory of its own. Any number of threads may call at the same time,
+ * each with its own `out`; they may share a `text`. Do not call from a signal handler, or from the forked child of a
  * process that has threads.
+ *
+ * ## Platform
+ *
+ * Linux with glibc from 2.17 on, on any x86-64 processor.
  */
 
 #include <stddef.h>
@@ -41,6 +53,17 @@
 #ifdef __cplusplus
 extern "C" {
 #endif
+
+/**
+ * ## Version
+ *
+ * The version of this header. `markdown_version` returns that of the library.
+ */
+
+#define MARKDOWN_VERSION "0.10.0"
+#define MARKDOWN_VERSION_MAJOR 0
+#define MARKDOWN_VERSION_MINOR 10
+#define MARKDOWN_VERSION_PATCH 0
 
 /**
  * ## Status
@@ -60,7 +83,8 @@ extern "C" {
 /**
  * ## Options
  *
- * Bits that enable extensions. `MARKDOWN_DEFAULT` is CommonMark. Bits that are not listed here change nothing.
+ * Bits that enable extensions. `MARKDOWN_DEFAULT` is CommonMark. Those of the extended entry change nothing unless
+ * `MARKDOWN_EXTENDED` is set, and bits that are not listed here change nothing at all.
  */
 
 /** CommonMark 0.31.2 without extensions. E-mail addresses in angle brackets, and named entities other than `&amp;`,
@@ -68,7 +92,7 @@ extern "C" {
  */
 #define MARKDOWN_DEFAULT 0
 
-/** Tables, with `MARKDOWN_EXTENDED`; without it the bit changes nothing. */
+/** Tables, of the extended entry. */
 #define MARKDOWN_TABLES (1 << 1)
 
 /** Footnotes in GitHub's style: `[^a]` and its definition `[^a]: text`. */
@@ -77,14 +101,31 @@ extern "C" {
 /** `~~a~~`, and `~a~` unless `MARKDOWN_SUBSCRIPT` is set. */
 #define MARKDOWN_STRIKETHROUGH (1 << 3)
 
+/** Task lists, of the extended entry: `- [ ] a`, and `- [x] a` for a task that is done. */
+#define MARKDOWN_TASKLISTS (1 << 4)
+
 /** Curly quotes; with `MARKDOWN_EXTENDED` also dashes for `--` and `---`, and an ellipsis for `...`. */
 #define MARKDOWN_SMART (1 << 5)
+
+/** Attributes of headings, of the extended entry: `# a {#id .class name=value}`. Names are the author's, `onclick` too,
+ * but in safe HTML, which has none of them.
+ */
+#define MARKDOWN_HEADING_ATTRIBUTES (1 << 6)
+
+/** Metadata between `---` lines, of the extended entry; HTML shows none of it. */
+#define MARKDOWN_YAML (1 << 7)
+
+/** Metadata between `+++` lines, of the extended entry; HTML shows none of it. */
+#define MARKDOWN_PLUSES (1 << 8)
 
 /** Footnotes whose references need no definition. */
 #define MARKDOWN_OLD_FOOTNOTES ((1 << 9) | (1 << 2))
 
 /** `$a$` and `$$a$$`. */
 #define MARKDOWN_MATH (1 << 10)
+
+/** Alerts, of the extended entry: block quotes that begin with `[!NOTE]`, or another of five kinds. */
+#define MARKDOWN_GFM (1 << 11)
 
 /** `^a^`. */
 #define MARKDOWN_SUPERSCRIPT (1 << 13)
@@ -95,14 +136,13 @@ extern "C" {
 /** `[[page]]` and `[[page|text]]`. */
 #define MARKDOWN_WIKILINKS (1 << 15)
 
-/** The extended entry, which reads e-mail addresses in angle brackets and all named entities of HTML too, and dashes and
- * dots by `MARKDOWN_SMART`. It is no extension: the other bits mean the same with it and without it. Libraries up to
- * 0.8.0 take it for a bit that changes nothing.
+/** The extended entry, which reads e-mail addresses in angle brackets and all named entities of HTML too, and has more
+ * extensions. It is none itself. Libraries up to 0.8.0 take it for a bit that changes nothing.
  */
 #define MARKDOWN_EXTENDED (1 << 30)
 
 /**
- * ## Calls
+ * ## Calls into a buffer
  */
 
 /** Renders a trusted `text` as HTML, which is not sanitised.
@@ -145,6 +185,36 @@ int64_t markdown_to_json(const uint8_t *text, size_t text_length, uint32_t optio
  */
 int64_t markdown_to_outline(const uint8_t *text, size_t text_length, uint32_t options, uint8_t *out,
                             size_t out_length);
+
+/**
+ * ## Calls that allocate
+ *
+ * Each takes the arguments of the call into a buffer of its name, and returns the result in memory from `malloc`,
+ * with a NUL after it, or NULL on an error. If `length` is not NULL, `*length` is then the length of the result in
+ * bytes, without that NUL, or the status. Free the result by `markdown_free`.
+ */
+
+/** The HTML of `markdown_to_html`, which is not sanitised. */
+char *markdown_html_alloc(const char *text, size_t text_length, uint32_t options, int64_t *length);
+
+/** The safe HTML of `markdown_to_safe_html`. */
+char *markdown_safe_html_alloc(const char *text, size_t text_length, uint32_t options, int64_t *length);
+
+/** The lines of `markdown_to_json`. */
+char *markdown_json_alloc(const char *text, size_t text_length, uint32_t options, int64_t *length);
+
+/** The lines of `markdown_to_outline`. */
+char *markdown_outline_alloc(const char *text, size_t text_length, uint32_t options, int64_t *length);
+
+/** Frees what one of these calls returned, once. Does nothing with NULL. */
+void markdown_free(void *result);
+
+/**
+ * ## Other calls
+ */
+
+/** Returns the version of the library, in the form of `MARKDOWN_VERSION`. The text is static. */
+const char *markdown_version(void);
 
 #ifdef __cplusplus
 }

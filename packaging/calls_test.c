@@ -1,0 +1,120 @@
+/* Tests what markdown_inline.c adds to the proved calls: calls that allocate, NULL, the version; and the stack that the header
+ * speaks of. What the calls give is compared with stored texts in examples/c. */
+#include <pthread.h>
+#include <stdio.h>
+#include <stdlib.h>
+#include <string.h>
+
+#include "markdown.h"
+
+/* All options, and the extended entry. */
+#define ALL_OPTIONS ((uint32_t)0x7fffffff)
+
+/* The stack that is enough, as the header says. */
+#define SMALL_STACK (64 * 1024)
+
+/* A call in both of its forms. */
+struct calls {
+    int64_t (*into_buffer)(const uint8_t *, size_t, uint32_t, uint8_t *, size_t);
+    char *(*allocating)(const char *, size_t, uint32_t, int64_t *);
+};
+
+static const struct calls all_calls[] = {
+    {markdown_to_html, markdown_html_alloc},
+    {markdown_to_safe_html, markdown_safe_html_alloc},
+    {markdown_to_json, markdown_json_alloc},
+    {markdown_to_outline, markdown_outline_alloc},
+};
+#define CALL_COUNT (sizeof all_calls / sizeof all_calls[0])
+
+static void check(int holds, const char *what) {
+    if (!holds) {
+        fprintf(stderr, "calls_test: %s\n", what);
+        exit(1);
+    }
+}
+
+/* A call without a buffer gives the length of what the call that allocates gives, which ends with a NUL. */
+static void test_same_length(const struct calls *calls, const char *text, size_t text_length) {
+    int64_t wanted = calls->into_buffer((const uint8_t *)text, text_length, ALL_OPTIONS, NULL, 0);
+    int64_t length = -1;
+    char *result = calls->allocating(text, text_length, ALL_OPTIONS, &length);
+    check(wanted >= 0 && result != NULL && length == wanted && result[length] == 0, "the lengths differ");
+    uint8_t *out = malloc((size_t)length + 1);
+    check(out != NULL, "out of memory");
+    check(calls->into_buffer((const uint8_t *)text, text_length, ALL_OPTIONS, out, (size_t)length) == length &&
+              memcmp(result, out, (size_t)length) == 0,
+          "the results differ");
+    free(out);
+    markdown_free(result);
+}
+
+static void test_without_text(const struct calls *calls) {
+    char *result = calls->allocating(NULL, 0, MARKDOWN_DEFAULT, NULL);
+    check(result != NULL && result[0] == 0, "NULL is not taken for no text");
+    check(calls->into_buffer(NULL, 0, MARKDOWN_DEFAULT, NULL, 0) == 0, "no text gives something");
+    markdown_free(result);
+}
+
+static void test_status(const struct calls *calls) {
+    int64_t length = 0;
+    check(calls->allocating("a\xff", 2, MARKDOWN_DEFAULT, &length) == NULL, "taken as UTF-8");
+    check(length == MARKDOWN_NOT_UTF8, "another status than that of text that is not UTF-8");
+    check(calls->allocating("a\xff", 2, MARKDOWN_DEFAULT, NULL) == NULL, "taken as UTF-8");
+}
+
+static void test_call(const struct calls *calls) {
+    test_same_length(calls, "", 0);
+    test_same_length(calls, "# *a*\0b", 7);
+    /* The results of these are longer than any room that is enough for usual texts. */
+    static char text[20000];
+    memset(text, '&', sizeof text);
+    test_same_length(calls, text, sizeof text);
+    memset(text, '\n', sizeof text);
+    for (size_t i = 0; i < sizeof text; i += 2) {
+        text[i] = '#';
+    }
+    test_same_length(calls, text, sizeof text);
+    test_without_text(calls);
+    test_status(calls);
+}
+
+/* Renders a text by all calls. */
+static void *render(void *text) {
+    for (size_t i = 0; i < CALL_COUNT; i++) {
+        char *result = all_calls[i].allocating(text, strlen(text), ALL_OPTIONS, NULL);
+        check(result != NULL, "refused on a small stack");
+        markdown_free(result);
+    }
+    return NULL;
+}
+
+static void test_small_stack(const char *part) {
+    static char text[10000];
+    size_t length = strlen(part);
+    for (size_t at = 0; at + length < sizeof text; at += length) {
+        memcpy(text + at, part, length + 1);
+    }
+    pthread_attr_t attributes;
+    pthread_t thread;
+    check(pthread_attr_init(&attributes) == 0 && pthread_attr_setstacksize(&attributes, SMALL_STACK) == 0 &&
+              pthread_create(&thread, &attributes, render, text) == 0 && pthread_join(thread, NULL) == 0 &&
+              pthread_attr_destroy(&attributes) == 0,
+          "no thread");
+}
+
+int main(void) {
+    check(strcmp(markdown_version(), MARKDOWN_VERSION) == 0, "another version than the header's");
+    markdown_free(NULL);
+    for (size_t i = 0; i < CALL_COUNT; i++) {
+        test_call(&all_calls[i]);
+    }
+    static const char *const parts[] = {"> ", "- ", "> 1. ", "*a ", "**a *b ", "![", "[a](", "# a\n", "<a href=\"",
+                                        "$`", "&copy;", "[^a]", "~a^b", "\"a' ", "<!-- ", "a\n\n- b\n\n    c\n",
+                                        "[a]: <b> 'c'\n\n"};
+    for (size_t i = 0; i < sizeof parts / sizeof parts[0]; i++) {
+        test_small_stack(parts[i]);
+    }
+    puts("C: the calls that allocate, NULL, the version, a small stack");
+    return 0;
+}

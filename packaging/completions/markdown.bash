@@ -1,0 +1,23 @@
+# Completion of @PROGRAM@ for bash.
+_markdown_inline() {
+    local word=${COMP_WORDS[COMP_CWORD]} before=${COMP_WORDS[COMP_CWORD - 1]} words= files=
+    case $before in
+    -t | --to) words='html events outline toc' ;;
+    -e | --extension) words='@EXTENSIONS@' ;;
+    -o | --output) files=yes ;;
+    --title | --css) ;;
+    *)
+        case $word in
+        -*) words='-t --to -e --extension -a --all-extensions --gfm --safe -f --full-page --title --css -o --output -h --help -V --version' ;;
+        *) files=yes ;;
+        esac
+        ;;
+    esac
+    COMPREPLY=()
+    if [ -n "$words" ]; then
+        mapfile -t COMPREPLY < <(compgen -W "$words" -- "$word")
+    elif [ -n "$files" ]; then
+        mapfile -t COMPREPLY < <(compgen -f -- "$word")
+    fi
+}
+complete -o filenames -F _markdown_inline @PROGRAM@

@@ -1,0 +1,88 @@
+"""What the package offers, on texts."""
+from __future__ import annotations
+
+import json
+from itertools import accumulate
+from typing import Any, Dict, Iterable, Iterator, List, NamedTuple, Sequence, Union
+
+from ._library import encoded, result_of
+
+
+class Event(NamedTuple):
+    """An event of a text.
+
+    `name` says what it is: `Start` and `End` of an element, `Text`, `Code`, `Html`, `SoftBreak` and others. `value` is what
+    it holds, as in the lines of `events_json`: a text, the name of an element, or an object with one member, whose name
+    is that of the element; None, where it holds nothing. It spans `text[start:end]`.
+    """
+
+    name: str
+    value: Union[str, Dict[str, Any], None]
+    start: int
+    end: int
+
+
+class Heading(NamedTuple):
+    """A heading: its level, 1 to 6, and its text without markup. It spans `text[start:end]`."""
+
+    level: int
+    text: str
+    start: int
+    end: int
+
+
+def html(text: str, extensions: Iterable[str] = (), *, safe: bool = True) -> str:
+    """Returns the HTML of a text.
+
+    Safe HTML is for texts that strangers wrote: raw HTML is shown as text, and destinations have one of the schemes http,
+    https, mailto and tel, or none. With `safe=False` raw HTML and all destinations come through as the text's author
+    wrote them.
+    """
+    return result_of("safe_html" if safe else "html", encoded(text), extensions).decode()
+
+
+def events_json(text: str, extensions: Iterable[str] = ()) -> str:
+    """Returns a line of JSON for each event. The ranges count the bytes of the text's UTF-8."""
+    return result_of("json", encoded(text), extensions).decode()
+
+
+def outline_json(text: str, extensions: Iterable[str] = ()) -> str:
+    """Returns a line of JSON for each heading. The ranges count the bytes of the text's UTF-8."""
+    return result_of("outline", encoded(text), extensions).decode()
+
+
+def events(text: str, extensions: Iterable[str] = ()) -> Iterator[Event]:
+    """Returns an iterator over the events of a text. The text is read at the call."""
+    of_text = encoded(text)
+    return _events(result_of("json", of_text, extensions), _characters(of_text))
+
+
+def outline(text: str, extensions: Iterable[str] = ()) -> List[Heading]:
+    """Returns the headings of a text."""
+    of_text = encoded(text)
+    characters = _characters(of_text)
+    entries = map(json.loads, _lines(result_of("outline", of_text, extensions)))
+    return [Heading(it["level"], it["text"], *_range(it["range"], characters)) for it in entries]
+
+
+def _events(lines: bytes, characters: Sequence[int]) -> Iterator[Event]:
+    for line in _lines(lines):
+        event, span = json.loads(line)
+        name, value = (event, None) if isinstance(event, str) else next(iter(event.items()))
+        yield Event(name, value, *_range(span, characters))
+
+
+def _lines(lines: bytes) -> List[bytes]:
+    return lines.split(b"\n")[:-1]
+
+
+def _characters(text: bytes) -> Sequence[int]:
+    """Returns for each offset of bytes how many characters stand before it."""
+    if text.isascii():
+        return range(len(text) + 1)
+    # (all bytes of a character but the first are 0b10xxxxxx)
+    return [0, *accumulate(byte & 0xC0 != 0x80 for byte in text)]
+
+
+def _range(of_bytes: Dict[str, int], characters: Sequence[int]) -> "tuple[int, int]":
+    return characters[of_bytes["start"]], characters[of_bytes["end"]]
