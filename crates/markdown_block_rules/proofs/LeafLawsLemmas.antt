@@ -5,7 +5,7 @@ use Rattle.markdown_base.specs.Forest.{Forest, nil}
 use Rattle.markdown_lines.specs.BlockBeginnings.{Source}
 use Rattle.markdown_lines.specs.SourceLines.{SourceLine}
 use Rattle.markdown_block_rules.specs.BlockGrowth as was
-use Rattle.markdown_block_rules.specs.BlockGrowth.{Block, Kind, container_with, goes_on, leaf_with}
+use Rattle.markdown_block_rules.specs.BlockGrowth.{Block, Kind, container_with, goes_on, leaf_with, table_with}
 use Rattle.markdown_block_rules.specs.LeafLaws.{HeadingsAndBreaksEnd, IndentedCodeEndsBeforeText, FencedCodeGoesOn}
 use Rattle.markdown_block_rules.specs.LeafLaws.{ClosingFenceClosesCode, ClosedCodeEnds, HtmlGoesOn}
 use Rattle.markdown_block_rules.specs.LeafLaws.{EndConditionEndsHtml}
@@ -13,29 +13,29 @@ use Rattle.markdown_block_rules.specs.LeafLaws.{ClosedMetadataEnds, ClosingLineC
 use Rattle.markdown_block_rules.specs.LeafLaws.{BlankLineEndsHtml, BlankLineEndsParagraph, ends_with_its_line}
 
 -- no line goes on in a block that ends with its line
-no_line_more : (s : Source) (l : SourceLine) (kind : Kind) (inside : SourceLine → Option (Forest Block))
-    → ends_with_its_line kind ≡ true
-    → (leaf_with s l kind ≡ None) × (container_with s l nil inside kind ≡ None)
-no_line_more s l was.blank_line inside is = cc
-no_line_more s l (was.paragraph_leaf lines) inside is = cc
-no_line_more s l (was.underlined_leaf level lines) inside is = (refl, refl)
-no_line_more s l (was.heading_leaf found) inside is = (refl, refl)
-no_line_more s l was.break_leaf inside is = (refl, refl)
-no_line_more s l (was.indented_leaf lines) inside is = cc
-no_line_more s l (was.fenced_leaf opening closed lines) inside is = cc
-no_line_more s l (was.html_leaf kind closed lines) inside is = cc
-no_line_more s l (was.metadata_leaf kind closed lines) inside is = cc
-no_line_more s l (was.table_leaf ended head alignments rows) inside is = cc
-no_line_more s l was.quote_container inside is = cc
-no_line_more s l (was.alert_container kind) inside is = cc
-no_line_more s l (was.list_container marker) inside is = cc
-no_line_more s l (was.item_container indent) inside is = cc
-no_line_more s l (was.footnote_container label) inside is = cc
+no_line_more : (s : Source) (l : SourceLine) (b : Block) (kind : Kind)
+    (inside : SourceLine → Option (Forest Block)) → ends_with_its_line kind ≡ true
+    → (table_with s l b kind ≡ None) × (leaf_with s l kind ≡ None) × (container_with s l nil inside kind ≡ None)
+no_line_more s l b was.blank_line inside is = cc
+no_line_more s l b (was.paragraph_leaf lines) inside is = cc
+no_line_more s l b (was.underlined_leaf level lines) inside is = (refl, refl, refl)
+no_line_more s l b (was.heading_leaf found) inside is = (refl, refl, refl)
+no_line_more s l b was.break_leaf inside is = (refl, refl, refl)
+no_line_more s l b (was.indented_leaf lines) inside is = cc
+no_line_more s l b (was.fenced_leaf opening closed lines) inside is = cc
+no_line_more s l b (was.html_leaf kind closed lines) inside is = cc
+no_line_more s l b (was.metadata_leaf kind closed lines) inside is = cc
+no_line_more s l b (was.table_leaf ended head alignments rows) inside is = cc
+no_line_more s l b was.quote_container inside is = cc
+no_line_more s l b (was.alert_container kind) inside is = cc
+no_line_more s l b (was.list_container marker) inside is = cc
+no_line_more s l b (was.item_container indent) inside is = cc
+no_line_more s l b (was.footnote_container label) inside is = cc
 
 pub headings_end : HeadingsAndBreaksEnd
 unfolding goes_on
 headings_end s b l is =
-    let none = no_line_more s l b.kind (goes_on s nil) is in rw (none.0, none.1) refl
+    let none = no_line_more s l b b.kind (goes_on s nil) is in rw (none.0, none.1, none.2) refl
 
 pub indented_code_ends : IndentedCodeEndsBeforeText
 unfolding goes_on
