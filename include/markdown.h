@@ -33,8 +33,8 @@
  *
  * ## Stack
  *
- * A call takes about 16 KiB of stack, however deeply the text nests: as measured on usual and on hostile texts, not proved.
- * A thread whose stack has 64 KiB can make every call; one of 20 KiB cannot.
+ * A call takes about 16 KiB of stack, however deeply the text nests: as measured on usual and on hostile texts, and not
+ * proved. A thread whose stack has 64 KiB can make every call; one of 20 KiB cannot.
  *
  * ## Threads
  *
