@@ -23,8 +23,8 @@ use Rattle.markdown_lines.specs.Lines.{is_space_or_tab}
 use Rattle.markdown_lines.specs.SourceLines.{SourceLine}
 use Rattle.markdown_lines.specs.TableRows.{piece_length}
 
--- an item, and what its body refers to by a number, in place of which there is 0 here (1 for a heading): a text; a heading
--- with its attributes; or the alignments of a table's columns
+-- An item, and what its body refers to by a number, in place of which there is 0 here (1 for a heading): a text; a
+-- heading with its attributes; or the alignments of a table's columns.
 pub record Shown : Type 0 where
   pub item : Item
   pub text : Option (List ℕ)
