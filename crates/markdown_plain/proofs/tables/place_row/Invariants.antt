@@ -7,7 +7,7 @@ abbrev pub invariant-cells : goal.invariant-cells
 invariant-cells l = record {
   text : l.placing.builder.text ≡ l.fn.placing.builder.text;
   row : IfFitted l.fn.placing l.placing (l.placing.builder
-      ≡ record (opened l.fn.placing.builder l.line.start l.row) {
+      ≡ record (opened l.fn.placing.builder l.fn.line.start l.fn.row) {
         at = l.placing.builder.at;
         texts = l.placing.builder.texts;
       });
