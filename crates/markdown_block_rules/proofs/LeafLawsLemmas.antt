@@ -1,11 +1,11 @@
 -- Proofs of the sentences about where leaf blocks end.
-use Rattle.std.proofs.Common.{◌≡◌, None, true, refl}
+use Rattle.std.proofs.Common.{◌≡◌, None, true, refl, sym, true≢false}
 use Rattle.std.specs.Prelude.{Option}
 use Rattle.markdown_base.specs.Forest.{Forest, nil}
 use Rattle.markdown_lines.specs.BlockBeginnings.{Source}
 use Rattle.markdown_lines.specs.SourceLines.{SourceLine}
 use Rattle.markdown_block_rules.specs.BlockGrowth as was
-use Rattle.markdown_block_rules.specs.BlockGrowth.{Block, Kind, container_with, goes_on, leaf_with}
+use Rattle.markdown_block_rules.specs.BlockGrowth.{Block, Kind, container_with, goes_on, leaf_with, table_with}
 use Rattle.markdown_block_rules.specs.LeafLaws.{HeadingsAndBreaksEnd, IndentedCodeEndsBeforeText, FencedCodeGoesOn}
 use Rattle.markdown_block_rules.specs.LeafLaws.{ClosingFenceClosesCode, ClosedCodeEnds, HtmlGoesOn}
 use Rattle.markdown_block_rules.specs.LeafLaws.{EndConditionEndsHtml}
@@ -29,10 +29,16 @@ no_line_more s l (was.list_container marker) inside is = cc
 no_line_more s l (was.item_container indent) inside is = cc
 no_line_more s l (was.footnote_container label) inside is = cc
 
+-- nor does it become a table
+no_table : (s : Source) (l : SourceLine) (b : Block) (kind : Kind) → ends_with_its_line kind ≡ true
+    → table_with s l b kind ≡ None
+no_table s l b (was.paragraph_leaf lines) is = absurd (true≢false (sym is))
+no_table s l b other is = refl
+
 pub headings_end : HeadingsAndBreaksEnd
 unfolding goes_on
 headings_end s b l is =
-    let none = no_line_more s l b.kind (goes_on s nil) is in rw (none.0, none.1) refl
+    let none = no_line_more s l b.kind (goes_on s nil) is in rw (no_table s l b b.kind is, none.0, none.1) refl
 
 pub indented_code_ends : IndentedCodeEndsBeforeText
 unfolding goes_on
