@@ -123,7 +123,7 @@ cut_is bytes count part = decided (count == length bytes) refl
         let there = first_part pipe (drop (count + 1) bytes) in
         let less : nat_lt count (length bytes) ≡ true = grind (arith, nat_tests) in
         let more : nat_lt 1 (length (take count bytes ∷ there.first ∷ there.others)) ≡ true =
-            grind (arith, nat_tests) in
+        grind (arith, nat_tests) in
         let parts : parts_after pipe bytes ≡ take count bytes ∷ there.first ∷ there.others =
         part.parts ∙ rw is (ap (λ others. take count bytes ∷ others) there.is) in
         less ∙ sym (ap (λ parts. nat_lt 1 (length parts)) parts ∙ more)

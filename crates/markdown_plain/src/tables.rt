@@ -21,17 +21,15 @@ use markdown_lines::line::Line;
 use markdown_lines::line_reader::LineReader;
 use markdown_lines::position::Position;
 use markdown_lines::space::read_space;
-use markdown_lines::table_row::{Cell, cells_start, count_cells, delimiter_row, has_cut, next_cell, piece_length};
+use markdown_lines::table_row::{
+    Cell, cells_start, count_cells, delimiter_row, has_cut, next_cell, piece_length,
+};
 use markdown_scan::entity::{EntityNames, entity_names};
 use std::alloc::{AllocError, Global};
 
 /// Appends the items of a cell's content, up to the byte offset `to`. Two backslashes that a `|` directly follows are in
 /// no item.
-fn add_cell_items(
-    placing: &mut Placing<'_>,
-    cell: Cell,
-    options: Options,
-) -> Result<(), AllocError>
+fn add_cell_items(placing: &mut Placing<'_>, cell: Cell, options: Options) -> Result<(), AllocError>
     ensures text { IfOk result (λ _. placing.new.builder.text ≡ placing.old.builder.text) }
     ensures goes_on { IfOk result (λ _. IfFitted placing.old placing.new
         (GoesOn placing.old.builder placing.new.builder placing.new.builder.at)) }
@@ -124,6 +122,10 @@ fn are_definitions(
         let Some(first) = lines.get(taken) else {
             break;
         };
+        if first.start >= first.stop {
+            taken += 1;
+            continue;
+        }
         if byte_at(text, first.start) != Some(b'[') {
             return Ok(false);
         }
@@ -228,6 +230,9 @@ impl<'a> Pass<'a> {
         if !reached.all {
             return Ok(false);
         }
+        if before == 1 && self.lines[0].start >= self.lines[0].stop {
+            return Ok(true);
+        }
         let text = self.placing.text();
         let columns = read_space(text, reached.position, head.stop, 4).columns;
         if columns < 4 && byte_at(text, head.start) == Some(b'|') {
@@ -251,7 +256,12 @@ impl<'a> Pass<'a> {
         }
         self.tables.tried = first;
         let names = entity_names(self.options);
-        are_definitions(self.alloc, self.placing.text(), &self.lines[..before], names)
+        are_definitions(
+            self.alloc,
+            self.placing.text(),
+            &self.lines[..before],
+            names,
+        )
     }
 
     /// Opens a table with the last line of the open paragraph as its head; the lines before it end as a paragraph.
@@ -264,7 +274,13 @@ impl<'a> Pass<'a> {
         self.tables.columns = columns;
         self.placing.step_to(head.start);
         self.placing.open_table(alignments)?;
-        place_row(&mut self.placing, ItemBody::TableHead, head, columns, self.options)
+        place_row(
+            &mut self.placing,
+            ItemBody::TableHead,
+            head,
+            columns,
+            self.options,
+        )
     }
 
     /// Adds a row to the open table, if a line is one whose first byte that is neither a space nor a tab is at the byte
@@ -285,7 +301,13 @@ impl<'a> Pass<'a> {
             owed: 0,
         };
         let columns = self.tables.columns;
-        place_row(&mut self.placing, ItemBody::TableRow, row, columns, self.options)?;
+        place_row(
+            &mut self.placing,
+            ItemBody::TableRow,
+            row,
+            columns,
+            self.options,
+        )?;
         Ok(true)
     }
 

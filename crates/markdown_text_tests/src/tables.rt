@@ -59,22 +59,13 @@ const ROWS: Rows = &[
 
 /// Heads and delimiter rows, and what is none.
 const HEADS: Rows = &[
-    (
-        "| a | b |\n|---|\n",
-        "<p>| a | b |\n|---|</p>\n",
-    ),
+    ("| a | b |\n|---|\n", "<p>| a | b |\n|---|</p>\n"),
     (
         "x\n| a |\n|---|\n",
         "<p>x</p>\n<table><thead><tr><th>a</th></tr></thead><tbody>\n</tbody></table>\n",
     ),
-    (
-        "x\na | b\n--|--\n",
-        "<p>x\na | b\n--|--</p>\n",
-    ),
-    (
-        "x\n    | a |\n|---|\n",
-        "<p>x\n| a |\n|---|</p>\n",
-    ),
+    ("x\na | b\n--|--\n", "<p>x\na | b\n--|--</p>\n"),
+    ("x\n    | a |\n|---|\n", "<p>x\n| a |\n|---|</p>\n"),
     (
         "[r]: /u\na | [r]\n--|--\n",
         "<table><thead><tr><th>a</th><th><a href=\"/u\">r</a></th></tr></thead><tbody>\n</tbody>\
@@ -90,34 +81,16 @@ const HEADS: Rows = &[
         "<table><thead><tr><th style=\"text-align: center\">a</th></tr></thead><tbody>\n</tbody>\
         </table>\n",
     ),
-    (
-        "| a |\n---\n",
-        "<h2>| a |</h2>\n",
-    ),
-    (
-        "a\n-|\n",
-        "<p>a\n-|</p>\n",
-    ),
-    (
-        "a \\| b\n-|\n",
-        "<p>a | b\n-|</p>\n",
-    ),
-    (
-        "|\n-|\n",
-        "<p>|\n-|</p>\n",
-    ),
-    (
-        "a|b\n-|- -\n",
-        "<p>a|b\n-|- -</p>\n",
-    ),
+    ("| a |\n---\n", "<h2>| a |</h2>\n"),
+    ("a\n-|\n", "<p>a\n-|</p>\n"),
+    ("a \\| b\n-|\n", "<p>a | b\n-|</p>\n"),
+    ("|\n-|\n", "<p>|\n-|</p>\n"),
+    ("a|b\n-|- -\n", "<p>a|b\n-|- -</p>\n"),
 ];
 
 /// Tables in quotes and items, lazy lines, and what ends a table.
 const INSIDE: Rows = &[
-    (
-        "- a|b\n-|-\n",
-        "<ul>\n<li>a|b\n-|-</li>\n</ul>\n",
-    ),
+    ("- a|b\n-|-\n", "<ul>\n<li>a|b\n-|-</li>\n</ul>\n"),
     (
         "- a|b\n  -|-\n  1|2\n3|4\n",
         "<ul>\n<li><table><thead><tr><th>a</th><th>b</th></tr></thead><tbody>\n<tr><td>1</td>\
