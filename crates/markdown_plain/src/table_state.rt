@@ -14,7 +14,7 @@ pub struct Tables {
 }
 
 impl Tables {
-    ghost use Rattle.std.specs.Prelude.{◌≡◌, max};
+    ghost use Rattle.std.specs.Prelude.{◌≡◌, ◌+◌, ◌-◌, max, nat_le, if◌then◌else◌};
 
     /// Returns the state before any table, for a text of a number of bytes. As many cells may be added as it has bytes,
     /// or 100,000.
@@ -32,6 +32,9 @@ impl Tables {
 
     /// Counts the cells that a row of `count` cells lacks, if as many may still be added, and returns whether they may.
     pub fn add(&mut self, count: usize) -> bool
+        ensures fits { result ≡ nat_le (self.old.added + (self.old.columns - count)) self.old.most }
+        ensures counts { self.new.added
+            ≡ (if result then self.old.added + (self.old.columns - count) else self.old.added) }
         ensures most { self.new.most ≡ self.old.most }
     {
         let missing = self.columns.saturating_sub(count);

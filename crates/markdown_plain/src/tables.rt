@@ -123,6 +123,10 @@ fn are_definitions(
         let Some(first) = lines.get(taken) else {
             break;
         };
+        if first.start >= first.stop {
+            taken += 1;
+            continue;
+        }
         if byte_at(text, first.start) != Some(b'[') {
             return Ok(false);
         }
@@ -209,8 +213,8 @@ impl<'a> Pass<'a> {
     }
 
     /// Returns whether the last line of the open paragraph may be the head of a table, as far as the lines before it
-    /// matter: it is the first, or not lazy and begins with a `|`, or not lazy and after definitions alone. The last is
-    /// tried once in a paragraph.
+    /// matter: it is the first, or not lazy and after an alert's marker, or not lazy and begins with a `|`, or not lazy
+    /// and after definitions alone. The last is tried once in a paragraph.
     fn may_be_head(&mut self, head: HeldLine) -> Result<bool, AllocError>
         ensures { self.new ≡ record self.old { tables = self.new.tables } }
     {
@@ -226,6 +230,9 @@ impl<'a> Pass<'a> {
         let reached = reach(self, line);
         if !reached.all {
             return Ok(false);
+        }
+        if before == 1 && self.lines[0].start >= self.lines[0].stop {
+            return Ok(true);
         }
         let text = self.placing.text();
         let columns = read_space(text, reached.position, head.stop, 4).columns;

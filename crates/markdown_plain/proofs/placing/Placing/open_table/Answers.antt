@@ -1,4 +1,4 @@
--- The stretches around the block are those of the blocks that were open.
+-- The stretches around the table are those of the blocks that were open.
 use Rattle.std.proofs.Common.{ap}
 use Rattle.markdown_builder.specs.BuilderView.{BuilderView}
 use Rattle.markdown_plain.proofs.StretchesLemmas.{stretches_inside}
