@@ -1,8 +1,8 @@
 -- What is removed is the front of the levels, the nearest first.
 use Rattle.std.proofs.Common.{◌∙◌, ◌++◌, ◌∷◌, [], ap, reverse, subst, sym}
-use Rattle.markdown_uses.specs.ContentsSoFar.{AreOpen}
-use Rattle.markdown_uses.proofs.ContentsSoFarLemmas.{above-made, depth-open, open-made, open-next}
-use Rattle.markdown_uses.proofs.contents.next_depth.Goals as goal
+use Rattle.markdown_contents.specs.ContentsSoFar.{AreOpen}
+use Rattle.markdown_contents.proofs.ContentsSoFarLemmas.{above-made, depth-open, open-made, open-next}
+use Rattle.markdown_contents.proofs.contents.next_depth.Goals as goal
 
 pub returns-clause-depth : goal.returns-clause-depth
 returns-clause-depth c = λ levels are.

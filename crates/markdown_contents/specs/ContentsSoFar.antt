@@ -5,7 +5,7 @@ use Rattle.std.specs.Prelude.{String, bytes_eq, count_by}
 use Rattle.std.specs.BTreeMap.{BTreeMap, get_by_text}
 use Rattle.std.specs.Option.{unwrap_or}
 use Rattle.markdown.specs.OutlineWords.{EntryView}
-use Rattle.markdown_uses.specs.Contents.{depth, plain_anchor}
+use Rattle.markdown_contents.specs.Contents.{depth, plain_anchor}
 
 -- of these levels, the nearest first, those from the first that is lower than this one
 abbrev pub lower_from : ℕ → List ℕ → List ℕ

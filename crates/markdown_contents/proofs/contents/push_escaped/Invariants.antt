@@ -1,7 +1,7 @@
 use Rattle.std.proofs.Common.{◌≡◌, ◌++◌, IsUtf8, string_bytes}
 use Rattle.std.specs.Str.Iter.{chars_rest}
-use Rattle.markdown_uses.specs.Contents.{escaped}
-use Rattle.markdown_uses.proofs.contents.push_escaped.Given as goal
+use Rattle.markdown_contents.specs.Contents.{escaped}
+use Rattle.markdown_contents.proofs.contents.push_escaped.Given as goal
 
 -- what is written so far, and what is left
 abbrev pub invariant-loop-c : goal.invariant-loop-c

@@ -6,8 +6,8 @@ use Rattle.std.proofs.Common.{bytes_eq, codes}
 use Rattle.std.proofs.lemmas.Str.{chars_past_char, chars-nil}
 use Rattle.std.proofs.lemmas.List.{nil_from_length, map-append, take_more, at_drop_more, at_drop_all}
 use Rattle.markdown.specs.OutlineWords.{Entry, EntryView, entry_view}
-use Rattle.markdown_uses.specs.Contents.{anchor_char, depth, indent, line, line_after, lines_after, with_number}
-use Rattle.markdown_uses.specs.Contents.{plain_anchor}
+use Rattle.markdown_contents.specs.Contents.{anchor_char, depth, indent, line, line_after, lines_after, with_number}
+use Rattle.markdown_contents.specs.Contents.{plain_anchor}
 
 -- what is written for the characters of a text, where one comes first
 pub written-more : (f : ℕ → List ℕ) (text rest : List ℕ) (c : ℕ) → IsUtf8 text → text ≡ encode_utf8 c ++ rest

@@ -1,8 +1,8 @@
 use Rattle.std.proofs.Common.{◌≡◌, ◌++◌, drop, map, reverse, string_bytes, take}
 use Rattle.markdown.specs.OutlineWords.{entry_view}
-use Rattle.markdown_uses.specs.Contents.{contents_of, lines_after}
-use Rattle.markdown_uses.specs.ContentsSoFar.{AreReadyAfter}
-use Rattle.markdown_uses.proofs.contents.list_of.Given as goal
+use Rattle.markdown_contents.specs.Contents.{contents_of, lines_after}
+use Rattle.markdown_contents.specs.ContentsSoFar.{AreReadyAfter}
+use Rattle.markdown_contents.proofs.contents.list_of.Given as goal
 
 -- the lines so far, what they leave for the next heading, and the lines that are left
 abbrev pub invariant-loop-at : goal.invariant-loop-at

@@ -1,8 +1,8 @@
 -- Two spaces more are those of one level more.
 use Rattle.std.proofs.Common.{◌∙◌, ◌++◌, ap, append_assoc, codes, string_bytes, sym}
-use Rattle.markdown_uses.specs.Contents.{indent}
-use Rattle.markdown_uses.proofs.ContentsLemmas.{indent-more}
-use Rattle.markdown_uses.proofs.contents.push_indent.Goals as goal
+use Rattle.markdown_contents.specs.Contents.{indent}
+use Rattle.markdown_contents.proofs.ContentsLemmas.{indent-more}
+use Rattle.markdown_contents.proofs.contents.push_indent.Goals as goal
 
 pub loop-preserved : goal.loop-preserved
 loop-preserved c =

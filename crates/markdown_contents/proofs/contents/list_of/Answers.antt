@@ -1,11 +1,11 @@
 -- A line more is written for the next heading.
 use Rattle.std.proofs.Common.{◌∙◌, ◌++◌, List, ap, append-nil, map, reverse, string_bytes, subst, sym, take}
 use Rattle.markdown.specs.OutlineWords.{EntryView, entry_view}
-use Rattle.markdown_uses.specs.Contents.{line, plain_anchor}
-use Rattle.markdown_uses.specs.ContentsSoFar.{AreReadyAfter, times_of}
-use Rattle.markdown_uses.proofs.ContentsLemmas.{line-made, lines-none, lines-on, one_taken}
-use Rattle.markdown_uses.proofs.ContentsSoFarLemmas.{ready-next}
-use Rattle.markdown_uses.proofs.contents.list_of.Goals as goal
+use Rattle.markdown_contents.specs.Contents.{line, plain_anchor}
+use Rattle.markdown_contents.specs.ContentsSoFar.{AreReadyAfter, times_of}
+use Rattle.markdown_contents.proofs.ContentsLemmas.{line-made, lines-none, lines-on, one_taken}
+use Rattle.markdown_contents.proofs.ContentsSoFarLemmas.{ready-next}
+use Rattle.markdown_contents.proofs.contents.list_of.Goals as goal
 
 pub loop-at-preserved : goal.loop-at-preserved
 loop-at-preserved c =

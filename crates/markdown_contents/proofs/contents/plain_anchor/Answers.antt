@@ -2,9 +2,9 @@
 use Rattle.std.proofs.Common.{◌∙◌, ◌≡◌, IsUtf8, List, ap, append-nil, string_bytes, subst, sym, ◌++◌}
 use Rattle.std.proofs.lemmas.Str.{IsUtf8-past_char}
 use Rattle.std.specs.Str.Iter.{chars_rest}
-use Rattle.markdown_uses.specs.Contents.{anchor_char}
-use Rattle.markdown_uses.proofs.ContentsLemmas.{anchored, written-none, written-on}
-use Rattle.markdown_uses.proofs.contents.plain_anchor.Goals as goal
+use Rattle.markdown_contents.specs.Contents.{anchor_char}
+use Rattle.markdown_contents.proofs.ContentsLemmas.{anchored, written-none, written-on}
+use Rattle.markdown_contents.proofs.contents.plain_anchor.Goals as goal
 
 pub loop-c-init : goal.loop-c-init
 loop-c-init c =

@@ -1,6 +1,6 @@
 use Rattle.std.proofs.Common.{◌≡◌, ◌++◌, string_bytes}
-use Rattle.markdown_uses.specs.Contents.{indent}
-use Rattle.markdown_uses.proofs.contents.push_indent.Given as goal
+use Rattle.markdown_contents.specs.Contents.{indent}
+use Rattle.markdown_contents.proofs.contents.push_indent.Given as goal
 
 -- the indent so far
 abbrev pub invariant-loop : goal.invariant-loop

@@ -9,9 +9,9 @@ use Rattle.std.proofs.lemmas.Bool.{cases_lt, cond_below, cond_above}
 use Rattle.std.proofs.lemmas.List.{map-append, reverse-append, take_more, length-reverse, length-take-le}
 use Rattle.std.proofs.lemmas.List.Sums.{sum_by_push, count_by-le-length}
 use Rattle.markdown.specs.OutlineWords.{EntryView}
-use Rattle.markdown_uses.specs.Contents.{depth, plain_anchor}
-use Rattle.markdown_uses.specs.ContentsSoFar.{AreOpen, AreReadyAfter, Counts, CountsOneMore, IsStair, lower_from}
-use Rattle.markdown_uses.specs.ContentsSoFar.{times_of}
+use Rattle.markdown_contents.specs.Contents.{depth, plain_anchor}
+use Rattle.markdown_contents.specs.ContentsSoFar.{AreOpen, AreReadyAfter, Counts, CountsOneMore, IsStair, lower_from}
+use Rattle.markdown_contents.specs.ContentsSoFar.{times_of}
 
 -- a level is above where it is lower, and otherwise it is not
 depth-above : (level nearest : ℕ) (others : List ℕ) → nearest < level → depth level (nearest ∷ others)

@@ -1,10 +1,10 @@
 -- The count is that of the anchor, and is set to one more.
 use Rattle.std.proofs.Common.{◌≡◌, arith, rules, string_bytes}
 use Rattle.std.proofs.lemmas.Map.Text.{btree_map_updates_text}
-use Rattle.markdown_uses.specs.Contents.{plain_anchor}
-use Rattle.markdown_uses.specs.ContentsSoFar.{times_of}
-use Rattle.markdown_uses.proofs.ContentsSoFarLemmas.{counts-set}
-use Rattle.markdown_uses.proofs.contents.next_anchor.Goals as goal
+use Rattle.markdown_contents.specs.Contents.{plain_anchor}
+use Rattle.markdown_contents.specs.ContentsSoFar.{times_of}
+use Rattle.markdown_contents.proofs.ContentsSoFarLemmas.{counts-set}
+use Rattle.markdown_contents.proofs.contents.next_anchor.Goals as goal
 
 pub overflow_add-before : goal.overflow_add-before
 overflow_add-before c =

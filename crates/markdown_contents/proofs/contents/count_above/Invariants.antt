@@ -1,6 +1,6 @@
 use Rattle.std.proofs.Common.{◌≡◌, ◌≤◌, length, reverse, take}
-use Rattle.markdown_uses.specs.ContentsSoFar.{lower_from}
-use Rattle.markdown_uses.proofs.contents.count_above.Given as goal
+use Rattle.markdown_contents.specs.ContentsSoFar.{lower_from}
+use Rattle.markdown_contents.proofs.contents.count_above.Given as goal
 
 -- what was passed over going back is no lower
 abbrev pub invariant-closed : goal.invariant-closed

@@ -1,5 +1,5 @@
--- A table of contents: a nested Markdown list of links to the headings of a text, each to its heading's anchor.
-use Rattle.std.specs.Prelude.{◌≡◌, ℕ, zero, suc, ◌+◌, Bool, true, false, ◌==◌, ◌||◌, nat_lt, if◌then◌else◌}
+-- The table of contents of headings: a nested Markdown list of links, each to its heading's anchor.
+use Rattle.std.specs.Prelude.{ℕ, zero, suc, ◌+◌, Bool, true, false, ◌==◌, ◌||◌, nat_lt, if◌then◌else◌}
 use Rattle.std.specs.Prelude.{List, [], ◌∷◌, ◌++◌, map, reverse, flat_map, count_by}
 use Rattle.std.specs.Prelude.{codes, chars, bytes_eq, decimal, encode_utf8}
 use Rattle.std.specs.Char.Unicode.Alphabetic.{is_alphabetic}
@@ -7,9 +7,7 @@ use Rattle.std.specs.Char.Unicode.Numeric.{is_numeric}
 use Rattle.std.specs.List.{list_any}
 use Rattle.std.specs.StrCase.Lower.{str_to_lowercase}
 use Rattle.markdown.specs.ByteWords.{carriage_return, hyphen, line_feed, space, underscore}
-use Rattle.markdown.specs.OutlineWords.{EntryView, entries_of}
-use Rattle.markdown.specs.ReadingWords.{Ranged}
-use Rattle.markdown_uses.specs.TextReading.{AreEventsOf}
+use Rattle.markdown.specs.OutlineWords.{EntryView}
 
 -- whether an anchor keeps a character: it is a letter or a digit of any script, `-` or `_`
 abbrev pub stays_in_anchor : ℕ → Bool
@@ -77,15 +75,3 @@ lines_after before (e ∷ entries) = line_after before e ++ lines_after (before 
 -- the table of contents of these headings
 abbrev pub contents_of : List EntryView → List ℕ
 contents_of entries = lines_after [] entries
-
--- these are the headings of a text
-pub record AreHeadingsOf (text : List ℕ) (entries : List EntryView) : Type 0 where
-  pub events : List Ranged
-  pub read : AreEventsOf text events
-  pub are : entries ≡ entries_of events
-
--- this is the table of contents of a text
-pub record IsContentsOf (text list : List ℕ) : Type 0 where
-  pub entries : List EntryView
-  pub headings : AreHeadingsOf text entries
-  pub is : list ≡ contents_of entries

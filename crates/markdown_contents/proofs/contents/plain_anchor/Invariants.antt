@@ -1,8 +1,8 @@
 use Rattle.std.proofs.Common.{◌≡◌, ◌++◌, IsUtf8, string_bytes}
 use Rattle.std.specs.Str.Iter.{chars_rest}
-use Rattle.markdown_uses.specs.Contents.{plain_anchor}
-use Rattle.markdown_uses.proofs.ContentsLemmas.{anchored}
-use Rattle.markdown_uses.proofs.contents.plain_anchor.Given as goal
+use Rattle.markdown_contents.specs.Contents.{plain_anchor}
+use Rattle.markdown_contents.proofs.ContentsLemmas.{anchored}
+use Rattle.markdown_contents.proofs.contents.plain_anchor.Given as goal
 
 -- what is written so far, and what is left
 abbrev pub invariant-loop-c : goal.invariant-loop-c
