@@ -1,0 +1,3 @@
+-- Lemmas on what is written for texts, and on steps.
+pub mod OutputsLemmas
+pub mod StepsLemmas
