@@ -5,7 +5,7 @@ use Rattle.std.specs.Str.{bytes_eq}
 use Rattle.markdown_command.specs.declared.choices.Format.{Format}
 use Rattle.markdown_command.specs.declared.choices.Format.TheVariants.{Html, SafeHtml, Events, Outline, Contents}
 use Rattle.markdown_command.specs.declared.choices.Misuse.{Misuse}
-use Rattle.markdown_command.specs.declared.choices.Misuse.TheVariants.{UnknownName, SafeWithoutHtml, PageWithoutHtml}
+use Rattle.markdown_command.specs.declared.choices.Misuse.TheVariants.{SafeWithoutHtml, PageWithoutHtml}
 use Rattle.markdown_command.specs.declared.choices.Misuse.TheVariants.{PartWithoutPage}
 
 -- the names of the formats

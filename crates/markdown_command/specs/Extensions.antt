@@ -1,5 +1,5 @@
 -- The extensions that the command line offers, and the options that names and flags enable.
-use Rattle.std.specs.Prelude.{ℕ, Bool, true, false, ◌||◌, List, [], ◌∷◌, map, Option, Some, None, if◌then◌else◌, codes}
+use Rattle.std.specs.Prelude.{ℕ, Bool, false, ◌||◌, List, [], ◌∷◌, map, Option, Some, None, if◌then◌else◌, codes}
 use Rattle.std.specs.Str.{bytes_eq}
 use Rattle.markdown_base.specs.EnabledOptions.{both_options, no_options}
 use Rattle.markdown_base.specs.declared.options.Options.{Options}
@@ -18,16 +18,22 @@ abbrev pub row : List ℕ → Options → Enabler → Offered
 row name option enabler = record { name = name; option = option; enabler = enabler }
 
 -- the extensions that are offered
-abbrev pub extensions : List Offered
+unfoldable pub extensions : List Offered
 extensions =
     row (codes "footnotes") enable.ENABLE_FOOTNOTES AllAndGfm
+    ∷ row (codes "gfm") enable.ENABLE_GFM AllAndGfm
+    ∷ row (codes "heading-attributes") enable.ENABLE_HEADING_ATTRIBUTES All
     ∷ row (codes "math") enable.ENABLE_MATH All
     ∷ row (codes "old-footnotes") enable.ENABLE_OLD_FOOTNOTES NameAlone
+    ∷ row (codes "pluses") enable.ENABLE_PLUSES_DELIMITED_METADATA_BLOCKS All
     ∷ row (codes "smart") enable.ENABLE_SMART_PUNCTUATION All
     ∷ row (codes "strikethrough") enable.ENABLE_STRIKETHROUGH AllAndGfm
     ∷ row (codes "subscript") enable.ENABLE_SUBSCRIPT All
     ∷ row (codes "superscript") enable.ENABLE_SUPERSCRIPT All
+    ∷ row (codes "tables") enable.ENABLE_TABLES AllAndGfm
+    ∷ row (codes "tasklists") enable.ENABLE_TASKLISTS AllAndGfm
     ∷ row (codes "wikilinks") enable.ENABLE_WIKILINKS All
+    ∷ row (codes "yaml") enable.ENABLE_YAML_STYLE_METADATA_BLOCKS All
     ∷ []
 
 -- their names

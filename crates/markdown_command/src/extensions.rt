@@ -21,13 +21,24 @@ pub enum Enabler {
 /// An extension that is offered: its name, the option that it enables, and what else enables it.
 type Extension = (&'static str, Options, Enabler);
 
-static EXTENSIONS: [Extension; 8] = [
+static EXTENSIONS: [Extension; 14] = [
     ("footnotes", Options::ENABLE_FOOTNOTES, Enabler::AllAndGfm),
+    ("gfm", Options::ENABLE_GFM, Enabler::AllAndGfm),
+    (
+        "heading-attributes",
+        Options::ENABLE_HEADING_ATTRIBUTES,
+        Enabler::All,
+    ),
     ("math", Options::ENABLE_MATH, Enabler::All),
     (
         "old-footnotes",
         Options::ENABLE_OLD_FOOTNOTES,
         Enabler::NameAlone,
+    ),
+    (
+        "pluses",
+        Options::ENABLE_PLUSES_DELIMITED_METADATA_BLOCKS,
+        Enabler::All,
     ),
     ("smart", Options::ENABLE_SMART_PUNCTUATION, Enabler::All),
     (
@@ -37,10 +48,18 @@ static EXTENSIONS: [Extension; 8] = [
     ),
     ("subscript", Options::ENABLE_SUBSCRIPT, Enabler::All),
     ("superscript", Options::ENABLE_SUPERSCRIPT, Enabler::All),
+    ("tables", Options::ENABLE_TABLES, Enabler::AllAndGfm),
+    ("tasklists", Options::ENABLE_TASKLISTS, Enabler::AllAndGfm),
     ("wikilinks", Options::ENABLE_WIKILINKS, Enabler::All),
+    (
+        "yaml",
+        Options::ENABLE_YAML_STYLE_METADATA_BLOCKS,
+        Enabler::All,
+    ),
 ];
 
 /// Returns the extensions that are offered.
+#[tactic(auto, unfolding(crate::specs::Extensions::extensions))]
 fn table() -> &'static [Extension]
     ensures { map offered result.now ≡ extensions }
 {

@@ -1,5 +1,5 @@
 -- The names that are offered are those of the tables.
-use Rattle.std.proofs.Common.{rules, ◌≡◌, ◌∙◌, ap, inr, map, string_bytes}
+use Rattle.std.proofs.Common.{rules, inr, map, string_bytes}
 use Rattle.std.proofs.lemmas.Result.{IfErr-weaker, IfOk-weaker}
 use Rattle.markdown_command.specs.CommandLine.{IsRefusedFor, IsRequestFor}
 use Rattle.markdown_command.proofs.parse.request_of.Goals as goal
