@@ -43,6 +43,17 @@ pub reads_one : (old new : Option (List FileStep)) (name bytes : List ℕ) → T
     → ReadsAlone old new
 reads_one old new name bytes taken = record { steps = reads name bytes ∷ []; are_reads = refl; taken = taken }
 
+-- files are read
+are_reads_all : (names texts : List (List ℕ)) → list_all is_read (all_read names texts) ≡ true
+are_reads_all [] texts = refl
+are_reads_all (name ∷ names) [] = refl
+are_reads_all (name ∷ names) (text ∷ texts) = are_reads_all names texts
+
+pub reads_all : (names texts : List (List ℕ)) (old new : Option (List FileStep)) → Takes old new (all_read names texts)
+    → ReadsAlone old new
+reads_all names texts old new taken =
+    record { steps = all_read names texts; are_reads = are_reads_all names texts; taken = taken }
+
 -- the files before this one are read, with these texts: with those of the files that are left, all are
 pub record ReadSoFar (names : List (String Global)) (at : ℕ) (texts : List (List ℕ)) (old new : Option (List FileStep))
     : Type 0 where

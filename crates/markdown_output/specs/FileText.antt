@@ -1,5 +1,5 @@
 -- The text of a file: its bytes, without a byte order mark, and where they are no text.
-use Rattle.std.specs.Prelude.{◌≡◌, ℕ, ◌+◌, ◌==◌, List, take, count_by, codes, drop, length, if◌then◌else◌}
+use Rattle.std.specs.Prelude.{◌≡◌, ℕ, ◌+◌, ◌==◌, List, [], ◌∷◌, take, count_by, drop, length, if◌then◌else◌}
 use Rattle.std.specs.Str.{IsUtf8, bytes_eq}
 use Rattle.std.specs.Str.Lossy.{utf8_valid_len}
 use Rattle.markdown_base.specs.Bytes.{line_feed}
@@ -15,9 +15,9 @@ pub record IsNotText (bytes : List ℕ) (at : NotText) : Type 0 where
   pub offset : at.offset ≡ utf8_valid_len bytes
   pub line : at.line ≡ line_number bytes at.offset
 
--- the byte order mark
+-- the byte order mark, U+FEFF in UTF-8
 abbrev pub mark : List ℕ
-mark = codes "\u{feff}"
+mark = 239 ∷ 187 ∷ 191 ∷ []
 
 -- a text without a mark at its beginning
 abbrev pub without_mark : List ℕ → List ℕ

@@ -7,7 +7,7 @@ use Rattle.markdown.specs.HtmlWords.{IsEntryRenderingOf, IsEntryTooDeepOf}
 use Rattle.markdown.specs.OptionWords.{Options}
 use Rattle.markdown.specs.OutlineWords.{AreEntriesOf, EntryView}
 use Rattle.markdown.specs.SafeWords.{IsSafeEntryRenderingOf, IsSafeEntryTooDeepOf}
-use Rattle.markdown_base.specs.declared.fault.Fault.TheVariants as fault
+use Rattle.markdown_base.specs.declared.fault.Fault.TheVariants as fault_kind
 use Rattle.markdown_command.specs.Requests.{page_texts, standard}
 use Rattle.markdown_command.specs.declared.choices.Format.{Format}
 use Rattle.markdown_command.specs.declared.choices.Format.TheVariants.{Html, SafeHtml, Events, Outline, Contents}
@@ -46,7 +46,7 @@ IsTooDeepText Contents options text = ⊥
 -- this is why nothing is written for a text: an allocation was refused, or the text is too deep
 abbrev pub IsFaultOfText : Format → Options → (text : List ℕ) → Fault → Type 0
 IsFaultOfText format options text fault =
-    (fault ≡ fault.Memory) ⊎ ((fault ≡ fault.Depth) × IsTooDeepText format options text)
+    (fault ≡ fault_kind.Memory) ⊎ ((fault ≡ fault_kind.Depth) × IsTooDeepText format options text)
 
 -- this is what is written for texts, one after another, each without a byte order mark
 abbrev pub AreOutputs : Format → Options → (texts : List (List ℕ)) → (outputs : List ℕ) → Type 0
@@ -56,8 +56,8 @@ AreOutputs format options (text ∷ texts) outputs = (first rest : List ℕ) × 
 
 -- this is why nothing is written for texts
 abbrev pub IsFaultOfTexts : Format → Options → (texts : List (List ℕ)) → Fault → Type 0
-IsFaultOfTexts format options texts fault = (fault ≡ fault.Memory)
-    ⊎ ((fault ≡ fault.Depth) × Any (λ text. IsTooDeepText format options (without_mark text)) texts)
+IsFaultOfTexts format options texts fault = (fault ≡ fault_kind.Memory)
+    ⊎ ((fault ≡ fault_kind.Depth) × Any (λ text. IsTooDeepText format options (without_mark text)) texts)
 
 -- the name of the first file
 abbrev pub first_of_names : List (List ℕ) → List ℕ

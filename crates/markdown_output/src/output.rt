@@ -1,7 +1,8 @@
 //! What is written for a request: a function of the request and of the texts alone.
 ghost use Rattle.std.specs.Prelude.{◌≡◌, ◌⊎◌, IfOk, IfErr, map, string_bytes};
 ghost use Rattle.markdown_output.specs.Outputs.{AreOutputs, IsExtendedContentsOf, IsFaultOfText, IsFaultOfTexts};
-ghost use Rattle.markdown_output.specs.Outputs.{IsOutputOf, IsOutputOfText};
+ghost use Rattle.markdown_output.specs.Outputs.{IsOutputOf, IsOutputOfText, first_name};
+ghost use Rattle.markdown_command.specs.declared.choices.Format.{Format};
 
 use crate::page::page_html;
 use crate::text::without_mark;
@@ -30,6 +31,24 @@ pub fn contents_extended(alloc: Global, text: &str, options: Options) -> Result<
     list_of(alloc, headings.as_slice())
 }
 
+/// Returns the HTML of a text that is read by the extended entry.
+fn html_of(alloc: Global, options: Options, text: &str) -> Result<String, Fault>
+    ensures html { IfOk result (λ html.
+        IsOutputOfText Format.Html options text.now (string_bytes html)) }
+    ensures faults { IfErr result (IsFaultOfText Format.Html options text.now) }
+{
+    render_extended(alloc, text, options, None::<DefaultBrokenLinkCallback>)
+}
+
+/// Returns the safe HTML of a text that is read by the extended entry.
+fn safe_html_of(alloc: Global, options: Options, text: &str) -> Result<String, Fault>
+    ensures html { IfOk result (λ html.
+        IsOutputOfText Format.SafeHtml options text.now (string_bytes html)) }
+    ensures faults { IfErr result (IsFaultOfText Format.SafeHtml options text.now) }
+{
+    safe_html_extended(alloc, text, options, None::<DefaultBrokenLinkCallback>)
+}
+
 /// Returns what is written in a format for one text, which is read by the extended entry.
 ///
 /// # Errors
@@ -45,10 +64,9 @@ pub fn output_of_text(
         IsOutputOfText format options text.now (string_bytes output)) }
     ensures faults { IfErr result (IsFaultOfText format options text.now) }
 {
-    let nobody = None::<DefaultBrokenLinkCallback>;
     match format {
-        Format::Html => render_extended(alloc, text, options, nobody),
-        Format::SafeHtml => safe_html_extended(alloc, text, options, nobody),
+        Format::Html => html_of(alloc, options, text),
+        Format::SafeHtml => safe_html_of(alloc, options, text),
         Format::Events => text_json_extended(alloc, text, options),
         Format::Outline => outline_json_extended(alloc, text, options),
         Format::Contents => contents_extended(alloc, text, options),

@@ -13,6 +13,7 @@ pub struct NotText {
 }
 
 /// Returns the number of the line that holds the byte at an offset, from 1: one more than the line feeds before it.
+#[tactic(auto, using(crate::proofs::FileTextLemmas::line_fits))]
 pub fn line_of(bytes: &[u8], offset: usize) -> usize
     requires { offset ≤ length bytes.now }
     ensures { result ≡ line_number bytes.now offset }
@@ -32,8 +33,8 @@ pub fn line_of(bytes: &[u8], offset: usize) -> usize
 ///
 /// Where they are not UTF-8.
 pub fn text_of(bytes: Vec<u8>) -> Result<String, NotText>
-    ensures text { IfOk result (λ text. string_bytes text ≡ bytes.entry.items) }
-    ensures not_text { IfErr result (IsNotText bytes.entry.items) }
+    ensures text { IfOk result (λ text. string_bytes text ≡ bytes.items) }
+    ensures not_text { IfErr result (IsNotText bytes.items) }
 {
     match String::from_utf8(bytes) {
         Ok(text) => Ok(text),
@@ -49,5 +50,8 @@ pub fn text_of(bytes: Vec<u8>) -> Result<String, NotText>
 pub fn without_mark(text: &str) -> &str
     ensures { result.now ≡ without_mark text.now }
 {
-    text.strip_prefix("\u{feff}").unwrap_or(text)
+    match text.strip_prefix("\u{feff}") {
+        Some(rest) => rest,
+        None => text,
+    }
 }
