@@ -39,13 +39,16 @@ module _ (format : Format) (options : Options) (texts : List (String Global)) wh
       → IsFaultOfText format options (without_mark (string_bytes text)) fault
       → IsFaultOfTexts format options (map string_bytes texts) fault
   fault_in at text fault l is (inl memory) = inl memory
-  fault_in at text fault l is (inr (depth, deep)) = inr (depth, (
-    at,
-    string_bytes text,
-    subst (λ n. at < n) (sym (length-map texts string_bytes)) l,
-    get_or-map string_bytes texts at text (string_bytes text) l ∙ ap string_bytes (sym is),
-    deep,
-  ))
+  fault_in at text fault l is (inr (depth, deep)) = inr (
+    depth,
+    (
+      at,
+      string_bytes text,
+      subst (λ n. at < n) (sym (length-map texts string_bytes)) l,
+      get_or-map string_bytes texts at text (string_bytes text) l ∙ ap string_bytes (sym is),
+      deep,
+    ),
+  )
 
   pub fault_of_one : (at : ℕ) (text : String Global) (given : List ℕ) (fault : Fault) → at < length texts
       → text ≡ get_or texts at text → given ≡ without_mark (string_bytes text)

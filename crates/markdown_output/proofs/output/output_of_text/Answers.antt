@@ -1,7 +1,6 @@
 -- A refused allocation is one of the faults of a text.
 use Rattle.std.proofs.Common.{◌≡◌, inl}
 use Rattle.std.proofs.lemmas.Result.{IfErr-weaker}
-use Rattle.markdown.specs.EventWords.{Fault}
 use Rattle.markdown_base.specs.declared.fault.Fault.TheVariants as fault_kind
 use Rattle.markdown_output.specs.Outputs.{IsFaultOfText}
 use Rattle.markdown_output.proofs.output.output_of_text.Goals as goal

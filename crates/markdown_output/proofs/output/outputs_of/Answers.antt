@@ -1,5 +1,5 @@
 -- What is written for one more text, and why nothing is.
-use Rattle.std.proofs.Common.{◌≡◌, ◌∙◌, ◌++◌, List, ℕ, ap, inl, refl, string_bytes, subst}
+use Rattle.std.proofs.Common.{◌∙◌, ◌++◌, List, ℕ, ap, string_bytes, subst}
 use Rattle.std.proofs.lemmas.Result.{err_from_is_err_and}
 use Rattle.markdown_output.specs.FileText.{without_mark}
 use Rattle.markdown_output.specs.Outputs.{IsOutputOfText}
