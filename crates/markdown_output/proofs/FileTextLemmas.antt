@@ -21,9 +21,10 @@ marked text rest n is begins left =
 -- a text that does not begin with it
 pub unmarked : (text : List ℕ) → ((rest : List ℕ) → text ≡ mark ++ rest → ⊥) → text ≡ without_mark text
 unmarked text lacks =
-    let e = false_from_ne_true (bytes_eq (take (length mark) text) mark) (λ (same : bytes_eq (take (length mark) text) mark ≡ true).
+    let front : List ℕ = take (length mark) text in
+    let e = false_from_ne_true (bytes_eq front mark) (λ (same : bytes_eq front mark ≡ true).
     lacks (drop (length mark) text) (sym (take-append-drop (length mark) text)
-    ∙ ap (λ front. front ++ drop (length mark) text) ((bytes_eq-Decides (take (length mark) text) mark).0 same))) in
+    ∙ ap (λ f. f ++ drop (length mark) text) ((bytes_eq-Decides front mark).0 same))) in
     rw e refl
 
 -- the number of a line fits, since there are no more line feeds than bytes

@@ -1,5 +1,5 @@
 //! Command lines that are wrong, and those that ask for help or the version.
-use crate::shelf::left;
+use crate::shelf::after_run;
 use markdown_test_helpers::rows::gives;
 use std::alloc::Global;
 use std::io::ErrorKind;
@@ -38,7 +38,7 @@ const WRONG: &[(&[&str], &str)] = &[
 #[test]
 fn wrong_words(rt: HostRuntime) -> Result<(), Fail> {
     for (words, said) in WRONG {
-        let left = left(rt.alloc(), words, None)?;
+        let left = after_run(rt.alloc(), words, None)?;
         let is_said = left.message.as_str().starts_with(said);
         gives(
             (*words, left.message.as_str()),
@@ -52,13 +52,13 @@ fn wrong_words(rt: HostRuntime) -> Result<(), Fail> {
 #[test]
 fn the_version(rt: HostRuntime) -> Result<(), Fail> {
     for words in [["-V"], ["--version"]] {
-        let left = left(rt.alloc(), words.as_slice(), None)?;
+        let left = after_run(rt.alloc(), words.as_slice(), None)?;
         gives(
             words.as_slice(),
             (left.status, left.message.as_str(), left.written.as_str()),
             (0, "", "-: markdown 0.10.0\n"),
         )?;
     }
-    let cut = left(rt.alloc(), &["--help"], Some(ErrorKind::BrokenPipe))?;
+    let cut = after_run(rt.alloc(), &["--help"], Some(ErrorKind::BrokenPipe))?;
     gives("a closed pipe", (cut.status, cut.message.as_str()), (1, ""))
 }

@@ -1,5 +1,5 @@
 //! What is said where a file cannot be read or written, and that nothing is written then.
-use crate::shelf::left;
+use crate::shelf::after_run;
 use markdown_test_helpers::rows::gives;
 use std::alloc::Global;
 use std::io::ErrorKind;
@@ -62,7 +62,7 @@ const FAILURES: &[Row] = &[
 #[test]
 fn failing_calls(rt: HostRuntime) -> Result<(), Fail> {
     for (words, write_fails, reads, said) in FAILURES {
-        let left = left(rt.alloc(), words, *write_fails)?;
+        let left = after_run(rt.alloc(), words, *write_fails)?;
         gives(
             *words,
             (

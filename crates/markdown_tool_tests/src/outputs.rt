@@ -1,5 +1,5 @@
 //! What is written for files, by format.
-use crate::shelf::left;
+use crate::shelf::after_run;
 use markdown_test_helpers::rows::gives;
 use std::alloc::Global;
 use std::test::Fail;
@@ -83,7 +83,7 @@ const PAGES: &[Row] = &[
 /// Checks what is written for each row, with status 0 and no message.
 fn writes(alloc: Global, rows: &[Row]) -> Result<(), Fail> {
     for (words, wanted) in rows {
-        let left = left(alloc, words, None)?;
+        let left = after_run(alloc, words, None)?;
         gives(
             *words,
             (left.status, left.message.as_str(), left.written.as_str()),

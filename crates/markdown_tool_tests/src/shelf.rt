@@ -97,7 +97,11 @@ fn words_of(alloc: Global, words: &[&str]) -> Result<Vec<String>, AllocError> {
 }
 
 /// Returns what a run on these words leaves, where each write fails like this, if it does.
-pub fn left(alloc: Global, words: &[&str], write_fails: Option<ErrorKind>) -> Result<Left, Fail> {
+pub fn after_run(
+    alloc: Global,
+    words: &[&str],
+    write_fails: Option<ErrorKind>,
+) -> Result<Left, Fail> {
     let words = words_of(alloc, words)?;
     let mut shelf = Shelf::new(alloc, write_fails);
     let mut message = Vec::new(alloc);
