@@ -5,5 +5,3 @@ pub mod LinkRewriterLemmas
 pub mod TextReadingLemmas
 pub mod LinkCheckerLemmas
 pub mod LinterLemmas
-pub mod ContentsSoFarLemmas
-pub mod ContentsLemmas

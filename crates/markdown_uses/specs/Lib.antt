@@ -5,6 +5,4 @@ pub mod LinkRewriter
 pub mod TextReading
 pub mod LinkChecker
 pub mod Linter
-pub mod Contents
--- the terms of private clauses
-pub mod ContentsSoFar
+pub mod ContentsOfText

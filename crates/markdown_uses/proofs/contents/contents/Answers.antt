@@ -3,7 +3,8 @@ use Rattle.std.proofs.Common.{◌≡◌, ◌∙◌, List, ap, map}
 use Rattle.std.specs.Prelude.{string_bytes}
 use Rattle.std.proofs.lemmas.Result.{IfOk-weaker}
 use Rattle.markdown.specs.OutlineWords.{Entry, entry_view}
-use Rattle.markdown_uses.specs.Contents.{IsContentsOf, contents_of}
+use Rattle.markdown_contents.specs.Contents.{contents_of}
+use Rattle.markdown_uses.specs.ContentsOfText.{IsContentsOf}
 use Rattle.markdown_uses.proofs.contents.contents.Goals as goal
 
 pub returns-clause-contents : goal.returns-clause-contents

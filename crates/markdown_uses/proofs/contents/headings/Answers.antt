@@ -5,7 +5,7 @@ use Rattle.markdown.specs.DefsWords.{Answer, Question}
 use Rattle.markdown.specs.EventWords.{Fault}
 use Rattle.markdown.specs.OutlineWords.{IsOutlineOfAll, MeetsError, NeedsMemory, entry_view}
 use Rattle.markdown.specs.ReadingWords.{OffsetIter, viewed}
-use Rattle.markdown_uses.specs.Contents.{AreHeadingsOf}
+use Rattle.markdown_uses.specs.ContentsOfText.{AreHeadingsOf}
 use Rattle.markdown_uses.proofs.TextReadingLemmas.{OffsetSteps, are_events_given, only_memory}
 use Rattle.markdown_uses.proofs.contents.headings.Goals as goal
 

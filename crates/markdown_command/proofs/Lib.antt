@@ -1,0 +1,2 @@
+-- The command is one whose matches clap defines.
+pub mod CommandLineLemmas

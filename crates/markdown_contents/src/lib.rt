@@ -1,0 +1,6 @@
+//! A table of contents of headings: a nested Markdown list of links to them.
+#![tactic(auto)]
+
+pub mod contents;
+
+pub use contents::list_of;

@@ -1,0 +1,7 @@
+-- Lemmas on what is written for texts, and on steps.
+pub mod AppendLemmas
+pub mod ConversionLemmas
+pub mod FileTextLemmas
+pub mod OutputsLemmas
+pub mod RenderingLemmas
+pub mod StepsLemmas

@@ -1,0 +1,101 @@
+//! What is written for files, by format.
+use crate::shelf::after_run;
+use markdown_test_helpers::rows::gives;
+use std::alloc::Global;
+use std::test::Fail;
+
+/// Words, and what is written, after its name.
+type Row = (&'static [&'static str], &'static str);
+
+const FORMATS: &[Row] = &[
+    (&[], "-: <p><em>in</em></p>\n"),
+    (&["-"], "-: <p><em>in</em></p>\n"),
+    (&["a.md"], "-: <p>a</p>\n"),
+    (
+        &["a.md", "b.md"],
+        "-: <p>a</p>\n<h1>B <em>c</em></h1>\n<h2>D</h2>\n",
+    ),
+    (&["-o", "a.md", "a.md"], "a.md: <p>a</p>\n"),
+    (&["--", "a.md"], "-: <p>a</p>\n"),
+    (&["mark.md", "a.md"], "-: <h1>A</h1>\n<p>a</p>\n"),
+    (&["-t", "toc", "b.md"], "-: - [B c](#b-c)\n  - [D](#d)\n"),
+    (
+        &["-t", "outline", "mark.md"],
+        "-: {\"level\":1,\"text\":\"A\",\"range\":{\"start\":0,\"end\":3}}\n",
+    ),
+    (
+        &["-t", "events", "a.md"],
+        "-: [{\"Start\":\"Paragraph\"},{\"start\":0,\"end\":1}]\n\
+        [{\"Text\":\"a\"},{\"start\":0,\"end\":1}]\n\
+        [{\"End\":\"Paragraph\"},{\"start\":0,\"end\":1}]\n",
+    ),
+    (&["html.md"], "-: <p>a<b>c</b>©</p>\n"),
+    (&["--safe", "html.md"], "-: <p>a&lt;b&gt;c&lt;/b&gt;©</p>\n"),
+];
+
+/// A paragraph of `strike.md`, by extension.
+const EXTENSIONS: &[Row] = &[
+    (
+        &["-e", "strikethrough", "strike.md"],
+        "-: <p><del>a</del> b^c^<a href=\"e\">^d</a></p>\n",
+    ),
+    (
+        &["-e", "superscript", "-e", "strikethrough", "strike.md"],
+        "-: <p><del>a</del> b<sup>c</sup><a href=\"e\">^d</a></p>\n",
+    ),
+    (
+        &["--gfm", "strike.md"],
+        "-: <p><del>a</del> b^c^<sup class=\"footnote-reference\"><a href=\"#d\">1</a></sup></p>\n\
+        <div class=\"footnote-definition\" id=\"d\"><sup class=\"footnote-definition-label\">1</sup>\n\
+        <p>e</p>\n</div>\n",
+    ),
+    (
+        &["-a", "strike.md"],
+        "-: <p><del>a</del> b<sup>c</sup><sup class=\"footnote-reference\"><a href=\"#d\">1</a></sup></p>\n\
+        <div class=\"footnote-definition\" id=\"d\"><sup class=\"footnote-definition-label\">1</sup>\n\
+        <p>e</p>\n</div>\n",
+    ),
+];
+
+const PAGES: &[Row] = &[
+    (
+        &["-f", "a.md", "mark.md"],
+        "-: <!DOCTYPE html>\n<html>\n<head>\n<meta charset=\"utf-8\">\n<title>a.md</title>\n</head>\n<body>\n\
+        <p>a</p>\n<h1>A</h1>\n</body>\n</html>\n",
+    ),
+    (
+        &[
+            "-f",
+            "--title",
+            "<a> & \"b\"",
+            "--css",
+            "c?d&e\"",
+            "--safe",
+            "html.md",
+        ],
+        "-: <!DOCTYPE html>\n<html>\n<head>\n<meta charset=\"utf-8\">\n\
+        <title>&lt;a&gt; &amp; &quot;b&quot;</title>\n\
+        <link rel=\"stylesheet\" href=\"c?d&amp;e&quot;\">\n</head>\n<body>\n\
+        <p>a&lt;b&gt;c&lt;/b&gt;©</p>\n</body>\n</html>\n",
+    ),
+];
+
+/// Checks what is written for each row, with status 0 and no message.
+fn writes(alloc: Global, rows: &[Row]) -> Result<(), Fail> {
+    for (words, wanted) in rows {
+        let left = after_run(alloc, words, None)?;
+        gives(
+            *words,
+            (left.status, left.message.as_str(), left.written.as_str()),
+            (0, "", *wanted),
+        )?;
+    }
+    Ok(())
+}
+
+#[test]
+fn files(rt: HostRuntime) -> Result<(), Fail> {
+    writes(rt.alloc(), FORMATS)?;
+    writes(rt.alloc(), EXTENSIONS)?;
+    writes(rt.alloc(), PAGES)
+}

@@ -1,0 +1,119 @@
+//! Files in memory, which stand in for those of a system, and runs over them.
+use markdown_output::{Files, run_tool};
+use std::alloc::{AllocError, Global};
+use std::io::{self, ErrorKind};
+use std::test::Fail;
+
+/// Files with what they hold. The name `-` is that of standard input.
+static HELD: [(&str, &[u8]); 8] = [
+    ("-", b"*in*"),
+    ("a.md", b"a"),
+    ("b.md", b"# B *c*\n\n## D"),
+    ("bad.md", b"a\nb\xff"),
+    ("cut.md", b"\xef\xbb\xbfa\r\n\r\n\xe2\x82"),
+    ("html.md", b"a<b>c</b>&copy;"),
+    ("mark.md", b"\xef\xbb\xbf# A"),
+    ("strike.md", b"~~a~~ b^c^[^d]\n\n[^d]: e"),
+];
+
+/// Files in memory. What is written is kept apart, so that a test sees each write.
+#[derive(Drop)]
+pub struct Shelf {
+    alloc: Global,
+    /// How each write fails, if it does.
+    write_fails: Option<ErrorKind>,
+    reads: usize,
+    /// Each name that is written, with the text, one after another.
+    pub written: String,
+}
+
+impl Shelf {
+    pub fn new(alloc: Global, write_fails: Option<ErrorKind>) -> Shelf {
+        Shelf {
+            alloc,
+            write_fails,
+            reads: 0,
+            written: String::new(alloc),
+        }
+    }
+
+    /// Notes that a text is written.
+    fn note(&mut self, name: &str, text: &str) -> Result<(), AllocError> {
+        self.written.push_str(name)?;
+        self.written.push_str(": ")?;
+        self.written.push_str(text)
+    }
+}
+
+/// Returns what a file holds.
+fn held(name: &str) -> Option<&'static [u8]> {
+    for (other, bytes) in &HELD {
+        if *other == name {
+            return Some(*bytes);
+        }
+    }
+    None
+}
+
+/// A test sees what is done by what it finds here afterwards.
+impl Files for Shelf {
+    ghost use Rattle.std.specs.Prelude.{None};
+
+    ghost steps = { λ _. None };
+
+    fn read(&mut self, alloc: Global, name: &str) -> io::Result<Vec<u8>> {
+        self.reads = self.reads.saturating_add(1);
+        match held(name) {
+            Some(bytes) => Ok(Vec::from_slice(alloc, bytes)?),
+            None => Err(io::Error::from(ErrorKind::NotFound)),
+        }
+    }
+
+    fn write(&mut self, name: &str, text: &str) -> io::Result<()> {
+        match self.write_fails {
+            Some(kind) => Err(io::Error::from(kind)),
+            None => Ok(self.note(name, text)?),
+        }
+    }
+}
+
+/// What a run leaves.
+#[derive(Debug, PartialEq, Drop)]
+pub struct Left {
+    pub status: u8,
+    pub message: String,
+    pub written: String,
+    pub reads: usize,
+}
+
+/// Returns the words of a command line, with the name of the program before them.
+fn words_of(alloc: Global, words: &[&str]) -> Result<Vec<String>, AllocError> {
+    let mut all = Vec::new(alloc);
+    all.push(String::from_str(alloc, "markdown")?)?;
+    for word in words {
+        all.push(String::from_str(alloc, word)?)?;
+    }
+    Ok(all)
+}
+
+/// Returns what a run on these words leaves, where each write fails like this, if it does.
+pub fn after_run(
+    alloc: Global,
+    words: &[&str],
+    write_fails: Option<ErrorKind>,
+) -> Result<Left, Fail> {
+    let words = words_of(alloc, words)?;
+    let mut shelf = Shelf::new(alloc, write_fails);
+    let mut message = Vec::new(alloc);
+    let status = run_tool(alloc, words.as_slice(), &mut shelf, &mut message);
+    let message = match String::from_utf8(message) {
+        Ok(message) => message,
+        Err(_) => return Err(Fail::new("the message is no text")),
+    };
+    Ok(Left {
+        status,
+        message,
+        reads: shelf.reads,
+        written: shelf.written,
+    })
+}

@@ -1,7 +1,0 @@
-use Rattle.std.proofs.Common.{◌≡◌, ◌++◌, string_bytes}
-use Rattle.markdown_uses.specs.Contents.{indent}
-use Rattle.markdown_uses.proofs.contents.push_indent.Given as goal
-
--- the indent so far
-abbrev pub invariant-loop : goal.invariant-loop
-invariant-loop l = string_bytes l.list ≡ string_bytes l.fn.list ++ indent l.counter
