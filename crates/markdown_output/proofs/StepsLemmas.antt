@@ -5,7 +5,7 @@ use Rattle.std.proofs.Common.{string_bytes}
 use Rattle.std.proofs.lemmas.Bool.{false≢true}
 use Rattle.std.proofs.lemmas.List.{drop_all, drop_more}
 use Rattle.std.specs.List.{list_all}
-use Rattle.markdown_output.specs.Steps.{FileStep, ReadsAlone, Takes, all_read, is_read, reads, writes}
+use Rattle.markdown_output.specs.Steps.{FileStep, ReadsAlone, Takes, all_read, is_read_step, reads, writes}
 
 -- no step is taken where nothing changes
 pub takes_none : (old : Option (List FileStep)) → Takes old old []
@@ -20,8 +20,8 @@ takes_more (Some before) between new steps more first second =
     second ∙ ap (option_map (λ b. b ++ more)) first ∙ ap Some (append_assoc before steps more)
 
 -- reads, and then more reads
-reads_on : (steps more : List FileStep) → list_all is_read steps ≡ true → list_all is_read more ≡ true
-    → list_all is_read (steps ++ more) ≡ true
+reads_on : (steps more : List FileStep) → list_all is_read_step steps ≡ true → list_all is_read_step more ≡ true
+    → list_all is_read_step (steps ++ more) ≡ true
 reads_on [] more first second = second
 reads_on (reads name bytes ∷ steps) more first second = reads_on steps more first second
 reads_on (writes name bytes ∷ steps) more first second = absurd (false≢true first)
@@ -44,7 +44,7 @@ pub reads_one : (old new : Option (List FileStep)) (name bytes : List ℕ) → T
 reads_one old new name bytes taken = record { steps = reads name bytes ∷ []; are_reads = refl; taken = taken }
 
 -- files are read
-are_reads_all : (names texts : List (List ℕ)) → list_all is_read (all_read names texts) ≡ true
+are_reads_all : (names texts : List (List ℕ)) → list_all is_read_step (all_read names texts) ≡ true
 are_reads_all [] texts = refl
 are_reads_all (name ∷ names) [] = refl
 are_reads_all (name ∷ names) (text ∷ texts) = are_reads_all names texts

@@ -7,9 +7,9 @@ pub data FileStep : Type 0 where
   reads : (name bytes : List ℕ) → FileStep
   writes : (name bytes : List ℕ) → FileStep
 
-abbrev pub is_read : FileStep → Bool
-is_read (reads name bytes) = true
-is_read (writes name bytes) = false
+abbrev pub is_read_step : FileStep → Bool
+is_read_step (reads name bytes) = true
+is_read_step (writes name bytes) = false
 
 -- these steps were taken more, where it is known which were
 abbrev pub Takes : (old new : Option (List FileStep)) → List FileStep → Type 0
@@ -24,5 +24,5 @@ all_read (name ∷ names) (text ∷ texts) = reads name text ∷ all_read names 
 -- files are read, and nothing is written
 pub record ReadsAlone (old new : Option (List FileStep)) : Type 0 where
   pub steps : List FileStep
-  pub are_reads : list_all is_read steps ≡ true
+  pub are_reads : list_all is_read_step steps ≡ true
   pub taken : Takes old new steps
