@@ -23,6 +23,17 @@ class Html(unittest.TestCase):
     def test_all_of_commonmark_is_read(self):
         self.assertEqual(markdown_inline.html("<a@b.c> &copy;"), '<p><a href="mailto:a@b.c">a@b.c</a> ©</p>\n')
 
+    def test_blocks_of_extensions(self):
+        table = "<table><thead><tr><th>a</th></tr></thead><tbody>\n<tr><td>b</td></tr>\n</tbody></table>\n"
+        self.assertEqual(markdown_inline.html("|a|\n|-|\n|b|\n", ["tables"]), table)
+        alert = '<blockquote class="markdown-alert-note">\n<p>a</p>\n</blockquote>\n'
+        self.assertEqual(markdown_inline.html("> [!NOTE]\n> a\n", ["gfm"]), alert)
+        self.assertEqual(markdown_inline.html("---\na: b\n---\nc\n", ["yaml"]), "<p>c</p>\n")
+        heading = "# a {#b onclick=c}\n"
+        self.assertEqual(markdown_inline.html(heading, ["heading-attributes"]), "<h1>a</h1>\n")
+        trusted = markdown_inline.html(heading, ["heading-attributes"], safe=False)
+        self.assertEqual(trusted, '<h1 id="b" onclick="c">a</h1>\n')
+
     def test_html_is_safe_unless_told_otherwise(self):
         text = "<b>c</b> [l](javascript:x) [m](/y)"
         safe = '<p>&lt;b&gt;c&lt;/b&gt; <a href="">l</a> <a href="/y">m</a></p>\n'

@@ -140,6 +140,8 @@ mod tests {
         assert_eq!(to_safe_html("a<b>", Extensions::NONE).as_deref(), Ok("<p>a&lt;b&gt;</p>\n"));
         let both = Extensions::SUBSCRIPT | Extensions::SUPERSCRIPT;
         assert_eq!(to_html("~a~ ^b^", both).as_deref(), Ok("<p><sub>a</sub> <sup>b</sup></p>\n"));
+        let alert = "<blockquote class=\"markdown-alert-tip\">\n<p>a</p>\n</blockquote>\n";
+        assert_eq!(to_safe_html("> [!tip]\n> a", Extensions::GFM).as_deref(), Ok(alert));
         let outline = "{\"level\":1,\"text\":\"é\",\"range\":{\"start\":0,\"end\":4}}\n";
         assert_eq!(to_outline("# é", Extensions::NONE).as_deref(), Ok(outline));
         assert!(
