@@ -221,6 +221,8 @@ KNOWN = {
         "a line with a pipe before another block": shows(r"\|[^\n]*\n[ \t>]*[>#*+~`_-]"),
         "a footnote definition that interrupts a paragraph": shows(r"[^\n]\n[ \t>]*\[\^[^\]\n]+\]:"),
         "a task marker with nothing after it": TASKS_ALONE,
+        "a code span that continues after leading spaces, or begins with a line ending": shows(r"`(\n|[^`]*\n[ \t>]+)[^`]*`"),
+        "a line of one pipe before a line that begins with one": shows(r"(^|\n)[ \t>]*\|\n[ \t>]*\|"),
         **random_blocks.KNOWN,
     },
 }
