@@ -9,32 +9,32 @@ pub struct Options(u32);
 
 bitflag_items! {
     impl Options: u32 {
-        /// Tables. The block pass makes none yet, so this has no effect.
+        /// Tables, by the extended entry.
         const ENABLE_TABLES = 1 << 1;
         /// Footnotes: definitions `[^name]: ..` and references `[^name]`. A reference to an undefined name remains
         /// text.
         const ENABLE_FOOTNOTES = 1 << 2;
         /// Strikethrough, `~text~` or `~~text~~`.
         const ENABLE_STRIKETHROUGH = 1 << 3;
-        /// List items that begin with `[ ]` or `[x]`. The block pass makes no such markers yet, so this has no effect.
+        /// List items that begin with `[ ]` or `[x]`, by the extended entry.
         const ENABLE_TASKLISTS = 1 << 4;
-        /// Curly quotation marks. Dashes and dots remain as they are written.
+        /// Curly quotation marks, and by the extended entry dashes for `--` and `---`, and an ellipsis for `...`.
         const ENABLE_SMART_PUNCTUATION = 1 << 5;
-        /// An id, classes and attributes in braces after a heading. The block pass makes none yet, so this has no
-        /// effect.
+        /// An id, classes and attributes in braces after a heading, by the extended entry. Their names are the author's:
+        /// `onclick` is one.
         const ENABLE_HEADING_ATTRIBUTES = 1 << 6;
-        /// Metadata between lines of `---`. The block pass makes no such blocks yet, so this has no effect.
+        /// Metadata between lines of `---`, by the extended entry.
         const ENABLE_YAML_STYLE_METADATA_BLOCKS = 1 << 7;
-        /// Metadata between lines of `+++`. The block pass makes no such blocks yet, so this has no effect.
+        /// Metadata between lines of `+++`, by the extended entry.
         const ENABLE_PLUSES_DELIMITED_METADATA_BLOCKS = 1 << 8;
         /// Footnotes of the old style, in which a reference needs no definition. Includes the bit of
         /// `ENABLE_FOOTNOTES`.
         const ENABLE_OLD_FOOTNOTES = (1 << 9) | (1 << 2);
         /// Math, `$text$`, and display math, `$$text$$`.
         const ENABLE_MATH = 1 << 10;
-        /// GitHub's kinds of block quotes, such as `[!NOTE]`. The block pass makes none yet, so this has no effect.
+        /// GitHub's kinds of block quotes, such as `[!NOTE]`, by the extended entry.
         const ENABLE_GFM = 1 << 11;
-        /// Definition lists. The block pass makes none yet, so this has no effect.
+        /// Definition lists. Neither entry makes any yet, so this has no effect.
         const ENABLE_DEFINITION_LIST = 1 << 12;
         /// Superscript, `^text^`.
         const ENABLE_SUPERSCRIPT = 1 << 13;

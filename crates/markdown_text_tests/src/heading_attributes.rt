@@ -46,10 +46,24 @@ const ATTRIBUTES: Rows = &[
 const OFF: Rows = &[("# a {#b}\n", "<h1>a {#b}</h1>\n")];
 
 /// Ranges: that of the heading keeps the braces.
-const RANGES: Rows = &[(
-    "# a {#b .c d=e f .g}\n",
-    "<h1 #(b) .(c) .(g) (d):(e)>0..21 [a]2..3 </h1>0..21 ",
-)];
+const RANGES: Rows = &[
+    (
+        "# a {#b .c d=e f .g}\n",
+        "<h1 #(b) .(c) .(g) (d):(e)>0..21 [a]2..3 </h1>0..21 ",
+    ),
+    (
+        "a *b* {.c}  \n===\n",
+        "<h1 .(c)>0..17 [a ]0..2 <em>2..5 [b]3..4 </em>2..5 </h1>0..17 ",
+    ),
+    (
+        "# {#b}\n# {}\n#{}\n",
+        "<h1 #(b)>0..7 </h1>0..7 <h1>7..12 </h1>7..12 <p>12..16 [#{}]12..15 </p>12..16 ",
+    ),
+    (
+        "[x]: /y\n\n- a {bc =d}\n  ---\n",
+        "<ul>9..27 <li>9..27 <h2 (bc) ():(d)>11..27 [a]11..12 </h2>11..27 </li>9..27 </ul>9..27 ",
+    ),
+];
 
 #[test]
 fn texts(rt: HostRuntime) -> Result<(), Fail> {

@@ -214,6 +214,17 @@ const EVENTS: &[(&str, &str)] = &[
         2..3 </thead>0..4 <tr>8..19 <td>8..16 +`x|y|`8..16 </td>8..16 <td>\
         17..18 [z]17..18 </td>17..18 </tr>8..19 </table>0..19 ",
     ),
+    (
+        "x\n| a |\n|---|\n",
+        "<p>0..2 [x]0..1 </p>0..2 <table [None]>2..14 <thead>2..8 <td>3..6 [a]4..5 </td>3..6 \
+        </thead>2..8 </table>2..14 ",
+    ),
+    (
+        "a|b\r\n-|-\r\nc|d\r\n",
+        "<table [None, None]>0..15 <thead>0..5 <td>0..1 [a]0..1 </td>0..1 <td>2..3 [b]2..3 </td>\
+        2..3 </thead>0..5 <tr>10..15 <td>10..11 [c]10..11 </td>10..11 <td>\
+        12..13 [d]12..13 </td>12..13 </tr>10..15 </table>0..15 ",
+    ),
 ];
 
 /// Tables beside other extensions, of which each row needs another.
