@@ -1,3 +1,4 @@
+pub mod LaidLemmas
 pub mod RisingLemmas
 pub mod NodeWriteLemmas
 pub mod BodiesLemmas

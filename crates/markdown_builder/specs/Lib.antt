@@ -7,5 +7,6 @@ pub mod HeadingsHoldInline
 -- the representation
 pub mod Rising
 pub mod BuilderRules
+pub mod Levels
 pub mod Standing
 pub mod TreeSteps
