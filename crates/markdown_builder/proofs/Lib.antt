@@ -15,4 +15,5 @@ pub mod WrittenLemmas
 pub mod RunStepLemmas
 pub mod RunMarkLemmas
 pub mod CoveredLemmas
+pub mod LevelsLemmas
 pub mod CallLemmas
