@@ -147,7 +147,7 @@ last_written frames before x y below after n e =
 -- ---- an item is appended
 
 -- a field behind a prefix
-field_behind : {X : Type 0} (g : Node Item → X) (d : X) (xs ys : List (Node Item)) (n i : ℕ) → n ≡ length xs
+pub field_behind : {X : Type 0} (g : Node Item → X) (d : X) (xs ys : List (Node Item)) (n i : ℕ) → n ≡ length xs
     → slice_index_or (map g (xs ++ ys)) (n + i) d ≡ slice_index_or (map g ys) i d
 field_behind g d [] ys n i e = ap (λ j. slice_index_or (map g ys) j d) (omega (arith, e))
 field_behind g d (x ∷ xs) ys zero i e = absurd (omega (arith, e))

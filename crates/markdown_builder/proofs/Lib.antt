@@ -16,4 +16,5 @@ pub mod RunStepLemmas
 pub mod RunMarkLemmas
 pub mod CoveredLemmas
 pub mod LevelsLemmas
+pub mod LevelStepLemmas
 pub mod CallLemmas

@@ -8,6 +8,7 @@ use Rattle.markdown_base.specs.Arena.{Arena}
 use Rattle.markdown_base.specs.ArenaChanges.{appended}
 use Rattle.markdown_base.specs.ArenaForest.{links_of}
 use Rattle.markdown_base.specs.BlockTree.{item_at}
+use Rattle.markdown_base.specs.Forest.{Forest, nil, node}
 use Rattle.markdown_builder.specs.Rising.{link_of}
 use Rattle.markdown_builder.specs.Standing.{with_item}
 use Rattle.markdown_builder.specs.Tightness.{is_tight_list, IsInItemOf}
@@ -69,6 +70,12 @@ run_marked tree stop opens closes zero = tree
 run_marked tree stop opens closes (suc count) =
     with_item (run_marked tree stop opens closes count) (length tree.nodes - suc count)
     (run_item stop opens closes (suc count))
+
+-- the characters of a delimiter run that ends at byte offset `stop`, the last `count` of them
+abbrev pub run_trees : ℕ → Bool → Bool → ℕ → Forest Item
+run_trees stop opens closes zero = nil
+run_trees stop opens closes (suc count) =
+    node (run_item stop opens closes (suc count)) nil (run_trees stop opens closes count)
 
 -- the paragraphs of a list are made tight, where it is a tight one
 pub record TightensList (list : ℕ) (old new : Arena Item) : Type 0 where
