@@ -1,4 +1,3 @@
-pub mod LaidLemmas
 pub mod RisingLemmas
 pub mod NodeWriteLemmas
 pub mod BodiesLemmas
@@ -9,6 +8,7 @@ pub mod FormedLemmas
 pub mod HeadingsHoldInlineLemmas
 pub mod StandingLemmas
 pub mod StepLemmas
+pub mod LaidLemmas
 pub mod TightLemmas
 mod ClosedListLemmas
 pub mod WrittenLemmas
@@ -17,4 +17,5 @@ pub mod RunMarkLemmas
 pub mod CoveredLemmas
 pub mod LevelsLemmas
 pub mod LevelStepLemmas
+pub mod TightLaidLemmas
 pub mod CallLemmas

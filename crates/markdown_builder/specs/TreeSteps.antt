@@ -1,14 +1,16 @@
 -- What a builder changes in its tree in several steps: tight paragraphs, and the characters of a delimiter run.
-use Rattle.std.specs.Prelude.{◌≡◌, ℕ, zero, suc, ◌+◌, ◌-◌, ◌<◌, ◌≤◌, ◌⊎◌, Bool, true, false, List, length}
+use Rattle.std.specs.Prelude.{◌≡◌, ℕ, zero, suc, ◌+◌, ◌-◌, ◌<◌, ◌≤◌, ◌⊎◌, Bool, true, false, cond, List, ◌++◌, length}
+use Rattle.std.specs.Prelude.{Option, None}
 use Rattle.markdown_base.specs.declared.item.Item.{Item}
 use Rattle.markdown_base.specs.declared.item.ItemBody.{ItemBody}
 use Rattle.markdown_base.specs.declared.item.ItemBody.TheVariants as body
 use Rattle.markdown_base.specs.declared.node.Node.{Node}
-use Rattle.markdown_base.specs.Arena.{Arena}
+use Rattle.markdown_base.specs.Arena.{Arena, child_of}
 use Rattle.markdown_base.specs.ArenaChanges.{appended}
 use Rattle.markdown_base.specs.ArenaForest.{links_of}
 use Rattle.markdown_base.specs.BlockTree.{item_at}
 use Rattle.markdown_base.specs.Forest.{Forest, nil, node}
+use Rattle.markdown_builder.specs.Levels.{link, laid}
 use Rattle.markdown_builder.specs.Rising.{link_of}
 use Rattle.markdown_builder.specs.Standing.{with_item}
 use Rattle.markdown_builder.specs.Tightness.{is_tight_list, IsInItemOf}
@@ -21,6 +23,27 @@ is_paragraph other = false
 -- a paragraph made tight
 abbrev pub tight : Item → Item
 tight item = record { start = item.start; end = item.end; body = body.TightParagraph }
+
+-- an item made tight, if it is a paragraph
+abbrev pub tight_if_paragraph : Item → Item
+tight_if_paragraph item = cond (is_paragraph item.body) (tight item) item
+
+-- the paragraphs made tight that are the roots of a forest
+abbrev pub roots_tightened : Forest Item → Forest Item
+roots_tightened nil = nil
+roots_tightened (node a below after) = node (tight_if_paragraph a) below (roots_tightened after)
+
+-- the paragraphs made tight that are directly in the items of a list
+abbrev pub items_tightened : Forest Item → Forest Item
+items_tightened nil = nil
+items_tightened (node a below after) = node a (roots_tightened below) (items_tightened after)
+
+-- a forest that is laid out from a link on is changed in its place
+pub record ChangesLaid (change : Forest Item → Forest Item) (first : Option ℕ) (old new : List (Node Item)) : Type 0
+  where
+    pub made : (front back : List (Node Item)) (f : Forest Item) → old ≡ front ++ (laid None (length front) f ++ back)
+        → first ≡ link None (length front) f
+        → new ≡ front ++ (laid None (length front) (change f) ++ back)
 
 -- paragraphs from a number on are made tight, one after another
 pub data Tightens (from : ℕ) (old : Arena Item) : Arena Item → Type 0 where
@@ -82,4 +105,6 @@ pub record TightensList (list : ℕ) (old new : Arena Item) : Type 0 where
   pub steps : Tightens list old new
   pub makes : is_tight_list (item_at old.nodes list).body ≡ true
       → MakesTight (IsInItemOf old.nodes list) old.nodes new.nodes
+  pub laid : is_tight_list (item_at old.nodes list).body ≡ true
+      → ChangesLaid items_tightened (child_of old.nodes list) old.nodes new.nodes
   pub same : is_tight_list (item_at old.nodes list).body ≡ false → new ≡ old
