@@ -16,7 +16,7 @@ use Rattle.markdown_builder.proofs.LevelsLemmas.{ahead, number_after, length-ahe
 use Rattle.markdown_builder.proofs.LevelsLemmas.{last_written, field_behind, append_laid}
 
 -- two arenas of equal parts are equal
-same_arena : (t u : Arena Item) → t.nodes ≡ u.nodes → t.spine ≡ u.spine → t.cursor ≡ u.cursor → t ≡ u
+pub same_arena : (t u : Arena Item) → t.nodes ≡ u.nodes → t.spine ≡ u.spine → t.cursor ≡ u.cursor → t ≡ u
 same_arena t u nodes spine cursor = λ i. record { nodes = nodes i; spine = spine i; cursor = cursor i }
 
 -- ---- one more open block

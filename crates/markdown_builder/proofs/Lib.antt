@@ -18,4 +18,5 @@ pub mod CoveredLemmas
 pub mod LevelsLemmas
 pub mod LevelStepLemmas
 pub mod TightLaidLemmas
+pub mod ClosedLevelLemmas
 pub mod CallLemmas

@@ -38,6 +38,10 @@ abbrev pub items_tightened : Forest Item → Forest Item
 items_tightened nil = nil
 items_tightened (node a below after) = node a (roots_tightened below) (items_tightened after)
 
+-- what is in a block, when it is closed: the paragraphs of a tight list are made tight
+abbrev pub below_closed : Item → Forest Item → Forest Item
+below_closed item below = cond (is_tight_list item.body) (items_tightened below) below
+
 -- a forest that is laid out from a link on is changed in its place
 pub record ChangesLaid (change : Forest Item → Forest Item) (first : Option ℕ) (old new : List (Node Item)) : Type 0
   where
