@@ -22,12 +22,14 @@ use Rattle.markdown_builder.specs.BuilderView.{IsWhite, IsRunOf, follows_run, in
 use Rattle.markdown_builder.specs.Standing.{State, Standpoint, seen, open_item, with_item, AreOpen, IsSound}
 use Rattle.markdown_builder.specs.TreeSteps.{TightensList, texts_appended, run_marked}
 use Rattle.markdown_builder.specs.Tightness.{TightInTightLists}
+use Rattle.markdown_builder.proofs.ClosedLevelLemmas.{close_is_laid}
 use Rattle.markdown_builder.proofs.ClosedListLemmas.{tight_in_tight_lists}
 use Rattle.markdown_builder.proofs.BodiesLemmas.{item_over, MayBePlaced, plain_placed, placed_fits, placed_new}
 use Rattle.markdown_builder.proofs.BodiesLemmas.{block_plain, block_parent}
 use Rattle.markdown_builder.proofs.BodiesLemmas.{settled_plain, settled_inline, settled_markup, rule_plain, plain}
 use Rattle.markdown_builder.proofs.BodiesLemmas.{one_text_more, NamesText}
 use Rattle.markdown_builder.proofs.BodiesLemmas.{text_placed, synthesized_names}
+use Rattle.markdown_builder.proofs.LevelStepLemmas.{IsLeftTree, leave_laid}
 use Rattle.markdown_builder.proofs.MarkLemmas.{mark_facts, one_source, two_source, run_source, run_boundary}
 use Rattle.markdown_builder.proofs.RunMarkLemmas.{delimiter_ascii, run_sound}
 use Rattle.markdown_builder.proofs.RunStepLemmas.{TextsStand, texts_stand}
@@ -172,8 +174,13 @@ pub close_keeps : {s : State} (rest : List OpenBlock) (block : OpenBlock) (new t
     → IsSound (record s { tree = tree; blocks = rest; leaf = false; run = None })
 close_keeps {s} rest block new tree k e left tightens =
     let l = close_left rest block new k e left in
+    let i = innermost_open s rest block k e in
+    let x = item_over block.start s.at block.body in
+    let made = left i.0 i.1 i.2 in
+    let laid : IsLeftTree new i.1 x = subst (λ (t : Arena Item). IsLeftTree t i.1 x) (sym made)
+    (leave_laid s.tree i.0 i.1 x k.laid i.2) in
     list_made_tight l.0 (record s { tree = new; blocks = rest; leaf = false; run = None }) tree l.2 l.1
-    (tightens l.0 l.1)
+    (tightens l.0 l.1) (close_is_laid new tree i.1 x laid (tightens i.1 (ap (λ (t : Arena Item). t.cursor) made)))
 
 -- `rule`
 pub rule_keeps : {s : State} (now : Standpoint) (end : ℕ) → IsSound s → seen s ≡ now → now.leaf ≡ false → now.at ≤ end

@@ -6,17 +6,17 @@ pub mod BuilderRulesLemmas
 pub mod RunLemmas
 pub mod FormedLemmas
 pub mod HeadingsHoldInlineLemmas
+pub mod LaidLemmas
+pub mod LevelsLemmas
+pub mod LevelStepLemmas
+pub mod TightLaidLemmas
+pub mod ClosedLevelLemmas
 pub mod StandingLemmas
 pub mod StepLemmas
-pub mod LaidLemmas
 pub mod TightLemmas
 mod ClosedListLemmas
 pub mod WrittenLemmas
 pub mod RunStepLemmas
 pub mod RunMarkLemmas
 pub mod CoveredLemmas
-pub mod LevelsLemmas
-pub mod LevelStepLemmas
-pub mod TightLaidLemmas
-pub mod ClosedLevelLemmas
 pub mod CallLemmas
