@@ -8,7 +8,7 @@ use Rattle.markdown_base.specs.declared.node.Node.{Node}
 use Rattle.markdown_base.specs.Arena.{Arena, child_of}
 use Rattle.markdown_base.specs.BlockTree.{item_at, no_item}
 use Rattle.markdown_base.specs.Forest.{Forest, nil, node}
-use Rattle.markdown_builder.specs.Levels.{joined, link, laid, last_root, Frame, innermost_in, laid_out, IsLaidOut}
+use Rattle.markdown_builder.specs.Levels.{joined, link, laid, Frame, innermost_in, laid_out, IsLaidOut}
 use Rattle.markdown_builder.specs.Tightness.{is_tight_list}
 use Rattle.markdown_builder.specs.TreeSteps.{items_tightened, below_closed, TightensList}
 use Rattle.markdown_builder.proofs.ClosedListLemmas.{tightens_stays}
@@ -78,8 +78,11 @@ tighten_laid frames before y below new t = by_kind (is_tight_list y.body) refl
         let l = link None (n + 1) below in
         let front : List (Node Item) = ahead frames before ++ record { item = y; child = l; next = None } ∷ [] in
         let size : length front ≡ n + 1 =
-        omega (arith, length-append (ahead frames before) (record { item = y; child = l; next = None } ∷ []),
-        length-ahead frames before) in
+        omega (
+          arith,
+          length-append (ahead frames before) (record { item = y; child = l; next = None } ∷ []),
+          length-ahead frames before,
+        ) in
         let tight : is_tight_list (item_at old.nodes n).body ≡ true =
         ap (λ (x : Item). is_tight_list x.body) (last_item frames before y below nil) ∙ e in
         let first : child_of old.nodes n ≡ link None (length front) below =

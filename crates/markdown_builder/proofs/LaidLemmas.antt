@@ -1,5 +1,5 @@
 -- Forests that are laid out: one after another, with one tree more at the end, and with another item at a number.
-use Rattle.std.proofs.Common.{◌≡◌, ℕ, zero, suc, ◌+◌, ◌<◌, List, [], ◌∷◌, ◌++◌, Option, Some, None, Bool, true, false}
+use Rattle.std.proofs.Common.{◌≡◌, ℕ, zero, suc, ◌+◌, List, [], ◌∷◌, ◌++◌, Option, Some, None}
 use Rattle.std.proofs.Common.{length, refl, sym, ap, ◌∙◌, arith}
 use Rattle.std.proofs.lemmas.List.{length-append, append_assoc, append-nil}
 use Rattle.markdown_base.specs.declared.item.Item.{Item}
@@ -94,7 +94,8 @@ laid_appended n k x a below (node b inside after) e =
     let i = last_index (node b inside after) in
     ap (λ (xs : List (Node Item)). first ∷ (front ++ xs)) (laid_appended m k x b inside after (omega (arith, e)))
     ∙ (ap (λ (xs : List (Node Item)). first ∷ xs)
-    (sym (changed_behind front (rest ++ single x ∷ []) (size below) i (leads_to k) (sym (length-laid None (n + 1) below))))
+    (sym (changed_behind front (rest ++ single x ∷ []) (size below) i (leads_to k)
+    (sym (length-laid None (n + 1) below))))
     ∙ ap (λ (xs : List (Node Item)). first ∷ changed_at (size below + i) (leads_to k) xs)
     (sym (append_assoc front rest (single x ∷ []))))
 

@@ -102,7 +102,8 @@ enter_laid frames inside x =
     let frame : Frame = record { before = inside; item = x } in
     let nodes : (appended (laid_out frames inside) x).nodes ≡ (laid_out (frames ++ frame ∷ []) nil).nodes =
     ap (λ (t : Arena Item). t.nodes) (append_laid frames inside x) ∙ sym (nodes_more frames frame nil) in
-    let spine : numbers_in 0 frames ++ length (laid_out frames inside).nodes ∷ [] ≡ numbers_in 0 (frames ++ frame ∷ []) =
+    let spine : numbers_in 0 frames ++ length (laid_out frames inside).nodes ∷ []
+    ≡ numbers_in 0 (frames ++ frame ∷ []) =
     ap (λ n. numbers_in 0 frames ++ n ∷ []) (length-laid_out frames inside) ∙ sym (numbers_more 0 frames frame) in
     same_arena (entered (laid_out frames inside) x) (laid_out (frames ++ frame ∷ []) nil) nodes spine
     (newest_childless frames inside x)
@@ -222,10 +223,17 @@ marked_laid frames inside start stop total left (suc count) opens closes e =
     let y = run_item stop opens closes (suc count) in
     let n = length texts.nodes - suc count in
     let number : n ≡ number_after frames (joined inside before) =
-    omega (arith, e, length-laid_out frames (joined inside (byte_texts start total)),
-    size-joined inside (byte_texts start total), size-byte_texts start total, size-joined inside before,
-    size-byte_texts start left) in
-    let split : (z : Item) → joined inside (joined before (node z nil after)) ≡ joined (joined inside before) (node z nil after) =
+    omega (
+      arith,
+      e,
+      length-laid_out frames (joined inside (byte_texts start total)),
+      size-joined inside (byte_texts start total),
+      size-byte_texts start total,
+      size-joined inside before,
+      size-byte_texts start left,
+    ) in
+    let split : (z : Item) → joined inside (joined before (node z nil after))
+    ≡ joined (joined inside before) (node z nil after) =
     λ z. sym (joined_assoc inside before (node z nil after)) in
     ap (λ (t : Arena Item). with_item t n y)
     (marked_laid frames inside start stop total (suc left) count opens closes (omega (arith, e))

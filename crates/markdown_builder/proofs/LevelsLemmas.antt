@@ -1,18 +1,18 @@
 -- The arena of the tree so far: what stands before the last tree of its innermost level, and what an item that is
 -- appended, entered, left or written makes of it.
-use Rattle.std.proofs.Common.{◌≡◌, ℕ, zero, suc, ◌+◌, ◌<◌, List, [], ◌∷◌, ◌++◌, Option, Some, None, Bool, true, false}
+use Rattle.std.proofs.Common.{◌≡◌, ℕ, zero, suc, ◌+◌, List, [], ◌∷◌, ◌++◌, Some, None}
 use Rattle.std.proofs.Common.{length, map, refl, sym, ap, ◌∙◌, arith}
 use Rattle.std.specs.Prelude.{slice_index_or}
 use Rattle.std.proofs.lemmas.List.{length-append, append_assoc, append-nil}
 use Rattle.markdown_base.specs.declared.item.Item.{Item}
 use Rattle.markdown_base.specs.declared.node.Node.{Node}
-use Rattle.markdown_base.specs.Arena.{Arena, child_of, sibling_of}
+use Rattle.markdown_base.specs.Arena.{child_of, sibling_of}
 use Rattle.markdown_base.specs.ArenaChanges.{innermost, single, changed_at, follower, led_to, appended}
 use Rattle.markdown_base.specs.Forest.{Forest, nil, node}
 use Rattle.markdown_builder.specs.Levels.{joined, size, link, laid, last_root, Frame, rebuilt, number_in, numbers_in}
 use Rattle.markdown_builder.specs.Levels.{innermost_in, root, laid_out}
-use Rattle.markdown_builder.specs.Standing.{entered, with_item}
-use Rattle.markdown_builder.proofs.LaidLemmas.{joined_assoc, size-joined, changed_behind, length-laid, laid-joined}
+use Rattle.markdown_builder.specs.Standing.{with_item}
+use Rattle.markdown_builder.proofs.LaidLemmas.{changed_behind, length-laid, laid-joined}
 use Rattle.markdown_builder.proofs.LaidLemmas.{last_index, last_root_is, leads_to, laid_appended, last_root-joined}
 
 -- ---- the nodes before the last tree
@@ -20,7 +20,8 @@ use Rattle.markdown_builder.proofs.LaidLemmas.{last_index, last_root_is, leads_t
 -- a node, and the trees in it before its last one
 abbrev pub ahead_in : ℕ → Item → Forest Item → List (Node Item)
 ahead_in parent a before =
-    record { item = a; child = Some (parent + 1); next = None } ∷ laid (Some (parent + 1 + size before)) (parent + 1) before
+    record { item = a; child = Some (parent + 1); next = None }
+    ∷ laid (Some (parent + 1 + size before)) (parent + 1) before
 
 pub length-ahead_in : (parent : ℕ) (a : Item) (before : Forest Item)
     → length (ahead_in parent a before) ≡ suc (size before)
@@ -36,8 +37,10 @@ laid_ahead : (parent : ℕ) (a : Item) (before : Forest Item) (x : Item) (below 
     ≡ ahead_in parent a before ++ laid None (parent + 1 + size before) (node x below after)
 laid_ahead parent a before x below after =
     let last : Forest Item = node x below after in
-    rw (link_filled (parent + 1) before x below after,
-    laid-joined None (parent + 1) (parent + 1 + size before) before last refl)
+    rw (
+      link_filled (parent + 1) before x below after,
+      laid-joined None (parent + 1) (parent + 1 + size before) before last refl,
+    )
     (ap (λ (xs : List (Node Item)). record { item = a; child = Some (parent + 1); next = None } ∷ xs)
     (append-nil (laid (Some (parent + 1 + size before)) (parent + 1) before
     ++ laid None (parent + 1 + size before) last)))
@@ -88,8 +91,12 @@ length-ahead frames before =
     let front = around 0 root frames in
     let last = ahead_in (innermost_in 0 frames) (innermost_item root frames) before in
     let one : innermost_in 0 frames ≡ length front = length-around 0 root frames ∙ omega arith in
-    omega (arith, length-append front last, one,
-    length-ahead_in (innermost_in 0 frames) (innermost_item root frames) before)
+    omega (
+      arith,
+      length-append front last,
+      one,
+      length-ahead_in (innermost_in 0 frames) (innermost_item root frames) before,
+    )
 
 pub laid_last : (frames : List Frame) (before : Forest Item) (x : Item) (below after : Forest Item)
     → (laid_out frames (joined before (node x below after))).nodes
@@ -111,7 +118,8 @@ length-laid_out frames inside =
     let last : Forest Item = node (innermost_item root frames) inside nil in
     let one : innermost_in 0 frames ≡ length front = length-around 0 root frames ∙ omega arith in
     let two = length-append front (laid None n last) in
-    let all : length (laid_out frames inside).nodes ≡ length (front ++ laid None n last) = ap length (laid_around 0 root frames inside) in
+    let all : length (laid_out frames inside).nodes ≡ length (front ++ laid None n last) =
+    ap length (laid_around 0 root frames inside) in
     let three : length (laid None n last) ≡ suc (size inside + 0) = length-laid None n last in
     omega (arith, one, two, three, all)
 
@@ -211,7 +219,8 @@ grown frames (node b below after) x k e =
     let first : Node Item = record { item = i; child = Some (q + 1); next = None } in
     let ahead_of : q ≡ length front = length-around 0 root frames ∙ omega arith in
     let at : (q + 1) + li ≡ q + suc li = omega arith in
-    let here : laid None q (node i inside nil) ≡ first ∷ trees = ap (λ (xs : List (Node Item)). first ∷ xs) (append-nil trees) in
+    let here : laid None q (node i inside nil) ≡ first ∷ trees =
+    ap (λ (xs : List (Node Item)). first ∷ xs) (append-nil trees) in
     let more : laid None q (node i (joined inside (node x nil nil)) nil)
     ≡ first ∷ laid None (q + 1) (joined inside (node x nil nil)) =
     ap (λ (xs : List (Node Item)). first ∷ xs) (append-nil (laid None (q + 1) (joined inside (node x nil nil)))) in

@@ -11,6 +11,7 @@ pub mod LevelsLemmas
 pub mod LevelStepLemmas
 pub mod TightLaidLemmas
 pub mod ClosedLevelLemmas
+pub mod ReadLevelsLemmas
 pub mod StandingLemmas
 pub mod StepLemmas
 pub mod TightLemmas

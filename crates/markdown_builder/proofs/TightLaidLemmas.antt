@@ -1,7 +1,7 @@
 -- Paragraphs made tight in a forest that is laid out: after each step of a loop over its roots, those before the loop's
 -- link are changed, and the others are as they were.
 use Rattle.std.proofs.Common.{◌≡◌, ℕ, zero, suc, ◌+◌, ◌<◌, List, [], ◌∷◌, ◌++◌, Option, Some, None, Bool, true, false}
-use Rattle.std.proofs.Common.{length, map, refl, sym, ap, ◌∙◌, subst, arith}
+use Rattle.std.proofs.Common.{length, refl, sym, ap, ◌∙◌, arith}
 use Rattle.std.specs.Prelude.{cond}
 use Rattle.std.proofs.lemmas.List.{length-append, append_assoc}
 use Rattle.markdown_base.specs.declared.item.Item.{Item}
@@ -66,10 +66,10 @@ pub record IsRest (change : Forest Item → Forest Item) (goal nodes : List (Nod
 
 -- whatever forest it is
 pub record LaidLeft (change : Forest Item → Forest Item) (old : List (Node Item)) (first : Option ℕ)
-  (nodes : List (Node Item)) (here : Option ℕ) : Type 0 where
-    pub left : (front back : List (Node Item)) (f : Forest Item) → old ≡ front ++ (laid None (length front) f ++ back)
-        → first ≡ link None (length front) f
-        → IsRest change (front ++ (laid None (length front) (change f) ++ back)) nodes here
+    (nodes : List (Node Item)) (here : Option ℕ) : Type 0 where
+  pub left : (front back : List (Node Item)) (f : Forest Item) → old ≡ front ++ (laid None (length front) f ++ back)
+      → first ≡ link None (length front) f
+      → IsRest change (front ++ (laid None (length front) (change f) ++ back)) nodes here
 
 pub all_left_laid : (change : Forest Item → Forest Item) (old : List (Node Item)) (first : Option ℕ)
     → LaidLeft change old first old first
@@ -109,7 +109,8 @@ next_laid : (change : Forest Item → Forest Item) (goal nodes : List (Node Item
 next_laid change goal nodes here front back a b inside below after made shape is last at =
     let n = length front in
     let m = n + 1 + size below in
-    let first : Forest Item → Node Item = λ g. record { item = b; child = link None (n + 1) below; next = link None m g } in
+    let first : Forest Item → Node Item =
+    λ g. record { item = b; child = link None (n + 1) below; next = link None m g } in
     let front_more = front ++ (first after ∷ laid None (n + 1) below) in
     let size_is : length front_more ≡ m =
     omega (arith, length-append front (first after ∷ laid None (n + 1) below), length-laid None (n + 1) below) in
@@ -142,13 +143,15 @@ pub sibling_laid : (old : List (Node Item)) (first : Option ℕ) (nodes new : Li
     → next ≡ sibling_of new number → LaidLeft roots_tightened old first new next
 sibling_laid old first nodes new here next number k some written at = record {
   left = λ front back f is first_is. let r = k.left front back f is first_is in
-      step (front ++ (laid None (length front) (roots_tightened f) ++ back)) r.front r.back r.rest r.is (sym some ∙ r.at)
-      r.last;
+      step (front ++ (laid None (length front) (roots_tightened f) ++ back)) r.front r.back r.rest r.is
+      (sym some ∙ r.at) r.last;
 }
   where
-    step : (goal front back : List (Node Item)) (rest : Forest Item) → nodes ≡ front ++ (laid None (length front) rest ++ back)
+    step : (goal front back : List (Node Item)) (rest : Forest Item)
+        → nodes ≡ front ++ (laid None (length front) rest ++ back)
         → Some number ≡ link None (length front) rest
-        → goal ≡ front ++ (laid None (length front) (roots_tightened rest) ++ back) → IsRest roots_tightened goal new next
+        → goal ≡ front ++ (laid None (length front) (roots_tightened rest) ++ back)
+        → IsRest roots_tightened goal new next
     step goal front back nil is e last = cc (e)
     step goal front back (node a below after) is e last =
         let n = length front in
@@ -175,13 +178,15 @@ pub item_laid : (old : List (Node Item)) (first : Option ℕ) (nodes new : List 
     → next ≡ sibling_of new number → LaidLeft items_tightened old first new next
 item_laid old first nodes new here below next number k some child changes at = record {
   left = λ front back f is first_is. let r = k.left front back f is first_is in
-      step (front ++ (laid None (length front) (items_tightened f) ++ back)) r.front r.back r.rest r.is (sym some ∙ r.at)
-      r.last;
+      step (front ++ (laid None (length front) (items_tightened f) ++ back)) r.front r.back r.rest r.is
+      (sym some ∙ r.at) r.last;
 }
   where
-    step : (goal front back : List (Node Item)) (rest : Forest Item) → nodes ≡ front ++ (laid None (length front) rest ++ back)
+    step : (goal front back : List (Node Item)) (rest : Forest Item)
+        → nodes ≡ front ++ (laid None (length front) rest ++ back)
         → Some number ≡ link None (length front) rest
-        → goal ≡ front ++ (laid None (length front) (items_tightened rest) ++ back) → IsRest items_tightened goal new next
+        → goal ≡ front ++ (laid None (length front) (items_tightened rest) ++ back)
+        → IsRest items_tightened goal new next
     step goal front back nil is e last = cc (e)
     step goal front back (node a inside after) is e last =
         let n = length front in
@@ -189,7 +194,8 @@ item_laid old first nodes new here below next number k some child changes at = r
         let here : number ≡ n = cc (e) in
         let zero_on : n ≡ n + 0 = omega arith in
         let old : List (Node Item) = laid None n (node a inside after) ++ back in
-        let first : ℕ → Forest Item → Node Item = λ j g. record { item = a; child = link None (n + 1) g; next = link None j after } in
+        let first : ℕ → Forest Item → Node Item =
+        λ j g. record { item = a; child = link None (n + 1) g; next = link None j after } in
         let ahead : List (Node Item) = front ++ first m inside ∷ [] in
         let ahead_size : length ahead ≡ n + 1 = length-append front (first m inside ∷ []) in
         let behind : List (Node Item) = laid None m after ++ back in
@@ -209,7 +215,8 @@ item_laid old first nodes new here below next number k some child changes at = r
         let whole : new ≡ front ++ (laid None n (node a (roots_tightened inside) after) ++ back) =
         changed ∙ (sym (split (length ahead) (roots_tightened inside) ahead_size)
         ∙ (ap (λ (l : Option ℕ). front ++ (record { item = a; child = l; next = link None m after }
-        ∷ ((laid None (n + 1) (roots_tightened inside) ++ laid None m after) ++ back))) (sym (link_roots (n + 1) inside))
+        ∷ ((laid None (n + 1) (roots_tightened inside) ++ laid None m after) ++ back)))
+        (sym (link_roots (n + 1) inside))
         ∙ ap (λ j. front ++ (first j (roots_tightened inside)
         ∷ ((laid None (n + 1) (roots_tightened inside) ++ laid None j after) ++ back))) same)) in
         next_laid items_tightened goal new next front back a a inside (roots_tightened inside) after refl

@@ -1,11 +1,12 @@
--- The tree so far as a builder stores it: the closed trees of each level, the outermost first, laid out in the order in
--- which their items were appended. Only private clauses cite this.
+-- The tree so far as a builder stores it: laid out in the order in which its items were appended. Only private clauses
+-- cite this.
 use Rattle.std.specs.Prelude.{◌≡◌, ℕ, suc, ◌+◌, List, [], ◌∷◌, ◌++◌, Option, Some, None}
 use Rattle.markdown_base.specs.declared.item.Item.{Item}
 use Rattle.markdown_base.specs.declared.item.ItemBody.TheVariants as body
 use Rattle.markdown_base.specs.declared.node.Node.{Node}
 use Rattle.markdown_base.specs.Arena.{Arena}
-use Rattle.markdown_base.specs.Forest.{Forest, nil, node}
+use Rattle.markdown_base.specs.BlockTree.{tree_of}
+use Rattle.markdown_base.specs.Forest.{Forest, nil, node, relabelled}
 
 -- the trees of one forest and then those of another
 abbrev pub joined : {A : Type 0} → Forest A → Forest A → Forest A
@@ -64,8 +65,8 @@ innermost_in parent (frame ∷ frames) = innermost_in (number_in parent frame) f
 abbrev pub root : Item
 root = record { start = 0; end = 0; body = body.Root }
 
--- the arena of the tree so far: below the root it is laid out, its open blocks are entered, and the cursor is at the last
--- of the closed trees in the innermost
+-- the arena of the tree so far: it is laid out below the root, its open blocks are entered, and the cursor is at the
+-- last of the closed trees in the innermost
 abbrev pub laid_out : List Frame → Forest Item → Arena Item
 laid_out frames inside = record {
   nodes = laid None 0 (node root (rebuilt frames inside) nil);
@@ -78,3 +79,25 @@ pub record IsLaidOut (tree : Arena Item) : Type 0 where
   pub frames : List Frame
   pub inside : Forest Item
   pub is : tree ≡ laid_out frames inside
+
+-- the trees of a forest but the last one
+abbrev pub all_but_last : Forest Item → Forest Item
+all_but_last nil = nil
+all_but_last (node a below nil) = nil
+all_but_last (node a below (node b inside after)) = node a below (all_but_last (node b inside after))
+
+-- the forest in the last tree of a forest
+abbrev pub in_last : Forest Item → Forest Item
+in_last nil = nil
+in_last (node a below nil) = below
+in_last (node a below (node b inside after)) = in_last (node b inside after)
+
+-- the closed trees of each level, the outermost first, where the last tree of each level but the innermost is an open
+-- block, one for each number in a spine
+abbrev pub levels_in : List ℕ → Forest Item → List (Forest Item)
+levels_in [] tree = tree ∷ []
+levels_in (number ∷ spine) tree = all_but_last tree ∷ levels_in spine (in_last tree)
+
+-- the closed trees of each level of an arena
+abbrev pub levels_of : Arena Item → List (Forest Item)
+levels_of tree = levels_in tree.spine (relabelled (λ n. n.item) (tree_of tree.nodes))
