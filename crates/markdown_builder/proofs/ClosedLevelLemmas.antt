@@ -8,9 +8,11 @@ use Rattle.markdown_base.specs.declared.node.Node.{Node}
 use Rattle.markdown_base.specs.Arena.{Arena, child_of}
 use Rattle.markdown_base.specs.BlockTree.{item_at, no_item}
 use Rattle.markdown_base.specs.Forest.{Forest, nil, node}
-use Rattle.markdown_builder.specs.Levels.{joined, link, laid, Frame, innermost_in, laid_out, IsLaidOut}
+use Rattle.markdown_builder.specs.Levels.{link, laid, Frame, innermost_in, laid_out, IsLaidOut}
+use Rattle.markdown_builder.specs.TreeLevels.{joined}
 use Rattle.markdown_builder.specs.Tightness.{is_tight_list}
-use Rattle.markdown_builder.specs.TreeSteps.{items_tightened, below_closed, TightensList}
+use Rattle.markdown_builder.specs.TreeSteps.{TightensList}
+use Rattle.markdown_builder.specs.TreeLevels.{items_tightened, below_closed}
 use Rattle.markdown_builder.proofs.ClosedListLemmas.{tightens_stays}
 use Rattle.markdown_builder.proofs.LaidLemmas.{last_root-joined}
 use Rattle.markdown_builder.proofs.LevelsLemmas.{ahead, number_after, length-ahead, laid_last, field_behind}

@@ -6,7 +6,8 @@ use Rattle.markdown_base.specs.declared.item.Item.{Item}
 use Rattle.markdown_base.specs.declared.node.Node.{Node}
 use Rattle.markdown_base.specs.ArenaChanges.{single, changed_at}
 use Rattle.markdown_base.specs.Forest.{Forest, nil, node}
-use Rattle.markdown_builder.specs.Levels.{joined, size, link, laid, last_root}
+use Rattle.markdown_builder.specs.Levels.{size, link, laid, last_root}
+use Rattle.markdown_builder.specs.TreeLevels.{joined}
 
 -- ---- forests
 

@@ -7,10 +7,12 @@ use Rattle.markdown_base.specs.declared.node.Node.{Node}
 use Rattle.markdown_base.specs.Arena.{Arena, child_of}
 use Rattle.markdown_base.specs.ArenaChanges.{single, changed_at, appended}
 use Rattle.markdown_base.specs.Forest.{Forest, nil, node}
-use Rattle.markdown_builder.specs.Levels.{joined, size, laid, last_root, Frame, rebuilt, number_in, numbers_in}
+use Rattle.markdown_builder.specs.Levels.{size, laid, last_root, Frame, rebuilt, number_in, numbers_in}
+use Rattle.markdown_builder.specs.TreeLevels.{joined}
 use Rattle.markdown_builder.specs.Levels.{innermost_in, root, laid_out, IsLaidOut}
 use Rattle.markdown_builder.specs.Standing.{entered, with_item}
-use Rattle.markdown_builder.specs.TreeSteps.{byte_text, texts_appended, run_item, run_marked, run_trees}
+use Rattle.markdown_builder.specs.TreeSteps.{byte_text, texts_appended, run_marked}
+use Rattle.markdown_builder.specs.TreeLevels.{run_item, run_trees}
 use Rattle.markdown_builder.proofs.LaidLemmas.{joined_assoc, joined-nil, size-joined, last_root-joined}
 use Rattle.markdown_builder.proofs.LevelsLemmas.{ahead, number_after, length-ahead, laid_last, length-laid_out}
 use Rattle.markdown_builder.proofs.LevelsLemmas.{last_written, field_behind, append_laid}

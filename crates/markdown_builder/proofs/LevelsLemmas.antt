@@ -9,7 +9,8 @@ use Rattle.markdown_base.specs.declared.node.Node.{Node}
 use Rattle.markdown_base.specs.Arena.{child_of, sibling_of}
 use Rattle.markdown_base.specs.ArenaChanges.{innermost, single, changed_at, follower, led_to, appended}
 use Rattle.markdown_base.specs.Forest.{Forest, nil, node}
-use Rattle.markdown_builder.specs.Levels.{joined, size, link, laid, last_root, Frame, rebuilt, number_in, numbers_in}
+use Rattle.markdown_builder.specs.Levels.{size, link, laid, last_root, Frame, rebuilt, number_in, numbers_in}
+use Rattle.markdown_builder.specs.TreeLevels.{joined}
 use Rattle.markdown_builder.specs.Levels.{innermost_in, root, laid_out}
 use Rattle.markdown_builder.specs.Standing.{with_item}
 use Rattle.markdown_builder.proofs.LaidLemmas.{changed_behind, length-laid, laid-joined}

@@ -9,7 +9,8 @@ use Rattle.markdown_base.specs.ArenaForest.{links_of, forest_at, Spells}
 use Rattle.markdown_base.specs.BlockTree.{item_at, no_item, numbered, tree_of}
 use Rattle.markdown_base.specs.Forest.{Forest, nil, node, relabelled}
 use Rattle.markdown_base.proofs.ArenaForestLemmas.{height, forest_at-fits}
-use Rattle.markdown_builder.specs.Levels.{joined, size, link, laid, Frame, rebuilt, number_in, numbers_in, root}
+use Rattle.markdown_builder.specs.Levels.{size, link, laid, Frame, rebuilt, number_in, numbers_in, root}
+use Rattle.markdown_builder.specs.TreeLevels.{joined}
 use Rattle.markdown_builder.specs.Levels.{laid_out, all_but_last, in_last, levels_in, levels_of}
 use Rattle.markdown_builder.proofs.LaidLemmas.{length-laid}
 use Rattle.markdown_builder.proofs.LevelsLemmas.{field_behind}

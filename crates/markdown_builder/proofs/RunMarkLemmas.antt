@@ -25,7 +25,8 @@ use Rattle.markdown_builder.specs.BuilderRules.{ItemFits, MayReplace, KeepsRuns}
 use Rattle.markdown_builder.specs.Standing.{State, with_item, IsOpenAt, AreOpen, Stands, LastRun, IsSound}
 use Rattle.markdown_builder.specs.ClosedLists.{ListsAreTight}
 use Rattle.markdown_builder.specs.Tightness.{is_tight_list}
-use Rattle.markdown_builder.specs.TreeSteps.{byte_text, texts_appended, run_item, run_marked}
+use Rattle.markdown_builder.specs.TreeSteps.{byte_text, texts_appended, run_marked}
+use Rattle.markdown_builder.specs.TreeLevels.{run_item}
 use Rattle.markdown_builder.proofs.BodiesLemmas.{settled_alone, parent_not_inline}
 use Rattle.markdown_builder.proofs.LevelStepLemmas.{run_is_laid}
 use Rattle.markdown_builder.proofs.NodeWriteLemmas.{Writes, item_writes}

@@ -12,7 +12,7 @@ use Rattle.markdown_base.specs.BlockTree.{item_at, no_item}
 use Rattle.markdown_base.specs.Forest.{Forest, nil, node}
 use Rattle.markdown_builder.specs.Levels.{size, link, laid}
 use Rattle.markdown_builder.specs.Standing.{with_item}
-use Rattle.markdown_builder.specs.TreeSteps.{is_paragraph, tight, tight_if_paragraph, roots_tightened, items_tightened}
+use Rattle.markdown_builder.specs.TreeLevels.{is_paragraph, tight, tight_if_paragraph, roots_tightened, items_tightened}
 use Rattle.markdown_builder.specs.TreeSteps.{ChangesLaid}
 use Rattle.markdown_builder.proofs.LaidLemmas.{changed_behind, length-laid}
 use Rattle.markdown_builder.proofs.LevelsLemmas.{field_behind}

@@ -7,11 +7,7 @@ use Rattle.markdown_base.specs.declared.node.Node.{Node}
 use Rattle.markdown_base.specs.Arena.{Arena}
 use Rattle.markdown_base.specs.BlockTree.{tree_of}
 use Rattle.markdown_base.specs.Forest.{Forest, nil, node, relabelled}
-
--- the trees of one forest and then those of another
-abbrev pub joined : {A : Type 0} → Forest A → Forest A → Forest A
-joined nil g = g
-joined (node a below after) g = node a below (joined after g)
+use Rattle.markdown_builder.specs.TreeLevels.{joined}
 
 -- the number of nodes of a forest
 abbrev pub size : Forest Item → ℕ

@@ -1,5 +1,6 @@
 -- the terms of contracts
 pub mod Bodies
+pub mod TreeLevels
 pub mod BuilderView
 pub mod Tightness
 pub mod ClosedLists

@@ -13,34 +13,8 @@ use Rattle.markdown_base.specs.Forest.{Forest, nil, node}
 use Rattle.markdown_builder.specs.Levels.{link, laid}
 use Rattle.markdown_builder.specs.Rising.{link_of}
 use Rattle.markdown_builder.specs.Standing.{with_item}
+use Rattle.markdown_builder.specs.TreeLevels.{is_paragraph, tight, items_tightened, run_item}
 use Rattle.markdown_builder.specs.Tightness.{is_tight_list, IsInItemOf}
-
--- the body is that of a paragraph which is not tight
-abbrev pub is_paragraph : ItemBody → Bool
-is_paragraph body.Paragraph = true
-is_paragraph other = false
-
--- a paragraph made tight
-abbrev pub tight : Item → Item
-tight item = record { start = item.start; end = item.end; body = body.TightParagraph }
-
--- an item made tight, if it is a paragraph
-abbrev pub tight_if_paragraph : Item → Item
-tight_if_paragraph item = cond (is_paragraph item.body) (tight item) item
-
--- the paragraphs made tight that are the roots of a forest
-abbrev pub roots_tightened : Forest Item → Forest Item
-roots_tightened nil = nil
-roots_tightened (node a below after) = node (tight_if_paragraph a) below (roots_tightened after)
-
--- the paragraphs made tight that are directly in the items of a list
-abbrev pub items_tightened : Forest Item → Forest Item
-items_tightened nil = nil
-items_tightened (node a below after) = node a (roots_tightened below) (items_tightened after)
-
--- what is in a block, when it is closed: the paragraphs of a tight list are made tight
-abbrev pub below_closed : Item → Forest Item → Forest Item
-below_closed item below = cond (is_tight_list item.body) (items_tightened below) below
 
 -- a forest that is laid out from a link on is changed in its place
 pub record ChangesLaid (change : Forest Item → Forest Item) (first : Option ℕ) (old new : List (Node Item)) : Type 0
@@ -82,27 +56,12 @@ abbrev pub texts_appended : Arena Item → ℕ → ℕ → Arena Item
 texts_appended tree start zero = tree
 texts_appended tree start (suc count) = appended (texts_appended tree start count) (byte_text (start + count))
 
--- the character that starts `count` bytes before the end of a delimiter run, which is at byte offset `stop`
-abbrev pub run_item : ℕ → Bool → Bool → ℕ → Item
-run_item stop opens closes count = record {
-  start = stop - count;
-  end = (stop - count)
-      + 1;
-  body = body.MaybeEmphasis count opens closes;
-}
-
 -- an arena whose last `count` items are made the characters of a delimiter run that ends at byte offset `stop`
 abbrev pub run_marked : Arena Item → ℕ → Bool → Bool → ℕ → Arena Item
 run_marked tree stop opens closes zero = tree
 run_marked tree stop opens closes (suc count) =
     with_item (run_marked tree stop opens closes count) (length tree.nodes - suc count)
     (run_item stop opens closes (suc count))
-
--- the characters of a delimiter run that ends at byte offset `stop`, the last `count` of them
-abbrev pub run_trees : ℕ → Bool → Bool → ℕ → Forest Item
-run_trees stop opens closes zero = nil
-run_trees stop opens closes (suc count) =
-    node (run_item stop opens closes (suc count)) nil (run_trees stop opens closes count)
 
 -- the paragraphs of a list are made tight, where it is a tight one
 pub record TightensList (list : ℕ) (old new : Arena Item) : Type 0 where

@@ -2,7 +2,8 @@
 use Rattle.std.proofs.Common.{ℕ, ◌≤◌, Option, true, false, refl, subst, arith}
 use Rattle.std.specs.Prelude.{IfSome}
 use Rattle.markdown_base.specs.Arena.{child_of}
-use Rattle.markdown_builder.specs.TreeSteps.{items_tightened, none_tight}
+use Rattle.markdown_builder.specs.TreeSteps.{none_tight}
+use Rattle.markdown_builder.specs.TreeLevels.{items_tightened}
 use Rattle.markdown_builder.proofs.TightLaidLemmas.{all_left_laid, none_left_laid, item_laid}
 use Rattle.markdown_builder.proofs.TightLemmas.{item_step, items_done, rising_still, items_left}
 use Rattle.markdown_builder.proofs.TightLemmas.{tightens_on, next_after}

@@ -3,7 +3,8 @@
 use Rattle.std.proofs.Common.{◌≤◌, length}
 use Rattle.std.specs.Prelude.{IfSome}
 use Rattle.markdown_base.specs.Arena.{child_of}
-use Rattle.markdown_builder.specs.TreeSteps.{items_tightened, Tightens}
+use Rattle.markdown_builder.specs.TreeSteps.{Tightens}
+use Rattle.markdown_builder.specs.TreeLevels.{items_tightened}
 use Rattle.markdown_builder.proofs.TightLaidLemmas.{LaidLeft}
 use Rattle.markdown_builder.proofs.TightLemmas.{ItemsLeft, nodes_from}
 use Rattle.markdown_builder.proofs.tight.tighten_items.Given as goal

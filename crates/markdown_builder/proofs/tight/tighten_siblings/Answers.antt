@@ -4,7 +4,8 @@ use Rattle.std.specs.Prelude.{IfSome}
 use Rattle.markdown_base.specs.declared.item.Item.{Item}
 use Rattle.markdown_base.specs.Arena.{Arena}
 use Rattle.markdown_builder.specs.Tightness.{IsInChain}
-use Rattle.markdown_builder.specs.TreeSteps.{roots_tightened, none_tight}
+use Rattle.markdown_builder.specs.TreeSteps.{none_tight}
+use Rattle.markdown_builder.specs.TreeLevels.{roots_tightened}
 use Rattle.markdown_builder.proofs.TightLaidLemmas.{all_left_laid, none_left_laid, sibling_laid}
 use Rattle.markdown_builder.proofs.TightLemmas.{all_left, leads_to, sibling_step, siblings_done}
 use Rattle.markdown_builder.proofs.TightLemmas.{rising_still, tightens_on, next_after}

@@ -1,7 +1,8 @@
 -- Some paragraphs were made tight, and the others stand from the link on, which leads to ever larger numbers.
 use Rattle.std.proofs.Common.{ℕ, ◌≤◌, length}
 use Rattle.std.specs.Prelude.{IfSome}
-use Rattle.markdown_builder.specs.TreeSteps.{roots_tightened, Tightens}
+use Rattle.markdown_builder.specs.TreeSteps.{Tightens}
+use Rattle.markdown_builder.specs.TreeLevels.{roots_tightened}
 use Rattle.markdown_builder.proofs.TightLaidLemmas.{LaidLeft}
 use Rattle.markdown_builder.proofs.TightLemmas.{SiblingsLeft, nodes_from}
 use Rattle.markdown_builder.proofs.tight.tighten_siblings.Given as goal
