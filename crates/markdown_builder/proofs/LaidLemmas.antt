@@ -7,21 +7,22 @@ use Rattle.markdown_base.specs.declared.node.Node.{Node}
 use Rattle.markdown_base.specs.ArenaChanges.{single, changed_at}
 use Rattle.markdown_base.specs.Forest.{Forest, nil, node}
 use Rattle.markdown_builder.specs.Levels.{size, link, laid, last_root}
-use Rattle.markdown_builder.specs.TreeLevels.{joined}
+use Rattle.markdown_builder.specs.TreeLevels.{followed_by}
 
 -- ---- forests
 
-pub joined_assoc : {A : Type 0} (f g h : Forest A) → joined (joined f g) h ≡ joined f (joined g h)
-joined_assoc nil g h = refl
-joined_assoc {A} (node a below after) g h = ap (λ (r : Forest A). node a below r) (joined_assoc after g h)
+pub followed_by-assoc : {A : Type 0} (f g h : Forest A)
+    → followed_by (followed_by f g) h ≡ followed_by f (followed_by g h)
+followed_by-assoc nil g h = refl
+followed_by-assoc {A} (node a below after) g h = ap (λ (r : Forest A). node a below r) (followed_by-assoc after g h)
 
-pub joined-nil : {A : Type 0} (f : Forest A) → joined f nil ≡ f
-joined-nil nil = refl
-joined-nil {A} (node a below after) = ap (λ (r : Forest A). node a below r) (joined-nil after)
+pub followed_by-nil : {A : Type 0} (f : Forest A) → followed_by f nil ≡ f
+followed_by-nil nil = refl
+followed_by-nil {A} (node a below after) = ap (λ (r : Forest A). node a below r) (followed_by-nil after)
 
-pub size-joined : (f g : Forest Item) → size (joined f g) ≡ size f + size g
-size-joined nil g = omega arith
-size-joined (node a below after) g = let more = size-joined after g in omega (arith, more)
+pub size-followed_by : (f g : Forest Item) → size (followed_by f g) ≡ size f + size g
+size-followed_by nil g = omega arith
+size-followed_by (node a below after) g = let more = size-followed_by after g in omega (arith, more)
 
 -- ---- lists of nodes
 
@@ -45,21 +46,21 @@ length-laid end n (node a below after) =
     let two = length-laid end (n + 1 + size below) after in
     omega (arith, both, one, two)
 
-link-joined : (end : Option ℕ) (n k : ℕ) (f g : Forest Item) → k ≡ n + size f
-    → link end n (joined f g) ≡ link (link end k g) n f
-link-joined end n k nil g is = ap (λ i. link end i g) (omega (arith, is))
-link-joined end n k (node a below after) g is = refl
+link-followed_by : (end : Option ℕ) (n k : ℕ) (f g : Forest Item) → k ≡ n + size f
+    → link end n (followed_by f g) ≡ link (link end k g) n f
+link-followed_by end n k nil g is = ap (λ i. link end i g) (omega (arith, is))
+link-followed_by end n k (node a below after) g is = refl
 
 -- one forest and then another, laid out: the first leads to the second
-pub laid-joined : (end : Option ℕ) (n k : ℕ) (f g : Forest Item) → k ≡ n + size f
-    → laid end n (joined f g) ≡ laid (link end k g) n f ++ laid end k g
-laid-joined end n k nil g e = ap (λ i. laid end i g) (omega (arith, e))
-laid-joined end n k (node a below after) g e =
+pub laid-followed_by : (end : Option ℕ) (n k : ℕ) (f g : Forest Item) → k ≡ n + size f
+    → laid end n (followed_by f g) ≡ laid (link end k g) n f ++ laid end k g
+laid-followed_by end n k nil g e = ap (λ i. laid end i g) (omega (arith, e))
+laid-followed_by end n k (node a below after) g e =
     let m = n + 1 + size below in
-    let links : link end m (joined after g) ≡ link (link end k g) m after =
-    link-joined end m k after g (omega (arith, e)) in
-    let more : laid end m (joined after g) ≡ laid (link end k g) m after ++ laid end k g =
-    laid-joined end m k after g (omega (arith, e)) in
+    let links : link end m (followed_by after g) ≡ link (link end k g) m after =
+    link-followed_by end m k after g (omega (arith, e)) in
+    let more : laid end m (followed_by after g) ≡ laid (link end k g) m after ++ laid end k g =
+    laid-followed_by end m k after g (omega (arith, e)) in
     let first : Option ℕ → Node Item = λ i. record { item = a; child = link None (n + 1) below; next = i } in
     rw (links, more) (ap (λ (xs : List (Node Item)). first (link (link end k g) m after) ∷ xs)
     (sym (append_assoc (laid None (n + 1) below) (laid (link end k g) m after) (laid end k g))))
@@ -82,7 +83,7 @@ leads_to k n = record n { next = Some k }
 
 -- one tree more at the end of a forest: a node is appended, and the last root leads to it
 pub laid_appended : (n k : ℕ) (x a : Item) (below after : Forest Item) → k ≡ n + size (node a below after)
-    → laid None n (joined (node a below after) (node x nil nil))
+    → laid None n (followed_by (node a below after) (node x nil nil))
     ≡ changed_at (last_index (node a below after)) (leads_to k) (laid None n (node a below after) ++ single x ∷ [])
 laid_appended n k x a below nil e =
     let same : n + 1 + size below ≡ k = omega (arith, e) in
@@ -101,10 +102,10 @@ laid_appended n k x a below (node b inside after) e =
     (sym (append_assoc front rest (single x ∷ []))))
 
 -- the last root's number, where another forest follows
-pub last_root-joined : (n k : ℕ) (f : Forest Item) (a : Item) (below after : Forest Item) → k ≡ n + size f
-    → last_root n (joined f (node a below after)) ≡ last_root k (node a below after)
-last_root-joined n k nil a below after e = ap (λ m. last_root m (node a below after)) (omega (arith, e))
-last_root-joined n k (node b inside nil) a below after e =
+pub last_root-followed_by : (n k : ℕ) (f : Forest Item) (a : Item) (below after : Forest Item) → k ≡ n + size f
+    → last_root n (followed_by f (node a below after)) ≡ last_root k (node a below after)
+last_root-followed_by n k nil a below after e = ap (λ m. last_root m (node a below after)) (omega (arith, e))
+last_root-followed_by n k (node b inside nil) a below after e =
     ap (λ m. last_root m (node a below after)) (omega (arith, e))
-last_root-joined n k (node b inside (node c deeper others)) a below after e =
-    last_root-joined (n + 1 + size inside) k (node c deeper others) a below after (omega (arith, e))
+last_root-followed_by n k (node b inside (node c deeper others)) a below after e =
+    last_root-followed_by (n + 1 + size inside) k (node c deeper others) a below after (omega (arith, e))

@@ -8,12 +8,13 @@ use Rattle.markdown_base.specs.Arena.{Arena, child_of}
 use Rattle.markdown_base.specs.ArenaChanges.{single, changed_at, appended}
 use Rattle.markdown_base.specs.Forest.{Forest, nil, node}
 use Rattle.markdown_builder.specs.Levels.{size, laid, last_root, Frame, rebuilt, number_in, numbers_in}
-use Rattle.markdown_builder.specs.TreeLevels.{joined}
+use Rattle.markdown_builder.specs.TreeLevels.{followed_by}
 use Rattle.markdown_builder.specs.Levels.{innermost_in, root, laid_out, IsLaidOut}
 use Rattle.markdown_builder.specs.Standing.{entered, with_item}
 use Rattle.markdown_builder.specs.TreeSteps.{byte_text, texts_appended, run_marked}
 use Rattle.markdown_builder.specs.TreeLevels.{run_item, run_trees}
-use Rattle.markdown_builder.proofs.LaidLemmas.{joined_assoc, joined-nil, size-joined, last_root-joined}
+use Rattle.markdown_builder.proofs.LaidLemmas.{followed_by-assoc, followed_by-nil, size-followed_by}
+use Rattle.markdown_builder.proofs.LaidLemmas.{last_root-followed_by}
 use Rattle.markdown_builder.proofs.LevelsLemmas.{ahead, number_after, length-ahead, laid_last, length-laid_out}
 use Rattle.markdown_builder.proofs.LevelsLemmas.{last_written, field_behind, append_laid}
 
@@ -24,10 +25,10 @@ same_arena t u nodes spine cursor = λ i. record { nodes = nodes i; spine = spin
 -- ---- one more open block
 
 rebuilt_more : (frames : List Frame) (frame : Frame) (inside : Forest Item)
-    → rebuilt (frames ++ frame ∷ []) inside ≡ rebuilt frames (joined frame.before (node frame.item inside nil))
+    → rebuilt (frames ++ frame ∷ []) inside ≡ rebuilt frames (followed_by frame.before (node frame.item inside nil))
 rebuilt_more [] frame inside = refl
 rebuilt_more (f ∷ frames) frame inside =
-    ap (λ (r : Forest Item). joined f.before (node f.item r nil)) (rebuilt_more frames frame inside)
+    ap (λ (r : Forest Item). followed_by f.before (node f.item r nil)) (rebuilt_more frames frame inside)
 
 numbers_more : (parent : ℕ) (frames : List Frame) (frame : Frame)
     → numbers_in parent (frames ++ frame ∷ [])
@@ -44,7 +45,7 @@ innermost_more parent (f ∷ frames) frame = innermost_more (number_in parent f)
 -- the nodes are those of the block as the last tree of its level
 nodes_more : (frames : List Frame) (frame : Frame) (inside : Forest Item)
     → (laid_out (frames ++ frame ∷ []) inside).nodes
-    ≡ (laid_out frames (joined frame.before (node frame.item inside nil))).nodes
+    ≡ (laid_out frames (followed_by frame.before (node frame.item inside nil))).nodes
 nodes_more frames frame inside =
     ap (λ (r : Forest Item). laid None 0 (node root r nil)) (rebuilt_more frames frame inside)
 
@@ -81,7 +82,7 @@ last_frame parent (f ∷ g ∷ frames) (o ∷ outer) ix e =
 pub append_is_laid : (tree : Arena Item) (x : Item) → IsLaidOut tree → IsLaidOut (appended tree x)
 append_is_laid tree x k = record {
   frames = k.frames;
-  inside = joined k.inside (node x nil nil);
+  inside = followed_by k.inside (node x nil nil);
   is = ap (λ (t : Arena Item). appended t x) k.is ∙ append_laid k.frames k.inside x;
 }
 
@@ -120,16 +121,18 @@ enter_is_laid tree x k = record {
 -- ---- the innermost open block
 
 -- it is left, with another item
-pub record IsLeftTree (tree : Arena Item) (ix : ℕ) (y : Item) : Type 0 where
+pub record IsLeftTree (old tree : Arena Item) (ix : ℕ) (y : Item) : Type 0 where
   pub frames : List Frame
   pub before : Forest Item
+  pub item : Item
   pub below : Forest Item
-  pub is : tree ≡ laid_out frames (joined before (node y below nil))
+  pub was : old ≡ laid_out (frames ++ record { before = before; item = item } ∷ []) below
+  pub is : tree ≡ laid_out frames (followed_by before (node y below nil))
   pub number : number_after frames before ≡ ix
 
 pub leave_laid : (tree : Arena Item) (outer : List ℕ) (ix : ℕ) (y : Item) → IsLaidOut tree
     → tree.spine ≡ outer ++ ix ∷ []
-    → IsLeftTree (record {
+    → IsLeftTree tree (record {
       nodes = changed_at ix (λ n. record n { item = y }) tree.nodes;
       spine = outer;
       cursor = Some ix;
@@ -139,32 +142,43 @@ leave_laid tree outer ix y k e =
     let before = r.last.before in
     let n = number_after r.others before in
     let change : Node Item → Node Item = λ m. record m { item = y } in
-    let was : tree.nodes ≡ (laid_out r.others (joined before (node r.last.item k.inside nil))).nodes =
+    let was : tree.nodes ≡ (laid_out r.others (followed_by before (node r.last.item k.inside nil))).nodes =
     ap (λ (t : Arena Item). t.nodes) k.is
     ∙ (ap (λ (fs : List Frame). (laid_out fs k.inside).nodes) r.whole ∙ nodes_more r.others r.last k.inside) in
-    let nodes : changed_at ix change tree.nodes ≡ (laid_out r.others (joined before (node y k.inside nil))).nodes =
+    let nodes : changed_at ix change tree.nodes ≡ (laid_out r.others (followed_by before (node y k.inside nil))).nodes =
     ap (λ (xs : List (Node Item)). changed_at ix change xs) was
     ∙ ap (λ (t : Arena Item). t.nodes) (last_written r.others before r.last.item y k.inside nil ix (sym r.number)) in
-    let cursor : Some ix ≡ last_root (innermost_in 0 r.others + 1) (joined before (node y k.inside nil)) =
+    let cursor : Some ix ≡ last_root (innermost_in 0 r.others + 1) (followed_by before (node y k.inside nil)) =
     ap (λ m. Some m) (sym r.number)
-    ∙ sym (last_root-joined (innermost_in 0 r.others + 1) n before y k.inside nil refl) in
+    ∙ sym (last_root-followed_by (innermost_in 0 r.others + 1) n before y k.inside nil refl) in
     record {
       frames = r.others;
       before = before;
+      item = r.last.item;
       below = k.inside;
-      is = same_arena _ (laid_out r.others (joined before (node y k.inside nil))) nodes (sym r.spine) cursor;
+      was = k.is ∙ ap (λ (fs : List Frame). laid_out fs k.inside) r.whole;
+      is = same_arena _ (laid_out r.others (followed_by before (node y k.inside nil))) nodes (sym r.spine) cursor;
       number = r.number;
     }
 
 -- it has another item
-pub write_is_laid : (tree : Arena Item) (outer : List ℕ) (ix : ℕ) (y : Item) → IsLaidOut tree
-    → tree.spine ≡ outer ++ ix ∷ [] → IsLaidOut (with_item tree ix y)
-write_is_laid tree outer ix y k e =
+pub record IsWrittenTree (first tree : Arena Item) : Type 0 where
+  pub frames : List Frame
+  pub old : Frame
+  pub now : Frame
+  pub inside : Forest Item
+  pub same : now.before ≡ old.before
+  pub was : first ≡ laid_out (frames ++ old ∷ []) inside
+  pub is : tree ≡ laid_out (frames ++ now ∷ []) inside
+
+pub write_laid : (tree : Arena Item) (outer : List ℕ) (ix : ℕ) (y : Item) → IsLaidOut tree
+    → tree.spine ≡ outer ++ ix ∷ [] → IsWrittenTree tree (with_item tree ix y)
+write_laid tree outer ix y k e =
     let r = last_frame 0 k.frames outer ix (sym (ap (λ (t : Arena Item). t.spine) k.is) ∙ e) in
     let before = r.last.before in
     let frame : Frame = record { before = before; item = y } in
     let change : Node Item → Node Item = λ m. record m { item = y } in
-    let was : tree.nodes ≡ (laid_out r.others (joined before (node r.last.item k.inside nil))).nodes =
+    let was : tree.nodes ≡ (laid_out r.others (followed_by before (node r.last.item k.inside nil))).nodes =
     ap (λ (t : Arena Item). t.nodes) k.is
     ∙ (ap (λ (fs : List Frame). (laid_out fs k.inside).nodes) r.whole ∙ nodes_more r.others r.last k.inside) in
     let nodes : changed_at ix change tree.nodes ≡ (laid_out (r.others ++ frame ∷ []) k.inside).nodes =
@@ -180,73 +194,83 @@ write_is_laid tree outer ix y k e =
     ∙ ap (λ m. last_root (m + 1) k.inside)
     (innermost_more 0 r.others r.last ∙ sym (innermost_more 0 r.others frame))) in
     record {
-      frames = r.others ++ frame ∷ [];
+      frames = r.others;
+      old = r.last;
+      now = frame;
       inside = k.inside;
+      same = refl;
+      was = k.is ∙ ap (λ (fs : List Frame). laid_out fs k.inside) r.whole;
       is = same_arena (with_item tree ix y) (laid_out (r.others ++ frame ∷ []) k.inside) nodes spine cursor;
     }
+
+pub write_is_laid : (tree : Arena Item) (outer : List ℕ) (ix : ℕ) (y : Item) → IsLaidOut tree
+    → tree.spine ≡ outer ++ ix ∷ [] → IsLaidOut (with_item tree ix y)
+write_is_laid tree outer ix y k e =
+    let w = write_laid tree outer ix y k e in
+    record { frames = w.frames ++ w.now ∷ []; inside = w.inside; is = w.is }
 
 -- ---- a delimiter run
 
 -- a Text for each of `count` bytes from a byte offset on
 abbrev pub byte_texts : ℕ → ℕ → Forest Item
 byte_texts start zero = nil
-byte_texts start (suc count) = joined (byte_texts start count) (node (byte_text (start + count)) nil nil)
+byte_texts start (suc count) = followed_by (byte_texts start count) (node (byte_text (start + count)) nil nil)
 
 size-byte_texts : (start count : ℕ) → size (byte_texts start count) ≡ count
 size-byte_texts start zero = refl
 size-byte_texts start (suc count) =
-    let more = size-joined (byte_texts start count) (node (byte_text (start + count)) nil nil) in
+    let more = size-followed_by (byte_texts start count) (node (byte_text (start + count)) nil nil) in
     omega (arith, more, size-byte_texts start count)
 
 pub texts_laid : (frames : List Frame) (inside : Forest Item) (start count : ℕ)
     → texts_appended (laid_out frames inside) start count
-    ≡ laid_out frames (joined inside (byte_texts start count))
-texts_laid frames inside start zero = ap (λ (r : Forest Item). laid_out frames r) (sym (joined-nil inside))
+    ≡ laid_out frames (followed_by inside (byte_texts start count))
+texts_laid frames inside start zero = ap (λ (r : Forest Item). laid_out frames r) (sym (followed_by-nil inside))
 texts_laid frames inside start (suc count) =
     let x = byte_text (start + count) in
     ap (λ (t : Arena Item). appended t x) (texts_laid frames inside start count)
-    ∙ (append_laid frames (joined inside (byte_texts start count)) x
-    ∙ ap (λ (r : Forest Item). laid_out frames r) (joined_assoc inside (byte_texts start count) (node x nil nil)))
+    ∙ (append_laid frames (followed_by inside (byte_texts start count)) x
+    ∙ ap (λ (r : Forest Item). laid_out frames r) (followed_by-assoc inside (byte_texts start count) (node x nil nil)))
 
 -- the characters of a run, of which the last `count` are made of Texts
 marked_laid : (frames : List Frame) (inside : Forest Item) (start stop total left count : ℕ) (opens closes : Bool)
     → left + count ≡ total
-    → run_marked (laid_out frames (joined inside (byte_texts start total))) stop opens closes count
-    ≡ laid_out frames (joined inside (joined (byte_texts start left) (run_trees stop opens closes count)))
+    → run_marked (laid_out frames (followed_by inside (byte_texts start total))) stop opens closes count
+    ≡ laid_out frames (followed_by inside (followed_by (byte_texts start left) (run_trees stop opens closes count)))
 marked_laid frames inside start stop total left zero opens closes e =
     let all : total ≡ left = omega (arith, e) in
-    ap (λ n. laid_out frames (joined inside (byte_texts start n))) all
-    ∙ ap (λ (r : Forest Item). laid_out frames (joined inside r)) (sym (joined-nil (byte_texts start left)))
+    ap (λ n. laid_out frames (followed_by inside (byte_texts start n))) all
+    ∙ ap (λ (r : Forest Item). laid_out frames (followed_by inside r)) (sym (followed_by-nil (byte_texts start left)))
 marked_laid frames inside start stop total left (suc count) opens closes e =
-    let texts = laid_out frames (joined inside (byte_texts start total)) in
+    let texts = laid_out frames (followed_by inside (byte_texts start total)) in
     let before = byte_texts start left in
     let after = run_trees stop opens closes count in
     let x = byte_text (start + left) in
     let y = run_item stop opens closes (suc count) in
     let n = length texts.nodes - suc count in
-    let number : n ≡ number_after frames (joined inside before) =
+    let number : n ≡ number_after frames (followed_by inside before) =
     omega (
       arith,
       e,
-      length-laid_out frames (joined inside (byte_texts start total)),
-      size-joined inside (byte_texts start total),
+      length-laid_out frames (followed_by inside (byte_texts start total)),
+      size-followed_by inside (byte_texts start total),
       size-byte_texts start total,
-      size-joined inside before,
+      size-followed_by inside before,
       size-byte_texts start left,
     ) in
-    let split : (z : Item) → joined inside (joined before (node z nil after))
-    ≡ joined (joined inside before) (node z nil after) =
-    λ z. sym (joined_assoc inside before (node z nil after)) in
+    let split : (z : Item) → followed_by inside (followed_by before (node z nil after))
+    ≡ followed_by (followed_by inside before) (node z nil after) =
+    λ z. sym (followed_by-assoc inside before (node z nil after)) in
     ap (λ (t : Arena Item). with_item t n y)
     (marked_laid frames inside start stop total (suc left) count opens closes (omega (arith, e))
     ∙ ap (λ (r : Forest Item). laid_out frames r)
-    (ap (λ (r : Forest Item). joined inside r) (joined_assoc before (node x nil nil) after) ∙ split x))
-    ∙ (last_written frames (joined inside before) x y nil after n number
+    (ap (λ (r : Forest Item). followed_by inside r) (followed_by-assoc before (node x nil nil) after) ∙ split x))
+    ∙ (last_written frames (followed_by inside before) x y nil after n number
     ∙ ap (λ (r : Forest Item). laid_out frames r) (sym (split y)))
 
 pub run_laid : (frames : List Frame) (inside : Forest Item) (start stop total : ℕ) (opens closes : Bool)
     → run_marked (texts_appended (laid_out frames inside) start total) stop opens closes total
-    ≡ laid_out frames (joined inside (run_trees stop opens closes total))
+    ≡ laid_out frames (followed_by inside (run_trees stop opens closes total))
 run_laid frames inside start stop total opens closes =
     ap (λ (t : Arena Item). run_marked t stop opens closes total) (texts_laid frames inside start total)
     ∙ marked_laid frames inside start stop total 0 total opens closes (omega arith)
@@ -255,7 +279,7 @@ pub run_is_laid : (tree : Arena Item) (start stop total : ℕ) (opens closes : B
     → IsLaidOut (run_marked (texts_appended tree start total) stop opens closes total)
 run_is_laid tree start stop total opens closes k = record {
   frames = k.frames;
-  inside = joined k.inside (run_trees stop opens closes total);
+  inside = followed_by k.inside (run_trees stop opens closes total);
   is = ap (λ (t : Arena Item). run_marked (texts_appended t start total) stop opens closes total) k.is
       ∙ run_laid k.frames k.inside start stop total opens closes;
 }

@@ -10,11 +10,11 @@ use Rattle.markdown_base.specs.Arena.{child_of, sibling_of}
 use Rattle.markdown_base.specs.ArenaChanges.{innermost, single, changed_at, follower, led_to, appended}
 use Rattle.markdown_base.specs.Forest.{Forest, nil, node}
 use Rattle.markdown_builder.specs.Levels.{size, link, laid, last_root, Frame, rebuilt, number_in, numbers_in}
-use Rattle.markdown_builder.specs.TreeLevels.{joined}
+use Rattle.markdown_builder.specs.TreeLevels.{followed_by}
 use Rattle.markdown_builder.specs.Levels.{innermost_in, root, laid_out}
 use Rattle.markdown_builder.specs.Standing.{with_item}
-use Rattle.markdown_builder.proofs.LaidLemmas.{changed_behind, length-laid, laid-joined}
-use Rattle.markdown_builder.proofs.LaidLemmas.{last_index, last_root_is, leads_to, laid_appended, last_root-joined}
+use Rattle.markdown_builder.proofs.LaidLemmas.{changed_behind, length-laid, laid-followed_by}
+use Rattle.markdown_builder.proofs.LaidLemmas.{last_index, last_root_is, leads_to, laid_appended, last_root-followed_by}
 
 -- ---- the nodes before the last tree
 
@@ -29,18 +29,18 @@ pub length-ahead_in : (parent : ℕ) (a : Item) (before : Forest Item)
 length-ahead_in parent a before = ap suc (length-laid (Some (parent + 1 + size before)) (parent + 1) before)
 
 link_filled : (n : ℕ) (f : Forest Item) (x : Item) (below after : Forest Item)
-    → link None n (joined f (node x below after)) ≡ Some n
+    → link None n (followed_by f (node x below after)) ≡ Some n
 link_filled n nil x below after = refl
 link_filled n (node a inside others) x below after = refl
 
 laid_ahead : (parent : ℕ) (a : Item) (before : Forest Item) (x : Item) (below after : Forest Item)
-    → laid None parent (node a (joined before (node x below after)) nil)
+    → laid None parent (node a (followed_by before (node x below after)) nil)
     ≡ ahead_in parent a before ++ laid None (parent + 1 + size before) (node x below after)
 laid_ahead parent a before x below after =
     let last : Forest Item = node x below after in
     rw (
       link_filled (parent + 1) before x below after,
-      laid-joined None (parent + 1) (parent + 1 + size before) before last refl,
+      laid-followed_by None (parent + 1) (parent + 1 + size before) before last refl,
     )
     (ap (λ (xs : List (Node Item)). record { item = a; child = Some (parent + 1); next = None } ∷ xs)
     (append-nil (laid (Some (parent + 1 + size before)) (parent + 1) before
@@ -100,13 +100,13 @@ length-ahead frames before =
     )
 
 pub laid_last : (frames : List Frame) (before : Forest Item) (x : Item) (below after : Forest Item)
-    → (laid_out frames (joined before (node x below after))).nodes
+    → (laid_out frames (followed_by before (node x below after))).nodes
     ≡ ahead frames before ++ laid None (number_after frames before) (node x below after)
 laid_last frames before x below after =
     let front = around 0 root frames in
     let n = innermost_in 0 frames in
     let i = innermost_item root frames in
-    laid_around 0 root frames (joined before (node x below after))
+    laid_around 0 root frames (followed_by before (node x below after))
     ∙ (ap (λ (xs : List (Node Item)). front ++ xs) (laid_ahead n i before x below after)
     ∙ sym (append_assoc front (ahead_in n i before) (laid None (number_after frames before) (node x below after))))
 
@@ -129,23 +129,23 @@ length-laid_out frames inside =
 -- the root of the last tree has another item
 pub last_written : (frames : List Frame) (before : Forest Item) (x y : Item) (below after : Forest Item) (n : ℕ)
     → n ≡ number_after frames before
-    → with_item (laid_out frames (joined before (node x below after))) n y
-    ≡ laid_out frames (joined before (node y below after))
+    → with_item (laid_out frames (followed_by before (node x below after))) n y
+    ≡ laid_out frames (followed_by before (node y below after))
 last_written frames before x y below after n e =
     let front = ahead frames before in
     let m = number_after frames before in
     let change : Node Item → Node Item = λ k. record k { item = y } in
     let same : n ≡ m + 0 = omega (arith, e) in
-    let nodes : changed_at n change (laid_out frames (joined before (node x below after))).nodes
-    ≡ (laid_out frames (joined before (node y below after))).nodes =
+    let nodes : changed_at n change (laid_out frames (followed_by before (node x below after))).nodes
+    ≡ (laid_out frames (followed_by before (node y below after))).nodes =
     ap (λ (xs : List (Node Item)). changed_at n change xs) (laid_last frames before x below after)
     ∙ (ap (λ j. changed_at j change (front ++ laid None m (node x below after))) same
     ∙ (changed_behind front (laid None m (node x below after)) m 0 change (length-ahead frames before)
     ∙ sym (laid_last frames before y below after))) in
-    let cursor : last_root (innermost_in 0 frames + 1) (joined before (node x below after))
-    ≡ last_root (innermost_in 0 frames + 1) (joined before (node y below after)) =
-    last_root-joined (innermost_in 0 frames + 1) m before x below after refl
-    ∙ (other_root m after ∙ sym (last_root-joined (innermost_in 0 frames + 1) m before y below after refl)) in
+    let cursor : last_root (innermost_in 0 frames + 1) (followed_by before (node x below after))
+    ≡ last_root (innermost_in 0 frames + 1) (followed_by before (node y below after)) =
+    last_root-followed_by (innermost_in 0 frames + 1) m before x below after refl
+    ∙ (other_root m after ∙ sym (last_root-followed_by (innermost_in 0 frames + 1) m before y below after refl)) in
     rw (nodes, cursor) refl
   where
     other_root : (m : ℕ) (after : Forest Item)
@@ -188,7 +188,7 @@ grown : (frames : List Frame) (inside : Forest Item) (x : Item) (k : ℕ) → k 
     → (follower (laid_out frames inside).nodes (laid_out frames inside).spine (laid_out frames inside).cursor ≡ None)
     × (led_to k (laid_out frames inside).spine (laid_out frames inside).cursor
     ((laid_out frames inside).nodes ++ single x ∷ [])
-    ≡ (laid_out frames (joined inside (node x nil nil))).nodes)
+    ≡ (laid_out frames (followed_by inside (node x nil nil))).nodes)
 grown frames nil x k e =
     let front = around 0 root frames in
     let q = innermost_in 0 frames in
@@ -222,14 +222,15 @@ grown frames (node b below after) x k e =
     let at : (q + 1) + li ≡ q + suc li = omega arith in
     let here : laid None q (node i inside nil) ≡ first ∷ trees =
     ap (λ (xs : List (Node Item)). first ∷ xs) (append-nil trees) in
-    let more : laid None q (node i (joined inside (node x nil nil)) nil)
-    ≡ first ∷ laid None (q + 1) (joined inside (node x nil nil)) =
-    ap (λ (xs : List (Node Item)). first ∷ xs) (append-nil (laid None (q + 1) (joined inside (node x nil nil)))) in
+    let more : laid None q (node i (followed_by inside (node x nil nil)) nil)
+    ≡ first ∷ laid None (q + 1) (followed_by inside (node x nil nil)) =
+    ap (λ (xs : List (Node Item)). first ∷ xs) (append-nil (laid None (q + 1) (followed_by inside (node x nil nil)))) in
     let old : (laid_out frames inside).nodes ≡ front ++ first ∷ trees =
     laid_around 0 root frames inside ∙ ap (λ (xs : List (Node Item)). front ++ xs) here in
-    let new : (laid_out frames (joined inside (node x nil nil))).nodes
-    ≡ front ++ first ∷ laid None (q + 1) (joined inside (node x nil nil)) =
-    laid_around 0 root frames (joined inside (node x nil nil)) ∙ ap (λ (xs : List (Node Item)). front ++ xs) more in
+    let new : (laid_out frames (followed_by inside (node x nil nil))).nodes
+    ≡ front ++ first ∷ laid None (q + 1) (followed_by inside (node x nil nil)) =
+    laid_around 0 root frames (followed_by inside (node x nil nil))
+    ∙ ap (λ (xs : List (Node Item)). front ++ xs) more in
     rw (last_root_is (q + 1) b below after) (
       ap (λ (xs : List (Node Item)). sibling_of xs ((q + 1) + li)) old
           ∙ (ap (λ j. sibling_of (front ++ first ∷ trees) j) at
@@ -244,12 +245,12 @@ grown frames (node b below after) x k e =
     )
 
 pub append_laid : (frames : List Frame) (inside : Forest Item) (x : Item)
-    → appended (laid_out frames inside) x ≡ laid_out frames (joined inside (node x nil nil))
+    → appended (laid_out frames inside) x ≡ laid_out frames (followed_by inside (node x nil nil))
 append_laid frames inside x =
     let n = length-laid_out frames inside in
     let g = grown frames inside x (length (laid_out frames inside).nodes) n in
-    let cursor : last_root (innermost_in 0 frames + 1) (joined inside (node x nil nil))
+    let cursor : last_root (innermost_in 0 frames + 1) (followed_by inside (node x nil nil))
     ≡ Some (length (laid_out frames inside).nodes) =
-    last_root-joined (innermost_in 0 frames + 1) (number_after frames inside) inside x nil nil refl
+    last_root-followed_by (innermost_in 0 frames + 1) (number_after frames inside) inside x nil nil refl
     ∙ ap (λ m. Some m) (sym n) in
     rw (g.0, g.1, cursor) refl

@@ -12,6 +12,7 @@ pub mod LevelStepLemmas
 pub mod TightLaidLemmas
 pub mod ClosedLevelLemmas
 pub mod ReadLevelsLemmas
+pub mod LevelViewLemmas
 pub mod StandingLemmas
 pub mod StepLemmas
 pub mod TightLemmas

@@ -10,8 +10,9 @@ use Rattle.markdown_base.specs.BlockTree.{item_at, no_item, numbered, tree_of}
 use Rattle.markdown_base.specs.Forest.{Forest, nil, node, relabelled}
 use Rattle.markdown_base.proofs.ArenaForestLemmas.{height, forest_at-fits}
 use Rattle.markdown_builder.specs.Levels.{size, link, laid, Frame, rebuilt, number_in, numbers_in, root}
-use Rattle.markdown_builder.specs.TreeLevels.{joined}
-use Rattle.markdown_builder.specs.Levels.{laid_out, all_but_last, in_last, levels_in, levels_of}
+use Rattle.markdown_builder.specs.TreeLevels.{followed_by}
+use Rattle.markdown_builder.specs.Levels.{laid_out}
+use Rattle.markdown_builder.specs.TreeLevels.{all_but_last, in_last, levels_in, levels_of}
 use Rattle.markdown_builder.proofs.LaidLemmas.{length-laid}
 use Rattle.markdown_builder.proofs.LevelsLemmas.{field_behind}
 
@@ -124,24 +125,26 @@ tree_laid f =
 
 -- ---- levels
 
-but_last-joined : (f : Forest Item) (x : Item) (below : Forest Item) → all_but_last (joined f (node x below nil)) ≡ f
-but_last-joined nil x below = refl
-but_last-joined (node a inside nil) x below = refl
-but_last-joined (node a inside (node b deeper others)) x below =
-    ap (λ (g : Forest Item). node a inside g) (but_last-joined (node b deeper others) x below)
+but_last-followed_by : (f : Forest Item) (x : Item) (below : Forest Item)
+    → all_but_last (followed_by f (node x below nil)) ≡ f
+but_last-followed_by nil x below = refl
+but_last-followed_by (node a inside nil) x below = refl
+but_last-followed_by (node a inside (node b deeper others)) x below =
+    ap (λ (g : Forest Item). node a inside g) (but_last-followed_by (node b deeper others) x below)
 
-in_last-joined : (f : Forest Item) (x : Item) (below : Forest Item) → in_last (joined f (node x below nil)) ≡ below
-in_last-joined nil x below = refl
-in_last-joined (node a inside nil) x below = refl
-in_last-joined (node a inside (node b deeper others)) x below = in_last-joined (node b deeper others) x below
+in_last-followed_by : (f : Forest Item) (x : Item) (below : Forest Item)
+    → in_last (followed_by f (node x below nil)) ≡ below
+in_last-followed_by nil x below = refl
+in_last-followed_by (node a inside nil) x below = refl
+in_last-followed_by (node a inside (node b deeper others)) x below = in_last-followed_by (node b deeper others) x below
 
 levels_rebuilt : (parent : ℕ) (frames : List Frame) (inside : Forest Item)
     → levels_in (numbers_in parent frames) (rebuilt frames inside) ≡ map (λ f. f.before) frames ++ inside ∷ []
 levels_rebuilt parent [] inside = refl
 levels_rebuilt parent (frame ∷ frames) inside =
     rw (
-      but_last-joined frame.before frame.item (rebuilt frames inside),
-      in_last-joined frame.before frame.item (rebuilt frames inside),
+      but_last-followed_by frame.before frame.item (rebuilt frames inside),
+      in_last-followed_by frame.before frame.item (rebuilt frames inside),
     )
     (ap (λ (ls : List (Forest Item)). frame.before ∷ ls) (levels_rebuilt (number_in parent frame) frames inside))
 

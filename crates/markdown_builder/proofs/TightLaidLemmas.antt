@@ -1,10 +1,11 @@
 -- Paragraphs made tight in a forest that is laid out: after each step of a loop over its roots, those before the loop's
 -- link are changed, and the others are as they were.
-use Rattle.std.proofs.Common.{◌≡◌, ℕ, zero, suc, ◌+◌, ◌<◌, List, [], ◌∷◌, ◌++◌, Option, Some, None, Bool, true, false}
+use Rattle.std.proofs.Common.{◌≡◌, ℕ, zero, suc, ◌+◌, ◌<◌, List, [], ◌∷◌, ◌++◌, Option, Some, None, true, false}
 use Rattle.std.proofs.Common.{length, refl, sym, ap, ◌∙◌, arith}
-use Rattle.std.specs.Prelude.{cond}
 use Rattle.std.proofs.lemmas.List.{length-append, append_assoc}
 use Rattle.markdown_base.specs.declared.item.Item.{Item}
+use Rattle.markdown_base.specs.declared.item.ItemBody.{ItemBody}
+use Rattle.markdown_base.specs.declared.item.ItemBody.TheVariants as body
 use Rattle.markdown_base.specs.declared.node.Node.{Node}
 use Rattle.markdown_base.specs.Arena.{Arena, child_of, sibling_of}
 use Rattle.markdown_base.specs.ArenaChanges.{changed_at}
@@ -12,7 +13,8 @@ use Rattle.markdown_base.specs.BlockTree.{item_at, no_item}
 use Rattle.markdown_base.specs.Forest.{Forest, nil, node}
 use Rattle.markdown_builder.specs.Levels.{size, link, laid}
 use Rattle.markdown_builder.specs.Standing.{with_item}
-use Rattle.markdown_builder.specs.TreeLevels.{is_paragraph, tight, tight_if_paragraph, roots_tightened, items_tightened}
+use Rattle.markdown_builder.specs.TreeLevels.{tight_body, tight_if_paragraph, roots_tightened, items_tightened}
+use Rattle.markdown_builder.specs.TreeSteps.{is_paragraph, tight}
 use Rattle.markdown_builder.specs.TreeSteps.{ChangesLaid}
 use Rattle.markdown_builder.proofs.LaidLemmas.{changed_behind, length-laid}
 use Rattle.markdown_builder.proofs.LevelsLemmas.{field_behind}
@@ -34,10 +36,20 @@ same_item_written tree number h =
 
 -- a paragraph is made tight, and another item stays
 pub paragraph_tight : (item : Item) → is_paragraph item.body ≡ true → tight_if_paragraph item ≡ tight item
-paragraph_tight item e = ap (λ (b : Bool). cond b (tight item) item) e
+paragraph_tight item e =
+    ap (λ (b : ItemBody). record { start = item.start; end = item.end; body = b }) (tight_bodied item.body e)
+  where
+    tight_bodied : (b : ItemBody) → is_paragraph b ≡ true → tight_body b ≡ body.TightParagraph
+    tight_bodied body.Paragraph e = refl
+    tight_bodied other e = cc (e)
 
 pub other_stays : (item : Item) → is_paragraph item.body ≡ false → tight_if_paragraph item ≡ item
-other_stays item e = ap (λ (b : Bool). cond b (tight item) item) e
+other_stays item e =
+    ap (λ (b : ItemBody). record { start = item.start; end = item.end; body = b }) (same_bodied item.body e)
+  where
+    same_bodied : (b : ItemBody) → is_paragraph b ≡ false → tight_body b ≡ b
+    same_bodied body.Paragraph e = cc (e)
+    same_bodied other e = refl
 
 -- ---- the shape stays
 

@@ -31,7 +31,7 @@ use Rattle.markdown_builder.specs.Standing.{covered_to, AreCovered}
 use Rattle.markdown_builder.specs.Standing.{Stands, LastRun, IsSound}
 use Rattle.markdown_builder.specs.Levels.{IsLaidOut}
 use Rattle.markdown_builder.specs.TreeSteps.{Tightens, none_tight, one_tight, TightensList}
-use Rattle.markdown_builder.specs.TreeLevels.{is_paragraph, tight}
+use Rattle.markdown_builder.specs.TreeSteps.{is_paragraph, tight}
 use Rattle.markdown_builder.specs.ClosedLists.{IsNotOpen}
 use Rattle.markdown_builder.proofs.BodiesLemmas.{item_over, MayBePlaced, placed_fits, block_no_run, block_markup}
 use Rattle.markdown_builder.proofs.BodiesLemmas.{settled_alone}

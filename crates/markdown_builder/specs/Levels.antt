@@ -5,9 +5,8 @@ use Rattle.markdown_base.specs.declared.item.Item.{Item}
 use Rattle.markdown_base.specs.declared.item.ItemBody.TheVariants as body
 use Rattle.markdown_base.specs.declared.node.Node.{Node}
 use Rattle.markdown_base.specs.Arena.{Arena}
-use Rattle.markdown_base.specs.BlockTree.{tree_of}
-use Rattle.markdown_base.specs.Forest.{Forest, nil, node, relabelled}
-use Rattle.markdown_builder.specs.TreeLevels.{joined}
+use Rattle.markdown_base.specs.Forest.{Forest, nil, node}
+use Rattle.markdown_builder.specs.TreeLevels.{followed_by}
 
 -- the number of nodes of a forest
 abbrev pub size : Forest Item → ℕ
@@ -41,7 +40,7 @@ pub record Frame : Type 0 where
 -- one; the innermost contains the closed trees `inside`
 abbrev pub rebuilt : List Frame → Forest Item → Forest Item
 rebuilt [] inside = inside
-rebuilt (frame ∷ frames) inside = joined frame.before (node frame.item (rebuilt frames inside) nil)
+rebuilt (frame ∷ frames) inside = followed_by frame.before (node frame.item (rebuilt frames inside) nil)
 
 -- the number of an open block directly in a node
 abbrev pub number_in : ℕ → Frame → ℕ
@@ -75,25 +74,3 @@ pub record IsLaidOut (tree : Arena Item) : Type 0 where
   pub frames : List Frame
   pub inside : Forest Item
   pub is : tree ≡ laid_out frames inside
-
--- the trees of a forest but the last one
-abbrev pub all_but_last : Forest Item → Forest Item
-all_but_last nil = nil
-all_but_last (node a below nil) = nil
-all_but_last (node a below (node b inside after)) = node a below (all_but_last (node b inside after))
-
--- the forest in the last tree of a forest
-abbrev pub in_last : Forest Item → Forest Item
-in_last nil = nil
-in_last (node a below nil) = below
-in_last (node a below (node b inside after)) = in_last (node b inside after)
-
--- the closed trees of each level, the outermost first, where the last tree of each level but the innermost is an open
--- block, one for each number in a spine
-abbrev pub levels_in : List ℕ → Forest Item → List (Forest Item)
-levels_in [] tree = tree ∷ []
-levels_in (number ∷ spine) tree = all_but_last tree ∷ levels_in spine (in_last tree)
-
--- the closed trees of each level of an arena
-abbrev pub levels_of : Arena Item → List (Forest Item)
-levels_of tree = levels_in tree.spine (relabelled (λ n. n.item) (tree_of tree.nodes))

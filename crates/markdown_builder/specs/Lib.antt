@@ -9,5 +9,6 @@ pub mod HeadingsHoldInline
 pub mod Rising
 pub mod BuilderRules
 pub mod Levels
+pub mod ForestCode
 pub mod Standing
 pub mod TreeSteps

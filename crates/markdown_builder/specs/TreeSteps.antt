@@ -1,5 +1,5 @@
 -- What a builder changes in its tree in several steps: tight paragraphs, and the characters of a delimiter run.
-use Rattle.std.specs.Prelude.{◌≡◌, ℕ, zero, suc, ◌+◌, ◌-◌, ◌<◌, ◌≤◌, ◌⊎◌, Bool, true, false, cond, List, ◌++◌, length}
+use Rattle.std.specs.Prelude.{◌≡◌, ℕ, zero, suc, ◌+◌, ◌-◌, ◌<◌, ◌≤◌, ◌⊎◌, Bool, true, false, List, ◌++◌, length}
 use Rattle.std.specs.Prelude.{Option, None}
 use Rattle.markdown_base.specs.declared.item.Item.{Item}
 use Rattle.markdown_base.specs.declared.item.ItemBody.{ItemBody}
@@ -9,12 +9,21 @@ use Rattle.markdown_base.specs.Arena.{Arena, child_of}
 use Rattle.markdown_base.specs.ArenaChanges.{appended}
 use Rattle.markdown_base.specs.ArenaForest.{links_of}
 use Rattle.markdown_base.specs.BlockTree.{item_at}
-use Rattle.markdown_base.specs.Forest.{Forest, nil, node}
+use Rattle.markdown_base.specs.Forest.{Forest}
 use Rattle.markdown_builder.specs.Levels.{link, laid}
 use Rattle.markdown_builder.specs.Rising.{link_of}
 use Rattle.markdown_builder.specs.Standing.{with_item}
-use Rattle.markdown_builder.specs.TreeLevels.{is_paragraph, tight, items_tightened, run_item}
+use Rattle.markdown_builder.specs.TreeLevels.{items_tightened, run_item}
 use Rattle.markdown_builder.specs.Tightness.{is_tight_list, IsInItemOf}
+
+-- the body is that of a paragraph which is not tight
+abbrev pub is_paragraph : ItemBody → Bool
+is_paragraph body.Paragraph = true
+is_paragraph other = false
+
+-- a paragraph made tight
+abbrev pub tight : Item → Item
+tight item = record { start = item.start; end = item.end; body = body.TightParagraph }
 
 -- a forest that is laid out from a link on is changed in its place
 pub record ChangesLaid (change : Forest Item → Forest Item) (first : Option ℕ) (old new : List (Node Item)) : Type 0

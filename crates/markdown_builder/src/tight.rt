@@ -7,7 +7,8 @@ ghost use Rattle.markdown_builder.specs.Rising.{AreRising};
 ghost use Rattle.markdown_builder.specs.Standing.{with_item};
 ghost use Rattle.markdown_builder.specs.Tightness.{is_tight_list, IsInChain, IsInItemOf};
 ghost use Rattle.markdown_builder.specs.TreeSteps.{Tightens, TightensList};
-ghost use Rattle.markdown_builder.specs.TreeLevels.{is_paragraph, tight_if_paragraph};
+ghost use Rattle.markdown_builder.specs.TreeLevels.{tight_if_paragraph};
+ghost use Rattle.markdown_builder.specs.TreeSteps.{is_paragraph};
 ghost use Rattle.markdown_builder.specs.TreeSteps.{MakesTight, ChangesLaid};
 ghost use Rattle.markdown_builder.specs.TreeLevels.{roots_tightened, items_tightened};
 

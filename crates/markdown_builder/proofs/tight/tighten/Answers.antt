@@ -5,7 +5,7 @@ use Rattle.markdown_base.specs.Arena.{Arena}
 use Rattle.markdown_base.specs.BlockTree.{item_at, no_item}
 use Rattle.markdown_builder.specs.Standing.{with_item}
 use Rattle.markdown_builder.specs.TreeSteps.{Tightens, none_tight, one_tight, MakesTight}
-use Rattle.markdown_builder.specs.TreeLevels.{is_paragraph, tight}
+use Rattle.markdown_builder.specs.TreeSteps.{is_paragraph, tight}
 use Rattle.markdown_builder.proofs.NodeWriteLemmas.{item_writes}
 use Rattle.markdown_builder.proofs.TightLaidLemmas.{same_item_written, other_stays}
 use Rattle.markdown_builder.proofs.TightLemmas.{one_made, none_made}
