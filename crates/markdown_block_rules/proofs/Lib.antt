@@ -1,8 +1,10 @@
 mod BlockBeginningsLemmas
 mod BlockLawsLemmas
+mod GrowthLemmas
 mod IndentedLinesLemmas
 mod LeafLawsLemmas
 mod LineLawsLemmas
 mod ListLawsLemmas
+mod OpeningLemmas
 mod QuotedLinesLemmas
 mod TableLawsLemmas
