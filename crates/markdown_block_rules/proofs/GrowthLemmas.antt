@@ -69,18 +69,18 @@ pub data KindGrows (l : SourceLine) (top : Bool) : Kind → Kind → Type 0 wher
 
 -- what a line makes of blocks
 pub data Grown (s : Source) (l : SourceLine) : Bool → Forest Block → Forest Block → Type 0 where
-  begun : (top : Bool) (new : Forest Block) → Held (Fresh l.next) top new → Grown s l top nil new
-  later : (top : Bool) (b : Block) (below after grown : Forest Block) → Grown s l top after grown
+  all_begun : (top : Bool) (new : Forest Block) → Held (Fresh l.next) top new → Grown s l top nil new
+  later_grown : (top : Bool) (b : Block) (below after grown : Forest Block) → Grown s l top after grown
       → Grown s l top (node b below after) (node b below grown)
-  inside : (top : Bool) (b c : Block) (below grown : Forest Block) → c.kind ≡ b.kind → Grown s l false below grown
+  inside_grown : (top : Bool) (b c : Block) (below grown : Forest Block) → c.kind ≡ b.kind → Grown s l false below grown
       → Grown s l top (node b below nil) (node c grown nil)
-  leaf : (top : Bool) (b c : Block) (below : Forest Block) (kind : Kind) → b.kind ≡ kind → KindGrows l top kind c.kind
+  leaf_grown : (top : Bool) (b c : Block) (below : Forest Block) (kind : Kind) → b.kind ≡ kind → KindGrows l top kind c.kind
       → Grown s l top (node b below nil) (node c below nil)
-  table : (top : Bool) (b c : Block) (below : Forest Block) (head row : SourceLine) (alignments : List Alignment)
+  table_made : (top : Bool) (b c : Block) (below : Forest Block) (head row : SourceLine) (alignments : List Alignment)
       → reads_tables s ≡ true → b.kind ≡ was.paragraph_leaf (head ∷ []) → fitting s head row ≡ Some alignments
       → c.kind ≡ was.table_leaf false head alignments []
       → Grown s l top (node b below nil) (node c nil nil)
-  table_behind : (top : Bool) (b c d : Block) (below : Forest Block) (before : List SourceLine) (head row : SourceLine)
+  table_made_behind : (top : Bool) (b c d : Block) (below : Forest Block) (before : List SourceLine) (head row : SourceLine)
       (alignments : List Alignment)
       → reads_tables s ≡ true → b.kind ≡ was.paragraph_leaf (before ++ head ∷ [])
       → fitting s head row ≡ Some alignments → d.kind ≡ was.paragraph_leaf before
@@ -166,9 +166,9 @@ block_outermost s l =
 -- what begins after blocks
 begun_after : (s : Source) (l : SourceLine) (top : Bool) (blocks new : Forest Block) → Held (Fresh l.next) top new
     → Grown s l top blocks (followed_by blocks new)
-begun_after s l top nil new fresh = begun top new fresh
+begun_after s l top nil new fresh = all_begun top new fresh
 begun_after s l top (node b below after) new fresh =
-    later top b below after (followed_by after new) (begun_after s l top after new fresh)
+    later_grown top b below after (followed_by after new) (begun_after s l top after new fresh)
 
 -- what a line that has the rest of another makes
 moved : (l m : SourceLine) (new : Forest Block) → m.next ≡ l.next → Held (Fresh m.next) false new
@@ -238,14 +238,14 @@ after_grows : (s : Source) (l m : SourceLine) (top : Bool) (b : Block) (below : 
     → IfSome (table_after m (cut_paragraph b end before) head found) (Grown s l top (node b below nil))
 after_grows s l m top b below end before head row reads is None fits = tt
 after_grows s l m top b below end [] head row reads is (Some alignments) fits =
-    table top b (record {
+    table_made top b (record {
       start = head.left.scanned;
       first = head.next;
       last = m.next;
       kind = was.table_leaf false head alignments [];
     }) below head row alignments reads is fits refl
 after_grows s l m top b below end (first ∷ before) head row reads is (Some alignments) fits =
-    table_behind top b (record {
+    table_made_behind top b (record {
       start = head.left.scanned;
       first = head.next;
       last = m.next;
@@ -281,7 +281,7 @@ table_grows s l m top b below other is = tt
 lazy_text_grows : (s : Source) (l m : SourceLine) (top : Bool) (b : Block) (below : Forest Block) → m.next ≡ l.next
     → (kind : Kind) → b.kind ≡ kind → IfSome (with_lazy_text m b below kind) (Grown s l top (node b below nil))
 lazy_text_grows s l m top b below next (was.paragraph_leaf lines) is =
-    leaf top b (record b { last = m.next; kind = was.paragraph_leaf (lines ++ text_line m ∷ []) }) below
+    leaf_grown top b (record b { last = m.next; kind = was.paragraph_leaf (lines ++ text_line m ∷ []) }) below
     (was.paragraph_leaf lines) is (text_more lines (text_line m) next)
 lazy_text_grows s l m top b below next other is = tt
 
@@ -294,11 +294,11 @@ lazy_grows s l m top next (node b below nil) =
     (option_map (λ f. node (record b { last = m.next }) f nil) (with_lazy m below))
     (lazy_text_grows s l m top b below next b.kind refl)
     (mapped (Grown s l false below) (Grown s l top (node b below nil)) (λ f. node (record b { last = m.next }) f nil)
-    (λ f grown. inside top b (record b { last = m.next }) below f refl grown) (with_lazy m below)
+    (λ f grown. inside_grown top b (record b { last = m.next }) below f refl grown) (with_lazy m below)
     (lazy_grows s l m false next below))
 lazy_grows s l m top next (node b below (node c others after)) =
     mapped (Grown s l top (node c others after)) (Grown s l top (node b below (node c others after))) (node b below)
-    (λ f grown. later top b below (node c others after) f grown) (with_lazy m (node c others after))
+    (λ f grown. later_grown top b below (node c others after) f grown) (with_lazy m (node c others after))
     (lazy_grows s l m top next (node c others after))
 
 -- another item of a list, or a blank line in it
@@ -325,7 +325,6 @@ next_fresh s m marker = decided (is_blank_rest m)
 module _ (s : Source) (l m : SourceLine) (below : Forest Block) (next : m.next ≡ l.next)
     (inner : SourceLine → Option (Forest Block))
     (grows : (n : SourceLine) → n.next ≡ l.next → IfSome (inner n) (Grown s l false below)) where
-
   rest_grows : (rest : Option LineLeft) → IfSome (with_rest s m below inner rest) (Grown s l false below)
   rest_grows None =
       chosen (Grown s l false below) (not (is_blank_rest m) && is_text (begins s paragraph.Lazy m)) (with_lazy m below)
@@ -363,10 +362,10 @@ module _ (s : Source) (l m : SourceLine) (below : Forest Block) (next : m.next �
       (or_both grown (option_map as_leaf (leaf_with s m b.kind))
       (option_map around (container_with s m below inner b.kind))
       (mapped (KindGrows l top b.kind) grown as_leaf
-      (λ kind more. leaf top b (record b { last = m.next; kind = kind }) below b.kind refl more) (leaf_with s m b.kind)
+      (λ kind more. leaf_grown top b (record b { last = m.next; kind = kind }) below b.kind refl more) (leaf_with s m b.kind)
       (leaf_grows s l m top next same b.kind))
       (mapped (Grown s l false below) grown around
-      (λ f more. inside top b (record b { last = m.next }) below f refl more) (container_with s m below inner b.kind)
+      (λ f more. inside_grown top b (record b { last = m.next }) below f refl more) (container_with s m below inner b.kind)
       (container_grows b.kind)))
 
 -- where blocks go on in a line
@@ -379,7 +378,7 @@ goes_grown s l m top next same (node b below nil) =
     (λ n is. goes_grown s l n false is (λ outermost. absurd (true≢false (sym outermost))) below) top same b
 goes_grown s l m top next same (node b below (node c others after)) =
     mapped (Grown s l top (node c others after)) (Grown s l top (node b below (node c others after))) (node b below)
-    (λ f grown. later top b below (node c others after) f grown) (goes_on s (node c others after) m)
+    (λ f grown. later_grown top b below (node c others after) f grown) (goes_on s (node c others after) m)
     (goes_grown s l m top next same (node c others after))
 
 -- what a line makes of the blocks of a text

@@ -1,5 +1,5 @@
 -- No inline item that lines consist of is a task marker or metadata.
-use Rattle.std.proofs.Common.{◌≡◌, ℕ, zero, suc, ◌+◌, ◌-◌, Bool, true, false, not, ◌==◌, ◌&&◌, ◌||◌, List, [], ◌∷◌}
+use Rattle.std.proofs.Common.{◌≡◌, ℕ, zero, suc, ◌+◌, ◌-◌, ◌%◌, Bool, true, false, not, ◌==◌, ◌&&◌, ◌||◌, List, [], ◌∷◌}
 use Rattle.std.proofs.Common.{◌++◌, Option, Some, None, refl, length, nat_le, nat_lt, slice_index, slice_range, codes}
 use Rattle.std.proofs.Common.{encode_utf8, replicate}
 use Rattle.std.specs.Char.{is_ascii_punctuation}
@@ -82,10 +82,10 @@ put_unmarked text line more from at rest (found.EscapedBackticks stop) is =
     (plain_item (at + 1) stop (body.MaybeCode (stop - (at + 1)) true) ∷ more stop stop)
     (between_unmarked text line from at) (refl, rest stop stop)
 put_unmarked text line more from at rest (found.DelimiterRun stop flags) is =
-    joined (text_between text line from at) (run_items stop flags (stop - at) ++ more stop stop)
-    (between_unmarked text line from at)
-    (joined (run_items stop flags (stop - at)) (more stop stop) (run_unmarked stop flags (stop - at))
-    (rest stop stop))
+    let between = text_between text line from at in
+    let run = run_items stop flags (stop - at) in
+    joined (between ++ run) (more stop stop)
+    (joined between run (between_unmarked text line from at) (run_unmarked stop flags (stop - at))) (rest stop stop)
 put_unmarked text line more from at rest (found.Entity stop characters) is =
     joined (text_between text line from at) (synthesized_item at stop characters ∷ more stop stop)
     (between_unmarked text line from at) (refl, rest stop stop)
@@ -127,31 +127,27 @@ mark_unmarked line text at =
     (either IsUnmarked quotes (found.Mark (quote_mark byte before after)) (found.Text (at + 1)) refl tt)
 
 found_unmarked : (line : Line) (text : List ℕ) (at : ℕ) → IsUnmarked (found_at line text at)
-unfolding found_at, entity_at, image_at, run_at, hyphens_at, dots_at
+unfolding found_at entity_at image_at run_at hyphens_at dots_at
 found_unmarked line text at =
     let byte = slice_index text at in
     let stop = run_end text at line.end in
-    one (byte == backslash) (escape_unmarked text line.end at)
-    (one (byte == backtick) tt
-    (one (byte == ampersand)
-    (entity_unmarked at (entity line.extensions.names (slice_range text at line.end)))
-    (one (byte == exclamation_mark)
-    (either IsUnmarked ((at + 1 == line.end) || not (slice_index text (at + 1) == open_bracket)) (found.Text (at + 1))
-    found.Image tt tt)
-    (one (byte == less_than) refl
-    (one (byte == open_bracket) refl
-    (one (byte == close_bracket) refl
-    (one (is_delimiter byte)
+    let one = either IsUnmarked in
+    one (byte == backslash) _ _ (escape_unmarked text line.end at)
+    (one (byte == backtick) _ _ tt
+    (one (byte == ampersand) _ _ (entity_unmarked at (entity line.extensions.names (slice_range text at line.end)))
+    (one (byte == exclamation_mark) _ _
+    (one ((at + 1 == line.end) || not (slice_index text (at + 1) == open_bracket)) (found.Text (at + 1)) found.Image tt
+    tt)
+    (one (byte == less_than) _ _ refl
+    (one (byte == open_bracket) _ _ refl
+    (one (byte == close_bracket) _ _ refl
+    (one (is_delimiter byte) _ _
     (run_found_unmarked stop (run_flags line.extensions byte (stop - at) (character_before text line.start at)
     (character_after text stop)))
-    (one (byte == hyphen) (either IsUnmarked (nat_lt (stop - at) 2) (found.Text stop) (found.Dashes stop) tt tt)
-    (one (byte == full_stop)
-    (either IsUnmarked (begins_with (codes "...") (slice_range text at line.end)) found.Ellipsis (found.Text (at + 1))
-    tt tt)
+    (one (byte == hyphen) _ _ (one (nat_lt (stop - at) 2) (found.Text stop) (found.Dashes stop) tt tt)
+    (one (byte == full_stop) _ _
+    (one (begins_with (codes "...") (slice_range text at line.end)) found.Ellipsis (found.Text (at + 1)) tt tt)
     (mark_unmarked line text at))))))))))
-  where
-    one : (test : Bool) {x y : FoundView} → IsUnmarked x → IsUnmarked y → IsUnmarked (if test then x else y)
-    one test {x} {y} first second = either IsUnmarked test x y first second
 
 -- the items of a line's content
 items_unmarked : (n : ℕ) (text : List ℕ) (line : Line) (from at : ℕ)

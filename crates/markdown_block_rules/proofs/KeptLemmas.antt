@@ -16,7 +16,8 @@ use Rattle.markdown_block_rules.specs.BlockGrowth.{with_line, with_next_line, wi
 use Rattle.markdown_block_rules.specs.TableLines.{fitting, most_added, reads_tables}
 use Rattle.markdown_block_rules.proofs.BlockBeginningsLemmas.{either}
 use Rattle.markdown_block_rules.proofs.GrowthLemmas.{Fresh, Grown, Held, KindGrows, line_grows}
-use Rattle.markdown_block_rules.proofs.GrowthLemmas.{begun, inside, later, leaf, table, table_behind}
+use Rattle.markdown_block_rules.proofs.GrowthLemmas.{all_begun, inside_grown, later_grown, leaf_grown, table_made}
+use Rattle.markdown_block_rules.proofs.GrowthLemmas.{table_made_behind}
 
 -- a fact of kinds holds for what a line begins, and each line keeps it; each line has another fact
 pub record IsKept (s : Source) (has : SourceLine → Type 0) (p : Bool → Kind → Type 0) : Type 0 where
@@ -30,7 +31,6 @@ pub record IsKept (s : Source) (has : SourceLine → Type 0) (p : Bool → Kind 
   pub ended : (top : Bool) (kind : Kind) → p top kind → p top (table_ended kind)
 
 module _ (s : Source) (has : SourceLine → Type 0) (p : Bool → Kind → Type 0) (kept : IsKept s has p) where
-
   fresh_held : (l : SourceLine) → has l → (top : Bool) (new : Forest Block) → Held (Fresh l.next) top new
       → Held p top new
   fresh_held l is top nil fresh = tt
@@ -42,16 +42,16 @@ module _ (s : Source) (has : SourceLine → Type 0) (p : Bool → Kind → Type 
 
   grown_held : (l : SourceLine) → has l → (top : Bool) (blocks grown : Forest Block) → Grown s l top blocks grown
       → Held p top blocks → Held p top grown
-  grown_held l is _ _ _ (begun top new fresh) held = fresh_held l is top new fresh
-  grown_held l is _ _ _ (later top b below after grown more) held =
+  grown_held l is _ _ _ (all_begun top new fresh) held = fresh_held l is top new fresh
+  grown_held l is _ _ _ (later_grown top b below after grown more) held =
       (held.0, held.1, grown_held l is top after grown more held.2)
-  grown_held l is _ _ _ (inside top b c below grown same more) held =
+  grown_held l is _ _ _ (inside_grown top b c below grown same more) held =
       (subst (p top) (sym same) held.0, grown_held l is false below grown more held.1, tt)
-  grown_held l is _ _ _ (leaf top b c below kind was more) held =
+  grown_held l is _ _ _ (leaf_grown top b c below kind was more) held =
       (kept.grows l is top kind c.kind more (subst (p top) was held.0), held.1, tt)
-  grown_held l is _ _ _ (table top b c below head row alignments reads was fits made) held =
+  grown_held l is _ _ _ (table_made top b c below head row alignments reads was fits made) held =
       (subst (p top) (sym made) (kept.tables top head row alignments reads fits), tt, tt)
-  grown_held l is _ _ _ (table_behind top b c d below before head row alignments reads was fits rest made) held = (
+  grown_held l is _ _ _ (table_made_behind top b c d below before head row alignments reads was fits rest made) held = (
     subst (p top) (sym rest) (kept.cut top before head (subst (p top) was held.0)),
     tt,
     (subst (p top) (sym made) (kept.tables top head row alignments reads fits), tt, tt),

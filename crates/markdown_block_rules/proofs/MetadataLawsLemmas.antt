@@ -1,11 +1,10 @@
 -- Where metadata is, and what it contains.
-use Rattle.std.proofs.Common.{◌≡◌, ℕ, zero, suc, Bool, true, false, not, ◌==◌, ◌||◌, List, [], ◌∷◌, ◌++◌}
-use Rattle.std.proofs.Common.{Option, Some, None, refl, sym, ap, ◌∙◌, subst, length, nat_lt, replicate, take}
+use Rattle.std.proofs.Common.{◌≡◌, ℕ, zero, suc, Bool, true, false, not, ◌==◌, ◌||◌, List, [], ◌∷◌}
+use Rattle.std.proofs.Common.{Option, Some, None, refl, sym, ap, ◌∙◌, subst, length, nat_lt, take}
 use Rattle.std.proofs.lemmas.Bool.{true≢false}
 use Rattle.std.specs.Prelude.{⊤, if◌then◌else◌}
 use Rattle.std.specs.List.{AllByRecursion}
 use Rattle.markdown_base.proofs.ForestLemmas.{All-append, All-weaker}
-use Rattle.markdown_base.specs.Bytes.{space}
 use Rattle.markdown_base.specs.Forest.{Forest, Throughout, nil, node}
 use Rattle.markdown_base.specs.declared.item.ItemBody.{ItemBody}
 use Rattle.markdown_base.specs.declared.item.ItemBody.TheVariants as body
@@ -28,7 +27,7 @@ use Rattle.markdown_block_rules.specs.BlockRules.{last_braces, last_end, paragra
 use Rattle.markdown_block_rules.specs.BlockRules.{shown_blocks, shown_cells, shown_heading, shown_row, shown_rows}
 use Rattle.markdown_block_rules.specs.BlockRules.{shown_setext, shown_table, shown_text}
 use Rattle.markdown_block_rules.specs.LineContents.{Shown, cell_items, content_items, lines_items, plain_item}
-use Rattle.markdown_block_rules.specs.LineContents.{source_line, source_lines, synthesized_item}
+use Rattle.markdown_block_rules.specs.LineContents.{source_line, source_lines}
 use Rattle.markdown_block_rules.specs.MetadataLaws.{AreTexts, KeepsMetadataOutermost, MetadataIsOutermost}
 use Rattle.markdown_block_rules.specs.MetadataLaws.{has_metadata, is_metadata, is_text_item}
 use Rattle.markdown_block_rules.specs.TableLines.{cells_added, cells_of}
@@ -123,8 +122,7 @@ task_other s l lines None =
     others (lines_items s.text (item_extensions s.options) (l ∷ lines))
     (lines_unmarked s.text (item_extensions s.options) (l ∷ lines))
 task_other s l lines (Some done) =
-    let rest = without_empty (past_task l ∷ lines) in
-    (
+    let rest = without_empty (past_task l ∷ lines) in (
       refl,
       others (lines_items s.text (item_extensions s.options) rest)
           (lines_unmarked s.text (item_extensions s.options) rest),

@@ -1,6 +1,6 @@
 -- Only a line directly under the root opens metadata.
 use Rattle.std.proofs.Common.{◌≡◌, ℕ, Bool, true, false, List, [], ◌∷◌, Option, Some, None}
-use Rattle.std.proofs.Common.{length, ◌||◌, ◌==◌, codes}
+use Rattle.std.proofs.Common.{length, ◌+◌, ◌||◌, ◌==◌, codes}
 use Rattle.std.proofs.lemmas.Bool.{true≢false}
 use Rattle.std.specs.Prelude.{⊤, if◌then◌else◌, slice_index, unwrap_or}
 use Rattle.std.specs.Option.{option_and_then, option_map}

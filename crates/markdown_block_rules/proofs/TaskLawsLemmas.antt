@@ -1,5 +1,5 @@
 -- Where task markers are.
-use Rattle.std.proofs.Common.{◌≡◌, ℕ, zero, suc, ◌+◌, ◌<◌, Bool, true, false, not, ◌==◌, ◌||◌, List, [], ◌∷◌, ◌++◌}
+use Rattle.std.proofs.Common.{◌≡◌, ℕ, zero, suc, ◌<◌, Bool, true, false, not, ◌==◌, ◌||◌, List, [], ◌∷◌}
 use Rattle.std.proofs.Common.{Option, Some, None, refl, sym, ◌∙◌, ◌-◌, arith, length, take, nat_le}
 use Rattle.std.proofs.lemmas.Bool.{true≢false}
 use Rattle.std.proofs.lemmas.Bool.Decides.{nat_tests}
@@ -13,7 +13,7 @@ use Rattle.markdown_base.specs.declared.tag.Alignment.{Alignment}
 use Rattle.markdown_base.specs.declared.tag.HeadingLevel.{HeadingLevel}
 use Rattle.markdown_items.specs.LineItems.{item_extensions}
 use Rattle.markdown_lines.specs.BlockBeginnings.{Source}
-use Rattle.markdown_lines.specs.DefinitionRules.{Defined, definition_in, divided, divided_in, lines_behind}
+use Rattle.markdown_lines.specs.DefinitionRules.{Defined, Divided, definition_in, divided, divided_in, lines_behind}
 use Rattle.markdown_lines.specs.DefinitionRules.{more_definitions, text_of_lines}
 use Rattle.markdown_lines.specs.HeadingAttributes.{heading_of_words, words_in}
 use Rattle.markdown_lines.specs.SourceLines.{SourceLine, without_empty}
@@ -28,10 +28,10 @@ use Rattle.markdown_block_rules.specs.BlockRules.{Around, before_braces, block_e
 use Rattle.markdown_block_rules.specs.BlockRules.{cut_before_braces, empty_cells, in_no_item, info_of, is_loose}
 use Rattle.markdown_block_rules.specs.BlockRules.{items_after_task, last_braces, last_end, paragraph_body, paragraph_items}
 use Rattle.markdown_block_rules.specs.BlockRules.{paragraph_lines, shown_block, shown_blocks, shown_cells, shown_heading}
-use Rattle.markdown_block_rules.specs.BlockRules.{shown_over, shown_row, shown_rows, shown_setext, shown_table, shown_text}
+use Rattle.markdown_block_rules.specs.BlockRules.{shown_row, shown_rows, shown_setext, shown_table, shown_text}
 use Rattle.markdown_block_rules.specs.LineContents.{Shown, cell_items, content_items, lines_items, plain_item}
 use Rattle.markdown_block_rules.specs.LineContents.{source_lines}
-use Rattle.markdown_block_rules.specs.TableLines.{cells_added, cells_of, fitting}
+use Rattle.markdown_block_rules.specs.TableLines.{cells_added, cells_of}
 use Rattle.markdown_block_rules.specs.TaskLaws.{KeepsMarkersFirst, TaskMarkersComeFirst, has_marker, has_task, is_list_item}
 use Rattle.markdown_block_rules.specs.TaskLaws.{is_of_text, is_task_marker}
 use Rattle.markdown_block_rules.proofs.BlockBeginningsLemmas.{either}
@@ -123,7 +123,7 @@ chain_kept (a ∷ items) none marked =
     (chain_kept items none.1 marked)
 
 -- those after the first
-AreUnmarkedLater : List Shown → Type 0
+abbrev AreUnmarkedLater : List Shown → Type 0
 AreUnmarkedLater [] = ⊤
 AreUnmarkedLater (a ∷ items) = AreUnmarked items
 
@@ -134,8 +134,7 @@ later_unmarked (a ∷ items) none = none.1
 first_kept : (items : List Shown) → AreUnmarkedLater items → Throughout KeepsMarkersFirst (chain_of items)
 first_kept [] none = tt
 first_kept (a ∷ items) none =
-    let rest = chain_kept items none 0 in
-    (
+    let rest = chain_kept items none 0 in (
       record {
         first = rest.no_marker;
         bare = λ is. refl;
@@ -194,17 +193,20 @@ behind_positive (l ∷ lines) count each =
     either ArePositive (nat_le count size) lines (lines_behind lines (count - size)) each.1
     (behind_positive lines (count - size) each.1)
 
+more_positive : (rest : List SourceLine → Divided) (lines : List SourceLine) → ArePositive lines
+    → ((lines : List SourceLine) → ArePositive lines → ArePositive (rest lines).lines) → (found : Option Defined)
+    → ArePositive (more_definitions rest lines found).lines
+more_positive rest lines each more None = each
+more_positive rest lines each more (Some d) =
+    more (lines_behind lines d.length) (behind_positive lines d.length each)
+
 divided_positive : (names : EntityNames) (n : ℕ) (text : List ℕ) (lines : List SourceLine) → ArePositive lines
     → ArePositive (divided_in names n text lines).lines
 unfolding divided_in
 divided_positive names zero text lines each = each
-divided_positive names (suc n) text lines each = more (definition_in names (text_of_lines text lines))
-  where
-    more : (found : Option Defined)
-        → ArePositive (more_definitions (divided_in names n text) lines found).lines
-    more None = each
-    more (Some d) =
-        divided_positive names n text (lines_behind lines d.length) (behind_positive lines d.length each)
+divided_positive names (suc n) text lines each =
+    more_positive (divided_in names n text) lines each (λ rest some. divided_positive names n text rest some)
+    (definition_in names (text_of_lines text lines))
 
 nonempty_positive : (lines : List SourceLine) → ArePositive lines → ArePositive (without_empty lines)
 nonempty_positive [] each = tt
@@ -354,7 +356,7 @@ block_kept s around b end below inside kept (was.alert_container kind) each =
     one_around around.marked (plain_item b.start end (body.BlockQuote (Some kind))) (inside in_no_item) nil refl
     (kept in_no_item) (none_kept around.marked)
 block_kept s around b end below inside kept (was.list_container marker) each =
-    let items = record { tight = not (is_loose below); marked = 0 } in
+    let items : Around = record { tight = not (is_loose below); marked = 0 } in
     one_around around.marked
     (plain_item b.start end (body.List (not (is_loose below)) marker.character marker.first)) (inside items) nil refl
     (kept items) (none_kept around.marked)
