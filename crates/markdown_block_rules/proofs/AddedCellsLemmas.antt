@@ -16,7 +16,8 @@ use Rattle.markdown_block_rules.specs.BlockGrowth.{with_ended_table, with_line, 
 use Rattle.markdown_block_rules.specs.TableLaws.{FewCellsAreAdded, cells_lacking, lacking_in, lacking_in_rows}
 use Rattle.markdown_block_rules.specs.TableLines.{all_added, as_many, cells_of, delimiter_row_of, fitting, most_added}
 use Rattle.markdown_block_rules.specs.TableLines.{reads_tables}
-use Rattle.markdown_block_rules.proofs.GrowthLemmas.{Fresh, Grown, Held, KindGrows, all_begun, inside_grown, later_grown}
+use Rattle.markdown_block_rules.proofs.GrowthLemmas.{Fresh, Grown, Held, KindGrows, all_begun, inside_grown}
+use Rattle.markdown_block_rules.proofs.GrowthLemmas.{later_grown}
 use Rattle.markdown_block_rules.proofs.GrowthLemmas.{leaf_grown, line_grows, table_made, table_made_behind}
 use Rattle.markdown_block_rules.proofs.GrowthLemmas.{fenced_more, html_more, indented_more, metadata_closed}
 use Rattle.markdown_block_rules.proofs.GrowthLemmas.{metadata_more, row_more, text_more, underlined}

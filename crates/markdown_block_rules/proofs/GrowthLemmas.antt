@@ -30,7 +30,8 @@ use Rattle.markdown_block_rules.specs.BlockGrowth.{is_nil, is_text, leaf_with, l
 use Rattle.markdown_block_rules.specs.BlockGrowth.{paragraph_with, past_footnote, past_indentation, past_quote}
 use Rattle.markdown_block_rules.specs.BlockGrowth.{table_after, table_of_lines, table_with, with_lazy, with_lazy_text}
 use Rattle.markdown_block_rules.specs.BlockGrowth.{with_line, with_rest}
-use Rattle.markdown_block_rules.specs.TableLines.{alignments_for, fitting, further_line, is_row, may_be_head, reads_tables}
+use Rattle.markdown_block_rules.specs.TableLines.{alignments_for, fitting, further_line, is_row, may_be_head}
+use Rattle.markdown_block_rules.specs.TableLines.{reads_tables}
 use Rattle.markdown_block_rules.proofs.BlockBeginningsLemmas.{either}
 use Rattle.markdown_block_rules.proofs.OpeningLemmas.{Opens, begins_inside}
 
@@ -74,14 +75,15 @@ pub data Grown (s : Source) (l : SourceLine) : Bool → Forest Block → Forest 
       → Grown s l top (node b below after) (node b below grown)
   inside_grown : (top : Bool) (b c : Block) (below grown : Forest Block) → c.kind ≡ b.kind → Grown s l false below grown
       → Grown s l top (node b below nil) (node c grown nil)
-  leaf_grown : (top : Bool) (b c : Block) (below : Forest Block) (kind : Kind) → b.kind ≡ kind → KindGrows l top kind c.kind
+  leaf_grown : (top : Bool) (b c : Block) (below : Forest Block) (kind : Kind) → b.kind ≡ kind
+      → KindGrows l top kind c.kind
       → Grown s l top (node b below nil) (node c below nil)
   table_made : (top : Bool) (b c : Block) (below : Forest Block) (head row : SourceLine) (alignments : List Alignment)
       → reads_tables s ≡ true → b.kind ≡ was.paragraph_leaf (head ∷ []) → fitting s head row ≡ Some alignments
       → c.kind ≡ was.table_leaf false head alignments []
       → Grown s l top (node b below nil) (node c nil nil)
-  table_made_behind : (top : Bool) (b c d : Block) (below : Forest Block) (before : List SourceLine) (head row : SourceLine)
-      (alignments : List Alignment)
+  table_made_behind : (top : Bool) (b c d : Block) (below : Forest Block) (before : List SourceLine)
+      (head row : SourceLine) (alignments : List Alignment)
       → reads_tables s ≡ true → b.kind ≡ was.paragraph_leaf (before ++ head ∷ [])
       → fitting s head row ≡ Some alignments → d.kind ≡ was.paragraph_leaf before
       → c.kind ≡ was.table_leaf false head alignments []
@@ -187,8 +189,9 @@ text_grows s l m top lines next line.begins_text =
     further_next true = next
     further_next false = next
 text_grows s l m top lines next (line.begins_underline level) =
-    chosen (KindGrows l top (was.paragraph_leaf lines)) (length (divided (entity_names s.options) s.text lines).lines == 0)
-    None (Some (was.underlined_leaf level lines)) tt (underlined level lines)
+    let rest = (divided (entity_names s.options) s.text lines).lines in
+    chosen (KindGrows l top (was.paragraph_leaf lines)) (length rest == 0) None (Some (was.underlined_leaf level lines))
+    tt (underlined level lines)
 text_grows s l m top lines next other = tt
 
 leaf_grows : (s : Source) (l m : SourceLine) (top : Bool) → m.next ≡ l.next → (top ≡ true → m ≡ l) → (kind : Kind)
@@ -333,7 +336,8 @@ module _ (s : Source) (l m : SourceLine) (below : Forest Block) (next : m.next �
       unwrapped (Grown s l false below) (inner (rest_inside rest m))
       (followed_by below (line_block s (rest_inside rest m))) (grows (rest_inside rest m) next)
       (begun_after s l false below (line_block s (rest_inside rest m))
-      (moved l (rest_inside rest m) (line_block s (rest_inside rest m)) next (block_inside s (rest_inside rest m) refl)))
+      (moved l (rest_inside rest m) (line_block s (rest_inside rest m)) next
+      (block_inside s (rest_inside rest m) refl)))
 
   container_grows : (kind : Kind) → IfSome (container_with s m below inner kind) (Grown s l false below)
   container_grows was.quote_container = rest_grows (past_quote m.left)
@@ -362,10 +366,12 @@ module _ (s : Source) (l m : SourceLine) (below : Forest Block) (next : m.next �
       (or_both grown (option_map as_leaf (leaf_with s m b.kind))
       (option_map around (container_with s m below inner b.kind))
       (mapped (KindGrows l top b.kind) grown as_leaf
-      (λ kind more. leaf_grown top b (record b { last = m.next; kind = kind }) below b.kind refl more) (leaf_with s m b.kind)
+      (λ kind more. leaf_grown top b (record b { last = m.next; kind = kind }) below b.kind refl more)
+      (leaf_with s m b.kind)
       (leaf_grows s l m top next same b.kind))
       (mapped (Grown s l false below) grown around
-      (λ f more. inside_grown top b (record b { last = m.next }) below f refl more) (container_with s m below inner b.kind)
+      (λ f more. inside_grown top b (record b { last = m.next }) below f refl more)
+      (container_with s m below inner b.kind)
       (container_grows b.kind)))
 
 -- where blocks go on in a line

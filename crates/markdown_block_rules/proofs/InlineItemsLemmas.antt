@@ -13,7 +13,8 @@ use Rattle.markdown_base.specs.declared.item.ItemBody.{ItemBody}
 use Rattle.markdown_base.specs.declared.item.ItemBody.TheVariants as body
 use Rattle.markdown_items.specs.Dashes.{dashes_for, dashes_in_utf8, ellipsis}
 use Rattle.markdown_items.specs.Flanking.{character_after, character_before}
-use Rattle.markdown_items.specs.Found.{dots_at, entity_at, entity_found, escape_at, found_at, hyphens_at, image_at, mark_at}
+use Rattle.markdown_items.specs.Found.{dots_at, entity_at, entity_found, escape_at, found_at, hyphens_at, image_at}
+use Rattle.markdown_items.specs.Found.{mark_at}
 use Rattle.markdown_items.specs.Found.{run_at, run_found}
 use Rattle.markdown_items.specs.FoundView as found
 use Rattle.markdown_items.specs.FoundView.{FoundView}
@@ -31,7 +32,8 @@ use Rattle.markdown_scan.specs.Beginnings.{begins_with}
 use Rattle.markdown_scan.specs.Entity.{entity}
 use Rattle.markdown_block_rules.specs.LineContents.{Shown, break_between, broken_line, cell_items, content_items}
 use Rattle.markdown_block_rules.specs.LineContents.{items_read_from, lines_items, pieces_items, plain_item, put_found}
-use Rattle.markdown_block_rules.specs.LineContents.{run_items, source_line, source_lines, synthesized_item, text_between}
+use Rattle.markdown_block_rules.specs.LineContents.{run_items, source_line, source_lines, synthesized_item}
+use Rattle.markdown_block_rules.specs.LineContents.{text_between}
 use Rattle.markdown_block_rules.proofs.BlockBeginningsLemmas.{either}
 
 -- a task marker or metadata
@@ -230,7 +232,8 @@ line_unmarked b l is =
     (either AreUnmarked (l.left.owed == 0) [] owed tt (refl, tt))
     (either AreUnmarked (nat_lt start l.next) rest [] (is, tt) tt)
 
-pub source_unmarked : (b : ItemBody) (lines : List SourceLine) → is_marked b ≡ false → AreUnmarked (source_lines b lines)
+pub source_unmarked : (b : ItemBody) (lines : List SourceLine) → is_marked b ≡ false
+    → AreUnmarked (source_lines b lines)
 source_unmarked b [] is = tt
 source_unmarked b (l ∷ lines) is =
     joined (source_line b l) (source_lines b lines) (line_unmarked b l is) (source_unmarked b lines is)

@@ -26,13 +26,16 @@ use Rattle.markdown_block_rules.specs.BlockGrowth as was
 use Rattle.markdown_block_rules.specs.BlockGrowth.{Block, Kind, blocks_of, followed_by}
 use Rattle.markdown_block_rules.specs.BlockRules.{Around, before_braces, block_end, cells_shown, chain_of, code_lines}
 use Rattle.markdown_block_rules.specs.BlockRules.{cut_before_braces, empty_cells, in_no_item, info_of, is_loose}
-use Rattle.markdown_block_rules.specs.BlockRules.{items_after_task, last_braces, last_end, paragraph_body, paragraph_items}
-use Rattle.markdown_block_rules.specs.BlockRules.{paragraph_lines, shown_block, shown_blocks, shown_cells, shown_heading}
+use Rattle.markdown_block_rules.specs.BlockRules.{items_after_task, last_braces, last_end, paragraph_body}
+use Rattle.markdown_block_rules.specs.BlockRules.{paragraph_items}
+use Rattle.markdown_block_rules.specs.BlockRules.{paragraph_lines, shown_block, shown_blocks, shown_cells}
+use Rattle.markdown_block_rules.specs.BlockRules.{shown_heading}
 use Rattle.markdown_block_rules.specs.BlockRules.{shown_row, shown_rows, shown_setext, shown_table, shown_text}
 use Rattle.markdown_block_rules.specs.LineContents.{Shown, cell_items, content_items, lines_items, plain_item}
 use Rattle.markdown_block_rules.specs.LineContents.{source_lines}
 use Rattle.markdown_block_rules.specs.TableLines.{cells_added, cells_of}
-use Rattle.markdown_block_rules.specs.TaskLaws.{KeepsMarkersFirst, TaskMarkersComeFirst, has_marker, has_task, is_list_item}
+use Rattle.markdown_block_rules.specs.TaskLaws.{KeepsMarkersFirst, TaskMarkersComeFirst, has_marker, has_task}
+use Rattle.markdown_block_rules.specs.TaskLaws.{is_list_item}
 use Rattle.markdown_block_rules.specs.TaskLaws.{is_of_text, is_task_marker}
 use Rattle.markdown_block_rules.proofs.BlockBeginningsLemmas.{either}
 use Rattle.markdown_block_rules.proofs.GrowthLemmas.{Fresh, Held, KindGrows, fenced_more, html_more, indented_more}

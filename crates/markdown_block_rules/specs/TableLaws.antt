@@ -1,4 +1,4 @@
--- Rows of tables have as many cells as their table has columns, and of these not many are added to a text.
+-- Rows of tables have as many cells as their table has columns, and few of these are added to a text.
 use Rattle.std.specs.Prelude.{◌≡◌, ◌≤◌, ℕ, ◌-◌, List, ◌∷◌, length, max, ⊤}
 use Rattle.std.specs.List.{sum_by}
 use Rattle.markdown_base.specs.Forest.{Forest, nil, node, preorder, roots}
