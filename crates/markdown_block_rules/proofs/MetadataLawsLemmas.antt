@@ -1,7 +1,7 @@
 -- Where metadata is, and what it contains.
-use Rattle.std.proofs.Common.{◌≡◌, ℕ, zero, suc, Bool, true, false, not, ◌==◌, ◌||◌, List, [], ◌∷◌}
+use Rattle.std.proofs.Common.{◌≡◌, ℕ, zero, suc, Bool, true, false, not, ◌==◌, List, [], ◌∷◌}
 use Rattle.std.proofs.Common.{Option, Some, None, refl, sym, ap, ◌∙◌, subst, length, nat_lt, take}
-use Rattle.std.proofs.lemmas.Bool.{true≢false}
+use Rattle.std.proofs.lemmas.Bool.{or_from, or_parts, true≢false}
 use Rattle.std.specs.Prelude.{⊤, if◌then◌else◌}
 use Rattle.std.specs.List.{AllByRecursion}
 use Rattle.markdown_base.proofs.ForestLemmas.{All-append, All-weaker}
@@ -46,24 +46,13 @@ record Keeps (top : Bool) (f : Forest Shown) : Type 0 where
 none_kept : (top : Bool) → Keeps top nil
 none_kept top = record { each = tt; none = λ inner. refl }
 
-neither : (p q : Bool) → p ≡ false → q ≡ false → (p || q) ≡ false
-neither p q first second = rw (first, second) refl
-
-left_none : (p q : Bool) → (p || q) ≡ false → p ≡ false
-left_none false q none = refl
-left_none true q none = none
-
-right_none : (p q : Bool) → (p || q) ≡ false → q ≡ false
-right_none false q none = none
-right_none true q none = absurd (true≢false none)
-
 -- a first item more, which is not metadata, or is directly under the root
 one_more : (top : Bool) (a : Shown) (below after : Forest Shown) → (top ≡ false → is_metadata a.item.body ≡ false)
     → (is_metadata a.item.body ≡ true → AreTexts below) → Keeps false below → Keeps top after
     → Keeps top (node a below after)
 one_more top a below after other texts inner rest = record {
   each = (record { outermost = inner.none refl; texts = texts }, inner.each, rest.each);
-  none = λ inside. neither (is_metadata a.item.body) (has_metadata after) (other inside) (rest.none inside);
+  none = λ inside. or_from (is_metadata a.item.body) (has_metadata after) (other inside) (rest.none inside);
 }
 
 one_around : (top : Bool) (a : Shown) (below after : Forest Shown) → is_metadata a.item.body ≡ false
@@ -76,9 +65,9 @@ no_metadata_joined : (f g : Forest Shown) → has_metadata f ≡ false → has_m
     → has_metadata (followed_by f g) ≡ false
 no_metadata_joined nil g first second = second
 no_metadata_joined (node a below after) g first second =
-    let is = is_metadata a.item.body in
-    neither is (has_metadata (followed_by after g)) (left_none is (has_metadata after) first)
-    (no_metadata_joined after g (right_none is (has_metadata after) first) second)
+    let parts = or_parts (is_metadata a.item.body) (has_metadata after) first in
+    or_from (is_metadata a.item.body) (has_metadata (followed_by after g)) parts.0
+    (no_metadata_joined after g parts.1 second)
 
 each_joined : (f g : Forest Shown) → Throughout KeepsMetadataOutermost f → Throughout KeepsMetadataOutermost g
     → Throughout KeepsMetadataOutermost (followed_by f g)

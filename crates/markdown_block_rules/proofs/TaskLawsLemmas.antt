@@ -1,7 +1,7 @@
 -- Where task markers are.
-use Rattle.std.proofs.Common.{◌≡◌, ℕ, zero, suc, ◌<◌, Bool, true, false, not, ◌==◌, ◌||◌, List, [], ◌∷◌}
+use Rattle.std.proofs.Common.{◌≡◌, ℕ, zero, suc, ◌<◌, Bool, true, false, not, ◌==◌, List, [], ◌∷◌}
 use Rattle.std.proofs.Common.{Option, Some, None, refl, sym, ◌∙◌, ◌-◌, arith, length, take, nat_le}
-use Rattle.std.proofs.lemmas.Bool.{true≢false}
+use Rattle.std.proofs.lemmas.Bool.{or_from, or_parts, true≢false}
 use Rattle.std.proofs.lemmas.Bool.Decides.{nat_tests}
 use Rattle.std.specs.Prelude.{⊤, if◌then◌else◌}
 use Rattle.std.specs.List.{AllByRecursion}
@@ -54,17 +54,6 @@ record Keeps (marked : ℕ) (f : Forest Shown) : Type 0 where
 none_kept : (marked : ℕ) → Keeps marked nil
 none_kept marked = record { each = tt; no_marker = refl; no_task = λ outside. refl }
 
-neither : (p q : Bool) → p ≡ false → q ≡ false → (p || q) ≡ false
-neither p q first second = rw (first, second) refl
-
-left_none : (p q : Bool) → (p || q) ≡ false → p ≡ false
-left_none false q none = refl
-left_none true q none = none
-
-right_none : (p q : Bool) → (p || q) ≡ false → q ≡ false
-right_none false q none = none
-right_none true q none = absurd (true≢false none)
-
 -- a first item more
 one_more : (marked : ℕ) (a : Shown) (below after : Forest Shown) → is_task_marker a.item.body ≡ false
     → Throughout KeepsMarkersFirst below → (has_marker below ≡ true → is_of_text a.item.body ≡ true)
@@ -81,8 +70,8 @@ one_more marked a below after other inner of_text in_item outside rest = record 
     inner,
     rest.each,
   );
-  no_marker = neither (is_task_marker a.item.body) (has_marker after) other rest.no_marker;
-  no_task = λ none. neither (has_marker below) (has_task after) (outside none) (rest.no_task none);
+  no_marker = or_from (is_task_marker a.item.body) (has_marker after) other rest.no_marker;
+  no_task = λ none. or_from (has_marker below) (has_task after) (outside none) (rest.no_task none);
 }
 
 -- one that contains items in no list item
@@ -96,23 +85,24 @@ no_marker_joined : (f g : Forest Shown) → has_marker f ≡ false → has_marke
     → has_marker (followed_by f g) ≡ false
 no_marker_joined nil g first second = second
 no_marker_joined (node a below after) g first second =
-    neither (is_task_marker a.item.body) (has_marker (followed_by after g))
-    (left_none (is_task_marker a.item.body) (has_marker after) first)
-    (no_marker_joined after g (right_none (is_task_marker a.item.body) (has_marker after) first) second)
+    let parts = or_parts (is_task_marker a.item.body) (has_marker after) first in
+    or_from (is_task_marker a.item.body) (has_marker (followed_by after g)) parts.0
+    (no_marker_joined after g parts.1 second)
 
 -- items behind others
 joined : (marked : ℕ) (f g : Forest Shown) → Keeps marked f → Keeps marked g → Keeps marked (followed_by f g)
 joined marked nil g first second = second
 joined marked (node a below after) g first second =
-    let marks = is_task_marker a.item.body in
     let here = first.each.0 in
+    let tasks = λ (none : marked ≡ 0). or_parts (has_marker below) (has_task after) (first.no_task none) in
     let rest = joined marked after g (record {
       each = first.each.2;
       no_marker = here.first;
-      no_task = λ none. right_none (has_marker below) (has_task after) (first.no_task none);
+      no_task = λ none. (tasks none).1;
     }) second in
-    one_more marked a below (followed_by after g) (left_none marks (has_marker after) first.no_marker) first.each.1
-    here.of_text here.in_item (λ none. left_none (has_marker below) (has_task after) (first.no_task none)) rest
+    one_more marked a below (followed_by after g)
+    (or_parts (is_task_marker a.item.body) (has_marker after) first.no_marker).0 first.each.1
+    here.of_text here.in_item (λ none. (tasks none).0) rest
 
 -- inline items
 unmarked : (b : ItemBody) → is_marked b ≡ false → is_task_marker b ≡ false
