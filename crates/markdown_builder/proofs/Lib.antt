@@ -22,3 +22,4 @@ pub mod RunStepLemmas
 pub mod RunMarkLemmas
 pub mod CoveredLemmas
 pub mod CallLemmas
+pub mod ShownLevelsLemmas

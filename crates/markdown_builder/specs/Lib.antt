@@ -1,6 +1,7 @@
 -- the terms of contracts
 pub mod Bodies
 pub mod TreeLevels
+pub mod Shown
 pub mod BuilderView
 pub mod Tightness
 pub mod ClosedLists

@@ -36,7 +36,7 @@ run_trees stop opens closes (suc count) =
     node (run_item stop opens closes (suc count)) nil (run_trees stop opens closes count)
 
 -- the levels, with trees at the end of the innermost
-abbrev pub with_trees : List (Forest Item) → Forest Item → List (Forest Item)
+abbrev pub with_trees : {A : Type 0} → List (Forest A) → Forest A → List (Forest A)
 with_trees [] trees = []
 with_trees (level ∷ []) trees = followed_by level trees ∷ []
 with_trees (level ∷ inner ∷ levels) trees = level ∷ with_trees (inner ∷ levels) trees
@@ -51,26 +51,38 @@ tight_body other = other
 abbrev pub tight_if_paragraph : Item → Item
 tight_if_paragraph item = record { start = item.start; end = item.end; body = tight_body item.body }
 
+-- other labels for the roots of a forest
+abbrev pub roots_changed : {A : Type 0} → (A → A) → Forest A → Forest A
+roots_changed change nil = nil
+roots_changed change (node a below after) = node (change a) below (roots_changed change after)
+
+-- other labels for what is directly below the roots of a forest
+abbrev pub items_changed : {A : Type 0} → (A → A) → Forest A → Forest A
+items_changed change nil = nil
+items_changed change (node a below after) = node a (roots_changed change below) (items_changed change after)
+
 -- the paragraphs made tight that are the roots of a forest
 abbrev pub roots_tightened : Forest Item → Forest Item
-roots_tightened nil = nil
-roots_tightened (node a below after) = node (tight_if_paragraph a) below (roots_tightened after)
+roots_tightened forest = roots_changed tight_if_paragraph forest
 
 -- the paragraphs made tight that are directly in the items of a list
 abbrev pub items_tightened : Forest Item → Forest Item
-items_tightened nil = nil
-items_tightened (node a below after) = node a (roots_tightened below) (items_tightened after)
+items_tightened forest = items_changed tight_if_paragraph forest
 
 -- what is in a block, when it is closed: the paragraphs of a tight list are made tight
 abbrev pub below_closed : Item → Forest Item → Forest Item
 below_closed item below = cond (is_tight_list item.body) (items_tightened below) below
 
--- the levels, with the innermost block closed: it and what is in it become the last tree of the level around it
+-- the levels, with the innermost block closed: it and what is in it, as `settled` says, become the last tree of the level
+-- around it
+abbrev pub with_closed_by : {A : Type 0} → (A → Forest A → Forest A) → List (Forest A) → A → List (Forest A)
+with_closed_by settled [] a = []
+with_closed_by settled (level ∷ []) a = level ∷ []
+with_closed_by settled (level ∷ inside ∷ []) a = followed_by level (node a (settled a inside) nil) ∷ []
+with_closed_by settled (level ∷ inside ∷ deeper ∷ levels) a = level ∷ with_closed_by settled (inside ∷ deeper ∷ levels) a
+
 abbrev pub with_closed : List (Forest Item) → Item → List (Forest Item)
-with_closed [] item = []
-with_closed (level ∷ []) item = level ∷ []
-with_closed (level ∷ inside ∷ []) item = followed_by level (node item (below_closed item inside) nil) ∷ []
-with_closed (level ∷ inside ∷ deeper ∷ levels) item = level ∷ with_closed (inside ∷ deeper ∷ levels) item
+with_closed levels item = with_closed_by below_closed levels item
 
 -- ---- the levels of an arena
 
