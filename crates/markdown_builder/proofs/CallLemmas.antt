@@ -20,14 +20,19 @@ use Rattle.markdown_builder.specs.declared.open_block.OpenBlock.{OpenBlock}
 use Rattle.markdown_builder.specs.Bodies.{is_leaf, is_plain_block, is_settled, mark_byte}
 use Rattle.markdown_builder.specs.BuilderView.{IsWhite, IsRunOf, follows_run, innermost_block, LastHasBody, LastBegins}
 use Rattle.markdown_builder.specs.Standing.{State, Standpoint, seen, open_item, with_item, AreOpen, IsSound}
+use Rattle.markdown_builder.specs.TreeLevels.{levels_of}
+use Rattle.markdown_builder.specs.TreeLevels.{with_closed}
 use Rattle.markdown_builder.specs.TreeSteps.{TightensList, texts_appended, run_marked}
 use Rattle.markdown_builder.specs.Tightness.{TightInTightLists}
+use Rattle.markdown_builder.proofs.ClosedLevelLemmas.{close_is_laid}
 use Rattle.markdown_builder.proofs.ClosedListLemmas.{tight_in_tight_lists}
 use Rattle.markdown_builder.proofs.BodiesLemmas.{item_over, MayBePlaced, plain_placed, placed_fits, placed_new}
 use Rattle.markdown_builder.proofs.BodiesLemmas.{block_plain, block_parent}
 use Rattle.markdown_builder.proofs.BodiesLemmas.{settled_plain, settled_inline, settled_markup, rule_plain, plain}
 use Rattle.markdown_builder.proofs.BodiesLemmas.{one_text_more, NamesText}
 use Rattle.markdown_builder.proofs.BodiesLemmas.{text_placed, synthesized_names}
+use Rattle.markdown_builder.proofs.LevelStepLemmas.{IsLeftTree, leave_laid}
+use Rattle.markdown_builder.proofs.LevelViewLemmas.{write_levels, close_levels}
 use Rattle.markdown_builder.proofs.MarkLemmas.{mark_facts, one_source, two_source, run_source, run_boundary}
 use Rattle.markdown_builder.proofs.RunMarkLemmas.{delimiter_ascii, run_sound}
 use Rattle.markdown_builder.proofs.RunStepLemmas.{TextsStand, texts_stand}
@@ -159,6 +164,23 @@ close_left {s} rest block new k e left =
           (closed s l.0 rest l.1 block k e l.2),
     )
 
+-- the tree then
+left_tree : {s : State} (rest : List OpenBlock) (block : OpenBlock) (new : Arena Item) (k : IsSound s)
+    (e : s.blocks ≡ rest ++ block ∷ [])
+    → ((outer : List ℕ) (ix : ℕ) → s.tree.spine ≡ outer ++ ix ∷ []
+    → new ≡ record {
+      nodes = changed_at ix (λ m. record m { item = item_over block.start s.at block.body }) s.tree.nodes;
+      spine =
+          outer;
+      cursor = Some ix;
+    })
+    → IsLeftTree s.tree new (innermost_open s rest block k e).1 (item_over block.start s.at block.body)
+left_tree {s} rest block new k e left =
+    let i = innermost_open s rest block k e in
+    let x = item_over block.start s.at block.body in
+    subst (λ (t : Arena Item). IsLeftTree s.tree t i.1 x) (sym (left i.0 i.1 i.2))
+    (leave_laid s.tree i.0 i.1 x k.laid i.2)
+
 pub close_keeps : {s : State} (rest : List OpenBlock) (block : OpenBlock) (new tree : Arena Item) → IsSound s
     → s.blocks ≡ rest ++ block ∷ []
     → ((outer : List ℕ) (ix : ℕ) → s.tree.spine ≡ outer ++ ix ∷ []
@@ -172,8 +194,29 @@ pub close_keeps : {s : State} (rest : List OpenBlock) (block : OpenBlock) (new t
     → IsSound (record s { tree = tree; blocks = rest; leaf = false; run = None })
 close_keeps {s} rest block new tree k e left tightens =
     let l = close_left rest block new k e left in
+    let i = innermost_open s rest block k e in
+    let made = left i.0 i.1 i.2 in
     list_made_tight l.0 (record s { tree = new; blocks = rest; leaf = false; run = None }) tree l.2 l.1
-    (tightens l.0 l.1)
+    (tightens l.0 l.1) (close_is_laid s.tree new tree i.1 (item_over block.start s.at block.body)
+    (left_tree rest block new k e left) (tightens i.1 (ap (λ (t : Arena Item). t.cursor) made)))
+
+-- its levels then
+pub close_levels_of : {s : State} (rest : List OpenBlock) (block : OpenBlock) (new tree : Arena Item) → IsSound s
+    → s.blocks ≡ rest ++ block ∷ []
+    → ((outer : List ℕ) (ix : ℕ) → s.tree.spine ≡ outer ++ ix ∷ []
+    → new ≡ record {
+      nodes = changed_at ix (λ m. record m { item = item_over block.start s.at block.body }) s.tree.nodes;
+      spine =
+          outer;
+      cursor = Some ix;
+    })
+    → ((list : ℕ) → new.cursor ≡ Some list → TightensList list new tree)
+    → levels_of tree ≡ with_closed (levels_of s.tree) (item_over block.start s.at block.body)
+close_levels_of {s} rest block new tree k e left tightens =
+    let i = innermost_open s rest block k e in
+    let made = left i.0 i.1 i.2 in
+    close_levels s.tree new tree i.1 (item_over block.start s.at block.body) (left_tree rest block new k e left)
+    (tightens i.1 (ap (λ (t : Arena Item). t.cursor) made))
 
 -- `rule`
 pub rule_keeps : {s : State} (now : Standpoint) (end : ℕ) → IsSound s → seen s ≡ now → now.leaf ≡ false → now.at ≤ end
@@ -375,6 +418,14 @@ abbrev pub IsReplaced : List OpenBlock → List OpenBlock → OpenBlock → Type
 IsReplaced old new block = (outer : List OpenBlock) (last : OpenBlock) → old ≡ outer ++ last ∷ [] → new
     ≡ outer ++ block ∷ []
 
+-- the levels stay
+pub rewritten_levels : {s : State} (inner block : OpenBlock) (new : Arena Item) → IsSound s
+    → Some inner ≡ innermost_block s.blocks → IsRewritten s.tree new block → levels_of new ≡ levels_of s.tree
+rewritten_levels {s} inner block new k last write =
+    let r = ends_with s.blocks inner last in
+    let l = innermost_open s r.outer inner k r.whole in
+    ap levels_of (write l.0 l.1 l.2) ∙ write_levels s.tree l.0 l.1 (open_item block) k.laid l.2
+
 -- `change`
 pub change_keeps : {s : State} (now : Standpoint) (inner : OpenBlock) (b : ItemBody) (blocks : List OpenBlock)
     (new : Arena Item) → IsSound s → seen s ≡ now
@@ -432,9 +483,12 @@ none_entered : (nodes : List (Node Item)) (spine : List ℕ) → AreOpen nodes s
 none_entered nodes [] o = refl
 none_entered nodes (s ∷ spine) o = absurd o
 
+pub finish_spine : {s : State} (now : Standpoint) → IsSound s → seen s ≡ now → now.blocks ≡ [] → s.tree.spine ≡ []
+finish_spine {s} now k e closed = none_entered s.tree.nodes s.tree.spine
+    (subst (λ (b : List OpenBlock). AreOpen s.tree.nodes s.tree.spine b) (ap (λ (v : Standpoint). v.blocks) e ∙ closed)
+    k.stands.are_open)
+
 pub finish_tight : {s : State} (now : Standpoint) → IsSound s → seen s ≡ now → now.blocks ≡ []
     → TightInTightLists s.tree.nodes
 finish_tight {s} now k e closed =
-    tight_in_tight_lists s.tree (none_entered s.tree.nodes s.tree.spine
-    (subst (λ (b : List OpenBlock). AreOpen s.tree.nodes s.tree.spine b) (ap (λ (v : Standpoint). v.blocks) e ∙ closed)
-    k.stands.are_open)) k.lists
+    tight_in_tight_lists s.tree (finish_spine now k e closed) k.lists

@@ -6,6 +6,13 @@ pub mod BuilderRulesLemmas
 pub mod RunLemmas
 pub mod FormedLemmas
 pub mod HeadingsHoldInlineLemmas
+pub mod LaidLemmas
+pub mod LevelsLemmas
+pub mod LevelStepLemmas
+pub mod TightLaidLemmas
+pub mod ClosedLevelLemmas
+pub mod ReadLevelsLemmas
+pub mod LevelViewLemmas
 pub mod StandingLemmas
 pub mod StepLemmas
 pub mod TightLemmas

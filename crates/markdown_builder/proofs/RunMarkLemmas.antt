@@ -25,8 +25,10 @@ use Rattle.markdown_builder.specs.BuilderRules.{ItemFits, MayReplace, KeepsRuns}
 use Rattle.markdown_builder.specs.Standing.{State, with_item, IsOpenAt, AreOpen, Stands, LastRun, IsSound}
 use Rattle.markdown_builder.specs.ClosedLists.{ListsAreTight}
 use Rattle.markdown_builder.specs.Tightness.{is_tight_list}
-use Rattle.markdown_builder.specs.TreeSteps.{byte_text, texts_appended, run_item, run_marked}
+use Rattle.markdown_builder.specs.TreeSteps.{byte_text, texts_appended, run_marked}
+use Rattle.markdown_builder.specs.TreeLevels.{run_item}
 use Rattle.markdown_builder.proofs.BodiesLemmas.{settled_alone, parent_not_inline}
+use Rattle.markdown_builder.proofs.LevelStepLemmas.{run_is_laid}
 use Rattle.markdown_builder.proofs.NodeWriteLemmas.{Writes, item_writes}
 use Rattle.markdown_builder.proofs.RunLemmas.{at_number, character_replaced, runs_rewritten}
 use Rattle.markdown_builder.proofs.RunStepLemmas.{MayPrecede, TextsStand, texts_stand}
@@ -269,4 +271,5 @@ run_sound s byte end total opens closes k leaf run delimiter other whole =
           (subst (λ (y : Item). IfSome (run_character y.body) (λ c. Some byte ≡ Some (byte_of s.text y))) (sym item)
           (ap (λ (b : ℕ). Some b) same));
       lists = r.lists;
+      laid = run_is_laid s.tree s.at end total opens closes k.laid;
     }

@@ -20,6 +20,7 @@ use Rattle.markdown_base.specs.ArenaForest.{links_of}
 use Rattle.markdown_base.specs.ArenaRules.{next_at}
 use Rattle.markdown_base.specs.BlockTree.{item_at, numbered}
 use Rattle.markdown_base.specs.Coverage.{IsDefinitionRange, is_inside}
+use Rattle.markdown_base.specs.Forest.{nil}
 use Rattle.markdown_base.specs.Item.{range_of, is_inline, is_childless, is_tight_paragraph, text_named}
 use Rattle.markdown_base.specs.Item.{alignments_named}
 use Rattle.markdown_base.specs.WellFormed.{source_of, PartCounts, run_character, RunsAreWhole}
@@ -29,6 +30,7 @@ use Rattle.markdown_base.proofs.WellFormedLemmas.{HasMore}
 use Rattle.markdown_builder.specs.declared.open_block.OpenBlock.{OpenBlock}
 use Rattle.markdown_builder.specs.Bodies.{is_leaf}
 use Rattle.markdown_builder.specs.BuilderView.{IsWhite}
+use Rattle.markdown_builder.specs.Levels.{IsLaidOut}
 use Rattle.markdown_builder.specs.Tightness.{is_tight_list}
 use Rattle.markdown_builder.specs.Rising.{link_of, IsOnTop, place_down, place_at}
 use Rattle.markdown_builder.specs.BuilderRules.{ItemFits, NamesNew, MayReplace, KeepsNodes, KeepsRuns}
@@ -42,6 +44,7 @@ use Rattle.markdown_builder.proofs.BodiesLemmas.{parent_not_inline}
 use Rattle.markdown_builder.proofs.BuilderRulesLemmas.{same_or_not, fits_more, write_keeps}
 use Rattle.markdown_builder.proofs.ClosedListLemmas.{not_both, lists_appended, lists_entered, lists_written}
 use Rattle.markdown_builder.proofs.ClosedListLemmas.{open_is_loose, OthersAreTight, lists_left}
+use Rattle.markdown_builder.proofs.LevelStepLemmas.{append_is_laid, enter_is_laid}
 use Rattle.markdown_builder.proofs.NodeWriteLemmas.{Writes, item_writes}
 use Rattle.markdown_builder.proofs.RunLemmas.{runs_appended, runs_written}
 use Rattle.markdown_builder.proofs.StandingLemmas.{appended_fits, IsInnermost, open_snoc, open_unsnoc, open_written}
@@ -131,6 +134,7 @@ begun text counts tree utf8 e = subst (λ (t : Arena Item). IsSound (beginning t
     lists = λ list t o. absurd (not_both t (ap is_tight_list (root_item list)));
     only = λ p q. let e = sym q ∙ root_item p in cc (e);
   };
+  laid = record { frames = []; inside = nil; is = refl };
 })
   where
     no_run_at : (i : ℕ) → RunsAreWhole text (numbered root_nodes i) (next_at root_nodes i)
@@ -170,6 +174,7 @@ moved s to definitions k low boundary covered ranges = record {
   runs = k.runs;
   last_run = k.last_run;
   lists = k.lists;
+  laid = k.laid;
 }
 
 -- bytes are stepped over: white space, where no block is open
@@ -259,6 +264,7 @@ added s many to b run k more fits names kind no_run loose =
       lists = lists_appended s.tree.nodes (appended s.tree x).nodes s.tree.spine s.tree.cursor x k.stands.nodes.rising
           a.nodes.rising k.stands.nodes.root (open_below s.tree.nodes s.tree.spine s.blocks k.stands.are_open) a.grows
           k.stands.free k.lists loose;
+      laid = append_is_laid s.tree x k.laid;
     }
 
 -- ---- a block is opened
@@ -343,6 +349,8 @@ opened s many b k outside placed parent =
       last_run = tt;
       lists = lists_entered s.tree.nodes new s.tree.spine s.tree.cursor x k.stands.nodes.rising k.stands.nodes.root
           a.grows k.stands.free k.lists placed.loose;
+      laid = subst (λ (c : Option ℕ). IsLaidOut (record (appended s.tree x)
+          { spine = s.tree.spine ++ n ∷ []; cursor = c })) below (enter_is_laid s.tree x k.laid);
     })
 
 -- a block is appended alone
@@ -387,6 +395,7 @@ more_parts s many more k = record {
   runs = k.runs;
   last_run = k.last_run;
   lists = k.lists;
+  laid = k.laid;
 }
 
 -- ---- a block is closed

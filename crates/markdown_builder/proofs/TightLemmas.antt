@@ -12,7 +12,8 @@ use Rattle.markdown_base.specs.ArenaForest.{links_of}
 use Rattle.markdown_base.specs.BlockTree.{item_at}
 use Rattle.markdown_builder.specs.Rising.{link_of, AreRising}
 use Rattle.markdown_builder.specs.Tightness.{is_tight_list, IsInChain, first_of, later_in, IsInItemOf}
-use Rattle.markdown_builder.specs.TreeSteps.{is_paragraph, tight, Tightened, MadeTight, MakesTight}
+use Rattle.markdown_builder.specs.TreeSteps.{Tightened, MadeTight, MakesTight}
+use Rattle.markdown_builder.specs.TreeSteps.{is_paragraph, tight}
 use Rattle.markdown_builder.specs.TreeSteps.{Tightens, none_tight, one_tight}
 use Rattle.markdown_builder.proofs.BuilderRulesLemmas.{same_or_not}
 use Rattle.markdown_builder.proofs.NodeWriteLemmas.{Writes}

@@ -29,12 +29,15 @@ use Rattle.markdown_builder.specs.BuilderRules.{ItemFits, LinkFits, MayReplace, 
 use Rattle.markdown_builder.specs.Standing.{State, open_item, with_item, AreOpen, OnlyLastIsLeaf, IsTopPlace}
 use Rattle.markdown_builder.specs.Standing.{covered_to, AreCovered}
 use Rattle.markdown_builder.specs.Standing.{Stands, LastRun, IsSound}
-use Rattle.markdown_builder.specs.TreeSteps.{is_paragraph, tight, Tightens, none_tight, one_tight, TightensList}
+use Rattle.markdown_builder.specs.Levels.{IsLaidOut}
+use Rattle.markdown_builder.specs.TreeSteps.{Tightens, none_tight, one_tight, TightensList}
+use Rattle.markdown_builder.specs.TreeSteps.{is_paragraph, tight}
 use Rattle.markdown_builder.specs.ClosedLists.{IsNotOpen}
 use Rattle.markdown_builder.proofs.BodiesLemmas.{item_over, MayBePlaced, placed_fits, block_no_run, block_markup}
 use Rattle.markdown_builder.proofs.BodiesLemmas.{settled_alone}
 use Rattle.markdown_builder.proofs.BodiesLemmas.{parent_not_inline}
 use Rattle.markdown_builder.proofs.BuilderRulesLemmas.{same_or_not, fits_from, stays_fit, write_keeps}
+use Rattle.markdown_builder.proofs.LevelStepLemmas.{write_is_laid}
 use Rattle.markdown_builder.proofs.NodeWriteLemmas.{Writes, item_writes}
 use Rattle.markdown_builder.proofs.TightLemmas.{is_a_paragraph}
 use Rattle.markdown_builder.proofs.RunLemmas.{runs_written}
@@ -124,9 +127,10 @@ pub block_written : (s : State) (number : ℕ) (x : Item) (blocks : List OpenBlo
     → is_inline (item_at s.tree.nodes number).body ≡ false → is_inline x.body ≡ false → is_tight_paragraph x.body
     ≡ false
     → (IsNotOpen s.tree.spine number → ⊥)
+    → IsLaidOut (with_item s.tree number x)
     → Stands (record s { tree = with_item s.tree number x; blocks = blocks })
     → IsSound (record s { tree = with_item s.tree number x; blocks = blocks })
-block_written s number x blocks k low was now loose is_in h =
+block_written s number x blocks k low was now loose is_in laid h =
     let old = s.tree.nodes in
     let new = (with_item s.tree number x).nodes in
     let w : Writes old new number x = item_writes old number x low in
@@ -139,6 +143,7 @@ block_written s number x blocks k low was now loose is_in h =
       last_run = last_written s.text old new number x s.tree.cursor s.run w none k.last_run;
       lists = lists_written old new s.tree.spine s.tree.cursor number x k.stands.nodes.rising w k.lists loose
           (λ q. absurd (is_in q));
+      laid = laid;
     }
 
 -- nothing is required of the nodes that were entered
@@ -207,9 +212,9 @@ tightens_keeps from s tree k (one_tight t number before after low p) = made_tigh
 
 -- the list that was left is made tight, if it is a tight list
 pub list_made_tight : (n : ℕ) (s : State) (tree : Arena Item) → IsLeft n s → s.tree.cursor ≡ Some n
-    → TightensList n s.tree tree
+    → TightensList n s.tree tree → IsLaidOut tree
     → IsSound (record s { tree = tree })
-list_made_tight n s tree k at t =
+list_made_tight n s tree k at t laid =
     let b = tightens_keeps n s tree (record {
       below = k.below;
       stands = k.stands;
@@ -222,6 +227,7 @@ list_made_tight n s tree k at t =
       runs = b.runs;
       last_run = b.last_run;
       lists = lists_closed s.tree tree n k.stands.nodes.rising k.low k.below at k.others t;
+      laid = laid;
     }
 
 -- ---- another open block in the place of the innermost
@@ -303,7 +309,7 @@ replaced s spine blocks n block other k split o fits may loose begun covered =
       parent = may.childless ∙ h.parent;
     }) in
     block_written s n x (blocks ++ other ∷ []) k h.low was (may.inline ∙ inline) loose
-    (is_open s.tree.spine spine n split)
+    (is_open s.tree.spine spine n split) (write_is_laid s.tree spine n x k.laid split)
     (written s n x (blocks ++ other ∷ []) k.stands h.positive h.low fits m
     (λ p i. absurd (not_inside p block.start (subst (λ (y : Item). is_inside p (range_of y) ≡ true) h.item i)))
     (subst (λ (y : List ℕ). AreOpen new y (blocks ++ other ∷ [])) (sym split) opens)

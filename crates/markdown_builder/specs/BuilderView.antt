@@ -3,9 +3,12 @@ use Rattle.std.specs.Prelude.{◌≡◌, ℕ, ◌-◌, ◌<◌, ◌≤◌, Bool,
 use Rattle.std.specs.Prelude.{length, slice_index, slice_get}
 use Rattle.std.specs.Char.{is_ascii_whitespace}
 use Rattle.markdown_base.specs.declared.index.CowIndex.{CowIndex}
+use Rattle.markdown_base.specs.declared.item.Item.{Item}
 use Rattle.markdown_base.specs.declared.item.ItemBody.{ItemBody}
+use Rattle.markdown_base.specs.Forest.{Forest, nil}
 use Rattle.markdown_builder.specs.declared.open_block.OpenBlock.{OpenBlock}
 use Rattle.markdown_builder.specs.Bodies.{is_leaf}
+use Rattle.markdown_builder.specs.TreeLevels.{one_tree, with_trees, with_closed}
 
 pub record BuilderView : Type 0 where
   -- the text
@@ -18,6 +21,8 @@ pub record BuilderView : Type 0 where
   pub leaf : Bool
   -- the character of the delimiter run that was appended last, if no item followed it
   pub run : Option ℕ
+  -- the closed trees of each level, the outermost first: those at the top, and those directly in each open block
+  pub levels : List (Forest Item)
   -- the texts that blocks and items refer to by number
   pub texts : List (List ℕ)
   -- the labels of the footnotes that are defined
@@ -26,7 +31,16 @@ pub record BuilderView : Type 0 where
 -- nothing is made of a text yet
 abbrev pub nothing_made : List ℕ → BuilderView
 nothing_made text =
-    record { text = text; at = 0; blocks = []; leaf = false; run = None; texts = []; footnotes = [] }
+    record {
+      text = text;
+      at = 0;
+      blocks = [];
+      leaf = false;
+      run = None;
+      levels = nil ∷ [];
+      texts = [];
+      footnotes = [];
+    }
 
 -- each byte from one byte offset up to another is white space
 abbrev pub IsWhite : List ℕ → ℕ → ℕ → Type 0
@@ -43,6 +57,20 @@ abbrev pub follows_run : Option ℕ → ℕ → Bool
 follows_run None byte = false
 follows_run (Some before) byte = byte == before
 
+-- an item with this body is appended, from the current byte offset up to another
+abbrev pub AppendsItem : BuilderView → BuilderView → ItemBody → ℕ → Type 0
+AppendsItem old new body end =
+    new ≡ record old { at = end; run = None; levels = with_trees old.levels (one_tree old.at end body) }
+
+-- likewise an item that refers to a text, which is appended to the texts
+abbrev pub AppendsNaming : BuilderView → BuilderView → (CowIndex → ItemBody) → ℕ → List ℕ → Type 0
+AppendsNaming old new body end text = new ≡ record old {
+  at = end;
+  run = None;
+  levels = with_trees old.levels (one_tree old.at end (body (record { 0 = length old.texts })));
+  texts = old.texts ++ text ∷ [];
+}
+
 -- a block with this body is opened at the current byte offset, inside those that were open
 abbrev pub Opens : BuilderView → BuilderView → ItemBody → Type 0
 Opens old new body = new ≡ record old {
@@ -50,6 +78,7 @@ Opens old new body = new ≡ record old {
   leaf =
       is_leaf body;
   run = None;
+  levels = old.levels ++ nil ∷ [];
 }
 
 -- a block is opened at the current byte offset that refers to a text, which is appended to the texts
@@ -59,8 +88,18 @@ OpensNaming old new body text = new ≡ record old {
   leaf =
       is_leaf (body (record { 0 = length old.texts }));
   run = None;
+  levels = old.levels ++ nil ∷ [];
   texts = old.texts ++ text ∷ [];
   footnotes = new.footnotes;
+}
+
+-- the innermost open block is closed at the current byte offset, and these are still open
+abbrev pub Closes : BuilderView → BuilderView → OpenBlock → List OpenBlock → Type 0
+Closes old new block outer = new ≡ record old {
+  blocks = outer;
+  leaf = false;
+  run = None;
+  levels = with_closed old.levels (record { start = block.start; end = old.at; body = block.body });
 }
 
 -- the innermost of the open blocks

@@ -1,5 +1,6 @@
 -- the terms of contracts
 pub mod Bodies
+pub mod TreeLevels
 pub mod BuilderView
 pub mod Tightness
 pub mod ClosedLists
@@ -7,5 +8,7 @@ pub mod HeadingsHoldInline
 -- the representation
 pub mod Rising
 pub mod BuilderRules
+pub mod Levels
+pub mod ForestCode
 pub mod Standing
 pub mod TreeSteps

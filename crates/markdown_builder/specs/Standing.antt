@@ -19,6 +19,7 @@ use Rattle.markdown_builder.specs.declared.open_block.OpenBlock.{OpenBlock}
 use Rattle.markdown_builder.specs.Bodies.{is_leaf}
 use Rattle.markdown_builder.specs.BuilderView.{BuilderView}
 use Rattle.markdown_builder.specs.ClosedLists.{ListsAreTight}
+use Rattle.markdown_builder.specs.Levels.{IsLaidOut}
 use Rattle.markdown_builder.specs.Rising.{link_of, IsOnTop, place_down, place_at}
 use Rattle.markdown_builder.specs.BuilderRules.{LinkFits, KeepsNodes, KeepsRuns}
 
@@ -144,3 +145,4 @@ pub record IsSound (s : State) : Type 0 where
   pub runs : KeepsRuns s.text s.tree.nodes
   pub last_run : LastRun s.text s.tree.nodes s.tree.cursor s.run
   pub lists : ListsAreTight s.tree
+  pub laid : IsLaidOut s.tree

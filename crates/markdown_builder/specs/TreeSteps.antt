@@ -1,15 +1,19 @@
 -- What a builder changes in its tree in several steps: tight paragraphs, and the characters of a delimiter run.
-use Rattle.std.specs.Prelude.{◌≡◌, ℕ, zero, suc, ◌+◌, ◌-◌, ◌<◌, ◌≤◌, ◌⊎◌, Bool, true, false, List, length}
+use Rattle.std.specs.Prelude.{◌≡◌, ℕ, zero, suc, ◌+◌, ◌-◌, ◌<◌, ◌≤◌, ◌⊎◌, Bool, true, false, List, ◌++◌, length}
+use Rattle.std.specs.Prelude.{Option, None}
 use Rattle.markdown_base.specs.declared.item.Item.{Item}
 use Rattle.markdown_base.specs.declared.item.ItemBody.{ItemBody}
 use Rattle.markdown_base.specs.declared.item.ItemBody.TheVariants as body
 use Rattle.markdown_base.specs.declared.node.Node.{Node}
-use Rattle.markdown_base.specs.Arena.{Arena}
+use Rattle.markdown_base.specs.Arena.{Arena, child_of}
 use Rattle.markdown_base.specs.ArenaChanges.{appended}
 use Rattle.markdown_base.specs.ArenaForest.{links_of}
 use Rattle.markdown_base.specs.BlockTree.{item_at}
+use Rattle.markdown_base.specs.Forest.{Forest}
+use Rattle.markdown_builder.specs.Levels.{link, laid}
 use Rattle.markdown_builder.specs.Rising.{link_of}
 use Rattle.markdown_builder.specs.Standing.{with_item}
+use Rattle.markdown_builder.specs.TreeLevels.{items_tightened, run_item}
 use Rattle.markdown_builder.specs.Tightness.{is_tight_list, IsInItemOf}
 
 -- the body is that of a paragraph which is not tight
@@ -20,6 +24,13 @@ is_paragraph other = false
 -- a paragraph made tight
 abbrev pub tight : Item → Item
 tight item = record { start = item.start; end = item.end; body = body.TightParagraph }
+
+-- a forest that is laid out from a link on is changed in its place
+pub record ChangesLaid (change : Forest Item → Forest Item) (first : Option ℕ) (old new : List (Node Item)) : Type 0
+  where
+    pub made : (front back : List (Node Item)) (f : Forest Item) → old ≡ front ++ (laid None (length front) f ++ back)
+        → first ≡ link None (length front) f
+        → new ≡ front ++ (laid None (length front) (change f) ++ back)
 
 -- paragraphs from a number on are made tight, one after another
 pub data Tightens (from : ℕ) (old : Arena Item) : Arena Item → Type 0 where
@@ -54,15 +65,6 @@ abbrev pub texts_appended : Arena Item → ℕ → ℕ → Arena Item
 texts_appended tree start zero = tree
 texts_appended tree start (suc count) = appended (texts_appended tree start count) (byte_text (start + count))
 
--- the character that starts `count` bytes before the end of a delimiter run, which is at byte offset `stop`
-abbrev pub run_item : ℕ → Bool → Bool → ℕ → Item
-run_item stop opens closes count = record {
-  start = stop - count;
-  end = (stop - count)
-      + 1;
-  body = body.MaybeEmphasis count opens closes;
-}
-
 -- an arena whose last `count` items are made the characters of a delimiter run that ends at byte offset `stop`
 abbrev pub run_marked : Arena Item → ℕ → Bool → Bool → ℕ → Arena Item
 run_marked tree stop opens closes zero = tree
@@ -75,4 +77,6 @@ pub record TightensList (list : ℕ) (old new : Arena Item) : Type 0 where
   pub steps : Tightens list old new
   pub makes : is_tight_list (item_at old.nodes list).body ≡ true
       → MakesTight (IsInItemOf old.nodes list) old.nodes new.nodes
+  pub laid : is_tight_list (item_at old.nodes list).body ≡ true
+      → ChangesLaid items_tightened (child_of old.nodes list) old.nodes new.nodes
   pub same : is_tight_list (item_at old.nodes list).body ≡ false → new ≡ old

@@ -35,9 +35,17 @@ impl<'a> Model for Builder<'a> {
     ghost use Rattle.std.specs.Prelude.{length, map};
     ghost use Rattle.markdown_base.specs.CowText.{text_of};
     ghost use Rattle.markdown_builder.specs.BuilderView.{BuilderView};
+    ghost use Rattle.markdown_builder.specs.TreeLevels.{levels_of};
     ghost use Rattle.markdown_builder.specs.Standing.{IsSound};
 
     ghost Value = { BuilderView };
+
+    ghost use Rattle.std.specs.Coded.{codes};
+    ghost use Rattle.markdown_base.specs.contracts.item.Item as item;
+    ghost use Rattle.markdown_builder.specs.ForestCode.{forest_code};
+    ghost use Rattle.markdown_builder.specs.contracts.open_block.OpenBlock as block;
+
+    ghost coded = { Prim.hlevel (codes, forest_code, item.the_row.coded, block.the_row.coded) };
 
     ghost view = { λ b. record {
       text = b.text.now;
@@ -45,6 +53,7 @@ impl<'a> Model for Builder<'a> {
       blocks = b.blocks.items;
       leaf = b.leaf;
       run = b.run;
+      levels = levels_of b.tree;
       texts = map text_of b.cows.items;
       footnotes = map text_of b.footnotes.items;
     } };
@@ -67,19 +76,22 @@ impl<'a> Model for Builder<'a> {
 }
 
 impl<'a> Builder<'a> {
-    ghost use Rattle.std.specs.Prelude.{◌≡◌, ℕ, ◌+◌, ◌≤◌, ◌<◌, ◌++◌, ◌∷◌, [], true, false, Some, None, length};
+    ghost use Rattle.std.specs.Prelude.{◌≡◌, ℕ, ◌+◌, ◌-◌, ◌≤◌, ◌<◌, ◌++◌, ◌∷◌, [], true, false, Some, None, length};
     ghost use Rattle.std.specs.Prelude.{slice_index, slice_get, IfOk, IfSome, MatchOption};
     ghost use Rattle.std.specs.Str.{IsCharBoundary};
     ghost use Rattle.markdown_base.specs.declared.item.ItemBody.TheVariants as variant;
     ghost use Rattle.markdown_base.specs.BlockTree.{tree_of};
     ghost use Rattle.markdown_base.specs.CowText.{text_of};
     ghost use Rattle.markdown_base.specs.Coverage.{Covers};
+    ghost use Rattle.markdown_base.specs.Forest.{relabelled};
     ghost use Rattle.markdown_base.specs.WellFormed.{IsWellFormed, is_delimiter};
     ghost use Rattle.markdown_builder.specs.declared.open_block.OpenBlock.{OpenBlock};
     ghost use Rattle.markdown_builder.specs.Bodies.{is_leaf, is_plain_block, is_settled, mark_byte};
     ghost use Rattle.markdown_builder.specs.BuilderView.{IsWhite, IsRunOf, follows_run, innermost_block, nothing_made};
-    ghost use Rattle.markdown_builder.specs.BuilderView.{LastHasBody, LastBegins, Opens, OpensNaming};
+    ghost use Rattle.markdown_builder.specs.BuilderView.{AppendsItem, AppendsNaming, Opens, OpensNaming, Closes};
+    ghost use Rattle.markdown_builder.specs.BuilderView.{LastHasBody, LastBegins};
     ghost use Rattle.markdown_builder.specs.HeadingsHoldInline.{HeadingsHoldInline};
+    ghost use Rattle.markdown_builder.specs.TreeLevels.{run_trees, with_trees};
     ghost use Rattle.markdown_builder.specs.Tightness.{TightInTightLists};
 
     /// Returns a builder that has made nothing yet.
@@ -171,7 +183,7 @@ impl<'a> Builder<'a> {
         ensures { MatchOption result
             ((self.old.blocks ≡ []) × (self.new ≡ self.old))
             (λ block. (outer : _) × (self.old.blocks ≡ outer ++ block ∷ [])
-            × (self.new ≡ record self.old { blocks = outer; leaf = false; run = None })) }
+            × Closes self.old self.new block outer) }
     {
         let block = self.blocks.pop()?;
         let item = Item {
@@ -194,7 +206,7 @@ impl<'a> Builder<'a> {
         requires inside { self.old.leaf ≡ true }
         requires low { self.old.at ≤ end }
         requires boundary { IsCharBoundary self.old.text end }
-        ensures { IfOk result (λ _. self.new ≡ record self.old { at = end; run = None }) }
+        ensures { IfOk result (λ _. AppendsItem self.old self.new body end) }
     {
         self.tree.append(Item {
             start: self.at,
@@ -313,7 +325,7 @@ impl<'a> Builder<'a> {
         requires outside { self.old.leaf ≡ false }
         requires low { self.old.at ≤ end }
         requires boundary { IsCharBoundary self.old.text end }
-        ensures { IfOk result (λ _. self.new ≡ record self.old { at = end; run = None }) }
+        ensures { IfOk result (λ _. AppendsItem self.old self.new variant.Rule end) }
     {
         self.tree.append(Item {
             start: self.at,
@@ -330,11 +342,8 @@ impl<'a> Builder<'a> {
         requires inside { self.old.leaf ≡ true }
         requires low { self.old.at ≤ end }
         requires boundary { IsCharBoundary self.old.text end }
-        ensures { IfOk result (λ _. self.new ≡ record self.old {
-          at = end;
-          run = None;
-          texts = self.old.texts ++ text_of text.entry ∷ [];
-        }) }
+        ensures { IfOk result (λ _.
+            AppendsNaming self.old self.new variant.SynthesizeText end (text_of text.entry)) }
     {
         let ix = push_text(&mut self.cows, text)?;
         self.tree.append(Item {
@@ -352,8 +361,7 @@ impl<'a> Builder<'a> {
         requires inside { self.old.leaf ≡ true }
         requires more { self.old.at < length self.old.text }
         requires byte { mark_byte body ≡ Some (slice_index self.old.text self.old.at) }
-        ensures { IfOk result (λ _. self.new
-            ≡ record self.old { at = self.old.at + 1; run = None }) }
+        ensures { IfOk result (λ _. AppendsItem self.old self.new body (self.old.at + 1)) }
     {
         let end = self.at + 1;
         self.tree.append(Item {
@@ -372,8 +380,8 @@ impl<'a> Builder<'a> {
         requires more { self.old.at + 1 < length self.old.text }
         requires first { slice_index self.old.text self.old.at ≡ 33 }
         requires second { slice_index self.old.text (self.old.at + 1) ≡ 91 }
-        ensures { IfOk result (λ _. self.new
-            ≡ record self.old { at = self.old.at + 2; run = None }) }
+        ensures { IfOk result (λ _.
+            AppendsItem self.old self.new variant.MaybeImage (self.old.at + 2)) }
     {
         let end = self.at + 2;
         self.tree.append(Item {
@@ -392,7 +400,8 @@ impl<'a> Builder<'a> {
     pub fn backticks(&mut self, end: usize, escaped: bool) -> Result<(), AllocError>
         requires inside { self.old.leaf ≡ true }
         requires run { IsRunOf 96 self.old.text self.old.at end }
-        ensures { IfOk result (λ _. self.new ≡ record self.old { at = end; run = None }) }
+        ensures { IfOk result (λ _.
+            AppendsItem self.old self.new (variant.MaybeCode (end - self.old.at) escaped) end) }
     {
         let count = in_32_bits(end - self.at)?;
         self.tree.append(Item {
@@ -412,7 +421,11 @@ impl<'a> Builder<'a> {
         requires delimiter { is_delimiter byte ≡ true }
         requires whole { IsRunOf byte self.old.text self.old.at end }
         requires other { follows_run self.old.run byte ≡ false }
-        ensures { IfOk result (λ _. self.new ≡ record self.old { at = end; run = Some byte }) }
+        ensures { IfOk result (λ _. self.new ≡ record self.old {
+          at = end;
+          run = Some byte;
+          levels = with_trees self.old.levels (run_trees end opens closes (end - self.old.at));
+        }) }
     {
         let start = self.at;
         self.at = end;
@@ -451,6 +464,7 @@ impl<'a> Builder<'a> {
         ensures covered { Covers self.entry.text result.0.nodes result.1 }
         ensures tight { TightInTightLists result.0.nodes }
         ensures headings { HeadingsHoldInline (tree_of result.0.nodes) }
+        ensures tree { self.entry.levels ≡ relabelled (λ n. n.item) (tree_of result.0.nodes) ∷ [] }
     {
         let parts = BlockParts {
             definitions: self.definitions,

@@ -1,9 +1,16 @@
 //! The paragraphs of tight lists (CommonMark 5.3).
 ghost use Rattle.std.specs.Prelude.{◌≡◌, ℕ, ◌<◌, ◌≤◌, length, Some, IfSome};
+ghost use Rattle.markdown_base.specs.Arena.{child_of};
 ghost use Rattle.markdown_base.specs.ArenaForest.{links_of};
+ghost use Rattle.markdown_base.specs.BlockTree.{item_at};
 ghost use Rattle.markdown_builder.specs.Rising.{AreRising};
+ghost use Rattle.markdown_builder.specs.Standing.{with_item};
 ghost use Rattle.markdown_builder.specs.Tightness.{is_tight_list, IsInChain, IsInItemOf};
-ghost use Rattle.markdown_builder.specs.TreeSteps.{is_paragraph, Tightens, TightensList, MakesTight};
+ghost use Rattle.markdown_builder.specs.TreeSteps.{Tightens, TightensList};
+ghost use Rattle.markdown_builder.specs.TreeLevels.{tight_if_paragraph};
+ghost use Rattle.markdown_builder.specs.TreeSteps.{is_paragraph};
+ghost use Rattle.markdown_builder.specs.TreeSteps.{MakesTight, ChangesLaid};
+ghost use Rattle.markdown_builder.specs.TreeLevels.{roots_tightened, items_tightened};
 
 use markdown_base::item::{Item, ItemBody};
 use markdown_base::tree::Tree;
@@ -23,6 +30,8 @@ fn tighten(tree: &mut Tree<Item>, number: usize)
     requires { number < length tree.old.nodes }
     ensures steps { (from : ℕ) → from ≤ number → Tightens from tree.old tree.new }
     ensures makes { MakesTight (λ p. p ≡ number) tree.old.nodes tree.new.nodes }
+    ensures written { tree.new
+        ≡ with_item tree.old number (tight_if_paragraph (item_at tree.old.nodes number)) }
 {
     let item = *tree.item(number);
     if is_paragraph(item.body) {
@@ -43,6 +52,7 @@ fn tighten_siblings(tree: &mut Tree<Item>, first: Option<usize>)
         → Tightens from tree.old tree.new }
     ensures makes { MakesTight (λ p.
         IsInChain tree.old.nodes first p) tree.old.nodes tree.new.nodes }
+    ensures laid { ChangesLaid roots_tightened first tree.old.nodes tree.new.nodes }
 {
     let mut link = first;
     'siblings: while let Some(number) = link {
@@ -58,6 +68,8 @@ fn tighten_items(tree: &mut Tree<Item>, list: usize)
     ensures steps { Tightens list tree.old tree.new }
     ensures makes { MakesTight (λ p.
         IsInItemOf tree.old.nodes list p) tree.old.nodes tree.new.nodes }
+    ensures laid { ChangesLaid items_tightened (child_of tree.old.nodes list)
+        tree.old.nodes tree.new.nodes }
 {
     let mut link = tree.child(list);
     'items: while let Some(item) = link {

@@ -1,7 +1,10 @@
 -- At first all are left; the paragraphs of one item after another are made tight.
-use Rattle.std.proofs.Common.{ℕ, ◌≤◌, Option, true, false, subst, arith}
+use Rattle.std.proofs.Common.{ℕ, ◌≤◌, Option, true, false, refl, subst, arith}
 use Rattle.std.specs.Prelude.{IfSome}
+use Rattle.markdown_base.specs.Arena.{child_of}
 use Rattle.markdown_builder.specs.TreeSteps.{none_tight}
+use Rattle.markdown_builder.specs.TreeLevels.{items_tightened}
+use Rattle.markdown_builder.proofs.TightLaidLemmas.{all_left_laid, none_left_laid, item_laid}
 use Rattle.markdown_builder.proofs.TightLemmas.{item_step, items_done, rising_still, items_left}
 use Rattle.markdown_builder.proofs.TightLemmas.{tightens_on, next_after}
 use Rattle.markdown_builder.proofs.tight.tighten_items.Goals as goal
@@ -13,6 +16,8 @@ items-init c = record {
       (next_after c.args.tree.now.nodes c.requires.rising true c.args.list c.args.list (omega arith));
   left = items_left c.args.tree.now.nodes c.args.list c.child-link.result c.child-link.ensures.value
       c.child-link.ensures.within;
+  laid = rw c.child-link.ensures.value
+      (all_left_laid items_tightened c.args.tree.now.nodes (child_of c.args.tree.now.nodes c.args.list));
 }
 
 pub tighten_siblings-requires : goal.tighten_siblings-requires
@@ -46,9 +51,17 @@ items-preserved c =
           c.child-first.result c.in-Some.item
           c.requires.rising i.left c.in-Some.is c.child-first.ensures.value c.tighten_siblings.ensures.makes
           c.next-link.ensures.value).0;
+      laid = item_laid c.args.tree.now.nodes (child_of c.args.tree.now.nodes c.args.list) c.items.tree.nodes
+          c.tighten_siblings.new.tree.nodes c.items.link c.child-first.result c.next-link.result c.in-Some.item i.laid
+          c.in-Some.is c.child-first.ensures.value c.tighten_siblings.ensures.laid c.next-link.ensures.value;
     }
 
 pub returns-clause-makes : goal.returns-clause-makes
 returns-clause-makes c =
     items_done c.args.tree.now.nodes c.items.tree.nodes c.args.list c.items.link c.items.invariant.left
     c.in_default.not-Some
+
+pub returns-clause-laid : goal.returns-clause-laid
+returns-clause-laid c =
+    none_left_laid items_tightened refl c.args.tree.now.nodes (child_of c.args.tree.now.nodes c.args.list)
+    c.items.tree.nodes c.items.link c.in_default.not-Some c.items.invariant.laid

@@ -2,7 +2,10 @@
 -- numbers.
 use Rattle.std.proofs.Common.{◌≤◌, length}
 use Rattle.std.specs.Prelude.{IfSome}
+use Rattle.markdown_base.specs.Arena.{child_of}
 use Rattle.markdown_builder.specs.TreeSteps.{Tightens}
+use Rattle.markdown_builder.specs.TreeLevels.{items_tightened}
+use Rattle.markdown_builder.proofs.TightLaidLemmas.{LaidLeft}
 use Rattle.markdown_builder.proofs.TightLemmas.{ItemsLeft, nodes_from}
 use Rattle.markdown_builder.proofs.tight.tighten_items.Given as goal
 
@@ -11,6 +14,7 @@ invariant-items l = record {
   steps : Tightens l.fn.list l.fn.tree l.tree;
   after : IfSome l.link (λ number. l.fn.list ≤ number);
   left : ItemsLeft l.fn.tree.nodes l.tree.nodes l.fn.list l.link;
+  laid : LaidLeft items_tightened l.fn.tree.nodes (child_of l.fn.tree.nodes l.fn.list) l.tree.nodes l.link;
 }
 
 abbrev pub decreases-items : goal.decreases-items

@@ -14,4 +14,4 @@ returns-else-is_tight_list c = λ list at.
     ap (λ (y : Item). is_tight_list y.body) (sym (c.item.ensures no_item))
     ∙ (sym c.is_tight_list.ensures ∙ c.if-is_tight_list.false) in
     let other = subst (λ (n : ℕ). is_tight_list (item_at nodes n).body ≡ false) here loose in
-    record { steps = none_tight; makes = λ t. cc (t, other); same = λ f. refl }
+    record { steps = none_tight; makes = λ t. cc (t, other); laid = λ t. cc (t, other); same = λ f. refl }

@@ -1,8 +1,12 @@
 -- At first all are left; one after another is made tight.
-use Rattle.std.proofs.Common.{ℕ, ◌≤◌, Option, false, subst}
+use Rattle.std.proofs.Common.{ℕ, ◌≤◌, Option, false, refl, ap, subst}
 use Rattle.std.specs.Prelude.{IfSome}
+use Rattle.markdown_base.specs.declared.item.Item.{Item}
+use Rattle.markdown_base.specs.Arena.{Arena}
 use Rattle.markdown_builder.specs.Tightness.{IsInChain}
 use Rattle.markdown_builder.specs.TreeSteps.{none_tight}
+use Rattle.markdown_builder.specs.TreeLevels.{roots_tightened}
+use Rattle.markdown_builder.proofs.TightLaidLemmas.{all_left_laid, none_left_laid, sibling_laid}
 use Rattle.markdown_builder.proofs.TightLemmas.{all_left, leads_to, sibling_step, siblings_done}
 use Rattle.markdown_builder.proofs.TightLemmas.{rising_still, tightens_on, next_after}
 use Rattle.markdown_builder.proofs.tight.tighten_siblings.Goals as goal
@@ -15,6 +19,7 @@ siblings-init c = record {
     inside = λ p q. q;
     within = c.requires.within;
   };
+  laid = all_left_laid roots_tightened c.args.tree.now.nodes c.args.first;
 }
 
 pub tighten-requires : goal.tighten-requires
@@ -53,6 +58,9 @@ siblings-preserved c = record {
       c.next-link.result
       c.in-Some.number
       c.requires.rising c.siblings.invariant.left c.in-Some.is c.tighten.ensures.makes c.next-link.ensures.value).0;
+  laid = sibling_laid c.args.tree.now.nodes c.args.first c.siblings.tree.nodes c.tighten.new.tree.nodes
+      c.siblings.link c.next-link.result c.in-Some.number c.siblings.invariant.laid c.in-Some.is
+      (ap (λ (t : Arena Item). t.nodes) c.tighten.ensures.written) c.next-link.ensures.value;
 }
 
 pub returns : goal.returns
@@ -61,4 +69,6 @@ returns c = record {
   makes = siblings_done c.args.tree.now.nodes c.siblings.tree.nodes c.args.first c.siblings.link
       c.siblings.invariant.left
       c.in_default.not-Some;
+  laid = none_left_laid roots_tightened refl c.args.tree.now.nodes c.args.first c.siblings.tree.nodes c.siblings.link
+      c.in_default.not-Some c.siblings.invariant.laid;
 }

@@ -1,5 +1,6 @@
 -- The block is left, and its paragraphs are made tight if it is a tight list.
-use Rattle.markdown_builder.proofs.CallLemmas.{close_left, close_keeps}
+use Rattle.std.proofs.Common.{refl}
+use Rattle.markdown_builder.proofs.CallLemmas.{close_left, close_keeps, close_levels_of}
 use Rattle.markdown_builder.proofs.builder.Builder.close.Goals as goal
 
 pub tighten_list-requires : goal.tighten_list-requires
@@ -11,3 +12,9 @@ pub invariant_of-self-2 : goal.invariant_of-self-2
 invariant_of-self-2 c =
     close_keeps c.pop.new.self.items c.in_ok-block.block c.leave.new.tree c.tighten_list.new.tree c.self.invariant
     c.in_ok-block.ensures.items c.leave.ensures c.tighten_list.ensures
+
+pub returns : goal.returns
+returns c =
+    let levels = close_levels_of c.pop.new.self.items c.in_ok-block.block c.leave.new.tree c.tighten_list.new.tree
+    c.self.invariant c.in_ok-block.ensures.items c.leave.ensures c.tighten_list.ensures in
+    rw (← c.self.view_is) (c.pop.new.self.items, c.in_ok-block.ensures.items, rw levels refl)

@@ -4,7 +4,7 @@ use Rattle.markdown_builder.specs.Standing.{standpoint}
 use Rattle.markdown_builder.proofs.FormedLemmas.{keeps_formed}
 use Rattle.markdown_builder.proofs.HeadingsHoldInlineLemmas.{headings_hold_inline}
 use Rattle.markdown_builder.proofs.CoveredLemmas.{covers_at_end}
-use Rattle.markdown_builder.proofs.CallLemmas.{finish_tight}
+use Rattle.markdown_builder.proofs.CallLemmas.{finish_spine, finish_tight}
 use Rattle.markdown_builder.proofs.builder.Builder.finish.Goals as goal
 
 pub returns-clause-formed : goal.returns-clause-formed
@@ -30,3 +30,9 @@ returns-clause-tight c =
 pub returns-clause-headings : goal.returns-clause-headings
 returns-clause-headings c =
     headings_hold_inline c.self.inside.text.now _ c.self.inside.tree.nodes c.self.invariant.stands.nodes
+
+pub returns-clause-tree : goal.returns-clause-tree
+returns-clause-tree c =
+    let none = finish_spine (standpoint c.args.self) c.self.invariant (ap standpoint c.self.view_is)
+    c.requires.closed in
+    rw (← c.self.view_is) (rw none refl)

@@ -1,7 +1,9 @@
 -- The item is appended.
-use Rattle.std.proofs.Common.{ap}
+use Rattle.std.proofs.Common.{ap, refl, ◌∙◌}
 use Rattle.markdown_builder.specs.Standing.{standpoint}
+use Rattle.markdown_builder.specs.TreeLevels.{levels_of}
 use Rattle.markdown_builder.proofs.CallLemmas.{image_keeps}
+use Rattle.markdown_builder.proofs.LevelViewLemmas.{append_levels}
 use Rattle.markdown_builder.proofs.builder.Builder.image.Goals as goal
 
 pub invariant_of-self-2 : goal.invariant_of-self-2
@@ -9,3 +11,8 @@ invariant_of-self-2 c =
     rw c.in_ok-append.ensures.made
     (image_keeps (standpoint c.args.self.now) c.self.invariant (ap standpoint c.self.view_is) c.requires.inside
     c.requires.more c.requires.first c.requires.second)
+
+pub returns : goal.returns
+returns c =
+    let levels = ap levels_of c.in_ok-append.ensures.made ∙ append_levels c.self.inside.tree _ c.self.invariant.laid in
+    rw (← c.self.view_is) (rw levels refl)

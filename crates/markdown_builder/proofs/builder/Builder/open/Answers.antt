@@ -1,7 +1,9 @@
 -- The block is entered, or was only appended.
-use Rattle.std.proofs.Common.{ap}
+use Rattle.std.proofs.Common.{ap, refl, ◌∙◌}
 use Rattle.markdown_builder.specs.Standing.{standpoint}
+use Rattle.markdown_builder.specs.TreeLevels.{levels_of}
 use Rattle.markdown_builder.proofs.CallLemmas.{open_keeps, open_refused}
+use Rattle.markdown_builder.proofs.LevelViewLemmas.{enter_levels}
 use Rattle.markdown_builder.proofs.builder.Builder.open.Goals as goal
 
 pub invariant_of-self : goal.invariant_of-self
@@ -16,3 +18,8 @@ invariant_of-self-2 c =
     rw (c.in_ok-enter.ensures.entered, c.in_ok-enter.ensures.opened, c.is_leaf-self-inside.ensures)
     (open_keeps (standpoint c.args.self.now) c.args.body c.self.invariant (ap standpoint c.self.view_is)
     c.requires.block c.requires.outside)
+
+pub returns : goal.returns
+returns c =
+    let levels = ap levels_of c.in_ok-enter.ensures.entered ∙ enter_levels c.self.inside.tree _ c.self.invariant.laid in
+    rw (← c.self.view_is) (rw (c.in_ok-enter.ensures.opened, levels, c.is_leaf-self-inside.ensures) refl)

@@ -1,9 +1,14 @@
 -- The block is entered, or was only appended, or only its text was kept.
-use Rattle.std.proofs.Common.{ap, refl}
+use Rattle.std.proofs.Common.{◌≡◌, List, [], ◌∷◌, ◌++◌, map, length, sym, ap, refl, ◌∙◌}
+use Rattle.std.proofs.lemmas.List.{length-map, map-append}
 use Rattle.markdown_base.specs.declared.item.ItemBody.TheVariants as body
+use Rattle.markdown_base.specs.declared.cow_str.CowStr.{CowStr}
+use Rattle.markdown_base.specs.CowText.{text_of}
 use Rattle.markdown_builder.specs.Standing.{standpoint}
+use Rattle.markdown_builder.specs.TreeLevels.{levels_of}
 use Rattle.markdown_builder.proofs.BodiesLemmas.{footnote_names}
 use Rattle.markdown_builder.proofs.CallLemmas.{named_keeps, named_refused}
+use Rattle.markdown_builder.proofs.LevelViewLemmas.{enter_levels}
 use Rattle.markdown_builder.proofs.builder.Builder.open_footnote.Goals as goal
 
 pub invariant_of-self-in_err-enter : goal.invariant_of-self-in_err-enter
@@ -22,3 +27,14 @@ invariant_of-self-2 c =
     (named_keeps (standpoint c.args.self.now) _ (body.FootnoteDefinition ix) ix c.self.invariant
     (ap standpoint c.self.view_is) c.requires c.in_ok-ix.ensures.number
     (c.in_ok-ix.ensures.more, refl, refl) (footnote_names ix) refl)
+
+pub returns-clause-opens : goal.returns-clause-opens
+returns-clause-opens c =
+    let levels = ap levels_of c.in_ok-enter.ensures.entered ∙ enter_levels c.self.inside.tree _ c.self.invariant.laid in
+    let texts : map text_of c.push_text.new.texts.items
+    ≡ map text_of c.self.inside.cows.items ++ text_of c.args.name ∷ [] =
+    ap (λ (xs : List CowStr). map text_of xs) c.in_ok-ix.ensures.pushed
+    ∙ map-append text_of c.self.inside.cows.items _ in
+    let number : length (map text_of c.self.inside.cows.items) ≡ c.in_ok-ix.ix.0 =
+    length-map c.self.inside.cows.items text_of ∙ sym c.in_ok-ix.ensures.number in
+    rw (← c.self.view_is) (rw (c.in_ok-enter.ensures.opened, levels, texts, number) refl)

@@ -4,8 +4,10 @@ use Rattle.std.proofs.lemmas.List.{length-append}
 use Rattle.markdown_base.specs.declared.index.HeadingIndex.{HeadingIndex}
 use Rattle.markdown_base.specs.declared.item.ItemBody.TheVariants as body
 use Rattle.markdown_builder.specs.Standing.{standpoint}
+use Rattle.markdown_builder.specs.TreeLevels.{levels_of}
 use Rattle.markdown_builder.proofs.BodiesLemmas.{heading_placed}
 use Rattle.markdown_builder.proofs.CallLemmas.{placed_keeps, refused_keeps}
+use Rattle.markdown_builder.proofs.LevelViewLemmas.{enter_levels}
 use Rattle.markdown_builder.proofs.builder.Builder.open_heading.Goals as goal
 
 pub invariant_of-self-in_err-enter : goal.invariant_of-self-in_err-enter
@@ -37,4 +39,6 @@ invariant_of-self-2 c =
     refl)
 
 pub returns : goal.returns
-returns c = rw (← c.self.view_is) (c.in_ok-ix.ix, rw c.in_ok-enter.ensures.opened refl)
+returns c =
+    let levels = ap levels_of c.in_ok-enter.ensures.entered ∙ enter_levels c.self.inside.tree _ c.self.invariant.laid in
+    rw (← c.self.view_is) (c.in_ok-ix.ix, rw (c.in_ok-enter.ensures.opened, levels) refl)

@@ -4,8 +4,10 @@ use Rattle.std.proofs.lemmas.List.{length-append}
 use Rattle.markdown_base.specs.declared.index.AlignmentIndex.{AlignmentIndex}
 use Rattle.markdown_base.specs.declared.item.ItemBody.TheVariants as body
 use Rattle.markdown_builder.specs.Standing.{standpoint}
+use Rattle.markdown_builder.specs.TreeLevels.{levels_of}
 use Rattle.markdown_builder.proofs.BodiesLemmas.{table_placed}
 use Rattle.markdown_builder.proofs.CallLemmas.{placed_keeps, refused_keeps}
+use Rattle.markdown_builder.proofs.LevelViewLemmas.{enter_levels}
 use Rattle.markdown_builder.proofs.builder.Builder.open_table.Goals as goal
 
 pub invariant_of-self-in_err-enter : goal.invariant_of-self-in_err-enter
@@ -36,4 +38,6 @@ invariant_of-self-2 c =
     refl)
 
 pub returns : goal.returns
-returns c = rw (← c.self.view_is) (record { 0 = c.len.result }, rw c.in_ok-enter.ensures.opened refl)
+returns c =
+    let levels = ap levels_of c.in_ok-enter.ensures.entered ∙ enter_levels c.self.inside.tree _ c.self.invariant.laid in
+    rw (← c.self.view_is) (record { 0 = c.len.result }, rw (c.in_ok-enter.ensures.opened, levels) refl)

@@ -1,7 +1,12 @@
 -- The run is there, or some Texts are.
-use Rattle.std.proofs.Common.{ap}
+use Rattle.std.proofs.Common.{ap, refl, ◌∙◌, ◌-◌}
+use Rattle.markdown_base.specs.declared.item.Item.{Item}
+use Rattle.markdown_base.specs.Arena.{Arena}
 use Rattle.markdown_builder.specs.Standing.{standpoint}
+use Rattle.markdown_builder.specs.TreeLevels.{levels_of}
+use Rattle.markdown_builder.specs.TreeSteps.{run_marked}
 use Rattle.markdown_builder.proofs.CallLemmas.{run_nodes, run_refused, run_keeps}
+use Rattle.markdown_builder.proofs.LevelViewLemmas.{run_levels}
 use Rattle.markdown_builder.proofs.builder.Builder.run.Goals as goal
 
 pub invariant_of-self : goal.invariant_of-self
@@ -41,3 +46,14 @@ invariant_of-self-2 c =
       other
           = c.requires.other;
     }))
+
+pub returns : goal.returns
+returns c =
+    let start = c.self.inside.at in
+    let count = c.args.end - start in
+    let marked = c.mark_run.ensures
+    ∙ ap (λ (t : Arena Item). run_marked t c.args.end c.args.opens c.args.closes count)
+    c.in_ok-append_texts.ensures.appended in
+    let levels = ap levels_of marked
+    ∙ run_levels c.self.inside.tree start c.args.end count c.args.opens c.args.closes c.self.invariant.laid in
+    rw (← c.self.view_is) (rw levels refl)

@@ -1,7 +1,12 @@
 -- The item is appended, or only its text was kept.
-use Rattle.std.proofs.Common.{ap, refl}
+use Rattle.std.proofs.Common.{◌≡◌, List, [], ◌∷◌, ◌++◌, map, length, sym, ap, refl, ◌∙◌}
+use Rattle.std.proofs.lemmas.List.{length-map, map-append}
+use Rattle.markdown_base.specs.declared.cow_str.CowStr.{CowStr}
+use Rattle.markdown_base.specs.CowText.{text_of}
 use Rattle.markdown_builder.specs.Standing.{standpoint}
+use Rattle.markdown_builder.specs.TreeLevels.{levels_of}
 use Rattle.markdown_builder.proofs.CallLemmas.{synthesize_keeps, pushed_keeps}
+use Rattle.markdown_builder.proofs.LevelViewLemmas.{append_levels}
 use Rattle.markdown_builder.proofs.builder.Builder.synthesize.Goals as goal
 
 pub invariant_of-self-in_err-append : goal.invariant_of-self-in_err-append
@@ -15,3 +20,14 @@ invariant_of-self-2 c =
     (ap standpoint c.self.view_is) c.in_ok-ix.ensures.number
     (c.in_ok-ix.ensures.more, refl, refl)
     c.requires.inside c.requires.low c.requires.boundary)
+
+pub returns : goal.returns
+returns c =
+    let levels = ap levels_of c.in_ok-append.ensures.made ∙ append_levels c.self.inside.tree _ c.self.invariant.laid in
+    let texts : map text_of c.push_text.new.texts.items
+    ≡ map text_of c.self.inside.cows.items ++ text_of c.args.text ∷ [] =
+    ap (λ (xs : List CowStr). map text_of xs) c.in_ok-ix.ensures.pushed
+    ∙ map-append text_of c.self.inside.cows.items _ in
+    let number : length (map text_of c.self.inside.cows.items) ≡ c.in_ok-ix.ix.0 =
+    length-map c.self.inside.cows.items text_of ∙ sym c.in_ok-ix.ensures.number in
+    rw (← c.self.view_is) (rw (levels, texts, number) refl)
