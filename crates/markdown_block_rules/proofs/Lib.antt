@@ -1,8 +1,15 @@
+mod AddedCellsLemmas
 mod BlockBeginningsLemmas
 mod BlockLawsLemmas
+mod GrowthLemmas
 mod IndentedLinesLemmas
+mod InlineItemsLemmas
+mod KeptLemmas
 mod LeafLawsLemmas
 mod LineLawsLemmas
 mod ListLawsLemmas
+mod MetadataLawsLemmas
+mod OpeningLemmas
 mod QuotedLinesLemmas
 mod TableLawsLemmas
+mod TaskLawsLemmas

@@ -8,8 +8,10 @@ pub mod LineLaws
 pub mod BlockLaws
 pub mod ListLaws
 pub mod LeafLaws
--- what the tables that are read have
+-- what the extensions of blocks that are read make
 pub mod TableLaws
+pub mod TaskLaws
+pub mod MetadataLaws
 -- CommonMark's examples
 pub mod ExampleTrees
 pub mod ExamplesOfLines

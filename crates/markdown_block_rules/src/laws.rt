@@ -11,7 +11,9 @@ ghost use Rattle.markdown_block_rules.specs.LeafLaws.{BlankLineEndsHtml, BlankLi
 ghost use Rattle.markdown_block_rules.specs.LeafLaws.{MetadataGoesOn, ClosingLineClosesMetadata, ClosedMetadataEnds};
 ghost use Rattle.markdown_block_rules.specs.LineLaws.{LineIsItsContent};
 ghost use Rattle.markdown_block_rules.specs.ListLaws.{ListIsLooseAsSaid};
-ghost use Rattle.markdown_block_rules.specs.TableLaws.{RowsAreEven};
+ghost use Rattle.markdown_block_rules.specs.MetadataLaws.{MetadataIsOutermost};
+ghost use Rattle.markdown_block_rules.specs.TableLaws.{FewCellsAreAdded, RowsAreEven};
+ghost use Rattle.markdown_block_rules.specs.TaskLaws.{TaskMarkersComeFirst};
 
 /// States that bytes without line endings, and a line ending of any kind, are a line with these bytes (2.1).
 pub fn a_line_is_its_content()
@@ -140,4 +142,21 @@ pub fn a_blank_line_ends_a_paragraph()
 /// States that each row of a table, its head included, has as many cells as the table has alignments.
 pub fn rows_are_even()
     ensures { RowsAreEven }
+{}
+
+/// States that the cells that are added to the rows of a text's tables are no more than its bytes, or than 100,000 where
+/// it has fewer bytes.
+pub fn few_cells_are_added()
+    ensures { FewCellsAreAdded }
+{}
+
+/// States that a task marker comes first in a paragraph or a heading that is directly in a list item, and that nothing is
+/// below it.
+pub fn task_markers_come_first()
+    ensures { TaskMarkersComeFirst }
+{}
+
+/// States that metadata is directly under the root, and that what it contains are texts with nothing below them.
+pub fn metadata_is_outermost()
+    ensures { MetadataIsOutermost }
 {}
