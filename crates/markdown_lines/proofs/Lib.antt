@@ -11,3 +11,6 @@ pub mod HtmlKindsLemmas
 pub mod BlockStartsLemmas
 pub mod UnbrokenLinesLemmas
 pub mod LinesAheadLemmas
+pub mod SeparationLemmas
+pub mod HeldLinesLemmas
+pub mod HeldPlacesLemmas

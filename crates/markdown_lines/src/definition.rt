@@ -1,5 +1,8 @@
 //! Link reference definitions (CommonMark 4.7), read from the lines of a paragraph. The functions that return a
 //! `Result` fail only where memory is refused.
+ghost use Rattle.std.specs.Prelude.{◌≡◌, ◌==◌, MatchOption, IfSome, [], drop};
+ghost use Rattle.markdown_lines.specs.DefinitionRules.{ends_its_line, separation};
+ghost use Rattle.markdown_lines.specs.HeldPlaces.{IsPast, IsPlace, rest_at};
 
 use crate::bytes::{byte_at, bytes_of, content_start, is_white, part_of};
 use crate::held_line::HeldLine;
@@ -43,7 +46,13 @@ struct Tail {
 }
 
 /// Returns the spot after spaces, tabs and at most one line ending, or `None` after the last line.
-fn past_space(text: &str, lines: &[HeldLine], spot: Spot) -> Option<Spot> {
+fn past_space(text: &str, lines: &[HeldLine], spot: Spot) -> Option<Spot>
+    ensures value { IsPlace text.now lines.now spot → MatchOption result
+        (drop (separation (rest_at text.now lines.now spot)) (rest_at text.now lines.now spot) ≡ [])
+        (λ after. IsPast text.now lines.now spot (separation (rest_at text.now lines.now spot)) after) }
+    ensures moved { IsPlace text.now lines.now spot → IfSome result
+        (λ after. (after.at == spot.at) ≡ (separation (rest_at text.now lines.now spot) == 0)) }
+{
     let line = lines.get(spot.line)?;
     let at = content_start(text, spot.at, line.stop);
     if at < line.stop {
@@ -60,7 +69,9 @@ fn past_space(text: &str, lines: &[HeldLine], spot: Spot) -> Option<Spot> {
 }
 
 /// Returns whether the rest of the line after a spot is spaces and tabs.
-fn is_at_end(text: &str, lines: &[HeldLine], spot: Spot) -> bool {
+fn is_at_end(text: &str, lines: &[HeldLine], spot: Spot) -> bool
+    ensures { IsPlace text.now lines.now spot → result ≡ ends_its_line (rest_at text.now lines.now spot) }
+{
     match lines.get(spot.line) {
         Some(line) => is_white(bytes_of(text, spot.at, line.stop)),
         None => false,

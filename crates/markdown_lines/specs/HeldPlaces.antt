@@ -1,0 +1,34 @@
+-- Places in the lines of a paragraph, for private clauses: the number of a line, and a byte offset of the text.
+use Rattle.std.specs.Prelude.{◌≡◌, ℕ, zero, suc, ◌+◌, ◌-◌, ◌≤◌, ◌<◌, List, [], ◌∷◌, Some, drop, slice_get}
+use Rattle.std.specs.Str.{IsCharBoundary}
+use Rattle.markdown_lines.specs.declared.definition.Spot.{Spot}
+use Rattle.markdown_lines.specs.declared.held_line.HeldLine.{HeldLine}
+use Rattle.markdown_lines.specs.HeldLines.{AreHeldLines, held_text}
+
+-- the number of bytes of the lines' text before a byte offset in the line with a number
+abbrev pub count_before : List HeldLine → ℕ → ℕ → ℕ
+count_before [] number at = 0
+count_before (line ∷ lines) zero at = at - line.start
+count_before (line ∷ lines) (suc number) at = (line.next - line.start) + count_before lines number at
+
+-- the same, before a spot
+abbrev pub count_to : List HeldLine → Spot → ℕ
+count_to lines spot = count_before lines spot.line spot.at
+
+-- the lines' text from a spot on
+abbrev pub rest_at : List ℕ → List HeldLine → Spot → List ℕ
+rest_at text lines spot = drop (count_to lines spot) (held_text text lines)
+
+-- a spot is in the content of one of the lines of a paragraph, or at its end
+pub record IsPlace (text : List ℕ) (lines : List HeldLine) (spot : Spot) : Type 0 where
+  pub held : AreHeldLines text lines
+  pub line : HeldLine
+  pub there : slice_get lines spot.line ≡ Some line
+  pub low : line.start ≤ spot.at
+  pub high : spot.at ≤ line.stop
+  pub boundary : IsCharBoundary text spot.at
+
+-- a spot that is so many bytes after another
+pub record IsPast (text : List ℕ) (lines : List HeldLine) (spot : Spot) (bytes : ℕ) (after : Spot) : Type 0 where
+  pub place : IsPlace text lines after
+  pub count : count_to lines after ≡ count_to lines spot + bytes
