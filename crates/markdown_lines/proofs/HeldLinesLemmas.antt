@@ -190,7 +190,7 @@ more_is_quiet text from (line ∷ lines) held =
     not_feed : (b : ℕ) → is_line_ending b ≡ false → (b == 10) ≡ false
     not_feed b is = grind (arith, nat_tests)
 
-last_line : (text : List ℕ) (line : HeldLine) (lines : List HeldLine) → IsHeldLine text line
+pub last_line : (text : List ℕ) (line : HeldLine) (lines : List HeldLine) → IsHeldLine text line
     → AreHeldFrom text line.next lines → length text ≤ line.stop → held_text text lines ≡ []
 last_line text line [] is held all = refl
 last_line text line (next ∷ lines) is held all =

@@ -129,7 +129,7 @@ past_in_line text lines spot line at utf8 there is less place =
       moved = ap (λ n. n == spot.at) goes ∙ (same_test spot.at white ∙ ap (λ n. n == 0) (sym sep));
     }
 
-some_ending : (rest : List ℕ) → is_line_over rest ≡ true → 0 < length rest → 0 < ending_length rest
+pub some_ending : (rest : List ℕ) → is_line_over rest ≡ true → 0 < length rest → 0 < ending_length rest
 some_ending [] over some = absurd (omega (arith, some))
 some_ending (b ∷ rest) over some = decided (b == 10) (b == 13) refl refl
   where

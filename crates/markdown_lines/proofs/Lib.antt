@@ -14,3 +14,4 @@ pub mod LinesAheadLemmas
 pub mod SeparationLemmas
 pub mod HeldLinesLemmas
 pub mod HeldPlacesLemmas
+pub mod TitleLemmas

@@ -32,3 +32,10 @@ pub record IsPlace (text : List ℕ) (lines : List HeldLine) (spot : Spot) : Typ
 pub record IsPast (text : List ℕ) (lines : List HeldLine) (spot : Spot) (bytes : ℕ) (after : Spot) : Type 0 where
   pub place : IsPlace text lines after
   pub count : count_to lines after ≡ count_to lines spot + bytes
+
+-- a spot is at the beginning of the line after the one with a number
+pub record IsNextLine (lines : List HeldLine) (number : ℕ) (after : Spot) : Type 0 where
+  pub line : HeldLine
+  pub there : slice_get lines after.line ≡ Some line
+  pub on : after.line ≡ suc number
+  pub starts : after.at ≡ line.start

@@ -25,6 +25,7 @@ pub mod DefinitionRules
 -- the lines of a paragraph as they are held back, and places in them
 pub mod HeldLines
 pub mod HeldPlaces
+pub mod HeldTitles
 -- what a reader of lines finds
 pub mod UnbrokenLines
 pub mod UnclosedMetadata

@@ -1,8 +1,9 @@
 //! Link reference definitions (CommonMark 4.7), read from the lines of a paragraph. The functions that return a
 //! `Result` fail only where memory is refused.
-ghost use Rattle.std.specs.Prelude.{◌≡◌, ◌==◌, MatchOption, IfSome, [], drop};
-ghost use Rattle.markdown_lines.specs.DefinitionRules.{ends_its_line, separation};
-ghost use Rattle.markdown_lines.specs.HeldPlaces.{IsPast, IsPlace, rest_at};
+ghost use Rattle.std.specs.Prelude.{◌≡◌, ◌==◌, ◌≤◌, ◌+◌, ℕ, MatchOption, IfSome, None, List, [], ◌∷◌, drop, length};
+ghost use Rattle.markdown_lines.specs.DefinitionRules.{closing_mark, ends_its_line, separation};
+ghost use Rattle.markdown_lines.specs.HeldPlaces.{IsNextLine, IsPast, IsPlace, rest_at};
+ghost use Rattle.markdown_lines.specs.HeldTitles.{IsTitle, TitleGoesOn, title_size};
 
 use crate::bytes::{byte_at, bytes_of, content_start, is_white, part_of};
 use crate::held_line::HeldLine;
@@ -215,8 +216,10 @@ fn past_colon(text: &str, lines: &[HeldLine], at: usize, length: usize) -> Optio
 }
 
 /// Returns the byte that closes a title, from the one that opens it.
-fn closing_mark(open: u8) -> Option<u8> {
-    match open {
+fn closing_mark(opening: u8) -> Option<u8>
+    ensures { (rest : List ℕ) → result ≡ closing_mark (opening ∷ rest) }
+{
+    match opening {
         b'"' => Some(b'"'),
         b'\'' => Some(b'\''),
         b'(' => Some(b')'),
@@ -236,10 +239,12 @@ enum TitleLine {
 }
 
 /// Returns whether the title that is closed by `close` ends in these bytes of a line, and where.
-fn title_line(content: &[u8], close: u8) -> TitleLine {
+fn title_line(content: &[u8], close: u8) -> TitleLine
+    ensures { (more : List ℕ) → TitleGoesOn close content.now more result }
+{
     let mut escaped = false;
-    for (at, found) in content.iter().enumerate() {
-        let byte = *found;
+    for at in 0..content.len() {
+        let byte = content[at];
         if escaped {
             escaped = false;
         } else if byte == close {
@@ -253,26 +258,39 @@ fn title_line(content: &[u8], close: u8) -> TitleLine {
     TitleLine::None
 }
 
+/// Returns the spot at the beginning of the line after a line, or `None` after the last line.
+fn next_line(lines: &[HeldLine], number: usize) -> Option<Spot>
+    ensures { MatchOption result (length lines.now ≤ number + 1)
+        (λ after. IsNextLine lines.now number after) }
+{
+    let next = number.saturating_add(1);
+    Some(Spot {
+        line: next,
+        at: lines.get(next)?.start,
+    })
+}
+
 /// Returns the spot after the title whose opening mark is at a spot.
-fn title_end(text: &str, lines: &[HeldLine], spot: Spot) -> Option<Spot> {
+fn title_end(text: &str, lines: &[HeldLine], spot: Spot) -> Option<Spot>
+    ensures { IsPlace text.now lines.now spot → MatchOption result
+        (title_size (rest_at text.now lines.now spot) ≡ None)
+        (λ end. IsTitle text.now lines.now spot end) }
+{
     let close = closing_mark(byte_at(text, spot.at)?)?;
-    let mut from = spot.at.saturating_add(1);
-    for (number, line) in lines.iter().enumerate() {
-        if number < spot.line {
-            continue;
-        }
-        if number > spot.line {
-            from = line.start;
-        }
-        match title_line(bytes_of(text, from, line.stop), close) {
+    let mut from = Spot {
+        line: spot.line,
+        at: spot.at.saturating_add(1),
+    };
+    'lines: while let Some(line) = lines.get(from.line) {
+        match title_line(bytes_of(text, from.at, line.stop), close) {
             TitleLine::Closes(before) => {
                 return Some(Spot {
-                    line: number,
-                    at: from.saturating_add(before).saturating_add(1),
+                    line: from.line,
+                    at: from.at.saturating_add(before).saturating_add(1),
                 });
             }
             TitleLine::Breaks => return None,
-            TitleLine::None => {}
+            TitleLine::None => from = next_line(lines, from.line)?,
         }
     }
     None
