@@ -15,3 +15,5 @@ pub mod SeparationLemmas
 pub mod HeldLinesLemmas
 pub mod HeldPlacesLemmas
 pub mod TitleLemmas
+pub mod TitleTailLemmas
+pub mod DestinationLineLemmas

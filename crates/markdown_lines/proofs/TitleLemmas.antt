@@ -360,14 +360,17 @@ title_closes text lines spot close from line before at utf8 there found on reads
       inside = reads.inside;
       opened = reads.opened;
       ends = record {
-        held = place.held;
-        line = place.line;
-        there = place.there;
-        low = omega (arith, place.low, on);
-        high = omega (arith, less, on);
-        boundary = subst (λ n. IsCharBoundary text n) further (past_ascii text (from.at + before) utf8 within low);
+        place = record {
+          held = place.held;
+          line = place.line;
+          there = place.there;
+          low = omega (arith, place.low, on);
+          high = omega (arith, less, on);
+          boundary = subst (λ n. IsCharBoundary text n) further
+              (past_ascii text (from.at + before) utf8 within low);
+        };
+        past = omega (arith, place.low, on);
       };
-      past = omega (arith, place.low, on);
       closed = subst (λ n. IsCharBoundary text n) back
           (IsCharBoundary-before_ascii text (from.at + before) within low);
       size = size_is.0;

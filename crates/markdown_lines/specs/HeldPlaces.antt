@@ -1,5 +1,8 @@
 -- Places in the lines of a paragraph, for private clauses: the number of a line, and a byte offset of the text.
-use Rattle.std.specs.Prelude.{◌≡◌, ℕ, zero, suc, ◌+◌, ◌-◌, ◌≤◌, ◌<◌, List, [], ◌∷◌, Some, drop, slice_get}
+use Rattle.std.specs.Prelude.{◌≡◌, ℕ, zero, suc, ◌+◌, ◌-◌, ◌≤◌, ◌<◌, ◌==◌, List, [], ◌∷◌, Option, Some, None}
+use Rattle.std.specs.Prelude.{drop, slice_get, option_and_then, if◌then◌else◌}
+use Rattle.markdown_scan.specs.Destination.{destination}
+use Rattle.std.specs.Borrow.{Bor}
 use Rattle.std.specs.Str.{IsCharBoundary}
 use Rattle.markdown_lines.specs.declared.definition.Spot.{Spot}
 use Rattle.markdown_lines.specs.declared.held_line.HeldLine.{HeldLine}
@@ -39,3 +42,17 @@ pub record IsNextLine (lines : List HeldLine) (number : ℕ) (after : Spot) : Ty
   pub there : slice_get lines after.line ≡ Some line
   pub on : after.line ≡ suc number
   pub starts : after.at ≡ line.start
+
+-- a spot in a line, after its first byte
+pub record IsEnd (text : List ℕ) (lines : List HeldLine) (spot : Spot) : Type 0 where
+  pub place : IsPlace text lines spot
+  pub past : place.line.start < spot.at
+
+-- the destination that bytes begin with, if it is not empty: its length, and its text
+abbrev pub some_destination : List ℕ → Option (ℕ × List ℕ)
+some_destination bytes =
+    option_and_then (λ found. if found.0 == 0 then None else Some found) (destination 32 bytes)
+
+-- the same, by the spot after it
+abbrev pub destination_found : List HeldLine → Spot → Bor (List ℕ) × Spot → ℕ × List ℕ
+destination_found lines start found = (count_to lines found.1 - count_to lines start, found.0.now)

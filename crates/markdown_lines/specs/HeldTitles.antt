@@ -1,13 +1,15 @@
 -- The title of a definition in the lines of a paragraph, for private clauses: titles are defined in `DefinitionRules`.
-use Rattle.std.specs.Prelude.{◌≡◌, ℕ, ◌+◌, ◌-◌, ◌<◌, false, true, List, ◌++◌, Option, Some, None, drop, length, slice_index}
+use Rattle.std.specs.Prelude.{◌≡◌, ℕ, ◌+◌, ◌-◌, ◌<◌, ◌≤◌, false, true, List, ◌++◌, Option, Some, None, IfSome, drop, take, length, slice_index}
 use Rattle.std.specs.Prelude.{option_and_then}
 use Rattle.std.specs.Option.{option_map}
 use Rattle.std.specs.Str.{IsCharBoundary}
 use Rattle.markdown_scan.specs.LineStart.{is_line_over}
 use Rattle.markdown_lines.specs.DefinitionRules.{closing_mark, title_length}
-use Rattle.markdown_lines.specs.HeldPlaces.{IsPlace, count_to, rest_at}
+use Rattle.markdown_lines.specs.DefinitionRules as rules
+use Rattle.markdown_lines.specs.HeldPlaces.{IsEnd, IsPlace, count_to, rest_at}
 use Rattle.markdown_lines.specs.Lines.{is_line_ending}
 use Rattle.markdown_lines.specs.declared.definition.Spot.{Spot}
+use Rattle.markdown_lines.specs.declared.definition.Tail.{Tail}
 use Rattle.markdown_lines.specs.declared.definition.TitleLine.{TitleLine}
 use Rattle.markdown_lines.specs.declared.definition.TitleLine.TheVariants as line
 use Rattle.markdown_lines.specs.declared.held_line.HeldLine.{HeldLine}
@@ -31,9 +33,26 @@ pub record IsTitle (text : List ℕ) (lines : List HeldLine) (opening end : Spot
   pub begins : IsPlace text lines opening
   pub inside : opening.at < begins.line.stop
   pub opened : IsCharBoundary text (opening.at + 1)
-  pub ends : IsPlace text lines end
-  pub past : ends.line.start < end.at
+  pub ends : IsEnd text lines end
   pub closed : IsCharBoundary text (end.at - 1)
   pub size : ℕ
   pub title : title_size (rest_at text lines opening) ≡ Some size
   pub count : count_to lines end ≡ count_to lines opening + size + 2
+
+-- the bytes of a title between its marks
+abbrev pub title_between : List ℕ → List HeldLine → Spot → Spot → List ℕ
+title_between text lines opening end =
+    take (count_to lines end - count_to lines opening - 2) (drop 1 (rest_at text lines opening))
+
+-- what follows a destination that ends before a spot, by the spots of its title and its end
+abbrev pub tail_found : List ℕ → List HeldLine → Spot → Tail → rules.Tail
+tail_found text lines after found = record {
+  length = count_to lines found.end - count_to lines after;
+  title = option_map (λ opening. title_between text lines opening found.end) found.title;
+}
+
+-- these spots are in the lines, one after the other
+pub record IsTail (text : List ℕ) (lines : List HeldLine) (after : Spot) (found : Tail) : Type 0 where
+  pub ends : IsEnd text lines found.end
+  pub order : count_to lines after ≤ count_to lines found.end
+  pub title : IfSome found.title (λ opening. IsTitle text lines opening found.end)

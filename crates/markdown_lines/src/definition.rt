@@ -1,9 +1,11 @@
 //! Link reference definitions (CommonMark 4.7), read from the lines of a paragraph. The functions that return a
 //! `Result` fail only where memory is refused.
 ghost use Rattle.std.specs.Prelude.{◌≡◌, ◌==◌, ◌≤◌, ◌+◌, ℕ, MatchOption, IfSome, None, List, [], ◌∷◌, drop, length};
-ghost use Rattle.markdown_lines.specs.DefinitionRules.{closing_mark, ends_its_line, separation};
-ghost use Rattle.markdown_lines.specs.HeldPlaces.{IsNextLine, IsPast, IsPlace, rest_at};
-ghost use Rattle.markdown_lines.specs.HeldTitles.{IsTitle, TitleGoesOn, title_size};
+ghost use Rattle.std.specs.Option.{option_map};
+ghost use Rattle.markdown_lines.specs.DefinitionRules.{closing_mark, ends_its_line, separation, tail_of, title_tail};
+ghost use Rattle.markdown_lines.specs.HeldPlaces.{IsEnd, IsNextLine, IsPast, IsPlace, count_to, rest_at};
+ghost use Rattle.markdown_lines.specs.HeldPlaces.{destination_found, some_destination};
+ghost use Rattle.markdown_lines.specs.HeldTitles.{IsTail, IsTitle, TitleGoesOn, tail_found, title_size};
 
 use crate::bytes::{byte_at, bytes_of, content_start, is_white, part_of};
 use crate::held_line::HeldLine;
@@ -297,7 +299,11 @@ fn title_end(text: &str, lines: &[HeldLine], spot: Spot) -> Option<Spot>
 }
 
 /// Returns what follows a destination that ends before a spot, where it is a title and the line then ends.
-fn title_tail(text: &str, lines: &[HeldLine], after: Spot) -> Option<Tail> {
+fn title_tail(text: &str, lines: &[HeldLine], after: Spot) -> Option<Tail>
+    ensures value { IsPlace text.now lines.now after
+        → option_map (tail_found text.now lines.now after) result ≡ title_tail (rest_at text.now lines.now after) }
+    ensures ends { IsPlace text.now lines.now after → IfSome result (IsTail text.now lines.now after) }
+{
     let title = past_space(text, lines, after)?;
     if title.at == after.at {
         return None;
@@ -313,7 +319,11 @@ fn title_tail(text: &str, lines: &[HeldLine], after: Spot) -> Option<Tail> {
 }
 
 /// Returns what follows a destination that ends before a spot: a title, or nothing in its line.
-fn tail_after(text: &str, lines: &[HeldLine], after: Spot) -> Option<Tail> {
+fn tail_after(text: &str, lines: &[HeldLine], after: Spot) -> Option<Tail>
+    ensures value { IsPlace text.now lines.now after
+        → option_map (tail_found text.now lines.now after) result ≡ tail_of (rest_at text.now lines.now after) }
+    ensures ends { IsEnd text.now lines.now after → IfSome result (IsTail text.now lines.now after) }
+{
     match title_tail(text, lines, after) {
         Some(found) => Some(found),
         None if is_at_end(text, lines, after) => Some(Tail {
@@ -378,7 +388,12 @@ fn title_text<'a>(
 }
 
 /// Returns the destination at a spot, and the spot after it.
-fn destination_at<'a>(text: &'a str, start: Spot) -> Option<(&'a str, Spot)> {
+fn destination_at<'a>(text: &'a str, start: Spot) -> Option<(&'a str, Spot)>
+    ensures value { (lines : List HeldLine) → IsPlace text.now lines start
+        → option_map (destination_found lines start) result ≡ some_destination (rest_at text.now lines start) }
+    ensures ends { (lines : List HeldLine) → IsPlace text.now lines start → IfSome result
+        (λ found. IsEnd text.now lines found.1 × (count_to lines start ≤ count_to lines found.1)) }
+{
     if !text.is_char_boundary(start.at) {
         return None;
     }
