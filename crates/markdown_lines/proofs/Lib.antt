@@ -17,3 +17,4 @@ pub mod HeldPlacesLemmas
 pub mod TitleLemmas
 pub mod TitleTailLemmas
 pub mod DestinationLineLemmas
+pub mod HeldBetweenLemmas

@@ -46,7 +46,7 @@ map_twice more less None = refl
 map_twice more less (Some n) = ap Some (omega arith)
 
 -- a title goes on over a line ending
-ending_bytes : (rest : List ℕ) → is_line_over rest ≡ true
+pub ending_bytes : (rest : List ℕ) → is_line_over rest ≡ true
     → list_all is_line_ending (take (ending_length rest) rest) ≡ true
 ending_bytes [] over = refl
 ending_bytes (b ∷ rest) over = decided (b == 10) (b == 13) refl refl
@@ -68,7 +68,7 @@ ending_bytes (b ∷ rest) over = decided (b == 10) (b == 13) refl refl
     decided false false p q =
         let other : is_line_over (b ∷ rest) ≡ false = rw (p, q) refl in absurd (true≢false (sym over ∙ other))
 
-both_true : (p q : Bool) → (p && q) ≡ true → (p ≡ true) × (q ≡ true)
+pub both_true : (p q : Bool) → (p && q) ≡ true → (p ≡ true) × (q ≡ true)
 both_true true q is = (refl, is)
 both_true false q is = absurd (true≢false (sym is))
 
@@ -112,6 +112,7 @@ pub record Reads (text : List ℕ) (lines : List HeldLine) (spot : Spot) (close 
       ≡ title_length close false (rest_at text lines (record { line = spot.line; at = spot.at + 1 }))
   pub one : count_to lines (record { line = spot.line; at = spot.at + 1 }) ≡ count_to lines spot + 1
   pub place : IsPlace text lines from
+  pub order : spot.line ≤ from.line
   pub ends : title_ends text lines close from
       ≡ title_ends text lines close (record { line = spot.line; at = spot.at + 1 })
 
@@ -274,6 +275,7 @@ reads_first text lines spot b close at utf8 is mark on place =
         high = omega (arith, inside);
         boundary = opened;
       };
+      order = omega arith;
       ends = refl;
     })
   where
@@ -371,6 +373,7 @@ title_closes text lines spot close from line before at utf8 there found on reads
         };
         past = omega (arith, place.low, on);
       };
+      order = reads.order;
       closed = subst (λ n. IsCharBoundary text n) back
           (IsCharBoundary-before_ascii text (from.at + before) within low);
       size = size_is.0;
@@ -481,5 +484,6 @@ reads_next text lines spot close from line after there goes next reads =
         high = omega (arith, next.starts, known.is.some);
         boundary = subst (λ n. IsCharBoundary text n) (sym next.starts) known.is.boundary;
       };
+      order = omega (arith, reads.order, next.on);
       ends = ends ∙ reads.ends;
     }

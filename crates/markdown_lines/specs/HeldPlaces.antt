@@ -1,6 +1,6 @@
 -- Places in the lines of a paragraph, for private clauses: the number of a line, and a byte offset of the text.
 use Rattle.std.specs.Prelude.{◌≡◌, ℕ, zero, suc, ◌+◌, ◌-◌, ◌≤◌, ◌<◌, ◌==◌, List, [], ◌∷◌, Option, Some, None}
-use Rattle.std.specs.Prelude.{drop, slice_get, option_and_then, if◌then◌else◌}
+use Rattle.std.specs.Prelude.{◌++◌, length, take, drop, slice_get, option_and_then, if◌then◌else◌}
 use Rattle.markdown_scan.specs.Destination.{destination}
 use Rattle.std.specs.Borrow.{Bor}
 use Rattle.std.specs.Str.{IsCharBoundary}
@@ -56,3 +56,22 @@ some_destination bytes =
 -- the same, by the spot after it
 abbrev pub destination_found : List HeldLine → Spot → Bor (List ℕ) × Spot → ℕ × List ℕ
 destination_found lines start found = (count_to lines found.1 - count_to lines start, found.0.now)
+
+-- bytes are the rest of a line from a spot on, and another spot is at the beginning of the next line
+pub record IsLineRest (text : List ℕ) (lines : List HeldLine) (from : Spot) (bytes : List ℕ) (next : Spot)
+    : Type 0 where
+  pub place : IsPlace text lines next
+  pub starts : next.at ≡ place.line.start
+  pub count : count_to lines next ≡ count_to lines from + length bytes
+  pub rest : rest_at text lines from ≡ bytes ++ rest_at text lines next
+
+-- two places, the second no nearer than the first
+pub record IsBetween (text : List ℕ) (lines : List HeldLine) (from to : Spot) : Type 0 where
+  pub begins : IsPlace text lines from
+  pub ends : IsPlace text lines to
+  pub order : from.line ≤ to.line
+  pub here : from.line ≡ to.line → from.at ≤ to.at
+
+-- the lines' text from one place up to another
+abbrev pub held_between : List ℕ → List HeldLine → Spot → Spot → List ℕ
+held_between text lines from to = take (count_to lines to - count_to lines from) (rest_at text lines from)

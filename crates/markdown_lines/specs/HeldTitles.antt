@@ -34,6 +34,7 @@ pub record IsTitle (text : List ℕ) (lines : List HeldLine) (opening end : Spot
   pub inside : opening.at < begins.line.stop
   pub opened : IsCharBoundary text (opening.at + 1)
   pub ends : IsEnd text lines end
+  pub order : opening.line ≤ end.line
   pub closed : IsCharBoundary text (end.at - 1)
   pub size : ℕ
   pub title : title_size (rest_at text lines opening) ≡ Some size

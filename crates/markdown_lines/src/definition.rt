@@ -1,11 +1,15 @@
 //! Link reference definitions (CommonMark 4.7), read from the lines of a paragraph. The functions that return a
 //! `Result` fail only where memory is refused.
 ghost use Rattle.std.specs.Prelude.{◌≡◌, ◌==◌, ◌≤◌, ◌+◌, ℕ, MatchOption, IfSome, None, List, [], ◌∷◌, drop, length};
+ghost use Rattle.std.specs.Prelude.{IfOk, false, string_bytes};
 ghost use Rattle.std.specs.Option.{option_map};
+ghost use Rattle.markdown_base.specs.CowText.{text_of};
+ghost use Rattle.markdown_scan.specs.Unescape.{unescaped};
 ghost use Rattle.markdown_lines.specs.DefinitionRules.{closing_mark, ends_its_line, separation, tail_of, title_tail};
 ghost use Rattle.markdown_lines.specs.HeldPlaces.{IsEnd, IsNextLine, IsPast, IsPlace, count_to, rest_at};
-ghost use Rattle.markdown_lines.specs.HeldPlaces.{destination_found, some_destination};
-ghost use Rattle.markdown_lines.specs.HeldTitles.{IsTail, IsTitle, TitleGoesOn, tail_found, title_size};
+ghost use Rattle.markdown_lines.specs.HeldPlaces.{IsBetween, IsLineRest, destination_found, held_between, some_destination};
+ghost use Rattle.markdown_lines.specs.HeldTitles.{IsTail, IsTitle, TitleGoesOn, tail_found, title_between};
+ghost use Rattle.markdown_lines.specs.HeldTitles.{title_size};
 
 use crate::bytes::{byte_at, bytes_of, content_start, is_white, part_of};
 use crate::held_line::HeldLine;
@@ -334,41 +338,39 @@ fn tail_after(text: &str, lines: &[HeldLine], after: Spot) -> Option<Tail>
     }
 }
 
-/// Returns the part of a title between its marks that is in the line with this number.
-fn title_part<'a>(text: &'a str, number: usize, line: HeldLine, title: TitlePlace) -> &'a str {
-    let from = if number == title.opening.line {
-        title.opening.at.saturating_add(1)
-    } else {
-        line.start
-    };
-    let to = if number == title.end.line {
-        title.end.at.saturating_sub(1)
-    } else {
-        line.next
-    };
-    if number < title.opening.line || number > title.end.line {
-        ""
-    } else {
-        part_of(text, from, to)
-    }
+/// Returns the rest of a line from a spot on, and the spot at the beginning of the next line, or `None` in the last one.
+fn rest_of_line<'a>(text: &'a str, lines: &[HeldLine], from: Spot) -> Option<(&'a str, Spot)>
+    ensures value { IsPlace text.now lines.now from → MatchOption result (length lines.now ≤ from.line + 1)
+        (λ found. IsLineRest text.now lines.now from found.0.now found.1) }
+    ensures on { IfSome result (λ found. found.1.line ≡ from.line + 1) }
+{
+    let next = next_line(lines, from.line)?;
+    let line = lines.get(from.line)?;
+    Some((part_of(text, from.at, line.next), next))
 }
 
-/// Returns the text between the marks of a title that continues in other lines, without their prefixes, unescaped.
-fn joined_title(
+/// Returns the lines' text from one spot up to another, without the prefixes of lines.
+fn text_between(
     alloc: Global,
     text: &str,
     lines: &[HeldLine],
-    title: TitlePlace,
-    names: EntityNames,
-) -> Result<CowStr<'static>, AllocError> {
+    from: Spot,
+    to: Spot,
+) -> Result<String, AllocError>
+    ensures { IfOk result (λ joined. IsBetween text.now lines.now from to
+        → string_bytes joined ≡ held_between text.now lines.now from to) }
+{
     let mut joined = String::new(alloc);
-    for (number, line) in lines.iter().enumerate() {
-        joined.push_str(title_part(text, number, *line, title))?;
-        if number >= title.end.line {
-            break;
-        }
+    let mut at = from;
+    'lines: while at.line < to.line {
+        let Some((part, next)) = rest_of_line(text, lines, at) else {
+            return Ok(joined);
+        };
+        joined.push_str(part)?;
+        at = next;
     }
-    unescape(alloc, joined.as_str(), false, names)?.into_static(alloc)
+    joined.push_str(part_of(text, at.at, to.at))?;
+    Ok(joined)
 }
 
 /// Returns the text between the marks of a title, unescaped.
@@ -378,13 +380,23 @@ fn title_text<'a>(
     lines: &[HeldLine],
     title: TitlePlace,
     names: EntityNames,
-) -> Result<CowStr<'a>, AllocError> {
-    if title.opening.line == title.end.line {
-        let start = title.opening.at.saturating_add(1);
-        let inner = part_of(text, start, title.end.at.saturating_sub(1));
-        return unescape(alloc, inner, false, names);
+) -> Result<CowStr<'a>, AllocError>
+    ensures { IfOk result (λ made. IsTitle text.now lines.now title.opening title.end
+        → text_of made ≡ unescaped names false (title_between text.now lines.now title.opening title.end)) }
+{
+    let from = Spot {
+        line: title.opening.line,
+        at: title.opening.at.saturating_add(1),
+    };
+    let to = Spot {
+        line: title.end.line,
+        at: title.end.at.saturating_sub(1),
+    };
+    if from.line == to.line {
+        return unescape(alloc, part_of(text, from.at, to.at), false, names);
     }
-    joined_title(alloc, text, lines, title, names)
+    let joined = text_between(alloc, text, lines, from, to)?;
+    unescape(alloc, joined.as_str(), false, names)?.into_static(alloc)
 }
 
 /// Returns the destination at a spot, and the spot after it.
