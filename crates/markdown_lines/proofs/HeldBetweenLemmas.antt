@@ -266,3 +266,10 @@ inside_title text lines opening end from to first last title =
             ∙ (ap (count_before lines opening.line) size
             ∙ count_more lines opening.line opening.at (end.at - opening.at) begins.line begins.there begins.low) in
         omega (arith, more, title.count, first, last)
+
+-- the place after an opening mark is in the text
+pub next_fits : (text : List ℕ) (lines : List HeldLine) (opening end : Spot) → IsTitle text lines opening end
+    → opening.at + 1 ≤ length text
+next_fits text lines opening end title =
+    let known = place_line text lines opening title.begins in
+    omega (arith, title.inside, known.is.content.high)
