@@ -52,22 +52,30 @@ all_at test (b ∷ bytes) zero passes less = (both_true (test b) (list_all test 
 all_at test (b ∷ bytes) (suc at) passes less =
     all_at test bytes at (both_true (test b) (list_all test bytes) passes).1 (omega (arith, less))
 
-next_boundary : (text : List ℕ) (line : HeldLine) → IsUtf8 text → IsHeldLine text line → line.stop < line.next
-    → IsCharBoundary text line.next
-next_boundary text line utf8 is some =
+pub ending_byte : (text : List ℕ) (line : HeldLine) → IsHeldLine text line → (at : ℕ) → line.stop ≤ at
+    → at < line.next → is_line_ending (get_or text at 0) ≡ true
+ending_byte text line is at low high =
     let bounds = bounds_of text line is in
     let taken : line.next - line.stop ≡ ending_length (drop line.stop text) = omega (arith, is.ends) in
     let passes : list_all is_line_ending (slice_range text line.stop line.next) ≡ true =
         ap (λ n. list_all is_line_ending (take n (drop line.stop text))) taken
         ∙ ending_bytes (drop line.stop text) (line_left text line.stop is.content.high is.content.stops) in
     let size = part_length text line.stop line.next bounds.within in
-    let last = line.next - line.stop - 1 in
-    let here = all_at is_line_ending (slice_range text line.stop line.next) last passes (omega (arith, size, some)) in
-    let byte = byte_of_part text line.stop line.next last (omega (arith, some)) in
-    let ascii = ending_ascii (get_or text (line.stop + last) 0) (ap is_line_ending (sym byte) ∙ here) in
-    let place : line.stop + last + 1 ≡ line.next = omega (arith, some) in
+    let here = all_at is_line_ending (slice_range text line.stop line.next) (at - line.stop) passes
+        (omega (arith, size, low, high)) in
+    let byte = byte_of_part text line.stop line.next (at - line.stop) (omega (arith, low, high)) in
+    let place : line.stop + (at - line.stop) ≡ at = omega (arith, low) in
+    ap (λ n. is_line_ending (get_or text n 0)) (sym place) ∙ (ap is_line_ending (sym byte) ∙ here)
+
+next_boundary : (text : List ℕ) (line : HeldLine) → IsUtf8 text → IsHeldLine text line → line.stop < line.next
+    → IsCharBoundary text line.next
+next_boundary text line utf8 is some =
+    let bounds = bounds_of text line is in
+    let last = line.next - 1 in
+    let here = ending_byte text line is last (omega (arith, some)) (omega (arith, some)) in
+    let place : last + 1 ≡ line.next = omega (arith, some) in
     subst (λ n. IsCharBoundary text n) place
-    (past_ascii text (line.stop + last) utf8 (omega (arith, some, bounds.within)) ascii)
+    (past_ascii text last utf8 (omega (arith, some, bounds.within)) (ending_ascii (get_or text last 0) here))
 
 pub line_rest : (text : List ℕ) (lines : List HeldLine) (from : Spot) (line : HeldLine) (next : Spot) (part : List ℕ)
     → IsUtf8 text → slice_get lines from.line ≡ Some line → IsNextLine lines from.line next

@@ -18,3 +18,4 @@ pub mod TitleLemmas
 pub mod TitleTailLemmas
 pub mod DestinationLineLemmas
 pub mod HeldBetweenLemmas
+pub mod AfterLabelLemmas

@@ -163,7 +163,7 @@ marks_are opening close rest is = decided (opening == 34) (opening == 39) (openi
         let e : closing_mark (opening ∷ rest) ≡ None = rw (p, q, r) refl in
         let bad : None ≡ Some close = sym e ∙ is in cc
 
-byte_there : (bytes : List ℕ) (at : ℕ) → at < length bytes → slice_get bytes at ≡ Some (get_or bytes at 0)
+pub byte_there : (bytes : List ℕ) (at : ℕ) → at < length bytes → slice_get bytes at ≡ Some (get_or bytes at 0)
 byte_there [] at less = absurd (omega (arith, less))
 byte_there (b ∷ bytes) zero less = refl
 byte_there (b ∷ bytes) (suc at) less = byte_there bytes at (omega (arith, less))

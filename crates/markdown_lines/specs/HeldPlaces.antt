@@ -1,6 +1,7 @@
 -- Places in the lines of a paragraph, for private clauses: the number of a line, and a byte offset of the text.
 use Rattle.std.specs.Prelude.{◌≡◌, ℕ, zero, suc, ◌+◌, ◌-◌, ◌≤◌, ◌<◌, ◌==◌, List, [], ◌∷◌, Option, Some, None}
-use Rattle.std.specs.Prelude.{◌++◌, length, take, drop, slice_get, option_and_then, if◌then◌else◌}
+use Rattle.std.specs.Prelude.{true, codes, ◌++◌, length, take, drop, slice_get, option_and_then, if◌then◌else◌}
+use Rattle.markdown_scan.specs.Beginnings.{begins_with}
 use Rattle.markdown_scan.specs.Destination.{destination}
 use Rattle.std.specs.Borrow.{Bor}
 use Rattle.std.specs.Str.{IsCharBoundary}
@@ -75,3 +76,17 @@ pub record IsBetween (text : List ℕ) (lines : List HeldLine) (from to : Spot) 
 -- the lines' text from one place up to another
 abbrev pub held_between : List ℕ → List HeldLine → Spot → Spot → List ℕ
 held_between text lines from to = take (count_to lines to - count_to lines from) (rest_at text lines from)
+
+-- a spot is before a byte of the lines' text, so many bytes after its beginning
+pub record IsSpotAfter (lines : List HeldLine) (bytes : ℕ) (spot : Spot) : Type 0 where
+  pub line : HeldLine
+  pub there : slice_get lines spot.line ≡ Some line
+  pub low : line.start ≤ spot.at
+  pub high : spot.at < line.next
+  pub count : count_to lines spot ≡ bytes
+
+-- a colon follows so many bytes of the lines' text, and a spot follows the colon
+pub record IsPastColon (text : List ℕ) (lines : List HeldLine) (bytes : ℕ) (after : Spot) : Type 0 where
+  pub colon : begins_with (codes ":") (drop bytes (held_text text lines)) ≡ true
+  pub place : IsPlace text lines after
+  pub count : count_to lines after ≡ bytes + 1

@@ -2,7 +2,10 @@
 use Rattle.std.specs.Prelude.{◌≡◌, ℕ, ◌+◌, ◌-◌, ◌<◌, ◌≤◌, false, true, List, ◌++◌, Option, Some, None, IfSome, drop, take, length, slice_index}
 use Rattle.std.specs.Prelude.{option_and_then}
 use Rattle.std.specs.Option.{option_map}
+use Rattle.std.specs.Borrow.{Bor}
 use Rattle.std.specs.Str.{IsCharBoundary}
+use Rattle.markdown_scan.specs.Unescape.{unescaped}
+use Rattle.markdown_scan.specs.declared.entity.EntityNames.{EntityNames}
 use Rattle.markdown_scan.specs.LineStart.{is_line_over}
 use Rattle.markdown_lines.specs.DefinitionRules.{closing_mark, title_length}
 use Rattle.markdown_lines.specs.DefinitionRules as rules
@@ -56,4 +59,19 @@ tail_found text lines after found = record {
 pub record IsTail (text : List ℕ) (lines : List HeldLine) (after : Spot) (found : Tail) : Type 0 where
   pub ends : IsEnd text lines found.end
   pub order : count_to lines after ≤ count_to lines found.end
+  pub title : IfSome found.title (λ opening. IsTitle text lines opening found.end)
+
+-- a definition, by its label, its destination as it is written, and the spots of its title and its end
+abbrev pub defined_by : List ℕ → List HeldLine → EntityNames → List ℕ → Bor (List ℕ) × Tail → rules.Defined
+defined_by text lines names label found = record {
+  label = label;
+  destination = unescaped names false found.0.now;
+  title =
+      option_map (λ opening. unescaped names false (title_between text lines opening found.1.end)) found.1.title;
+  length = count_to lines found.1.end;
+}
+
+-- these spots are in the lines
+pub record IsDefinedTail (text : List ℕ) (lines : List HeldLine) (found : Tail) : Type 0 where
+  pub ends : IsEnd text lines found.end
   pub title : IfSome found.title (λ opening. IsTitle text lines opening found.end)

@@ -1,7 +1,13 @@
 //! Link reference definitions (CommonMark 4.7), read from the lines of a paragraph. The functions that return a
 //! `Result` fail only where memory is refused.
 ghost use Rattle.std.specs.Prelude.{◌≡◌, ◌==◌, ◌≤◌, ◌+◌, ℕ, MatchOption, IfSome, None, List, [], ◌∷◌, drop, length};
-ghost use Rattle.std.specs.Prelude.{IfOk, false, string_bytes};
+ghost use Rattle.std.specs.Prelude.{IfOk, false, string_bytes, codes, ◌<◌, ◌^◌};
+ghost use Rattle.markdown_scan.specs.Beginnings.{begins_with};
+ghost use Rattle.markdown_scan.specs.declared.entity.EntityNames.{EntityNames};
+ghost use Rattle.markdown_lines.specs.DefinitionRules.{with_label};
+ghost use Rattle.markdown_lines.specs.HeldLines.{AreHeldLines, held_text};
+ghost use Rattle.markdown_lines.specs.HeldPlaces.{IsPastColon, IsSpotAfter};
+ghost use Rattle.markdown_lines.specs.HeldTitles.{IsDefinedTail, defined_by};
 ghost use Rattle.std.specs.Option.{option_map};
 ghost use Rattle.markdown_base.specs.CowText.{text_of};
 ghost use Rattle.markdown_scan.specs.Unescape.{unescaped};
@@ -192,26 +198,34 @@ fn any_label<'a>(
     long_label(alloc, text, lines, at)
 }
 
-/// Returns the spot `length` bytes after the `[` of a label at `at`, not counting the prefixes of lines.
-fn spot_after(lines: &[HeldLine], at: usize, length: usize) -> Option<Spot> {
-    let mut left = length;
-    for (number, line) in lines.iter().enumerate() {
-        let start = part_start(number, *line, at);
-        let size = line.next.saturating_sub(start);
+/// Returns the spot after so many bytes of the lines' text, before another byte of it.
+fn spot_after(lines: &[HeldLine], count: usize) -> Option<Spot>
+    ensures { (text : List ℕ) → length text < 2 ^ 64 → AreHeldLines text lines.now → MatchOption result
+        (drop count (held_text text lines.now) ≡ []) (IsSpotAfter lines.now count) }
+{
+    let mut number = 0;
+    let mut left = count;
+    'lines: while let Some(line) = lines.get(number) {
+        let size = line.next.saturating_sub(line.start);
         if left < size {
             return Some(Spot {
                 line: number,
-                at: start.saturating_add(left),
+                at: line.start.saturating_add(left),
             });
         }
         left -= size;
+        number += 1;
     }
     None
 }
 
-/// Returns the spot after the colon that follows a label, if one does.
-fn past_colon(text: &str, lines: &[HeldLine], at: usize, length: usize) -> Option<Spot> {
-    let colon = spot_after(lines, at, length)?;
+/// Returns the spot after the colon that follows so many bytes of the lines' text, if one does.
+fn past_colon(text: &str, lines: &[HeldLine], count: usize) -> Option<Spot>
+    ensures { AreHeldLines text.now lines.now → MatchOption result
+        (begins_with (codes ":") (drop count (held_text text.now lines.now)) ≡ false)
+        (IsPastColon text.now lines.now count) }
+{
+    let colon = spot_after(lines, count)?;
     if byte_at(text, colon.at) != Some(b':') {
         return None;
     }
@@ -420,14 +434,15 @@ fn destination_at<'a>(text: &'a str, start: Spot) -> Option<(&'a str, Spot)>
     Some((destination, after))
 }
 
-/// Returns what follows a label at `at` of this length, and its colon: the destination, and what follows that.
-fn after_label<'a>(
-    text: &'a str,
-    lines: &[HeldLine],
-    at: usize,
-    length: usize,
-) -> Option<(&'a str, Tail)> {
-    let after = past_colon(text, lines, at, length)?;
+/// Returns what follows a label of this length, and its colon: the destination, and what follows that.
+fn after_label<'a>(text: &'a str, lines: &[HeldLine], length: usize) -> Option<(&'a str, Tail)>
+    ensures value { (names : EntityNames) (label : List ℕ) → length + 1 < 2 ^ 64 → AreHeldLines text.now lines.now
+        → option_map (defined_by text.now lines.now names label) result
+        ≡ with_label names (held_text text.now lines.now) (length, label) }
+    ensures ends { length + 1 < 2 ^ 64 → AreHeldLines text.now lines.now → IfSome result
+        (λ found. IsDefinedTail text.now lines.now found.1) }
+{
+    let after = past_colon(text, lines, length.saturating_add(1))?;
     let start = past_space(text, lines, after)?;
     let (destination, after) = destination_at(text, start)?;
     let tail = tail_after(text, lines, after)?;
@@ -447,7 +462,7 @@ pub fn read_definition<'a>(
     let Some(label) = any_label(alloc, text, lines, at)? else {
         return Ok(None);
     };
-    let Some((destination, tail)) = after_label(text, lines, at, label.length) else {
+    let Some((destination, tail)) = after_label(text, lines, label.length) else {
         drop(label);
         return Ok(None);
     };
