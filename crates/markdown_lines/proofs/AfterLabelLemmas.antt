@@ -7,7 +7,7 @@ use Rattle.std.proofs.lemmas.Bool.Decides.{nat_tests}
 use Rattle.std.proofs.lemmas.List.{drop-drop, drop_all, drop_at, drop_more}
 use Rattle.std.proofs.lemmas.Option.{slice_get_within}
 use Rattle.std.specs.List.{slice_get}
-use Rattle.std.proofs.Common.{eqb, not}
+use Rattle.std.proofs.Common.{Bor, eqb, not}
 use Rattle.std.specs.Option.{option_eq, option_map}
 use Rattle.std.specs.Prelude.{option_and_then, if◌then◌else◌}
 use Rattle.std.specs.Str.{IsCharBoundary, IsUtf8}
@@ -317,3 +317,31 @@ titled_twice : (text : List ℕ) (lines : List HeldLine) (names : EntityNames) (
     ≡ option_map (λ opening. unescaped names false (title_between text lines opening end)) found
 titled_twice text lines names end None = refl
 titled_twice text lines names end (Some opening) = refl
+
+pub tail_there : (text : List ℕ) (lines : List HeldLine) (names : EntityNames) (label : List ℕ) (target : Bor (List ℕ))
+    (end : Spot) (tail : Tail) → Some (tail_found text lines end tail) ≡ tail_of (rest_at text lines end)
+    → count_to lines end ≤ count_to lines tail.end
+    → Some (defined_by text lines names label (target, tail))
+    ≡ with_tail names label (count_to lines end) target.now (rest_at text lines end)
+tail_there text lines names label target end tail found order =
+    let total : count_to lines tail.end ≡ count_to lines end + (count_to lines tail.end - count_to lines end) =
+        omega (arith, order) in
+    let title = titled_twice text lines names tail.end tail.title in
+    ap (λ (n : ℕ). Some (record {
+      label = label;
+      destination = unescaped names false target.now;
+      title = option_map (λ opening. unescaped names false (title_between text lines opening tail.end)) tail.title;
+      length = n;
+    })) total
+    ∙ (ap (λ (t : Option (List ℕ)). Some (record {
+      label = label;
+      destination = unescaped names false target.now;
+      title = t;
+      length = count_to lines end + (count_to lines tail.end - count_to lines end);
+    })) (sym title)
+    ∙ ap (option_map (λ (t : rules.Tail). record {
+      label = label;
+      destination = unescaped names false target.now;
+      title = option_map (unescaped names false) t.title;
+      length = count_to lines end + t.length;
+    })) found)
