@@ -67,7 +67,7 @@ ending_byte text line is at low high =
     let place : line.stop + (at - line.stop) ≡ at = omega (arith, low) in
     ap (λ n. is_line_ending (get_or text n 0)) (sym place) ∙ (ap is_line_ending (sym byte) ∙ here)
 
-next_boundary : (text : List ℕ) (line : HeldLine) → IsUtf8 text → IsHeldLine text line → line.stop < line.next
+pub next_boundary : (text : List ℕ) (line : HeldLine) → IsUtf8 text → IsHeldLine text line → line.stop < line.next
     → IsCharBoundary text line.next
 next_boundary text line utf8 is some =
     let bounds = bounds_of text line is in

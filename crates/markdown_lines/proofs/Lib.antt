@@ -19,3 +19,5 @@ pub mod TitleTailLemmas
 pub mod DestinationLineLemmas
 pub mod HeldBetweenLemmas
 pub mod AfterLabelLemmas
+pub mod HeldLabelsLemmas
+pub mod JoinedLabelLemmas

@@ -168,7 +168,7 @@ byte_there [] at less = absurd (omega (arith, less))
 byte_there (b ∷ bytes) zero less = refl
 byte_there (b ∷ bytes) (suc at) less = byte_there bytes at (omega (arith, less))
 
-text_over : (text : List ℕ) (line : HeldLine) → IsHeldLine text line → line.next ≡ line.stop
+pub text_over : (text : List ℕ) (line : HeldLine) → IsHeldLine text line → line.next ≡ line.stop
     → length text ≤ line.stop
 text_over text line is none =
     ⊎_elim

@@ -26,6 +26,7 @@ pub mod DefinitionRules
 pub mod HeldLines
 pub mod HeldPlaces
 pub mod HeldTitles
+pub mod HeldLabels
 -- what a reader of lines finds
 pub mod UnbrokenLines
 pub mod UnclosedMetadata

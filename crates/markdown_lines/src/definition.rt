@@ -1,11 +1,14 @@
 //! Link reference definitions (CommonMark 4.7), read from the lines of a paragraph. The functions that return a
 //! `Result` fail only where memory is refused.
 ghost use Rattle.std.specs.Prelude.{◌≡◌, ◌==◌, ◌≤◌, ◌+◌, ℕ, MatchOption, IfSome, None, List, [], ◌∷◌, drop, length};
-ghost use Rattle.std.specs.Prelude.{IfOk, false, string_bytes, codes, ◌<◌, ◌^◌};
+ghost use Rattle.std.specs.Prelude.{IfOk, true, false, string_bytes, codes, ◌<◌, ◌^◌};
+ghost use Rattle.markdown_scan.specs.Backslash.{is_bare};
 ghost use Rattle.markdown_scan.specs.Beginnings.{begins_with};
 ghost use Rattle.markdown_scan.specs.declared.entity.EntityNames.{EntityNames};
 ghost use Rattle.markdown_lines.specs.DefinitionRules.{with_label};
 ghost use Rattle.markdown_lines.specs.HeldLines.{AreHeldLines, held_text};
+ghost use Rattle.markdown_lines.specs.HeldLabels.{IsBracketPlace, IsDecided, LabelGoesOn, escaped_after, label_of};
+ghost use Rattle.markdown_lines.specs.HeldLabels.{label_read};
 ghost use Rattle.markdown_lines.specs.HeldPlaces.{IsPastColon, IsSpotAfter};
 ghost use Rattle.markdown_lines.specs.HeldTitles.{IsDefinedTail, defined_by};
 ghost use Rattle.std.specs.Option.{option_map};
@@ -98,24 +101,26 @@ struct Label<'a> {
     length: usize,
 }
 
-/// Returns the byte offset at which the bytes of a line begin that may belong to a label: in the first line, after the
-/// label's `[` at `at`.
-fn part_start(number: usize, line: HeldLine, at: usize) -> usize {
-    if number == 0 {
-        at.saturating_add(1)
-    } else {
-        line.start
-    }
+/// Returns whether a byte is this punctuation character, and not escaped.
+#[inline(always)]
+fn is_bare(escaped: bool, byte: u8, what: u8) -> bool
+    ensures { result ≡ is_bare escaped byte what }
+{
+    !escaped && byte == what
 }
 
 /// Returns whether a line has a `]` that is not escaped.
-fn closes_label(content: &[u8]) -> bool {
+fn closes_label(content: &[u8]) -> bool
+    ensures closed { result ≡ true → IsDecided content.now }
+    ensures open { result ≡ false → LabelGoesOn content.now (escaped_after false content.now) }
+{
     let mut escaped = false;
-    for byte in content {
-        if !escaped && *byte == b']' {
+    for at in 0..content.len() {
+        let byte = content[at];
+        if is_bare(escaped, byte, b']') {
             return true;
         }
-        escaped = !escaped && *byte == b'\\';
+        escaped = is_bare(escaped, byte, b'\\');
     }
     false
 }
@@ -127,14 +132,25 @@ fn joined_lines(
     text: &str,
     lines: &[HeldLine],
     at: usize,
-) -> Result<String, AllocError> {
+) -> Result<String, AllocError>
+    ensures { IfOk result (λ joined. IsBracketPlace text.now lines.now at
+        → label_of (string_bytes joined) ≡ label_of (drop 1 (held_text text.now lines.now))) }
+{
     let mut joined = String::new(alloc);
-    for (number, line) in lines.iter().enumerate() {
-        let part = part_of(text, part_start(number, *line, at), line.next);
+    let mut from = Spot {
+        line: 0,
+        at: at.saturating_add(1),
+    };
+    'lines: while let Some(line) = lines.get(from.line) {
+        let part = part_of(text, from.at, line.next);
         joined.push_str(part)?;
         if closes_label(part.as_bytes()) || joined.as_str().as_bytes().len() > 4000 {
-            break;
+            return Ok(joined);
         }
+        let Some(next) = next_line(lines, from.line) else {
+            return Ok(joined);
+        };
+        from = next;
     }
     Ok(joined)
 }
@@ -145,7 +161,10 @@ fn long_label(
     text: &str,
     lines: &[HeldLine],
     at: usize,
-) -> Result<Option<Label<'static>>, AllocError> {
+) -> Result<Option<Label<'static>>, AllocError>
+    ensures { IfOk result (λ found. IsBracketPlace text.now lines.now at
+        → option_map label_read found ≡ label_of (drop 1 (held_text text.now lines.now))) }
+{
     let joined = joined_lines(alloc, text, lines, at)?;
     match scan_link_label(alloc, joined.as_str(), &NoPrefix, false)? {
         Some((length, label)) => Ok(Some(Label {
