@@ -2,6 +2,7 @@
 use Rattle.std.proofs.Common.{◌≡◌, ◌≢◌, ℕ, zero, suc, ◌+◌, ◌-◌, ◌*◌, ◌<◌, ◌≤◌, List, [], ◌∷◌, ◌++◌, Bool, true, false}
 use Rattle.std.proofs.Common.{Option, Some, None, IfSome, length, drop, take, refl, sym, ap, ◌∙◌, arith, subst, ◌==◌, not}
 use Rattle.std.proofs.Common.{get_or, codes, append_assoc, append-nil, count_by, nat_le, ◌&&◌, ◌||◌}
+use Rattle.std.proofs.Common.{◌⊎◌, inl, inr}
 use Rattle.std.proofs.Math.Utf8.{encode, encodes}
 use Rattle.std.proofs.lemmas.Bool.{true≢false}
 use Rattle.std.proofs.lemmas.Bool.Decides.{nat_tests}
@@ -202,3 +203,101 @@ pub many_characters : (bytes : List ℕ) → IsUtf8 bytes → length bytes ≤ 4
 many_characters bytes utf8 =
     subst (λ (xs : List ℕ). length xs ≤ 4 * count_by begins_character xs) (encodes-chars bytes utf8)
     (character_count (chars bytes))
+
+-- where no colon follows a label, none follows it with one byte more
+no_colon_more : (escaped : Bool) (b : ℕ) (rest : List ℕ) → is_bare escaped b 93 ≡ false → is_bare escaped b 91 ≡ false
+    → HasNoColon (is_bare escaped b 92) rest → HasNoColon escaped (b ∷ rest)
+no_colon_more escaped b rest closes breaks none =
+    rw (label_more escaped b rest closes breaks) (by (label_in (is_bare escaped b 92) rest) none)
+  where
+    by : (found : Option (ℕ × List ℕ))
+        → IfSome found (λ f. begins_with (codes ":") (drop (f.0 + 1) rest) ≡ false)
+        → IfSome (put_before 1 (b ∷ []) found) (λ f. begins_with (codes ":") (drop (f.0 + 1) (b ∷ rest)) ≡ false)
+    by None h = tt
+    by (Some f) h =
+        let same : 1 + f.0 + 1 ≡ suc (f.0 + 1) = omega arith in
+        ap (λ n. begins_with (codes ":") (drop n (b ∷ rest))) same ∙ h
+
+-- what is left decides whether no colon follows a label
+abbrev pub LeavesColon : List ℕ → ℕ → Bool → Type 0
+LeavesColon bytes at escaped =
+    (more : List ℕ) → is_line_over more ≡ true → HasNoColon escaped (drop at bytes ++ more)
+    → HasNoColon false (bytes ++ more)
+
+pub leaves_more : (bytes : List ℕ) (at : ℕ) (escaped : Bool) → at < length bytes → LeavesColon bytes at escaped
+    → is_bare escaped (get_or bytes at 0) 93 ≡ false → is_bare escaped (get_or bytes at 0) 91 ≡ false
+    → LeavesColon bytes (at + 1) (is_bare escaped (get_or bytes at 0) 92)
+leaves_more bytes at escaped less leaves closes breaks more over none =
+    leaves more over
+    (subst (λ (xs : List ℕ). HasNoColon escaped (xs ++ more)) (sym (drop_more bytes at 0 less))
+    (no_colon_more escaped (get_or bytes at 0) (drop (at + 1) bytes ++ more) closes breaks none))
+
+-- no byte that could end or escape anything
+pub leaves_plain : (bytes : List ℕ) (at : ℕ) (escaped : Bool) → at < length bytes → LeavesColon bytes at escaped
+    → (get_or bytes at 0 < 91) ⊎ (93 < get_or bytes at 0) → LeavesColon bytes (at + 1) false
+leaves_plain bytes at escaped less leaves apart =
+    let b = get_or bytes at 0 in
+    let closes : (b == 93) ≡ false = unlike 93 (omega arith) apart in
+    let breaks : (b == 91) ≡ false = unlike 91 (omega arith) apart in
+    let slash : (b == 92) ≡ false = unlike 92 (omega arith) apart in
+    subst (λ e. LeavesColon bytes (at + 1) e) (bare escaped b 92 slash)
+    (leaves_more bytes at escaped less leaves (bare escaped b 93 closes) (bare escaped b 91 breaks))
+  where
+    unlike : (what : ℕ) → (91 ≤ what) × (what ≤ 93) → (get_or bytes at 0 < 91) ⊎ (93 < get_or bytes at 0)
+        → (get_or bytes at 0 == what) ≡ false
+    unlike what h (inl low) = let low_bound = h.0 in grind (arith, nat_tests)
+    unlike what h (inr high) = let high_bound = h.1 in grind (arith, nat_tests)
+
+    bare : (escaped : Bool) (b what : ℕ) → (b == what) ≡ false → is_bare escaped b what ≡ false
+    bare true b what e = refl
+    bare false b what e = e
+
+-- an escaped byte, or a backslash that escapes the next one
+pub leaves_escaped : (bytes : List ℕ) (at : ℕ) (escaped : Bool) → at < length bytes → LeavesColon bytes at escaped
+    → (escaped ≡ true) ⊎ ((escaped ≡ false) × (get_or bytes at 0 ≡ 92)) → LeavesColon bytes (at + 1) (not escaped)
+leaves_escaped bytes at escaped less leaves (inl is) =
+    rw is (leaves_more bytes at true less (subst (λ e. LeavesColon bytes at e) is leaves) refl refl)
+leaves_escaped bytes at escaped less leaves (inr is) =
+    let slash = is.1 in
+    let closes : (get_or bytes at 0 == 93) ≡ false = grind (arith, nat_tests) in
+    let breaks : (get_or bytes at 0 == 91) ≡ false = grind (arith, nat_tests) in
+    let opens : (get_or bytes at 0 == 92) ≡ true = grind (arith, nat_tests) in
+    subst (λ e. LeavesColon bytes (at + 1) e) (opens ∙ ap not (sym is.0))
+    (leaves_more bytes at false less (subst (λ e. LeavesColon bytes at e) is.0 leaves) closes breaks)
+
+-- a bracket that opens another label
+pub opens_another : (bytes : List ℕ) (at : ℕ) (escaped : Bool) → at < length bytes → LeavesColon bytes at escaped
+    → escaped ≡ false → get_or bytes at 0 ≡ 91
+    → (more : List ℕ) → is_line_over more ≡ true → HasNoColon false (bytes ++ more)
+opens_another bytes at escaped less leaves plain is more over =
+    let breaks : (get_or bytes at 0 == 91) ≡ true = grind (arith, nat_tests) in
+    let closes : (get_or bytes at 0 == 93) ≡ false = grind (arith, nat_tests) in
+    let bare = label_breaks false (get_or bytes at 0) (drop (at + 1) bytes ++ more) closes breaks in
+    leaves more over
+    (subst (λ (xs : List ℕ). HasNoColon escaped (xs ++ more)) (sym (drop_more bytes at 0 less))
+    (subst (λ e. HasNoColon e (get_or bytes at 0 ∷ drop (at + 1) bytes ++ more)) (sym plain) (rw bare tt)))
+
+-- a bracket that ends the label, without a colon
+pub ends_alone : (bytes : List ℕ) (at : ℕ) (escaped : Bool) → at < length bytes → LeavesColon bytes at escaped
+    → escaped ≡ false → get_or bytes at 0 ≡ 93 → begins_with (codes "]:") (drop at bytes) ≡ false
+    → (more : List ℕ) → is_line_over more ≡ true → HasNoColon false (bytes ++ more)
+ends_alone bytes at escaped less leaves plain is alone more over =
+    let closes : (get_or bytes at 0 == 93) ≡ true = grind (arith, nat_tests) in
+    let bare = label_closes false (get_or bytes at 0) (drop (at + 1) bytes ++ more) closes in
+    leaves more over
+    (subst (λ (xs : List ℕ). HasNoColon escaped (xs ++ more)) (sym (drop_more bytes at 0 less))
+    (subst (λ e. HasNoColon e (get_or bytes at 0 ∷ drop (at + 1) bytes ++ more)) (sym plain)
+    (rw bare (no_colon (drop (at + 1) bytes)
+    (sym (cut (drop (at + 1) bytes)) ∙ (ap (begins_with (codes "]:")) (sym (drop_more bytes at 0 less)) ∙ alone))))))
+  where
+    cut : (rest : List ℕ) → begins_with (codes "]:") (get_or bytes at 0 ∷ rest) ≡ begins_with (codes ":") rest
+    cut rest = ap (λ n. begins_with (codes "]:") (n ∷ rest)) is
+
+    no_colon : (rest : List ℕ) → begins_with (codes ":") rest ≡ false → begins_with (codes ":") (rest ++ more) ≡ false
+    no_colon [] e = over_no_colon more over
+      where
+        over_no_colon : (more : List ℕ) → is_line_over more ≡ true → begins_with (codes ":") more ≡ false
+        over_no_colon [] o = refl
+        over_no_colon (b ∷ more) o =
+            let other : (58 == b) ≡ false = grind (arith, nat_tests) in rw other refl
+    no_colon (b ∷ rest) e = e

@@ -52,3 +52,9 @@ pub record IsBracketPlace (text : List ℕ) (lines : List HeldLine) (at : ℕ) :
 -- a label that was read, with its length
 abbrev pub label_read : Label → ℕ × List ℕ
 label_read label = (label.length, text_of label.text)
+
+-- a label that was read is the one that the bytes begin with; where none was read, no colon follows a label there
+abbrev pub IsLabelRead : List ℕ → Option Label → Type 0
+IsLabelRead bytes None =
+    IfSome (label_of bytes) (λ label. begins_with (codes ":") (drop label.0 bytes) ≡ false)
+IsLabelRead bytes (Some label) = Some (label_read label) ≡ label_of bytes

@@ -1,14 +1,15 @@
 //! Link reference definitions (CommonMark 4.7), read from the lines of a paragraph. The functions that return a
 //! `Result` fail only where memory is refused.
 ghost use Rattle.std.specs.Prelude.{◌≡◌, ◌==◌, ◌≤◌, ◌+◌, ℕ, MatchOption, IfSome, None, List, [], ◌∷◌, drop, length};
-ghost use Rattle.std.specs.Prelude.{IfOk, true, false, string_bytes, codes, ◌<◌, ◌^◌};
+ghost use Rattle.std.specs.Prelude.{IfOk, true, false, string_bytes, codes, ◌<◌, ◌^◌, ◌++◌};
 ghost use Rattle.markdown_scan.specs.Backslash.{is_bare};
 ghost use Rattle.markdown_scan.specs.Beginnings.{begins_with};
+ghost use Rattle.markdown_scan.specs.LineStart.{is_line_over};
 ghost use Rattle.markdown_scan.specs.declared.entity.EntityNames.{EntityNames};
 ghost use Rattle.markdown_lines.specs.DefinitionRules.{with_label};
 ghost use Rattle.markdown_lines.specs.HeldLines.{AreHeldLines, held_text};
 ghost use Rattle.markdown_lines.specs.HeldLabels.{IsBracketPlace, IsDecided, LabelGoesOn, escaped_after, label_of};
-ghost use Rattle.markdown_lines.specs.HeldLabels.{label_read};
+ghost use Rattle.markdown_lines.specs.HeldLabels.{HasNoColon, IsLabelRead, label_read};
 ghost use Rattle.markdown_lines.specs.HeldPlaces.{IsPastColon, IsSpotAfter};
 ghost use Rattle.markdown_lines.specs.HeldTitles.{IsDefinedTail, defined_by};
 ghost use Rattle.std.specs.Option.{option_map};
@@ -162,8 +163,9 @@ fn long_label(
     lines: &[HeldLine],
     at: usize,
 ) -> Result<Option<Label<'static>>, AllocError>
-    ensures { IfOk result (λ found. IsBracketPlace text.now lines.now at
+    ensures value { IfOk result (λ found. IsBracketPlace text.now lines.now at
         → option_map label_read found ≡ label_of (drop 1 (held_text text.now lines.now))) }
+    ensures fits { IfOk result (λ found. IfSome found (λ label. label.length + 1 < 2 ^ 64)) }
 {
     let joined = joined_lines(alloc, text, lines, at)?;
     match scan_link_label(alloc, joined.as_str(), &NoPrefix, false)? {
@@ -177,17 +179,19 @@ fn long_label(
 
 /// Returns false only where the bytes after a `[` show that no definition begins there: the first bracket after it in
 /// its line opens another label, or no colon follows it. This is so in most paragraphs that begin with a link.
-fn may_define(content: &[u8]) -> bool {
+fn may_define(content: &[u8]) -> bool
+    ensures { result ≡ false → (more : List ℕ) → is_line_over more ≡ true → HasNoColon false (content.now ++ more) }
+{
     let mut escaped = false;
-    for (i, found) in content.iter().enumerate() {
-        let byte = *found;
+    for at in 0..content.len() {
+        let byte = content[at];
         // `[`, the backslash and `]` are neighbours
         if byte < b'[' || byte > b']' {
             escaped = false;
             continue;
         }
         if !escaped && byte != b'\\' {
-            return byte == b']' && content[i..].starts_with(b"]:");
+            return byte == b']' && content[at..].starts_with(b"]:");
         }
         escaped = !escaped;
     }
@@ -200,7 +204,11 @@ fn any_label<'a>(
     text: &'a str,
     lines: &[HeldLine],
     at: usize,
-) -> Result<Option<Label<'a>>, AllocError> {
+) -> Result<Option<Label<'a>>, AllocError>
+    ensures value { IfOk result (λ found. IsBracketPlace text.now lines.now at
+        → IsLabelRead (drop 1 (held_text text.now lines.now)) found) }
+    ensures fits { IfOk result (λ found. IfSome found (λ label. label.length + 1 < 2 ^ 64)) }
+{
     let Some(first) = lines.first() else {
         return Ok(None);
     };
