@@ -34,7 +34,7 @@ label_step b bytes = decided (ends_line b bytes) refl
     decided false e = rw e refl
 
 -- one byte more
-label_closes : (escaped : Bool) (b : ℕ) (bytes : List ℕ) → is_bare escaped b 93 ≡ true
+pub label_closes : (escaped : Bool) (b : ℕ) (bytes : List ℕ) → is_bare escaped b 93 ≡ true
     → label_in escaped (b ∷ bytes) ≡ Some (0, [])
 label_closes escaped b bytes is = ap (body escaped) (label_step b bytes) ∙ rw is refl
 
@@ -42,7 +42,7 @@ label_breaks : (escaped : Bool) (b : ℕ) (bytes : List ℕ) → is_bare escaped
     → is_bare escaped b 91 ≡ true → label_in escaped (b ∷ bytes) ≡ None
 label_breaks escaped b bytes other is = ap (body escaped) (label_step b bytes) ∙ rw (other, is) refl
 
-label_more : (escaped : Bool) (b : ℕ) (bytes : List ℕ) → is_bare escaped b 93 ≡ false
+pub label_more : (escaped : Bool) (b : ℕ) (bytes : List ℕ) → is_bare escaped b 93 ≡ false
     → is_bare escaped b 91 ≡ false
     → label_in escaped (b ∷ bytes) ≡ put_before 1 (b ∷ []) (label_in (is_bare escaped b 92) bytes)
 label_more escaped b bytes closes breaks = ap (body escaped) (label_step b bytes) ∙ rw (closes, breaks) refl

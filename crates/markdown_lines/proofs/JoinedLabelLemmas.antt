@@ -6,6 +6,7 @@ use Rattle.std.proofs.lemmas.Bool.{cases_lt, true≢false}
 use Rattle.std.proofs.lemmas.Bool.Decides.{nat_tests}
 use Rattle.std.proofs.lemmas.List.{drop-drop, drop_all, length-append, take_all, take_more}
 use Rattle.std.proofs.lemmas.List.Sums.{sum_by-append}
+use Rattle.std.proofs.lemmas.Str.{IsCharBoundary-before_ascii}
 use Rattle.std.specs.List.{list_any, slice_get}
 use Rattle.std.specs.Option.{option_map}
 use Rattle.std.specs.Prelude.{option_and_then, if◌then◌else◌, slice_index}
@@ -14,7 +15,8 @@ use Rattle.markdown_base.proofs.ByteListLemmas.{byte_of_part, part_length}
 use Rattle.markdown_scan.specs.Backslash.{escapes_pipe, is_bare}
 use Rattle.markdown_scan.specs.Label.{begins_character, fits_label, is_not_white_space, put_before, shown, with_shown}
 use Rattle.markdown_scan.specs.Label.{collapse_whitespace}
-use Rattle.markdown_lines.specs.HeldLabels.{IsBracketPlace, IsDecided, LabelGoesOn, escaped_after, label_in, label_of}
+use Rattle.markdown_lines.specs.HeldLabels.{IsDecided, LabelGoesOn, escaped_after, label_in, label_of}
+use Rattle.markdown_lines.specs.HeldLines.{IsBracketPlace}
 use Rattle.markdown_lines.specs.HeldLines.{AreHeldFrom, AreHeldLines, IsHeldLine, held_text}
 use Rattle.markdown_lines.specs.HeldPlaces.{IsLineRest, IsNextLine, IsPlace, count_before, count_to, rest_at}
 use Rattle.markdown_lines.specs.LineBytes.{IsPartOf}
@@ -26,8 +28,18 @@ use Rattle.markdown_lines.proofs.HeldLabelsLemmas.{decided_after, escaped_more, 
 use Rattle.markdown_lines.proofs.HeldLabelsLemmas.{many_characters, same_label}
 use Rattle.markdown_lines.proofs.HeldLinesLemmas.{bounds_of, count_more, line_of, rest_is, same_line}
 use Rattle.markdown_lines.proofs.HeldPlacesLemmas.{next_of}
-use Rattle.markdown_lines.proofs.LinesLemmas.{past_ascii}
+use Rattle.markdown_lines.proofs.LinesLemmas.{ending_ascii, past_ascii}
 use Rattle.markdown_lines.proofs.TitleLemmas.{text_over}
+
+-- a text may be cut where the content of a line ends
+pub stop_boundary : (text : List ℕ) (line : HeldLine) → IsHeldLine text line → IsCharBoundary text line.stop
+stop_boundary text line is =
+    ⊎_elim (λ (less : line.stop < length text).
+    IsCharBoundary-before_ascii text line.stop less
+    (ending_ascii (get_or text line.stop 0) (is.content.stops less)))
+    (λ (last : length text ≤ line.stop).
+    (is.content.high, λ (less : line.stop < length text). absurd (omega (arith, less, last))))
+    (cases_lt line.stop (length text))
 
 -- a text may be cut after a line
 end_boundary : (text : List ℕ) (line : HeldLine) → IsUtf8 text → IsHeldLine text line → IsCharBoundary text line.next

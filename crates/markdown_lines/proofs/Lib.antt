@@ -21,3 +21,5 @@ pub mod HeldBetweenLemmas
 pub mod AfterLabelLemmas
 pub mod HeldLabelsLemmas
 pub mod JoinedLabelLemmas
+pub mod LabelReadLemmas
+pub mod HeldDefinitionsLemmas

@@ -1,17 +1,14 @@
 -- The label of a definition in the lines of a paragraph, for private clauses: labels are defined in `Label`.
 use Rattle.std.specs.Prelude.{◌≡◌, ℕ, Bool, false, ◌==◌, List, [], ◌∷◌, ◌++◌, Option, Some, None, drop, codes, length}
 use Rattle.std.specs.Prelude.{IfSome, if◌then◌else◌, ◌+◌}
-use Rattle.std.specs.Prelude.{slice_get, slice_index}
-use Rattle.markdown_base.specs.Bytes.{backslash, open_bracket}
+use Rattle.markdown_base.specs.Bytes.{backslash}
 use Rattle.markdown_base.specs.CowText.{text_of}
 use Rattle.markdown_scan.specs.Backslash.{is_bare}
 use Rattle.markdown_scan.specs.Beginnings.{begins_with}
 use Rattle.markdown_scan.specs.Label.{body, label_bytes, link_label, put_before}
 use Rattle.markdown_scan.specs.LineStart.{is_line_over}
 use Rattle.markdown_lines.specs.DefinitionRules.{no_prefix}
-use Rattle.markdown_lines.specs.HeldLines.{AreHeldLines, held_text}
 use Rattle.markdown_lines.specs.declared.definition.Label.{Label}
-use Rattle.markdown_lines.specs.declared.held_line.HeldLine.{HeldLine}
 
 -- where the label of these bytes ends, and its text
 abbrev pub label_in : Bool → List ℕ → Option (ℕ × List ℕ)
@@ -40,14 +37,6 @@ pub record LabelGoesOn (bytes : List ℕ) (escaped : Bool) : Type 0 where
   pub broken : Bool
   pub is : (more : List ℕ) → label_in false (bytes ++ more)
       ≡ (if broken then None else put_before (length bytes) bytes (label_in escaped more))
-
--- the `[` at a byte offset is the first byte of the lines of a paragraph
-pub record IsBracketPlace (text : List ℕ) (lines : List HeldLine) (at : ℕ) : Type 0 where
-  pub held : AreHeldLines text lines
-  pub line : HeldLine
-  pub there : slice_get lines 0 ≡ Some line
-  pub begins : line.start ≡ at
-  pub bracket : slice_index text at ≡ open_bracket
 
 -- a label that was read, with its length
 abbrev pub label_read : Label → ℕ × List ℕ

@@ -1,6 +1,8 @@
 -- The lines of a paragraph, as they are held back, as lines of their text.
-use Rattle.std.specs.Prelude.{◌≡◌, ℕ, ◌+◌, ◌≤◌, ◌<◌, false, List, [], ◌∷◌, ◌++◌, drop, slice_index, slice_range}
+use Rattle.std.specs.Prelude.{◌≡◌, ℕ, ◌+◌, ◌≤◌, ◌<◌, false, List, [], ◌∷◌, ◌++◌, Some, drop, slice_get, slice_index}
+use Rattle.std.specs.Prelude.{slice_range}
 use Rattle.std.specs.Str.{IsCharBoundary}
+use Rattle.markdown_base.specs.Bytes.{open_bracket}
 use Rattle.markdown_lines.specs.declared.held_line.HeldLine.{HeldLine}
 use Rattle.markdown_lines.specs.Lines.{IsLineEnd, ending_length, is_space_or_tab}
 use Rattle.markdown_lines.specs.SourceLines.{SourceLine}
@@ -28,3 +30,19 @@ AreHeldLines text lines = AreHeldFrom text 0 lines
 abbrev pub held_text : List ℕ → List HeldLine → List ℕ
 held_text text [] = []
 held_text text (line ∷ lines) = slice_range text line.start line.next ++ held_text text lines
+
+-- the `[` at a byte offset is the first byte of the lines of a paragraph
+pub record IsBracketPlace (text : List ℕ) (lines : List HeldLine) (at : ℕ) : Type 0 where
+  pub held : AreHeldLines text lines
+  pub line : HeldLine
+  pub there : slice_get lines 0 ≡ Some line
+  pub begins : line.start ≡ at
+  pub bracket : slice_index text at ≡ open_bracket
+
+-- these lines are those of a source: they begin where the others do, and so do the lines after them
+abbrev pub AreLinesOf : List HeldLine → List SourceLine → Type 0
+AreLinesOf [] [] = Unit
+AreLinesOf [] (source ∷ sources) = ⊥
+AreLinesOf (line ∷ lines) [] = ⊥
+AreLinesOf (line ∷ lines) (source ∷ sources) =
+    (line.start ≡ source.left.scanned) × ((line.next ≡ source.next) × AreLinesOf lines sources)

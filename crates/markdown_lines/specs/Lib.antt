@@ -24,6 +24,7 @@ pub mod BlockBeginnings
 pub mod DefinitionRules
 -- the lines of a paragraph as they are held back, and places in them
 pub mod HeldLines
+pub mod HeldDefinitions
 pub mod HeldPlaces
 pub mod HeldTitles
 pub mod HeldLabels

@@ -7,8 +7,11 @@ ghost use Rattle.markdown_scan.specs.Beginnings.{begins_with};
 ghost use Rattle.markdown_scan.specs.LineStart.{is_line_over};
 ghost use Rattle.markdown_scan.specs.declared.entity.EntityNames.{EntityNames};
 ghost use Rattle.markdown_lines.specs.DefinitionRules.{with_label};
-ghost use Rattle.markdown_lines.specs.HeldLines.{AreHeldLines, held_text};
-ghost use Rattle.markdown_lines.specs.HeldLabels.{IsBracketPlace, IsDecided, LabelGoesOn, escaped_after, label_of};
+ghost use Rattle.markdown_lines.specs.HeldDefinitions.{IsFirstDefinition};
+ghost use Rattle.markdown_lines.specs.HeldLines.{AreHeldLines, AreLinesOf, held_text};
+ghost use Rattle.markdown_lines.specs.SourceLines.{SourceLine};
+ghost use Rattle.markdown_lines.specs.HeldLabels.{IsDecided, LabelGoesOn, escaped_after, label_of};
+ghost use Rattle.markdown_lines.specs.HeldLines.{IsBracketPlace};
 ghost use Rattle.markdown_lines.specs.HeldLabels.{HasNoColon, IsLabelRead, label_read};
 ghost use Rattle.markdown_lines.specs.HeldPlaces.{IsPastColon, IsSpotAfter};
 ghost use Rattle.markdown_lines.specs.HeldTitles.{IsDefinedTail, defined_by};
@@ -485,7 +488,10 @@ pub fn read_definition<'a>(
     lines: &[HeldLine],
     at: usize,
     names: EntityNames,
-) -> Result<Option<Definition<'a>>, AllocError> {
+) -> Result<Option<Definition<'a>>, AllocError>
+    ensures { IfOk result (λ found. (sources : List SourceLine) → AreLinesOf lines.now sources
+        → IsBracketPlace text.now lines.now at → IsFirstDefinition names text.now sources at found) }
+{
     let Some(label) = any_label(alloc, text, lines, at)? else {
         return Ok(None);
     };

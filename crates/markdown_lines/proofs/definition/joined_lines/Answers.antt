@@ -3,7 +3,8 @@ use Rattle.std.proofs.Common.{◌≡◌, ◌∙◌, ◌+◌, ◌++◌, ◌<◌, 
 use Rattle.std.proofs.lemmas.Option.{slice_get_past}
 use Rattle.std.specs.Str.{IsUtf8}
 use Rattle.std.specs.String.{string_bytes}
-use Rattle.markdown_lines.specs.HeldLabels.{IsBracketPlace, IsDecided, LabelGoesOn, escaped_after, label_of}
+use Rattle.markdown_lines.specs.HeldLabels.{IsDecided, LabelGoesOn, escaped_after, label_of}
+use Rattle.markdown_lines.specs.HeldLines.{IsBracketPlace}
 use Rattle.markdown_lines.specs.HeldLines.{held_text}
 use Rattle.markdown_lines.proofs.HeldLinesLemmas.{found_line, no_line}
 use Rattle.markdown_lines.proofs.JoinedLabelLemmas.{JoinsLabel, joined_all, joined_decided, joined_long, joins_first}

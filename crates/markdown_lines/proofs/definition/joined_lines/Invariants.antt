@@ -1,7 +1,7 @@
 -- What was joined so far goes on.
 use Rattle.std.proofs.Common.{◌-◌, length}
 use Rattle.std.specs.String.{string_bytes}
-use Rattle.markdown_lines.specs.HeldLabels.{IsBracketPlace}
+use Rattle.markdown_lines.specs.HeldLines.{IsBracketPlace}
 use Rattle.markdown_lines.proofs.JoinedLabelLemmas.{JoinsLabel}
 use Rattle.markdown_lines.proofs.definition.joined_lines.Given as goal
 
