@@ -1,11 +1,10 @@
 -- What follows the label of a definition.
-use Rattle.std.proofs.Common.{◌≡◌, ◌≢◌, ℕ, zero, suc, ◌+◌, ◌-◌, ◌<◌, ◌≤◌, List, [], ◌∷◌, ◌++◌, Bool, true, false, ◌==◌}
-use Rattle.std.proofs.Common.{Option, Some, None, IfSome, length, drop, take, refl, sym, ap, ◌∙◌, arith, slice_range}
+use Rattle.std.proofs.Common.{◌≡◌, ℕ, zero, suc, ◌+◌, ◌-◌, ◌<◌, ◌≤◌, List, [], ◌∷◌, ◌++◌, Bool, true, false, ◌==◌}
+use Rattle.std.proofs.Common.{Option, Some, None, length, drop, refl, sym, ap, ◌∙◌, arith, slice_range}
 use Rattle.std.proofs.Common.{subst, get_or, codes, ⊎_elim}
 use Rattle.std.proofs.lemmas.Bool.{cases_lt, true≢false}
 use Rattle.std.proofs.lemmas.Bool.Decides.{nat_tests}
-use Rattle.std.proofs.lemmas.List.{drop-drop, drop_all, drop_at, drop_more}
-use Rattle.std.proofs.lemmas.Option.{slice_get_within}
+use Rattle.std.proofs.lemmas.List.{drop-drop, drop_all, drop_at}
 use Rattle.std.specs.List.{slice_get}
 use Rattle.std.proofs.Common.{Bor, eqb, not}
 use Rattle.std.specs.Option.{option_eq, option_map}
@@ -18,10 +17,10 @@ use Rattle.markdown_scan.specs.Unescape.{unescaped}
 use Rattle.markdown_scan.specs.declared.entity.EntityNames.{EntityNames}
 use Rattle.markdown_lines.specs.DefinitionRules as rules
 use Rattle.markdown_lines.specs.DefinitionRules.{separation, tail_of, with_destination, with_label, with_tail}
-use Rattle.markdown_lines.specs.HeldLines.{AreHeldFrom, AreHeldLines, held_text}
-use Rattle.markdown_lines.specs.HeldPlaces.{IsEnd, IsPast, IsPastColon, IsPlace, IsSpotAfter, count_before, count_to}
+use Rattle.markdown_lines.specs.HeldLines.{AreHeldLines, held_text}
+use Rattle.markdown_lines.specs.HeldPlaces.{IsPast, IsPastColon, IsSpotAfter, count_before, count_to}
 use Rattle.markdown_lines.specs.HeldPlaces.{rest_at, some_destination}
-use Rattle.markdown_lines.specs.HeldTitles.{IsDefinedTail, IsTail, defined_by, tail_found, title_between}
+use Rattle.markdown_lines.specs.HeldTitles.{defined_by, tail_found, title_between}
 use Rattle.markdown_lines.specs.declared.definition.Spot.{Spot}
 use Rattle.markdown_lines.specs.declared.definition.Tail.{Tail}
 use Rattle.markdown_lines.specs.declared.held_line.HeldLine.{HeldLine}
@@ -78,7 +77,7 @@ counts_more text lines count number left size line there is less held counts =
       sum = λ (after : HeldLine) (further : slice_get lines (suc number) ≡ Some after).
           let begins = count_next text 0 lines number line after there further in
           let more = ap (count_before lines number) total
-              ∙ count_more lines number line.start (line.next - line.start) line there (omega arith) in
+          ∙ count_more lines number line.start (line.next - line.start) line there (omega arith) in
           let so_far = counts.sum line there in
           omega (arith, begins, more, so_far, less, is);
     })
@@ -116,24 +115,31 @@ byte_after text lines count spot held is =
     let bounds = bounds_of text is.line known.is in
     let rest = rest_is text 0 lines spot.line spot.at is.line held is.there is.low (omega (arith, is.high)) in
     let within : spot.at < length text = omega (arith, is.high, bounds.within) in
-    let more = slice_range text (spot.at + 1) is.line.next ++ held_text text (drop (suc spot.line) lines) in
-    (more, (ap (λ n. drop n (held_text text lines)) (sym is.count)
-    ∙ (rest ∙ ap (λ (xs : List ℕ). xs ++ held_text text (drop (suc spot.line) lines))
-    (part_next text spot.at is.line.next is.high within)), within))
+    let more = slice_range text (spot.at + 1) is.line.next ++ held_text text (drop (suc spot.line) lines) in (
+      more,
+      (
+        ap (λ n. drop n (held_text text lines)) (sym is.count)
+            ∙ (rest ∙ ap (λ (xs : List ℕ). xs ++ held_text text (drop (suc spot.line) lines))
+            (part_next text spot.at is.line.next is.high within)),
+        within,
+      ),
+    )
 
 colon_test : (b : ℕ) (more : List ℕ) → begins_with (codes ":") (b ∷ more) ≡ (b == 58)
 colon_test b more = decided (b == 58) refl
   where
     decided : (test : Bool) → (b == 58) ≡ test → begins_with (codes ":") (b ∷ more) ≡ (b == 58)
     decided true is =
-        let same : b ≡ 58 = grind (arith, nat_tests) in subst (λ n. begins_with (codes ":") (n ∷ more) ≡ (n == 58)) (sym same) refl
+        let same : b ≡ 58 = grind (arith, nat_tests) in
+        subst (λ n. begins_with (codes ":") (n ∷ more) ≡ (n == 58)) (sym same) refl
     decided false is =
         let other : (58 == b) ≡ false = grind (arith, nat_tests) in rw other (sym is)
 
 -- what a test of a byte says
 pub byte_unlike : (found : Option ℕ) → not (option_eq eqb found (Some 58)) ≡ true → found ≡ Some 58 → ⊥
 byte_unlike found is same =
-    let other : not (option_eq eqb found (Some 58)) ≡ false = ap (λ (o : Option ℕ). not (option_eq eqb o (Some 58))) same in
+    let other : not (option_eq eqb found (Some 58)) ≡ false =
+    ap (λ (o : Option ℕ). not (option_eq eqb o (Some 58))) same in
     true≢false (sym is ∙ other)
 
 pub byte_like : (found : Option ℕ) → not (option_eq eqb found (Some 58)) ≡ false → found ≡ Some 58
@@ -172,9 +178,9 @@ colon_there text lines count at spot utf8 colon on is held =
     let there = byte_there text spot.at found.1.1 in
     let byte : get_or text spot.at 0 ≡ 58 = some_same (sym there ∙ colon) in
     let inside : spot.at < is.line.stop =
-        ⊎_elim (λ (less : spot.at < is.line.stop). less)
-        (λ (past : is.line.stop ≤ spot.at). absurd (in_ending past))
-        (cases_lt spot.at is.line.stop) in
+    ⊎_elim (λ (less : spot.at < is.line.stop). less)
+    (λ (past : is.line.stop ≤ spot.at). absurd (in_ending past))
+    (cases_lt spot.at is.line.stop) in
     let further = past_ascii text spot.at utf8 found.1.1 (omega (arith, byte)) in
     record {
       colon = ap (begins_with (codes ":")) found.1.0
@@ -216,7 +222,7 @@ with_destination_is names label before bytes = by (destination 32 bytes)
   where
     chosen : (n : ℕ) (target : List ℕ) (test : Bool) → (n == 0) ≡ test
         → (if n == 0 then None else with_tail names label (before + n) target (drop n bytes))
-        ≡ option_and_then (λ (found : ℕ × List ℕ). with_tail names label (before + found.0) found.1 (drop found.0 bytes))
+        ≡ option_and_then (λ (f : ℕ × List ℕ). with_tail names label (before + f.0) f.1 (drop f.0 bytes))
         (if n == 0 then None else Some (n, target))
     chosen n target true e = rw e refl
     chosen n target false e = rw e refl
@@ -242,7 +248,7 @@ pub after_colon : (text : List ℕ) (lines : List HeldLine) (names : EntityNames
 after_colon text lines names length label after is =
     let rest = drop (length + 1) (held_text text lines) in
     let left : drop 1 rest ≡ rest_at text lines after =
-        drop-drop 1 (length + 1) (held_text text lines) ∙ ap (λ n. drop n (held_text text lines)) (sym is.count) in
+    drop-drop 1 (length + 1) (held_text text lines) ∙ ap (λ n. drop n (held_text text lines)) (sym is.count) in
     let whole : (sep : ℕ) → drop (1 + sep) rest ≡ drop sep (drop 1 rest) = λ (sep : ℕ). sym (drop-drop sep 1 rest) in
     rw is.colon
     (ap (with_destination names label (length + 1 + (1 + separation (drop 1 rest)))) (whole (separation (drop 1 rest)))
@@ -325,7 +331,7 @@ pub tail_there : (text : List ℕ) (lines : List HeldLine) (names : EntityNames)
     ≡ with_tail names label (count_to lines end) target.now (rest_at text lines end)
 tail_there text lines names label target end tail found order =
     let total : count_to lines tail.end ≡ count_to lines end + (count_to lines tail.end - count_to lines end) =
-        omega (arith, order) in
+    omega (arith, order) in
     let title = titled_twice text lines names tail.end tail.title in
     ap (λ (n : ℕ). Some (record {
       label = label;

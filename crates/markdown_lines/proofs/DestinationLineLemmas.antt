@@ -1,8 +1,7 @@
 -- A destination ends in its line.
-use Rattle.std.proofs.Common.{◌≡◌, ℕ, zero, suc, ◌+◌, ◌-◌, ◌<◌, ◌≤◌, List, [], ◌∷◌, ◌++◌, Bool, true, false, ◌==◌}
-use Rattle.std.proofs.Common.{Option, Some, None, IfSome, length, drop, take, refl, sym, ap, ◌∙◌, arith, get_or}
-use Rattle.std.proofs.Common.{slice_index, append-nil}
-use Rattle.std.proofs.lemmas.Bool.{true≢false}
+use Rattle.std.proofs.Common.{◌≡◌, ℕ, suc, ◌+◌, ◌-◌, ◌<◌, ◌≤◌, List, [], ◌∷◌, ◌++◌, Bool, true, false, ◌==◌}
+use Rattle.std.proofs.Common.{Option, Some, None, IfSome, length, drop, take, refl, sym, ap, ◌∙◌, arith}
+use Rattle.std.proofs.Common.{slice_index}
 use Rattle.std.proofs.lemmas.Bool.Decides.{nat_tests}
 use Rattle.std.proofs.Common.{◌≢◌, ◌^◌, slice_range, subst}
 use Rattle.std.proofs.lemmas.List.{drop-drop, take-append-drop, take-append-le}
@@ -17,7 +16,7 @@ use Rattle.std.specs.Prelude.{option_and_then, if◌then◌else◌}
 use Rattle.std.specs.Option.{option_map}
 use Rattle.markdown_scan.specs.AsciiKinds.{is_control_or_space}
 use Rattle.markdown_scan.specs.Backslash.{is_bare}
-use Rattle.markdown_scan.specs.Destination.{angle_destination, angle_length, bare_destination, bare_length, destination}
+use Rattle.markdown_scan.specs.Destination.{angle_length, bare_length, destination}
 use Rattle.markdown_scan.specs.Destination.{end_of_bare, is_past_bare, is_refused, is_too_deep, open_after}
 use Rattle.markdown_scan.specs.LineStart.{is_line_over}
 
@@ -185,13 +184,13 @@ in_line text lines start place =
     let content = slice_range text start.at stop in
     let after = after_line text place.line (drop (suc start.line) lines) known.is known.others in
     let there = destination_ends content
-        (slice_range text stop place.line.next ++ held_text text (drop (suc start.line) lines)) after.over in
+    (slice_range text stop place.line.next ++ held_text text (drop (suc start.line) lines)) after.over in
     let here = destination_ends content (drop stop text)
-        (line_left text stop known.is.content.high known.is.content.stops) in
+    (line_left text stop known.is.content.high known.is.content.stops) in
     let size = part_length text start.at stop known.is.content.high in
     let whole = in_text text start.at stop place.high known.is.content.high in
     let same : destination 32 (drop start.at text) ≡ destination 32 content =
-        ap (destination 32) whole ∙ here.same in
+    ap (destination 32) whole ∙ here.same in
     record {
       same = ap (destination 32) (place_rest text lines start place) ∙ (there.same ∙ sym same);
       few = subst (λ (f : Option (ℕ × List ℕ)). IfSome f (λ g. g.0 ≤ stop - start.at)) (sym same)
@@ -230,12 +229,12 @@ destination_is text lines start size at bytes found some fits boundary on place 
     let known = place_line text lines start place in
     let line = in_line text lines start place in
     let few : size ≤ place.line.stop - start.at =
-        subst (λ (f : Option (ℕ × List ℕ)). IfSome f (λ g. g.0 ≤ place.line.stop - start.at)) (sym found) line.few in
+    subst (λ (f : Option (ℕ × List ℕ)). IfSome f (λ g. g.0 ≤ place.line.stop - start.at)) (sym found) line.few in
     let goes : at ≡ start.at + size = on (omega (arith, few, known.is.content.high, place.high, fits)) in
     let test : (size == 0) ≡ false = grind (arith, nat_tests) in
     let counted : count_before lines start.line at ≡ count_to lines start + size =
-        ap (count_before lines start.line) goes
-        ∙ count_more lines start.line start.at size place.line place.there place.low in
+    ap (count_before lines start.line) goes
+    ∙ count_more lines start.line start.at size place.line place.there place.low in
     let length_is : count_before lines start.line at - count_to lines start ≡ size = omega (arith, counted) in
     record {
       value = ap (λ (n : ℕ). Some (n, bytes)) length_is

@@ -1,8 +1,8 @@
 -- The lines' text from one place up to another.
-use Rattle.std.proofs.Common.{◌≡◌, ◌≢◌, ℕ, zero, suc, ◌+◌, ◌-◌, ◌<◌, ◌≤◌, List, [], ◌∷◌, ◌++◌, Bool, true, false}
-use Rattle.std.proofs.Common.{Option, Some, None, length, drop, take, refl, sym, ap, ◌∙◌, arith, slice_range, subst}
+use Rattle.std.proofs.Common.{◌≡◌, ℕ, zero, suc, ◌+◌, ◌-◌, ◌<◌, ◌≤◌, List, [], ◌∷◌, ◌++◌, Bool, true}
+use Rattle.std.proofs.Common.{Some, length, drop, take, sym, ap, ◌∙◌, arith, slice_range, subst}
 use Rattle.std.proofs.Common.{append_assoc}
-use Rattle.std.proofs.lemmas.List.{drop-drop, length-append, take-append-le, take-take, take_at}
+use Rattle.std.proofs.lemmas.List.{drop-drop, take-append-le, take-take}
 use Rattle.std.specs.List.{list_all, slice_get}
 use Rattle.std.proofs.Common.{get_or}
 use Rattle.std.proofs.lemmas.Option.{slice_get_within}
@@ -15,14 +15,14 @@ use Rattle.markdown_lines.specs.HeldTitles.{IsTitle, title_between}
 use Rattle.markdown_lines.proofs.TitleLemmas.{both_true, ending_bytes}
 use Rattle.std.specs.Str.{IsCharBoundary, IsUtf8}
 use Rattle.markdown_base.proofs.ByteListLemmas.{byte_of_part, part_length}
-use Rattle.markdown_lines.specs.HeldLines.{AreHeldFrom, held_text}
+use Rattle.markdown_lines.specs.HeldLines.{held_text}
 use Rattle.markdown_lines.specs.HeldPlaces.{IsBetween, IsLineRest, IsNextLine, IsPlace, count_before, count_to}
 use Rattle.markdown_lines.specs.HeldPlaces.{held_between, rest_at}
 use Rattle.markdown_lines.specs.LineBytes.{IsPartOf}
 use Rattle.markdown_lines.specs.declared.definition.Spot.{Spot}
 use Rattle.markdown_lines.specs.declared.held_line.HeldLine.{HeldLine}
 use Rattle.markdown_lines.proofs.HeldLinesLemmas.{bounds_of, count_more, count_next, line_of, place_line, place_rest}
-use Rattle.markdown_lines.proofs.HeldLinesLemmas.{rest_is, same_line, slice_cut}
+use Rattle.markdown_lines.proofs.HeldLinesLemmas.{rest_is, same_line}
 use Rattle.markdown_lines.proofs.HeldPlacesLemmas.{next_of}
 use Rattle.markdown_lines.proofs.LinesLemmas.{ending_ascii, past_ascii}
 
@@ -58,11 +58,11 @@ ending_byte text line is at low high =
     let bounds = bounds_of text line is in
     let taken : line.next - line.stop ≡ ending_length (drop line.stop text) = omega (arith, is.ends) in
     let passes : list_all is_line_ending (slice_range text line.stop line.next) ≡ true =
-        ap (λ n. list_all is_line_ending (take n (drop line.stop text))) taken
-        ∙ ending_bytes (drop line.stop text) (line_left text line.stop is.content.high is.content.stops) in
+    ap (λ n. list_all is_line_ending (take n (drop line.stop text))) taken
+    ∙ ending_bytes (drop line.stop text) (line_left text line.stop is.content.high is.content.stops) in
     let size = part_length text line.stop line.next bounds.within in
     let here = all_at is_line_ending (slice_range text line.stop line.next) (at - line.stop) passes
-        (omega (arith, size, low, high)) in
+    (omega (arith, size, low, high)) in
     let byte = byte_of_part text line.stop line.next (at - line.stop) (omega (arith, low, high)) in
     let place : line.stop + (at - line.stop) ≡ at = omega (arith, low) in
     ap (λ n. is_line_ending (get_or text n 0)) (sym place) ∙ (ap is_line_ending (sym byte) ∙ here)
@@ -86,31 +86,31 @@ line_rest text lines from line next part utf8 there after is place =
     let found = line_of text 0 lines from.line line place.held there in
     let bounds = bounds_of text line found.is in
     let further : slice_get lines (suc from.line) ≡ Some after.line =
-        ap (slice_get lines) (sym after.on) ∙ after.there in
+    ap (slice_get lines) (sym after.on) ∙ after.there in
     let known = next_of text 0 lines from.line line after.line place.held there further in
     let low : line.start ≤ from.at = omega (arith, place.low, ap (λ (l : HeldLine). l.start) same) in
     let high : from.at ≤ line.stop = omega (arith, place.high, ap (λ (l : HeldLine). l.stop) same) in
     let cut = next_boundary text line utf8 found.is known.ending in
     let bytes = is.cut (omega (arith, high, bounds.next)) place.boundary cut in
     let size : length part ≡ line.next - from.at =
-        ap length bytes ∙ part_length text from.at line.next bounds.within in
+    ap length bytes ∙ part_length text from.at line.next bounds.within in
     let all : line.next ≡ from.at + (line.next - from.at) = omega (arith, high, bounds.next) in
     let count : count_before lines from.line line.next ≡ count_to lines from + (line.next - from.at) =
-        ap (count_before lines from.line) all
-        ∙ count_more lines from.line from.at (line.next - from.at) line there low in
+    ap (count_before lines from.line) all
+    ∙ count_more lines from.line from.at (line.next - from.at) line there low in
     let begins : count_to lines next ≡ count_before lines from.line line.next =
-        ap (λ n. count_before lines next.line n) after.starts
-        ∙ (ap (λ n. count_before lines n after.line.start) after.on
-        ∙ count_next text 0 lines from.line line after.line there further) in
+    ap (λ n. count_before lines next.line n) after.starts
+    ∙ (ap (λ n. count_before lines n after.line.start) after.on
+    ∙ count_next text 0 lines from.line line after.line there further) in
     let more = held_text text (drop (suc from.line) lines) in
     let none : line.next - line.next ≡ 0 = omega arith in
     let left : rest_at text lines next ≡ more =
-        ap (λ n. drop n (held_text text lines)) begins
-        ∙ (rest_is text 0 lines from.line line.next line place.held there (omega (arith, low, high, bounds.next))
-        (omega arith)
-        ∙ ap (λ n. take n (drop line.next text) ++ more) none) in
+    ap (λ n. drop n (held_text text lines)) begins
+    ∙ (rest_is text 0 lines from.line line.next line place.held there (omega (arith, low, high, bounds.next))
+    (omega arith)
+    ∙ ap (λ n. take n (drop line.next text) ++ more) none) in
     let whole = rest_is text 0 lines from.line from.at line place.held there low
-        (omega (arith, high, bounds.next)) in
+    (omega (arith, high, bounds.next)) in
     record {
       place = record {
         held = place.held;
@@ -140,13 +140,13 @@ between_here text lines from to part is same places =
     let high : to.at ≤ begins.line.stop = omega (arith, ends.high, ap (λ (l : HeldLine). l.stop) line) in
     let all : to.at ≡ from.at + (to.at - from.at) = omega (arith, order) in
     let count : count_to lines to ≡ count_to lines from + (to.at - from.at) =
-        ap (λ n. count_before lines n to.at) (sym same)
-        ∙ (ap (count_before lines from.line) all
-        ∙ count_more lines from.line from.at (to.at - from.at) begins.line begins.there begins.low) in
+    ap (λ n. count_before lines n to.at) (sym same)
+    ∙ (ap (count_before lines from.line) all
+    ∙ count_more lines from.line from.at (to.at - from.at) begins.line begins.there begins.low) in
     let size : count_to lines to - count_to lines from ≡ to.at - from.at = omega (arith, count) in
     let content = slice_range text from.at begins.line.stop in
     let after = slice_range text begins.line.stop begins.line.next
-        ++ held_text text (drop (suc from.line) lines) in
+    ++ held_text text (drop (suc from.line) lines) in
     let fits = part_length text from.at begins.line.stop known.is.content.high in
     is.cut order begins.boundary ends.boundary
     ∙ sym (ap (λ n. take n (rest_at text lines from)) size
@@ -169,13 +169,13 @@ joins_more text lines first to joined from part next so_far less on rest =
     let place = rest.place in
     let rises = count_rises lines next.line to.line to.at place.line place.there (omega (arith, less, on)) in
     let low : count_to lines next ≤ count_to lines to =
-        subst (λ n. count_before lines next.line n ≤ count_to lines to) (sym rest.starts) rises in
+    subst (λ n. count_before lines next.line n ≤ count_to lines to) (sym rest.starts) rises in
     let size : count_to lines to - count_to lines from ≡ length part + (count_to lines to - count_to lines next) =
-        omega (arith, low, rest.count) in
+    omega (arith, low, rest.count) in
     let left : held_between text lines from to ≡ part ++ held_between text lines next to =
-        ap (take (count_to lines to - count_to lines from)) rest.rest
-        ∙ take_both (count_to lines to - count_to lines from) (count_to lines to - count_to lines next) part
-        (rest_at text lines next) size in
+    ap (take (count_to lines to - count_to lines from)) rest.rest
+    ∙ take_both (count_to lines to - count_to lines from) (count_to lines to - count_to lines next) part
+    (rest_at text lines next) size in
     record {
       between = record {
         begins = place;
@@ -221,17 +221,17 @@ inside_title text lines opening end from to first last title =
     let ends = title.ends.place in
     let past = title.ends.past in
     let one : count_before lines opening.line from ≡ count_to lines opening + 1 =
-        ap (count_before lines opening.line) first
-        ∙ count_more lines opening.line opening.at 1 begins.line begins.there begins.low in
+    ap (count_before lines opening.line) first
+    ∙ count_more lines opening.line opening.at 1 begins.line begins.there begins.low in
     let back : to + 1 ≡ end.at = omega (arith, last, past) in
     let before : count_to lines end ≡ count_before lines end.line to + 1 =
-        ap (count_before lines end.line) (sym back)
-        ∙ count_more lines end.line to 1 ends.line ends.there (omega (arith, last, past)) in
+    ap (count_before lines end.line) (sym back)
+    ∙ count_more lines end.line to 1 ends.line ends.there (omega (arith, last, past)) in
     let size : count_before lines end.line to - count_before lines opening.line from
-        ≡ count_to lines end - count_to lines opening - 2 = omega (arith, one, before) in
+    ≡ count_to lines end - count_to lines opening - 2 = omega (arith, one, before) in
     let rest : rest_at text lines (record { line = opening.line; at = from }) ≡ drop 1 (rest_at text lines opening) =
-        ap (λ n. drop n (held_text text lines)) one
-        ∙ sym (drop-drop 1 (count_to lines opening) (held_text text lines)) in
+    ap (λ n. drop n (held_text text lines)) one
+    ∙ sym (drop-drop 1 (count_to lines opening) (held_text text lines)) in
     record {
       between = record {
         begins = record {
@@ -262,17 +262,17 @@ inside_title text lines opening end from to first last title =
         let ends = title.ends.place in
         let size : opening.at ≡ end.at + (opening.at - end.at) = omega (arith, less) in
         let more : count_to lines opening ≡ count_to lines end + (opening.at - end.at) =
-            ap (λ n. count_before lines n opening.at) e
-            ∙ (ap (count_before lines end.line) size
-            ∙ count_more lines end.line end.at (opening.at - end.at) ends.line ends.there ends.low) in
+        ap (λ n. count_before lines n opening.at) e
+        ∙ (ap (count_before lines end.line) size
+        ∙ count_more lines end.line end.at (opening.at - end.at) ends.line ends.there ends.low) in
         absurd (omega (arith, more, title.count))
     in_order e (inr low) =
         let begins = title.begins in
         let size : end.at ≡ opening.at + (end.at - opening.at) = omega (arith, low) in
         let more : count_to lines end ≡ count_to lines opening + (end.at - opening.at) =
-            ap (λ n. count_before lines n end.at) (sym e)
-            ∙ (ap (count_before lines opening.line) size
-            ∙ count_more lines opening.line opening.at (end.at - opening.at) begins.line begins.there begins.low) in
+        ap (λ n. count_before lines n end.at) (sym e)
+        ∙ (ap (count_before lines opening.line) size
+        ∙ count_more lines opening.line opening.at (end.at - opening.at) begins.line begins.there begins.low) in
         omega (arith, more, title.count, first, last)
 
 -- the place after an opening mark is in the text

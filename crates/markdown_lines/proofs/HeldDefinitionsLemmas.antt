@@ -1,33 +1,30 @@
 -- The definition at the beginning of lines, by the lines of their source.
-use Rattle.std.proofs.Common.{◌≡◌, ℕ, zero, suc, ◌+◌, ◌-◌, ◌<◌, ◌≤◌, List, [], ◌∷◌, ◌++◌, Bool, true, false, Option, Some}
-use Rattle.std.proofs.Common.{None, IfSome, length, drop, take, refl, sym, ap, ◌∙◌, arith, subst, ◌==◌, slice_range, codes}
+use Rattle.std.proofs.Common.{◌≡◌, ℕ, zero, suc, ◌+◌, ◌-◌, ◌<◌, ◌≤◌, List, [], ◌∷◌, ◌++◌, true, false, Option, Some}
+use Rattle.std.proofs.Common.{None, IfSome, length, drop, refl, sym, ap, ◌∙◌, arith, slice_range, codes}
 use Rattle.std.proofs.Common.{Bor, nat_le, nat_lt, get_or}
 use Rattle.std.proofs.lemmas.Bool.Decides.{nat_tests}
 use Rattle.std.proofs.lemmas.List.{drop-drop}
 use Rattle.std.proofs.lemmas.Option.{slice_get_within}
 use Rattle.std.specs.List.{slice_get}
-use Rattle.std.specs.Option.{option_map}
-use Rattle.std.specs.Prelude.{option_and_then, if◌then◌else◌}
+use Rattle.std.specs.Prelude.{option_and_then}
 use Rattle.markdown_base.specs.CowText.{text_of}
 use Rattle.markdown_scan.specs.Beginnings.{begins_with}
 use Rattle.markdown_scan.specs.declared.entity.EntityNames.{EntityNames}
 use Rattle.markdown_lines.specs.DefinitionRules.{Defined, definition_in, lines_behind, place_of, text_of_lines}
 use Rattle.markdown_lines.specs.DefinitionRules.{with_label}
-use Rattle.markdown_lines.specs.HeldDefinitions.{IsDefinitionOf, IsFirstDefinition}
 use Rattle.markdown_lines.specs.HeldLabels.{IsLabelRead, label_of, label_read}
-use Rattle.markdown_lines.specs.HeldLines.{AreHeldFrom, AreHeldLines, AreLinesOf, IsBracketPlace, IsHeldLine, held_text}
-use Rattle.markdown_lines.specs.HeldPlaces.{IsEnd, IsPlace, count_before, count_to}
+use Rattle.markdown_lines.specs.HeldLines.{AreLinesOfSource, IsBracketPlace, held_text}
+use Rattle.markdown_lines.specs.HeldPlaces.{count_before}
 use Rattle.markdown_lines.specs.HeldTitles.{IsDefinedTail, defined_by}
 use Rattle.markdown_lines.specs.SourceLines.{SourceLine}
 use Rattle.markdown_lines.specs.declared.definition.Label.{Label}
-use Rattle.markdown_lines.specs.declared.definition.Spot.{Spot}
 use Rattle.markdown_lines.specs.declared.definition.Tail.{Tail}
 use Rattle.markdown_lines.specs.declared.held_line.HeldLine.{HeldLine}
 use Rattle.markdown_lines.proofs.HeldLinesLemmas.{bounds_of, line_of}
 use Rattle.markdown_lines.proofs.PositionsLemmas.{part_next}
 
 -- the text of the lines
-lines_text : (text : List ℕ) (lines : List HeldLine) (sources : List SourceLine) → AreLinesOf lines sources
+lines_text : (text : List ℕ) (lines : List HeldLine) (sources : List SourceLine) → AreLinesOfSource lines sources
     → text_of_lines text sources ≡ held_text text lines
 lines_text text [] [] same = refl
 lines_text text [] (source ∷ sources) same = absurd same
@@ -37,7 +34,7 @@ lines_text text (line ∷ lines) (source ∷ sources) same =
     ∙ (ap (λ n. slice_range text line.start n ++ text_of_lines text sources) (sym same.1.0)
     ∙ ap (λ (xs : List ℕ). slice_range text line.start line.next ++ xs) (lines_text text lines sources same.1.1))
 
-lines_length : (lines : List HeldLine) (sources : List SourceLine) → AreLinesOf lines sources
+lines_length : (lines : List HeldLine) (sources : List SourceLine) → AreLinesOfSource lines sources
     → length lines ≡ length sources
 lines_length [] [] same = refl
 lines_length [] (source ∷ sources) same = absurd same
@@ -55,7 +52,7 @@ some_before (first ∷ lines) (suc number) at line there less =
 
 -- where a place after so many bytes is in the text
 place_end : (lines : List HeldLine) (sources : List SourceLine) (number at : ℕ) (line : HeldLine)
-    → AreLinesOf lines sources → slice_get lines number ≡ Some line → line.start < at → at ≤ line.next
+    → AreLinesOfSource lines sources → slice_get lines number ≡ Some line → line.start < at → at ≤ line.next
     → place_of sources (count_before lines number at - 1) + 1 ≡ at
 place_end [] sources number at line same there low high = cc
 place_end (first ∷ lines) [] number at line same there low high = absurd same
@@ -66,8 +63,8 @@ place_end (first ∷ lines) (source ∷ sources) zero at line same there low hig
     let begins = same.0 in
     let ends = same.1.0 in
     let inside : nat_lt (at - first.start - 1) (source.next - source.left.scanned) ≡ true =
-        less_test (at - first.start - 1) (source.next - source.left.scanned)
-        (omega (arith, start, next, begins, ends, low, high)) in
+    less_test (at - first.start - 1) (source.next - source.left.scanned)
+    (omega (arith, start, next, begins, ends, low, high)) in
     rw inside (omega (arith, start, begins, low))
   where
     less_test : (a b : ℕ) → a < b → nat_lt a b ≡ true
@@ -77,9 +74,9 @@ place_end (first ∷ lines) (source ∷ sources) (suc number) at line same there
     let size : source.next - source.left.scanned ≡ first.next - first.start = omega (arith, same.0, same.1.0) in
     let count = (first.next - first.start) + count_before lines number at - 1 in
     let outside : nat_lt count (source.next - source.left.scanned) ≡ false =
-        more_test count (source.next - source.left.scanned) (omega (arith, some, size)) in
+    more_test count (source.next - source.left.scanned) (omega (arith, some, size)) in
     let left : count - (source.next - source.left.scanned) ≡ count_before lines number at - 1 =
-        omega (arith, some, size) in
+    omega (arith, some, size) in
     rw outside (ap (λ n. place_of sources n + 1) left
     ∙ place_end lines sources number at line same.1.1 there low high)
   where
@@ -88,7 +85,7 @@ place_end (first ∷ lines) (source ∷ sources) (suc number) at line same there
 
 -- the lines after it
 lines_end : (lines : List HeldLine) (sources : List SourceLine) (number at : ℕ) (line : HeldLine)
-    → AreLinesOf lines sources → slice_get lines number ≡ Some line → line.start < at → at ≤ line.next
+    → AreLinesOfSource lines sources → slice_get lines number ≡ Some line → line.start < at → at ≤ line.next
     → lines_behind sources (count_before lines number at) ≡ drop (suc number) sources
 lines_end [] sources number at line same there low high = cc
 lines_end (first ∷ lines) [] number at line same there low high = absurd same
@@ -97,8 +94,8 @@ lines_end (first ∷ lines) (source ∷ sources) zero at line same there low hig
     let start = ap (λ (l : HeldLine). l.start) is in
     let next = ap (λ (l : HeldLine). l.next) is in
     let inside : nat_le (at - first.start) (source.next - source.left.scanned) ≡ true =
-        le_test (at - first.start) (source.next - source.left.scanned)
-        (omega (arith, start, next, same.0, same.1.0, low, high)) in
+    le_test (at - first.start) (source.next - source.left.scanned)
+    (omega (arith, start, next, same.0, same.1.0, low, high)) in
     rw inside refl
   where
     le_test : (a b : ℕ) → a ≤ b → nat_le a b ≡ true
@@ -108,7 +105,7 @@ lines_end (first ∷ lines) (source ∷ sources) (suc number) at line same there
     let size : source.next - source.left.scanned ≡ first.next - first.start = omega (arith, same.0, same.1.0) in
     let count = (first.next - first.start) + count_before lines number at in
     let outside : nat_le count (source.next - source.left.scanned) ≡ false =
-        gt_test count (source.next - source.left.scanned) (omega (arith, some, size)) in
+    gt_test count (source.next - source.left.scanned) (omega (arith, some, size)) in
     let left : count - (source.next - source.left.scanned) ≡ count_before lines number at = omega (arith, size) in
     rw outside (ap (lines_behind sources) left ∙ lines_end lines sources number at line same.1.1 there low high)
   where
@@ -117,7 +114,7 @@ lines_end (first ∷ lines) (source ∷ sources) (suc number) at line same there
 
 -- the place of the first byte
 place_start : (lines : List HeldLine) (sources : List SourceLine) (at : ℕ) (line : HeldLine)
-    → AreLinesOf lines sources → slice_get lines 0 ≡ Some line → line.start ≡ at → line.start < line.next
+    → AreLinesOfSource lines sources → slice_get lines 0 ≡ Some line → line.start ≡ at → line.start < line.next
     → at ≡ place_of sources 0
 place_start [] sources at line same there begins some = cc
 place_start (first ∷ lines) [] at line same there begins some = absurd same
@@ -126,7 +123,7 @@ place_start (first ∷ lines) (source ∷ sources) at line same there begins som
     let start = ap (λ (l : HeldLine). l.start) is in
     let next = ap (λ (l : HeldLine). l.next) is in
     let inside : nat_lt 0 (source.next - source.left.scanned) ≡ true =
-        less_test 0 (source.next - source.left.scanned) (omega (arith, start, next, same.0, same.1.0, some)) in
+    less_test 0 (source.next - source.left.scanned) (omega (arith, start, next, same.0, same.1.0, some)) in
     rw inside (omega (arith, start, same.0, begins))
   where
     less_test : (a b : ℕ) → a < b → nat_lt a b ≡ true
@@ -144,7 +141,7 @@ bracket_begins text (first ∷ lines) at is =
     let start = ap (λ (l : HeldLine). l.start) same in
     let next = ap (λ (l : HeldLine). l.next) same in
     let part = part_next text first.start first.next (omega (arith, start, next, bounds.stop, bounds.next))
-        (omega (arith, start, bounds.stop, bounds.next, bounds.within)) in
+    (omega (arith, start, bounds.stop, bounds.next, bounds.within)) in
     let byte : get_or text first.start 0 ≡ 91 = ap (λ n. get_or text n 0) (start ∙ is.begins) ∙ is.bracket in
     ap (λ (xs : List ℕ). begins_with (codes "[") (xs ++ held_text text lines)) part
     ∙ ap (λ n. begins_with (codes "[") (n ∷ slice_range text (first.start + 1) first.next ++ held_text text lines)) byte
@@ -156,7 +153,7 @@ definition_by names bytes label begins is = rw (begins, is) refl
 
 -- where no label is read
 pub no_label : (names : EntityNames) (text : List ℕ) (lines : List HeldLine) (sources : List SourceLine) (at : ℕ)
-    → IsLabelRead (drop 1 (held_text text lines)) None → AreLinesOf lines sources → IsBracketPlace text lines at
+    → IsLabelRead (drop 1 (held_text text lines)) None → AreLinesOfSource lines sources → IsBracketPlace text lines at
     → definition_in names (text_of_lines text sources) ≡ None
 no_label names text lines sources at none same is =
     let bytes = held_text text lines in
@@ -172,12 +169,12 @@ no_label names text lines sources at none same is =
         let bytes = held_text text lines in
         let place : 1 + l.0 ≡ l.0 + 1 = omega arith in
         let other : begins_with (codes ":") (drop (l.0 + 1) bytes) ≡ false =
-            ap (begins_with (codes ":")) (sym (drop-drop l.0 1 bytes ∙ ap (λ n. drop n bytes) place)) ∙ h in
+        ap (begins_with (codes ":")) (sym (drop-drop l.0 1 bytes ∙ ap (λ n. drop n bytes) place)) ∙ h in
         rw other refl
 
 -- what follows a label that was read
 definition_with : (names : EntityNames) (text : List ℕ) (lines : List HeldLine) (sources : List SourceLine) (at : ℕ)
-    (label : Label) → IsLabelRead (drop 1 (held_text text lines)) (Some label) → AreLinesOf lines sources
+    (label : Label) → IsLabelRead (drop 1 (held_text text lines)) (Some label) → AreLinesOfSource lines sources
     → IsBracketPlace text lines at
     → definition_in names (text_of_lines text sources) ≡ with_label names (held_text text lines) (label_read label)
 definition_with names text lines sources at label read same is =
@@ -186,7 +183,7 @@ definition_with names text lines sources at label read same is =
 
 pub nothing_follows : (names : EntityNames) (text : List ℕ) (lines : List HeldLine) (sources : List SourceLine)
     (at : ℕ) (label : Label) → IsLabelRead (drop 1 (held_text text lines)) (Some label)
-    → None ≡ with_label names (held_text text lines) (label_read label) → AreLinesOf lines sources
+    → None ≡ with_label names (held_text text lines) (label_read label) → AreLinesOfSource lines sources
     → IsBracketPlace text lines at → definition_in names (text_of_lines text sources) ≡ None
 nothing_follows names text lines sources at label read none same is =
     definition_with names text lines sources at label read same is ∙ sym none
@@ -206,7 +203,7 @@ pub definition_there : (names : EntityNames) (text : List ℕ) (lines : List Hel
     → IsLabelRead (drop 1 (held_text text lines)) (Some label)
     → Some (defined_by text lines names (text_of label.text) (target, tail))
     ≡ with_label names (held_text text lines) (label_read label)
-    → IsDefinedTail text lines tail → count ≡ tail.end.line + 1 → AreLinesOf lines sources
+    → IsDefinedTail text lines tail → count ≡ tail.end.line + 1 → AreLinesOfSource lines sources
     → IsBracketPlace text lines at
     → IsSpanOf names text sources at tail.end.at count (defined_by text lines names (text_of label.text) (target, tail))
 definition_there names text lines sources at count label target tail read follows ends on same is =

@@ -1,23 +1,22 @@
 -- The label of a definition, line by line.
-use Rattle.std.proofs.Common.{◌≡◌, ◌≢◌, ℕ, zero, suc, ◌+◌, ◌-◌, ◌*◌, ◌<◌, ◌≤◌, List, [], ◌∷◌, ◌++◌, Bool, true, false}
-use Rattle.std.proofs.Common.{Option, Some, None, IfSome, length, drop, take, refl, sym, ap, ◌∙◌, arith, subst, ◌==◌, not}
-use Rattle.std.proofs.Common.{get_or, codes, append_assoc, append-nil, count_by, nat_le, ◌&&◌, ◌||◌}
+use Rattle.std.proofs.Common.{◌≡◌, ℕ, suc, ◌+◌, ◌*◌, ◌<◌, ◌≤◌, List, [], ◌∷◌, ◌++◌, Bool, true, false}
+use Rattle.std.proofs.Common.{Option, Some, None, IfSome, length, drop, take, refl, sym, ap, ◌∙◌, arith, subst, ◌==◌}
+use Rattle.std.proofs.Common.{not}
+use Rattle.std.proofs.Common.{get_or, codes, append_assoc, count_by}
 use Rattle.std.proofs.Common.{◌⊎◌, inl, inr}
 use Rattle.std.proofs.Math.Utf8.{encode, encodes}
-use Rattle.std.proofs.lemmas.Bool.{true≢false}
 use Rattle.std.proofs.lemmas.Bool.Decides.{nat_tests}
-use Rattle.std.proofs.lemmas.List.{drop_all, drop_more, length-append, take-append-drop, take_all, take_more}
+use Rattle.std.proofs.lemmas.List.{drop_more, length-append, take-append-drop, take_all, take_more}
 use Rattle.std.proofs.lemmas.List.Sums.{sum_by-append}
 use Rattle.std.proofs.lemmas.Str.{encodes-chars, len_utf8_bounds, length-encode}
-use Rattle.std.specs.List.{list_any}
 use Rattle.std.specs.Option.{option_map}
-use Rattle.std.specs.Prelude.{option_and_then, if◌then◌else◌, unwrap_or, is_none}
+use Rattle.std.specs.Prelude.{option_and_then, if◌then◌else◌}
 use Rattle.std.specs.Str.{IsUtf8, chars}
-use Rattle.markdown_scan.specs.Backslash.{escapes_pipe, is_bare}
+use Rattle.markdown_scan.specs.Backslash.{is_bare}
 use Rattle.markdown_scan.specs.Beginnings.{begins_with}
-use Rattle.markdown_scan.specs.Label.{begins_character, body, fits_label, kept, label_bytes, label_body, link_label}
-use Rattle.markdown_scan.specs.Label.{collapse_whitespace, put_before, refused, shown, with_shown}
-use Rattle.markdown_scan.specs.LinePrefix.{ends_line, prefix_after}
+use Rattle.markdown_scan.specs.Label.{begins_character, body, fits_label, kept, label_bytes}
+use Rattle.markdown_scan.specs.Label.{collapse_whitespace, put_before, with_shown}
+use Rattle.markdown_scan.specs.LinePrefix.{ends_line}
 use Rattle.markdown_scan.specs.LineStart.{is_line_over}
 use Rattle.markdown_scan.proofs.LabelLemmas.{put_before_none, put_before_twice}
 use Rattle.markdown_lines.specs.DefinitionRules.{no_prefix}

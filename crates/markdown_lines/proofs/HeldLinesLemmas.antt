@@ -1,9 +1,10 @@
 -- Lines of a paragraph as one text: what is left of it from a place in one of them on.
-use Rattle.std.proofs.Common.{◌≡◌, ℕ, zero, suc, ◌+◌, ◌-◌, ◌<◌, ◌≤◌, List, [], ◌∷◌, ◌++◌, Bool, true, false, ◌==◌, get_or}
-use Rattle.std.proofs.Common.{Option, Some, None, length, drop, take, refl, sym, ap, ◌∙◌, arith, slice_range, subst}
+use Rattle.std.proofs.Common.{◌≡◌, ℕ, zero, suc, ◌+◌, ◌-◌, ◌<◌, ◌≤◌, List, [], ◌∷◌, ◌++◌, Bool, true, false, ◌==◌}
+use Rattle.std.proofs.Common.{get_or}
+use Rattle.std.proofs.Common.{Some, None, length, drop, take, refl, sym, ap, ◌∙◌, arith, slice_range, subst}
 use Rattle.std.proofs.Common.{slice_index, append_assoc, ⊎_elim}
 use Rattle.std.proofs.lemmas.Bool.Decides.{nat_tests}
-use Rattle.std.proofs.lemmas.List.{drop-drop, drop_at, drop-append-le, length-drop, length-take, length-take-le}
+use Rattle.std.proofs.lemmas.List.{drop-drop, drop_at, drop-append-le, length-drop}
 use Rattle.std.proofs.lemmas.List.{take-append-drop, take-take, drop_all, drop_more}
 use Rattle.std.specs.List.{list_all, prefix_len, slice_get}
 use Rattle.markdown_base.proofs.ByteListLemmas.{byte_of_part, part_length}
@@ -118,7 +119,7 @@ count_next text from (first ∷ second ∷ lines) zero line next there after =
     let also : second ≡ next = cc in
     let none : next.start - second.start ≡ 0 = omega (arith, ap (λ (l : HeldLine). l.start) also) in
     let size : first.next - first.start ≡ line.next - first.start =
-        omega (arith, ap (λ (l : HeldLine). l.next) same) in
+    omega (arith, ap (λ (l : HeldLine). l.next) same) in
     omega (arith, none, size)
 count_next text from (first ∷ lines) (suc number) line next there after =
     ap (λ n. (first.next - first.start) + n) (count_next text first.next lines number line next there after)
@@ -177,10 +178,10 @@ more_is_quiet text from (line ∷ lines) held =
     let is = held.1.0 in
     let bounds = bounds_of text line is in
     let first = part_next text line.start line.next (omega (arith, bounds.stop, bounds.next))
-        (omega (arith, bounds.stop, bounds.next, bounds.within)) in
+    (omega (arith, bounds.stop, bounds.next, bounds.within)) in
     let starts : held_text text (line ∷ lines)
-        ≡ get_or text line.start 0 ∷ (slice_range text (line.start + 1) line.next ++ held_text text lines) =
-        ap (λ (xs : List ℕ). xs ++ held_text text lines) first in
+    ≡ get_or text line.start 0 ∷ (slice_range text (line.start + 1) line.next ++ held_text text lines) =
+    ap (λ (xs : List ℕ). xs ++ held_text text lines) first in
     let other = is.content.content line.start (omega arith) is.some in
     record {
       white = ap (prefix_len is_space_or_tab) starts ∙ rw is.first refl;
@@ -206,7 +207,7 @@ after_line text line lines is held =
     let size : line.next - line.stop ≡ ending_length rest = omega (arith, is.ends) in
     let quiet = more_is_quiet text line.next lines held in
     let none : rest ≡ [] → held_text text lines ≡ [] =
-        λ (e : rest ≡ []). last_line text line lines is held (omega (arith, ap length e, length-drop line.stop text)) in
+    λ (e : rest ≡ []). last_line text line lines is held (omega (arith, ap length e, length-drop line.stop text)) in
     subst (λ (n : ℕ). IsAfterLine (take n rest ++ held_text text lines) n) (sym size)
     (ending_and_more rest (held_text text lines) (line_left text line.stop is.content.high is.content.stops) none
     quiet.white quiet.feed)
@@ -215,7 +216,8 @@ after_line text line lines is held =
 pub rest_in_line : (text : List ℕ) (lines : List HeldLine) (number at : ℕ) (line : HeldLine)
     → AreHeldLines text lines → slice_get lines number ≡ Some line → line.start ≤ at → at ≤ line.stop
     → drop (count_before lines number at) (held_text text lines)
-    ≡ slice_range text at line.stop ++ (slice_range text line.stop line.next ++ held_text text (drop (suc number) lines))
+    ≡ slice_range text at line.stop
+    ++ (slice_range text line.stop line.next ++ held_text text (drop (suc number) lines))
 rest_in_line text lines number at line held there low high =
     let found = line_of text 0 lines number line held there in
     let bounds = bounds_of text line found.is in
@@ -252,11 +254,11 @@ is_over_at text lines spot line found there is place =
     let bounds = bounds_of text place.line known.is in
     let after = after_line text place.line (drop (suc spot.line) lines) known.is known.others in
     let content : (at : ℕ) → at < length (slice_range text spot.at stop)
-        → is_line_ending (get_or (slice_range text spot.at stop) at 0) ≡ false =
-        λ (at : ℕ) (less : at < length (slice_range text spot.at stop)).
-        let size = part_length text spot.at stop known.is.content.high in
-        ap is_line_ending (byte_of_part text spot.at stop at (omega (arith, less, size)))
-        ∙ known.is.content.content (spot.at + at) (omega (arith, place.low)) (omega (arith, less, size)) in
+    → is_line_ending (get_or (slice_range text spot.at stop) at 0) ≡ false =
+    λ (at : ℕ) (less : at < length (slice_range text spot.at stop)).
+    let size = part_length text spot.at stop known.is.content.high in
+    ap is_line_ending (byte_of_part text spot.at stop at (omega (arith, less, size)))
+    ∙ known.is.content.content (spot.at + at) (omega (arith, place.low)) (omega (arith, less, size)) in
     is ∙ (ap (λ (l : HeldLine). list_all is_space_or_tab (slice_range text spot.at l.stop)) same
     ∙ (sym (line_is_over (slice_range text spot.at stop)
     (slice_range text stop place.line.next ++ held_text text (drop (suc spot.line) lines)) after.over content)

@@ -1,23 +1,22 @@
 -- From a place in the lines of a paragraph past white space.
-use Rattle.std.proofs.Common.{◌≡◌, ℕ, zero, suc, ◌+◌, ◌-◌, ◌<◌, ◌≤◌, List, [], ◌∷◌, ◌++◌, Bool, true, false, ◌==◌, get_or}
-use Rattle.std.proofs.Common.{Option, Some, None, length, drop, take, refl, sym, ap, ◌∙◌, arith, slice_range, subst}
-use Rattle.std.proofs.Common.{slice_index, append_assoc, ⊎_elim, append-nil}
+use Rattle.std.proofs.Common.{◌≡◌, ℕ, zero, suc, ◌+◌, ◌-◌, ◌<◌, ◌≤◌, List, [], ◌∷◌, ◌++◌, Bool, true, false, ◌==◌}
+use Rattle.std.proofs.Common.{get_or}
+use Rattle.std.proofs.Common.{Some, length, drop, refl, sym, ap, ◌∙◌, arith, slice_range, subst}
 use Rattle.std.proofs.lemmas.Bool.{true≢false}
 use Rattle.std.proofs.lemmas.Bool.Decides.{nat_tests}
-use Rattle.std.proofs.lemmas.List.{drop-drop, drop_all, length-append, length-drop}
-use Rattle.std.proofs.lemmas.List.Sums.{prefix_len-le-length, prefix_len_passes, prefix_len_stops}
-use Rattle.std.proofs.lemmas.Option.{slice_get_within}
+use Rattle.std.proofs.lemmas.List.{drop_all, length-append, length-drop}
+use Rattle.std.proofs.lemmas.List.Sums.{prefix_len-le-length, prefix_len_passes}
 use Rattle.std.specs.List.{prefix_len, slice_get}
 use Rattle.std.specs.Str.{IsCharBoundary, IsUtf8}
 use Rattle.markdown_base.proofs.ByteListLemmas.{byte_of_part, part_length}
 use Rattle.markdown_scan.specs.LineStart.{is_line_over}
 use Rattle.markdown_lines.specs.DefinitionRules.{separation}
-use Rattle.markdown_lines.specs.HeldLines.{AreHeldFrom, AreHeldLines, IsHeldLine, held_text}
+use Rattle.markdown_lines.specs.HeldLines.{AreHeldFrom, IsHeldLine, held_text}
 use Rattle.markdown_lines.specs.HeldPlaces.{IsPast, IsPlace, count_before, count_to, rest_at}
 use Rattle.markdown_lines.specs.Lines.{ending_length, is_line_ending, is_space_or_tab}
 use Rattle.markdown_lines.specs.declared.definition.Spot.{Spot}
 use Rattle.markdown_lines.specs.declared.held_line.HeldLine.{HeldLine}
-use Rattle.markdown_lines.proofs.HeldLinesLemmas.{after_line, bounds_of, count_more, count_next, line_left, line_of}
+use Rattle.markdown_lines.proofs.HeldLinesLemmas.{after_line, bounds_of, count_more, count_next, line_left}
 use Rattle.markdown_lines.proofs.HeldLinesLemmas.{place_line, place_rest, same_line}
 use Rattle.markdown_lines.proofs.LinesLemmas.{past_ascii, space_ascii}
 use Rattle.markdown_lines.proofs.SeparationLemmas.{parts, parts_here, parts_over, separation_is}
@@ -167,7 +166,7 @@ next_of text from (first ∷ second ∷ lines) zero line next held there then_th
     let less : first.stop < length text =
     omega (arith, bounds.next, held.1.1.0, further.stop, further.next, further.within) in
     let some = some_ending (drop first.stop text) (line_left text first.stop is.content.high is.content.stops)
-        (omega (arith, less, length-drop first.stop text)) in
+    (omega (arith, less, length-drop first.stop text)) in
     subst (λ (l : HeldLine). HasNext text l next) same
     (subst (λ (l : HeldLine). HasNext text first l) also
     (record { is = held.1.1.1.0; ending = omega (arith, some, is.ends); after = held.1.1.0 }))
@@ -183,14 +182,14 @@ past_line text lines spot line next number there on after more place =
     let further : slice_get lines (suc spot.line) ≡ Some next = ap (slice_get lines) (sym on) ∙ after in
     let known = next_of text 0 lines spot.line place.line next place.held place.there further in
     let over : place.line.stop
-        ≤ spot.at + prefix_len is_space_or_tab (slice_range text spot.at place.line.stop) =
+    ≤ spot.at + prefix_len is_space_or_tab (slice_range text spot.at place.line.stop) =
     subst (λ (l : HeldLine). l.stop ≤ spot.at + prefix_len is_space_or_tab (slice_range text spot.at l.stop)) same
     more in
     let sep = separation_over text lines spot place over in
     let size = place.line.next - spot.at in
     let all : place.line.next ≡ spot.at + size = omega (arith, place.high, known.ending) in
     let apart : (next.start == spot.at) ≡ false =
-        unlike next.start spot.at (omega (arith, place.high, known.ending, known.after)) in
+    unlike next.start spot.at (omega (arith, place.high, known.ending, known.after)) in
     let some : (size == 0) ≡ false = unlike size 0 (omega (arith, place.high, known.ending)) in
     record {
       past = record {
@@ -223,7 +222,7 @@ pub past_all : (text : List ℕ) (lines : List HeldLine) (spot : Spot) (line : H
 past_all text lines spot line there last more place =
     let same = same_line text lines spot place line there in
     let over : place.line.stop
-        ≤ spot.at + prefix_len is_space_or_tab (slice_range text spot.at place.line.stop) =
+    ≤ spot.at + prefix_len is_space_or_tab (slice_range text spot.at place.line.stop) =
     subst (λ (l : HeldLine). l.stop ≤ spot.at + prefix_len is_space_or_tab (slice_range text spot.at l.stop)) same
     more in
     let sep = separation_over text lines spot place over in

@@ -1,24 +1,24 @@
 -- The lines of a label, joined up to one that closes it.
-use Rattle.std.proofs.Common.{◌≡◌, ◌≢◌, ℕ, zero, suc, ◌+◌, ◌-◌, ◌*◌, ◌<◌, ◌≤◌, List, [], ◌∷◌, ◌++◌, Bool, true, false}
-use Rattle.std.proofs.Common.{Option, Some, None, IfSome, length, drop, take, refl, sym, ap, ◌∙◌, arith, subst, ◌==◌, not}
-use Rattle.std.proofs.Common.{get_or, codes, append_assoc, append-nil, count_by, nat_le, ◌&&◌, ⊎_elim, slice_range}
-use Rattle.std.proofs.lemmas.Bool.{cases_lt, true≢false}
+use Rattle.std.proofs.Common.{◌≡◌, ℕ, suc, ◌+◌, ◌-◌, ◌<◌, ◌≤◌, List, [], ◌∷◌, ◌++◌, Bool, true, false}
+use Rattle.std.proofs.Common.{Option, Some, None, length, drop, take, refl, sym, ap, ◌∙◌, arith, subst, ◌==◌}
+use Rattle.std.proofs.Common.{get_or, append_assoc, append-nil, count_by, nat_le, ◌&&◌, ⊎_elim, slice_range}
+use Rattle.std.proofs.lemmas.Bool.{cases_lt}
 use Rattle.std.proofs.lemmas.Bool.Decides.{nat_tests}
-use Rattle.std.proofs.lemmas.List.{drop-drop, drop_all, length-append, take_all, take_more}
+use Rattle.std.proofs.lemmas.List.{drop_all, take_all, take_more}
 use Rattle.std.proofs.lemmas.List.Sums.{sum_by-append}
 use Rattle.std.proofs.lemmas.Str.{IsCharBoundary-before_ascii}
 use Rattle.std.specs.List.{list_any, slice_get}
 use Rattle.std.specs.Option.{option_map}
-use Rattle.std.specs.Prelude.{option_and_then, if◌then◌else◌, slice_index}
+use Rattle.std.specs.Prelude.{option_and_then, if◌then◌else◌}
 use Rattle.std.specs.Str.{IsCharBoundary, IsUtf8}
 use Rattle.markdown_base.proofs.ByteListLemmas.{byte_of_part, part_length}
-use Rattle.markdown_scan.specs.Backslash.{escapes_pipe, is_bare}
+use Rattle.markdown_scan.specs.Backslash.{is_bare}
 use Rattle.markdown_scan.specs.Label.{begins_character, fits_label, is_not_white_space, put_before, shown, with_shown}
 use Rattle.markdown_scan.specs.Label.{collapse_whitespace}
 use Rattle.markdown_lines.specs.HeldLabels.{IsDecided, LabelGoesOn, escaped_after, label_in, label_of}
 use Rattle.markdown_lines.specs.HeldLines.{IsBracketPlace}
-use Rattle.markdown_lines.specs.HeldLines.{AreHeldFrom, AreHeldLines, IsHeldLine, held_text}
-use Rattle.markdown_lines.specs.HeldPlaces.{IsLineRest, IsNextLine, IsPlace, count_before, count_to, rest_at}
+use Rattle.markdown_lines.specs.HeldLines.{IsHeldLine, held_text}
+use Rattle.markdown_lines.specs.HeldPlaces.{IsNextLine, IsPlace, count_before, rest_at}
 use Rattle.markdown_lines.specs.LineBytes.{IsPartOf}
 use Rattle.markdown_lines.specs.Lines.{is_line_ending}
 use Rattle.markdown_lines.specs.declared.definition.Spot.{Spot}
@@ -71,7 +71,7 @@ part_of_rest text lines from line part utf8 there is place =
     let bounds = bounds_of text line found.is in
     let low : line.start ≤ from.at = omega (arith, place.low, ap (λ (l : HeldLine). l.start) same) in
     let high : from.at ≤ line.next =
-        omega (arith, place.high, bounds.next, ap (λ (l : HeldLine). l.stop) same) in
+    omega (arith, place.high, bounds.next, ap (λ (l : HeldLine). l.stop) same) in
     let bytes = is.cut high place.boundary (end_boundary text line utf8 found.is) in
     record {
       rest = rest_is text 0 lines from.line from.at line place.held there low high
@@ -84,7 +84,7 @@ pub joined_decided : (text : List ℕ) (lines : List HeldLine) (joined part more
     → label_of (joined ++ part) ≡ label_of (drop 1 (held_text text lines))
 joined_decided text lines joined part more from so_far has decided =
     let whole : drop 1 (held_text text lines) ≡ (joined ++ part) ++ more =
-        so_far.whole ∙ (ap (λ (xs : List ℕ). joined ++ xs) has.rest ∙ sym (append_assoc joined part more)) in
+    so_far.whole ∙ (ap (λ (xs : List ℕ). joined ++ xs) has.rest ∙ sym (append_assoc joined part more)) in
     same_label (joined ++ part) (drop 1 (held_text text lines))
     (sym (ap (label_in false) whole ∙ decided_after joined part so_far.goes decided more))
 
@@ -95,7 +95,7 @@ pub joined_all : (text : List ℕ) (lines : List HeldLine) (joined part : List �
     → label_of (joined ++ part) ≡ label_of (drop 1 (held_text text lines))
 joined_all text lines joined part from so_far has last =
     let none : held_text text (drop (suc from.line) lines) ≡ [] =
-        ap (held_text text) (drop_all (suc from.line) lines (omega (arith, last))) in
+    ap (held_text text) (drop_all (suc from.line) lines (omega (arith, last))) in
     ap label_of (sym (so_far.whole
     ∙ ap (λ (xs : List ℕ). joined ++ xs) (has.rest ∙ (ap (λ (xs : List ℕ). part ++ xs) none ∙ append-nil part))))
 
@@ -148,7 +148,7 @@ pub joined_long : (text : List ℕ) (lines : List HeldLine) (joined part more : 
     → label_of (joined ++ part) ≡ label_of (drop 1 (held_text text lines))
 joined_long text lines joined part more from escaped utf8 long so_far has goes =
     let whole : drop 1 (held_text text lines) ≡ (joined ++ part) ++ more =
-        so_far.whole ∙ (ap (λ (xs : List ℕ). joined ++ xs) has.rest ∙ sym (append_assoc joined part more)) in
+    so_far.whole ∙ (ap (λ (xs : List ℕ). joined ++ xs) has.rest ∙ sym (append_assoc joined part more)) in
     let both = goes_on_both joined part escaped so_far.goes goes in
     ap label_of (sym (append-nil (joined ++ part)))
     ∙ (too_long (joined ++ part) escaped utf8 long both []
@@ -165,13 +165,13 @@ not_escaped text line at part is bytes low some =
     let less : last < length part = omega (arith, size, low, some) in
     let place : at + last ≡ line.next - 1 = omega (arith, low, some) in
     let byte : get_or part last 0 ≡ get_or text (line.next - 1) 0 =
-        ap (λ (xs : List ℕ). get_or xs last 0) bytes
-        ∙ (byte_of_part text at line.next last (omega (arith, low, some)) ∙ ap (λ n. get_or text n 0) place) in
+    ap (λ (xs : List ℕ). get_or xs last 0) bytes
+    ∙ (byte_of_part text at line.next last (omega (arith, low, some)) ∙ ap (λ n. get_or text n 0) place) in
     let ending = ending_byte text line is (line.next - 1) (omega (arith, some)) (omega (arith, some)) in
     let here : is_line_ending (get_or part last 0) ≡ true = ap is_line_ending byte ∙ ending in
     let all : last + 1 ≡ length part = omega (arith, size, low, some) in
     let cut : part ≡ take last part ++ get_or part last 0 ∷ [] =
-        sym (take_all (last + 1) part (omega (arith, all))) ∙ take_more part last 0 less in
+    sym (take_all (last + 1) part (omega (arith, all))) ∙ take_more part last 0 less in
     ap (escaped_after false) cut
     ∙ (escaped_more false (take last part) (get_or part last 0)
     ∙ plain (escaped_after false (take last part)) (get_or part last 0) here)
@@ -190,7 +190,7 @@ joins_next text lines joined part from line next utf8 there after is goes so_far
     let found = line_of text 0 lines from.line line place.held there in
     let bounds = bounds_of text line found.is in
     let further : slice_get lines (suc from.line) ≡ Some after.line =
-        ap (slice_get lines) (sym after.on) ∙ after.there in
+    ap (slice_get lines) (sym after.on) ∙ after.there in
     let known = next_of text 0 lines from.line line after.line place.held there further in
     let high : from.at ≤ line.stop = omega (arith, place.high, ap (λ (l : HeldLine). l.stop) same) in
     let bytes = is.cut (omega (arith, high, bounds.next)) place.boundary (end_boundary text line utf8 found.is) in
@@ -215,8 +215,8 @@ joins_first text lines at from utf8 on is =
     let further = past_ascii text at utf8 within (omega (arith, is.bracket)) in
     let none = start lines is.line is.there in
     let one : count_before lines 0 from ≡ 1 =
-        ap (count_before lines 0) ahead
-        ∙ (count_more lines 0 is.line.start 1 is.line is.there (omega arith) ∙ ap (λ n. n + 1) none) in
+    ap (count_before lines 0) ahead
+    ∙ (count_more lines 0 is.line.start 1 is.line is.there (omega arith) ∙ ap (λ n. n + 1) none) in
     record {
       place = record {
         held = is.held;

@@ -1,29 +1,26 @@
 -- The label of a definition: none where no colon can follow it, one in a line, or one in several.
-use Rattle.std.proofs.Common.{◌≡◌, ℕ, zero, suc, ◌+◌, ◌-◌, ◌<◌, ◌≤◌, List, [], ◌∷◌, ◌++◌, Bool, true, false, Option, Some}
-use Rattle.std.proofs.Common.{None, IfSome, length, drop, take, refl, sym, ap, ◌∙◌, arith, subst, ◌==◌, slice_range, codes}
-use Rattle.std.proofs.lemmas.Bool.{true≢false}
-use Rattle.std.proofs.lemmas.List.{drop-drop}
+use Rattle.std.proofs.Common.{◌≡◌, ℕ, ◌+◌, ◌<◌, ◌≤◌, List, [], ◌∷◌, ◌++◌, Bool, true, false, Option, Some}
+use Rattle.std.proofs.Common.{None, IfSome, length, drop, refl, sym, ap, ◌∙◌, arith, subst, slice_range, codes}
 use Rattle.std.specs.List.{slice_get}
 use Rattle.std.specs.Option.{option_map}
-use Rattle.std.specs.Prelude.{option_and_then, if◌then◌else◌, slice_index}
-use Rattle.std.specs.Str.{IsCharBoundary, IsUtf8}
+use Rattle.std.specs.Prelude.{if◌then◌else◌}
+use Rattle.std.specs.Str.{IsUtf8}
 use Rattle.markdown_scan.specs.Backslash.{is_bare}
 use Rattle.markdown_scan.specs.Beginnings.{begins_with}
-use Rattle.markdown_scan.specs.Label.{body, collapse_whitespace, fits_label, kept, label_bytes, link_label, put_before}
-use Rattle.markdown_scan.specs.Label.{refused, shown, with_shown}
+use Rattle.markdown_scan.specs.Label.{body, collapse_whitespace, fits_label, label_bytes, link_label, put_before}
+use Rattle.markdown_scan.specs.Label.{shown}
 use Rattle.markdown_scan.specs.LinePrefix.{ends_line}
 use Rattle.markdown_scan.specs.LineStart.{is_line_over}
 use Rattle.markdown_lines.specs.HeldLabels.{HasNoColon, IsLabelRead, label_in, label_of, label_read}
 use Rattle.markdown_lines.specs.HeldLines.{IsBracketPlace}
 use Rattle.markdown_lines.specs.HeldLines.{held_text}
-use Rattle.markdown_lines.specs.HeldPlaces.{IsPlace, rest_at}
 use Rattle.markdown_lines.specs.LineBytes.{IsPartOf}
 use Rattle.markdown_lines.specs.declared.definition.Label.{Label}
 use Rattle.markdown_lines.specs.declared.definition.Spot.{Spot}
 use Rattle.markdown_lines.specs.declared.held_line.HeldLine.{HeldLine}
 use Rattle.markdown_lines.proofs.HeldLabelsLemmas.{label_closes, label_more}
-use Rattle.markdown_lines.proofs.HeldLinesLemmas.{after_line, bounds_of, line_of, place_rest, same_line}
-use Rattle.markdown_lines.proofs.JoinedLabelLemmas.{JoinsLabel, joins_first, stop_boundary}
+use Rattle.markdown_lines.proofs.HeldLinesLemmas.{after_line, line_of, place_rest, same_line}
+use Rattle.markdown_lines.proofs.JoinedLabelLemmas.{joins_first, stop_boundary}
 
 -- the first line after the `[`, and what follows it
 pub record IsFirstLine (text : List ℕ) (lines : List HeldLine) (content more : List ℕ) : Type 0 where
@@ -45,8 +42,8 @@ first_line text lines at from line content utf8 on there is bracket =
     let bytes = is.cut high place.boundary (stop_boundary text line found.is) in
     let after = after_line text line (drop 1 lines) found.is found.others in
     let rest = place_rest text lines spot place
-        ∙ ap (λ (l : HeldLine). slice_range text from l.stop
-        ++ (slice_range text l.stop l.next ++ held_text text (drop 1 lines))) (sym same) in
+    ∙ ap (λ (l : HeldLine). slice_range text from l.stop
+    ++ (slice_range text l.stop l.next ++ held_text text (drop 1 lines))) (sym same) in
     record {
       whole = joins.whole
           ∙ (rest ∙ ap (λ (xs : List ℕ). xs ++ (slice_range text line.stop line.next ++ held_text text (drop 1 lines)))
@@ -109,7 +106,7 @@ in_one_line escaped (b ∷ content) more found is =
         let none : None ≡ Some found = sym (rw (p, q, r) refl) ∙ is in cc
     by inside false false false p q r =
         let goes : put_before 1 (b ∷ []) (body (is_bare escaped b 92) (label_bytes one_line 0 content)) ≡ Some found =
-            sym (rw (p, q, r) refl) ∙ is in
+        sym (rw (p, q, r) refl) ∙ is in
         label_more escaped b (content ++ more) p q
         ∙ inner inside (body (is_bare escaped b 92) (label_bytes one_line 0 content)) refl goes
 

@@ -1,18 +1,12 @@
 -- The white space between the parts of a definition, in lines that are joined.
-use Rattle.std.proofs.Common.{◌≡◌, ℕ, zero, suc, ◌+◌, ◌-◌, ◌<◌, ◌≤◌, List, [], ◌∷◌, ◌++◌, Bool, true, false, ◌==◌, ◌&&◌, get_or}
-use Rattle.std.proofs.Common.{Option, Some, None, length, drop, take, refl, sym, ap, ◌∙◌, arith, cond, nat_eq, unwrap_or}
+use Rattle.std.proofs.Common.{◌≡◌, ℕ, suc, ◌+◌, ◌<◌, ◌≤◌, List, [], ◌∷◌, ◌++◌, Bool, true, false, ◌==◌, ◌&&◌, get_or}
+use Rattle.std.proofs.Common.{length, drop, refl, sym, ap, ◌∙◌, arith, cond, unwrap_or}
 use Rattle.std.proofs.lemmas.Bool.Decides.{nat_tests}
-use Rattle.std.proofs.lemmas.List.{drop_at, drop-append-le}
-use Rattle.std.proofs.lemmas.List.Sums.{prefix_len-le-length}
 use Rattle.std.specs.List.{list_all, prefix_len}
-use Rattle.std.specs.Prelude.{option_and_then, if◌then◌else◌}
-use Rattle.std.specs.Option.{option_map, option_or}
-use Rattle.markdown_raw_html.specs.HtmlTag.{all, both, byte, either, is_of, is_tag_blank, line_end, one, optional}
-use Rattle.markdown_raw_html.specs.HtmlTag.{white_space}
-use Rattle.markdown_scan.specs.LineEnd.{begins_line_feed, line_ending}
+use Rattle.markdown_raw_html.specs.HtmlTag.{all, both, either, is_tag_blank, line_end, one, optional}
 use Rattle.markdown_scan.specs.LineStart.{is_line_over}
 use Rattle.markdown_lines.specs.DefinitionRules.{ends_its_line, separation}
-use Rattle.markdown_lines.specs.Lines.{ending_length, is_line_ending, is_space_or_tab, length_of_ending}
+use Rattle.markdown_lines.specs.Lines.{ending_length, is_line_ending, is_space_or_tab}
 
 -- a space or a tab, however it is asked
 blank_is : (b : ℕ) → is_tag_blank b ≡ is_space_or_tab b
@@ -134,8 +128,8 @@ parts_here (b ∷ content) after less other =
         let ending = ending_none b (content ++ after) here in
         let white = white_none b (content ++ after) is in
         let step : ending_length (b ∷ content ++ after)
-            + prefix_len is_space_or_tab (drop (ending_length (b ∷ content ++ after)) (b ∷ content ++ after))
-            ≡ 0 + prefix_len is_space_or_tab (b ∷ content ++ after) =
+        + prefix_len is_space_or_tab (drop (ending_length (b ∷ content ++ after)) (b ∷ content ++ after))
+        ≡ 0 + prefix_len is_space_or_tab (b ∷ content ++ after) =
         ap (λ n. n + prefix_len is_space_or_tab (drop n (b ∷ content ++ after))) ending in
         ap (λ n. parts_by n (b ∷ content ++ after)) white ∙ (omega (arith, step, white, none))
 
@@ -144,7 +138,7 @@ pub parts_over : (content after : List ℕ) (size : ℕ) → length content ≤ 
     → IsAfterLine after size → parts (content ++ after) ≡ length content + size
 parts_over [] after size white line =
     let step : ending_length after + prefix_len is_space_or_tab (drop (ending_length after) after)
-        ≡ size + prefix_len is_space_or_tab (drop size after) =
+    ≡ size + prefix_len is_space_or_tab (drop size after) =
     ap (λ n. n + prefix_len is_space_or_tab (drop n after)) line.ending in
     ap (λ n. parts_by n after) (over_no_white after line.over) ∙ (omega (arith, step, line.white))
 parts_over (b ∷ content) after size white line =

@@ -20,12 +20,13 @@ use Rattle.markdown_lines.specs.HeldLines.{IsHeldLine, held_text}
 use Rattle.markdown_lines.specs.Lines.{ending_length}
 use Rattle.markdown_lines.specs.declared.definition.Spot.{Spot}
 use Rattle.markdown_lines.specs.declared.held_line.HeldLine.{HeldLine}
-use Rattle.std.proofs.Common.{◌≡◌, ℕ, zero, suc, ◌+◌, ◌-◌, ◌<◌, ◌≤◌, List, [], ◌∷◌, ◌++◌, Bool, true, false, ◌==◌, get_or}
+use Rattle.std.proofs.Common.{◌≡◌, ℕ, zero, suc, ◌+◌, ◌-◌, ◌<◌, ◌≤◌, List, [], ◌∷◌, ◌++◌, Bool, true, false, ◌==◌}
+use Rattle.std.proofs.Common.{get_or}
 use Rattle.std.proofs.Common.{Option, Some, None, length, drop, take, refl, sym, ap, ◌∙◌, arith, slice_range, subst}
-use Rattle.std.proofs.Common.{slice_index, append_assoc, ⊎_elim, append-nil}
+use Rattle.std.proofs.Common.{slice_index, ⊎_elim}
 use Rattle.std.proofs.lemmas.Bool.{true≢false}
 use Rattle.std.proofs.lemmas.Bool.Decides.{nat_tests}
-use Rattle.std.proofs.lemmas.List.{drop_all, drop_more}
+use Rattle.std.proofs.lemmas.List.{drop_all}
 use Rattle.std.specs.Prelude.{◌&&◌}
 use Rattle.std.specs.Option.{option_map}
 use Rattle.markdown_scan.specs.Backslash.{is_bare}
@@ -174,7 +175,7 @@ text_over text line is none =
     ⊎_elim
     (λ (less : line.stop < length text).
     let some = some_ending (drop line.stop text) (line_left text line.stop is.content.high is.content.stops)
-        (omega (arith, less, length-drop line.stop text)) in
+    (omega (arith, less, length-drop line.stop text)) in
     absurd (omega (arith, some, none, is.ends)))
     (λ (all : length text ≤ line.stop). all) (cases_lt line.stop (length text))
 
@@ -185,7 +186,7 @@ first_byte text lines spot place =
     let known = place_line text lines spot place in
     let bounds = bounds_of text place.line known.is in
     let rest = rest_is text 0 lines spot.line spot.at place.line place.held place.there place.low
-        (omega (arith, place.high, bounds.next)) in
+    (omega (arith, place.high, bounds.next)) in
     ⊎_elim
     (λ (less : spot.at < place.line.next).
     let within : spot.at < length text = omega (arith, less, bounds.within) in
@@ -198,8 +199,8 @@ first_byte text lines spot place =
     let last : length text ≤ place.line.stop = text_over text place.line known.is no_ending in
     let empty = last_line text place.line (drop (suc spot.line) lines) known.is known.others last in
     let part : slice_range text spot.at place.line.next ≡ [] =
-        ap (take (place.line.next - spot.at)) (drop_all spot.at text (omega (arith, last, none, no_ending)))
-        ∙ take-nil (place.line.next - spot.at) in
+    ap (take (place.line.next - spot.at)) (drop_all spot.at text (omega (arith, last, none, no_ending)))
+    ∙ take-nil (place.line.next - spot.at) in
     slice_get_past text spot.at (omega (arith, last, none, no_ending))
     ∙ ap (λ (xs : List ℕ). slice_get xs 0)
     (sym (rest ∙ (ap (λ (xs : List ℕ). xs ++ held_text text (drop (suc spot.line) lines)) part ∙ empty))))
@@ -240,21 +241,21 @@ reads_first text lines spot b close at utf8 is mark on place =
     let within = slice_get_within text spot.at b is in
     let byte : get_or text spot.at 0 ≡ b = cc_some (sym (byte_there text spot.at within) ∙ is) in
     let inside : spot.at < place.line.stop =
-        ⊎_elim (λ (less : spot.at < place.line.stop). less)
-        (λ (past : place.line.stop ≤ spot.at).
-        let same : place.line.stop ≡ spot.at = omega (arith, past, place.high) in
-        let ends = known.is.content.stops (omega (arith, same, within)) in
-        let here : is_line_ending b ≡ true =
-        ap is_line_ending (sym byte) ∙ (ap (λ n. is_line_ending (get_or text n 0)) (sym same) ∙ ends) in
-        absurd (true≢false (sym here ∙ marks.here)))
-        (cases_lt spot.at place.line.stop) in
+    ⊎_elim (λ (less : spot.at < place.line.stop). less)
+    (λ (past : place.line.stop ≤ spot.at).
+    let same : place.line.stop ≡ spot.at = omega (arith, past, place.high) in
+    let ends = known.is.content.stops (omega (arith, same, within)) in
+    let here : is_line_ending b ≡ true =
+    ap is_line_ending (sym byte) ∙ (ap (λ n. is_line_ending (get_or text n 0)) (sym same) ∙ ends) in
+    absurd (true≢false (sym here ∙ marks.here)))
+    (cases_lt spot.at place.line.stop) in
     let rest = split_first (rest_at text lines spot) b (sym (first_byte text lines spot place) ∙ is) in
     let one = count_more lines spot.line spot.at 1 place.line place.there place.low in
     let opened = past_ascii text spot.at utf8 within (omega (arith, byte, marks.low)) in
     let next : drop 1 (rest_at text lines spot)
-        ≡ rest_at text lines (record { line = spot.line; at = spot.at + 1 }) =
-        drop-drop 1 (count_to lines spot) (held_text text lines)
-        ∙ ap (λ n. drop n (held_text text lines)) (sym one) in
+    ≡ rest_at text lines (record { line = spot.line; at = spot.at + 1 }) =
+    drop-drop 1 (count_to lines spot) (held_text text lines)
+    ∙ ap (λ n. drop n (held_text text lines)) (sym one) in
     subst (λ n. Reads text lines spot close (record { line = spot.line; at = n })) (sym on)
     (record {
       begins = place;
@@ -338,25 +339,25 @@ title_closes text lines spot close from line before at utf8 there found on reads
     let here = found (slice_range text line.stop line.next ++ held_text text (drop (suc from.line) lines)) in
     let size = part_length text from.at place.line.stop known.is.content.high in
     let less : before < place.line.stop - from.at =
-        omega (arith, here.0, size, ap (λ (l : HeldLine). length (slice_range text from.at l.stop)) same) in
+    omega (arith, here.0, size, ap (λ (l : HeldLine). length (slice_range text from.at l.stop)) same) in
     let within : from.at + before < length text = omega (arith, less, known.is.content.high) in
     let byte : get_or text (from.at + before) 0 ≡ close =
-        sym (byte_of_part text from.at place.line.stop before less)
-        ∙ (ap (λ (l : HeldLine). get_or (slice_range text from.at l.stop) before 0) (sym same) ∙ here.1.0) in
+    sym (byte_of_part text from.at place.line.stop before less)
+    ∙ (ap (λ (l : HeldLine). get_or (slice_range text from.at l.stop) before 0) (sym same) ∙ here.1.0) in
     let low : get_or text (from.at + before) 0 < 128 = omega (arith, byte, reads.ascii) in
     let length_is : title_length close false (rest_at text lines from) ≡ Some before =
-        ap (title_length close false) (content_left text lines from line there place) ∙ here.1.1 in
+    ap (title_length close false) (content_left text lines from line there place) ∙ here.1.1 in
     let ends : option_map (λ n. count_to lines first + n) (title_length close false (rest_at text lines first))
-        ≡ Some (count_to lines from + before) =
-        sym reads.ends ∙ ap (option_map (λ n. count_to lines from + n)) length_is in
+    ≡ Some (count_to lines from + before) =
+    sym reads.ends ∙ ap (option_map (λ n. count_to lines from + n)) length_is in
     let size_is = added_some (count_to lines first) (count_to lines from + before)
-        (title_length close false (rest_at text lines first)) ends in
+    (title_length close false (rest_at text lines first)) ends in
     let back : from.at + before ≡ at - 1 = omega (arith, on) in
     let further : from.at + before + 1 ≡ at = omega (arith, on) in
     let more : from.at + (before + 1) ≡ at = omega (arith, on) in
     let counted = count_more lines from.line from.at (before + 1) place.line place.there place.low in
     let to : count_before lines from.line at ≡ count_to lines from + (before + 1) =
-        ap (count_before lines from.line) (sym more) ∙ counted in
+    ap (count_before lines from.line) (sym more) ∙ counted in
     record {
       begins = reads.begins;
       inside = reads.inside;
@@ -401,18 +402,18 @@ goes_past text lines close from line there other goes place =
     let after = after_line text line (drop (suc from.line) lines) known.is known.others in
     let taken : line.next - line.stop ≡ ending_length (drop line.stop text) = omega (arith, known.is.ends) in
     let passes : list_all is_line_ending ending ≡ true =
-        ap (λ n. list_all is_line_ending (take n (drop line.stop text))) taken
-        ∙ ending_bytes (drop line.stop text)
-        (line_left text line.stop known.is.content.high known.is.content.stops) in
+    ap (λ n. list_all is_line_ending (take n (drop line.stop text))) taken
+    ∙ ending_bytes (drop line.stop text)
+    (line_left text line.stop known.is.content.high known.is.content.stops) in
     let high : from.at ≤ line.stop = omega (arith, place.high, ap (λ (l : HeldLine). l.stop) same) in
     let whole : length content + length ending ≡ line.next - from.at =
-        omega (
-          arith,
-          part_length text from.at line.stop known.is.content.high,
-          part_length text line.stop line.next bounds.within,
-          bounds.next,
-          high,
-        ) in
+    omega (
+      arith,
+      part_length text from.at line.stop known.is.content.high,
+      part_length text line.stop line.next bounds.within,
+      bounds.next,
+      high,
+    ) in
     ap (title_length close false) (content_left text lines from line there place)
     ∙ (goes (ending ++ more) other after.over
     ∙ (ap (option_map (λ n. length content + n)) (over_ending close ending more other passes)
@@ -446,28 +447,28 @@ reads_next text lines spot close from line after there goes next reads =
     let known = next_of text 0 lines from.line line next.line place.held there further in
     let bounds = line_of text 0 lines from.line line place.held there in
     let begins : count_to lines after ≡ count_before lines from.line line.next =
-        ap (λ n. count_before lines after.line n) next.starts
-        ∙ (ap (λ n. count_before lines n next.line.start) next.on
-        ∙ count_next text 0 lines from.line line next.line there further) in
+    ap (λ n. count_before lines after.line n) next.starts
+    ∙ (ap (λ n. count_before lines n next.line.start) next.on
+    ∙ count_next text 0 lines from.line line next.line there further) in
     let low : line.start ≤ from.at = omega (arith, place.low, ap (λ (l : HeldLine). l.start) same) in
     let high : from.at ≤ line.stop = omega (arith, place.high, ap (λ (l : HeldLine). l.stop) same) in
     let all : line.next ≡ from.at + (line.next - from.at) = omega (arith, high, known.ending) in
     let counted : count_before lines from.line line.next ≡ count_to lines from + (line.next - from.at) =
-        ap (count_before lines from.line) all
-        ∙ count_more lines from.line from.at (line.next - from.at) line there low in
+    ap (count_before lines from.line) all
+    ∙ count_more lines from.line from.at (line.next - from.at) line there low in
     let more = held_text text (drop (suc from.line) lines) in
     let none : line.next - line.next ≡ 0 = omega arith in
     let left : rest_at text lines after ≡ more =
-        ap (λ n. drop n (held_text text lines)) begins
-        ∙ (rest_is text 0 lines from.line line.next line place.held there (omega (arith, low, high, known.ending))
-        (omega arith)
-        ∙ ap (λ n. take n (drop line.next text) ++ more) none) in
+    ap (λ n. drop n (held_text text lines)) begins
+    ∙ (rest_is text 0 lines from.line line.next line place.held there (omega (arith, low, high, known.ending))
+    (omega arith)
+    ∙ ap (λ n. take n (drop line.next text) ++ more) none) in
     let ends : title_ends text lines close after ≡ title_ends text lines close from =
-        ap (λ (xs : List ℕ). option_map (λ n. count_to lines after + n) (title_length close false xs)) left
-        ∙ (ap (λ count. option_map (λ n. count + n) (title_length close false more)) (begins ∙ counted)
-        ∙ (sym (map_twice (count_to lines from) (line.next - from.at) (title_length close false more))
-        ∙ ap (option_map (λ n. count_to lines from + n))
-        (sym (goes_past text lines close from line there reads.other goes place)))) in
+    ap (λ (xs : List ℕ). option_map (λ n. count_to lines after + n) (title_length close false xs)) left
+    ∙ (ap (λ count. option_map (λ n. count + n) (title_length close false more)) (begins ∙ counted)
+    ∙ (sym (map_twice (count_to lines from) (line.next - from.at) (title_length close false more))
+    ∙ ap (option_map (λ n. count_to lines from + n))
+    (sym (goes_past text lines close from line there reads.other goes place)))) in
     record {
       begins = reads.begins;
       inside = reads.inside;

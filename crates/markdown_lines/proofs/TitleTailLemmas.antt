@@ -1,16 +1,14 @@
 -- What follows a destination: a title, or nothing in its line.
-use Rattle.std.proofs.Common.{◌≡◌, ℕ, zero, suc, ◌+◌, ◌-◌, ◌<◌, ◌≤◌, List, [], ◌∷◌, ◌++◌, Bool, true, false, ◌==◌}
-use Rattle.std.proofs.Common.{Option, Some, None, length, drop, take, refl, sym, ap, ◌∙◌, arith}
+use Rattle.std.proofs.Common.{◌≡◌, ℕ, ◌+◌, ◌-◌, List, [], Bool, true, false, ◌==◌}
+use Rattle.std.proofs.Common.{Some, None, drop, take, refl, sym, ap, ◌∙◌, arith}
 use Rattle.std.proofs.Common.{◌≢◌}
 use Rattle.std.proofs.lemmas.Bool.Decides.{nat_tests}
 use Rattle.std.proofs.lemmas.List.{drop-drop}
 use Rattle.std.specs.Prelude.{option_and_then, if◌then◌else◌}
-use Rattle.std.specs.Option.{option_map}
 use Rattle.markdown_lines.specs.DefinitionRules.{ends_its_line, separation, title_tail, titled}
-use Rattle.markdown_lines.specs.DefinitionRules as rules
 use Rattle.markdown_lines.specs.HeldLines.{held_text}
-use Rattle.markdown_lines.specs.HeldPlaces.{IsPast, IsPlace, count_to, rest_at}
-use Rattle.markdown_lines.specs.HeldTitles.{IsTail, IsTitle, tail_found, title_between, title_size}
+use Rattle.markdown_lines.specs.HeldPlaces.{IsPast, count_to, rest_at}
+use Rattle.markdown_lines.specs.HeldTitles.{IsTail, IsTitle, tail_found, title_size}
 use Rattle.markdown_lines.specs.declared.definition.Spot.{Spot}
 use Rattle.markdown_lines.specs.declared.definition.Tail.{Tail}
 use Rattle.markdown_lines.specs.declared.held_line.HeldLine.{HeldLine}
@@ -66,7 +64,7 @@ titled_is text lines after title end over past is found ends =
     let rest = rest_past text lines after title before past.count in
     let left = rest_past text lines title end (found.size + 2) (omega (arith, found.count)) in
     let test : ends_its_line (drop (found.size + 2) (rest_at text lines title)) ≡ over =
-        ap ends_its_line (sym left) ∙ sym ends in
+    ap ends_its_line (sym left) ∙ sym ends in
     tail_is (rest_at text lines after) (rest_at text lines title) is (sym rest)
     ∙ (ap (option_and_then (titled before (rest_at text lines title))) found.title
     ∙ ap (λ (t : Bool). if t then Some (record {
@@ -95,7 +93,7 @@ pub tail_titled : (text : List ℕ) (lines : List HeldLine) (after title end : S
 tail_titled text lines after title end past is found ends =
     let before = separation (rest_at text lines after) in
     let size : count_to lines end - count_to lines after ≡ before + found.size + 2 =
-        omega (arith, found.count, past.count) in
+    omega (arith, found.count, past.count) in
     let inner : count_to lines end - count_to lines title - 2 ≡ found.size = omega (arith, found.count) in
     record {
       value = sym (titled_is text lines after title end true past is found ends

@@ -1,12 +1,11 @@
 -- The label of a definition in the lines of a paragraph, for private clauses: labels are defined in `Label`.
-use Rattle.std.specs.Prelude.{◌≡◌, ℕ, Bool, false, ◌==◌, List, [], ◌∷◌, ◌++◌, Option, Some, None, drop, codes, length}
+use Rattle.std.specs.Prelude.{◌≡◌, ℕ, Bool, false, List, [], ◌∷◌, ◌++◌, Option, Some, None, drop, codes, length}
 use Rattle.std.specs.Prelude.{IfSome, if◌then◌else◌, ◌+◌}
 use Rattle.markdown_base.specs.Bytes.{backslash}
 use Rattle.markdown_base.specs.CowText.{text_of}
 use Rattle.markdown_scan.specs.Backslash.{is_bare}
 use Rattle.markdown_scan.specs.Beginnings.{begins_with}
 use Rattle.markdown_scan.specs.Label.{body, label_bytes, link_label, put_before}
-use Rattle.markdown_scan.specs.LineStart.{is_line_over}
 use Rattle.markdown_lines.specs.DefinitionRules.{no_prefix}
 use Rattle.markdown_lines.specs.declared.definition.Label.{Label}
 

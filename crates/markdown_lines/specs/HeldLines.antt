@@ -40,9 +40,9 @@ pub record IsBracketPlace (text : List ℕ) (lines : List HeldLine) (at : ℕ) :
   pub bracket : slice_index text at ≡ open_bracket
 
 -- these lines are those of a source: they begin where the others do, and so do the lines after them
-abbrev pub AreLinesOf : List HeldLine → List SourceLine → Type 0
-AreLinesOf [] [] = Unit
-AreLinesOf [] (source ∷ sources) = ⊥
-AreLinesOf (line ∷ lines) [] = ⊥
-AreLinesOf (line ∷ lines) (source ∷ sources) =
-    (line.start ≡ source.left.scanned) × ((line.next ≡ source.next) × AreLinesOf lines sources)
+abbrev pub AreLinesOfSource : List HeldLine → List SourceLine → Type 0
+AreLinesOfSource [] [] = Unit
+AreLinesOfSource [] (source ∷ sources) = ⊥
+AreLinesOfSource (line ∷ lines) [] = ⊥
+AreLinesOfSource (line ∷ lines) (source ∷ sources) =
+    (line.start ≡ source.left.scanned) × ((line.next ≡ source.next) × AreLinesOfSource lines sources)

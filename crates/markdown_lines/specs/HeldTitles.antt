@@ -1,5 +1,6 @@
 -- The title of a definition in the lines of a paragraph, for private clauses: titles are defined in `DefinitionRules`.
-use Rattle.std.specs.Prelude.{◌≡◌, ℕ, ◌+◌, ◌-◌, ◌<◌, ◌≤◌, false, true, List, ◌++◌, Option, Some, None, IfSome, drop, take, length, slice_index}
+use Rattle.std.specs.Prelude.{◌≡◌, ℕ, ◌+◌, ◌-◌, ◌<◌, ◌≤◌, false, true, List, ◌++◌, Option, Some, None, IfSome, drop}
+use Rattle.std.specs.Prelude.{take, length, slice_index}
 use Rattle.std.specs.Prelude.{option_and_then}
 use Rattle.std.specs.Option.{option_map}
 use Rattle.std.specs.Borrow.{Bor}

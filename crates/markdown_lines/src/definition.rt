@@ -8,7 +8,7 @@ ghost use Rattle.markdown_scan.specs.LineStart.{is_line_over};
 ghost use Rattle.markdown_scan.specs.declared.entity.EntityNames.{EntityNames};
 ghost use Rattle.markdown_lines.specs.DefinitionRules.{with_label};
 ghost use Rattle.markdown_lines.specs.HeldDefinitions.{IsFirstDefinition};
-ghost use Rattle.markdown_lines.specs.HeldLines.{AreHeldLines, AreLinesOf, held_text};
+ghost use Rattle.markdown_lines.specs.HeldLines.{AreHeldLines, AreLinesOfSource, held_text};
 ghost use Rattle.markdown_lines.specs.SourceLines.{SourceLine};
 ghost use Rattle.markdown_lines.specs.HeldLabels.{IsDecided, LabelGoesOn, escaped_after, label_of};
 ghost use Rattle.markdown_lines.specs.HeldLines.{IsBracketPlace};
@@ -20,7 +20,8 @@ ghost use Rattle.markdown_base.specs.CowText.{text_of};
 ghost use Rattle.markdown_scan.specs.Unescape.{unescaped};
 ghost use Rattle.markdown_lines.specs.DefinitionRules.{closing_mark, ends_its_line, separation, tail_of, title_tail};
 ghost use Rattle.markdown_lines.specs.HeldPlaces.{IsEnd, IsNextLine, IsPast, IsPlace, count_to, rest_at};
-ghost use Rattle.markdown_lines.specs.HeldPlaces.{IsBetween, IsLineRest, destination_found, held_between, some_destination};
+ghost use Rattle.markdown_lines.specs.HeldPlaces.{IsBetween, IsLineRest, destination_found, held_between};
+ghost use Rattle.markdown_lines.specs.HeldPlaces.{some_destination};
 ghost use Rattle.markdown_lines.specs.HeldTitles.{IsTail, IsTitle, TitleGoesOn, tail_found, title_between};
 ghost use Rattle.markdown_lines.specs.HeldTitles.{title_size};
 
@@ -69,7 +70,7 @@ struct Tail {
 fn past_space(text: &str, lines: &[HeldLine], spot: Spot) -> Option<Spot>
     ensures value { IsPlace text.now lines.now spot → MatchOption result
         (drop (separation (rest_at text.now lines.now spot)) (rest_at text.now lines.now spot) ≡ [])
-        (λ after. IsPast text.now lines.now spot (separation (rest_at text.now lines.now spot)) after) }
+        (IsPast text.now lines.now spot (separation (rest_at text.now lines.now spot))) }
     ensures moved { IsPlace text.now lines.now spot → IfSome result
         (λ after. (after.at == spot.at) ≡ (separation (rest_at text.now lines.now spot) == 0)) }
 {
@@ -90,7 +91,8 @@ fn past_space(text: &str, lines: &[HeldLine], spot: Spot) -> Option<Spot>
 
 /// Returns whether the rest of the line after a spot is spaces and tabs.
 fn is_at_end(text: &str, lines: &[HeldLine], spot: Spot) -> bool
-    ensures { IsPlace text.now lines.now spot → result ≡ ends_its_line (rest_at text.now lines.now spot) }
+    ensures { IsPlace text.now lines.now spot
+        → result ≡ ends_its_line (rest_at text.now lines.now spot) }
 {
     match lines.get(spot.line) {
         Some(line) => is_white(bytes_of(text, spot.at, line.stop)),
@@ -183,7 +185,8 @@ fn long_label(
 /// Returns false only where the bytes after a `[` show that no definition begins there: the first bracket after it in
 /// its line opens another label, or no colon follows it. This is so in most paragraphs that begin with a link.
 fn may_define(content: &[u8]) -> bool
-    ensures { result ≡ false → (more : List ℕ) → is_line_over more ≡ true → HasNoColon false (content.now ++ more) }
+    ensures { result ≡ false → (more : List ℕ) → is_line_over more ≡ true
+        → HasNoColon false (content.now ++ more) }
 {
     let mut escaped = false;
     for at in 0..content.len() {
@@ -230,8 +233,9 @@ fn any_label<'a>(
 
 /// Returns the spot after so many bytes of the lines' text, before another byte of it.
 fn spot_after(lines: &[HeldLine], count: usize) -> Option<Spot>
-    ensures { (text : List ℕ) → length text < 2 ^ 64 → AreHeldLines text lines.now → MatchOption result
-        (drop count (held_text text lines.now) ≡ []) (IsSpotAfter lines.now count) }
+    ensures { (text : List ℕ) → length text < 2 ^ 64 → AreHeldLines text lines.now
+        → MatchOption result (drop count (held_text text lines.now) ≡ [])
+        (IsSpotAfter lines.now count) }
 {
     let mut number = 0;
     let mut left = count;
@@ -349,8 +353,10 @@ fn title_end(text: &str, lines: &[HeldLine], spot: Spot) -> Option<Spot>
 /// Returns what follows a destination that ends before a spot, where it is a title and the line then ends.
 fn title_tail(text: &str, lines: &[HeldLine], after: Spot) -> Option<Tail>
     ensures value { IsPlace text.now lines.now after
-        → option_map (tail_found text.now lines.now after) result ≡ title_tail (rest_at text.now lines.now after) }
-    ensures ends { IsPlace text.now lines.now after → IfSome result (IsTail text.now lines.now after) }
+        → option_map (tail_found text.now lines.now after) result
+        ≡ title_tail (rest_at text.now lines.now after) }
+    ensures ends { IsPlace text.now lines.now after
+        → IfSome result (IsTail text.now lines.now after) }
 {
     let title = past_space(text, lines, after)?;
     if title.at == after.at {
@@ -369,8 +375,10 @@ fn title_tail(text: &str, lines: &[HeldLine], after: Spot) -> Option<Tail>
 /// Returns what follows a destination that ends before a spot: a title, or nothing in its line.
 fn tail_after(text: &str, lines: &[HeldLine], after: Spot) -> Option<Tail>
     ensures value { IsPlace text.now lines.now after
-        → option_map (tail_found text.now lines.now after) result ≡ tail_of (rest_at text.now lines.now after) }
-    ensures ends { IsEnd text.now lines.now after → IfSome result (IsTail text.now lines.now after) }
+        → option_map (tail_found text.now lines.now after) result
+        ≡ tail_of (rest_at text.now lines.now after) }
+    ensures ends { IsEnd text.now lines.now after
+        → IfSome result (IsTail text.now lines.now after) }
 {
     match title_tail(text, lines, after) {
         Some(found) => Some(found),
@@ -384,7 +392,8 @@ fn tail_after(text: &str, lines: &[HeldLine], after: Spot) -> Option<Tail>
 
 /// Returns the rest of a line from a spot on, and the spot at the beginning of the next line, or `None` in the last one.
 fn rest_of_line<'a>(text: &'a str, lines: &[HeldLine], from: Spot) -> Option<(&'a str, Spot)>
-    ensures value { IsPlace text.now lines.now from → MatchOption result (length lines.now ≤ from.line + 1)
+    ensures value { IsPlace text.now lines.now from → MatchOption result
+        (length lines.now ≤ from.line + 1)
         (λ found. IsLineRest text.now lines.now from found.0.now found.1) }
     ensures on { IfSome result (λ found. found.1.line ≡ from.line + 1) }
 {
@@ -426,7 +435,8 @@ fn title_text<'a>(
     names: EntityNames,
 ) -> Result<CowStr<'a>, AllocError>
     ensures { IfOk result (λ made. IsTitle text.now lines.now title.opening title.end
-        → text_of made ≡ unescaped names false (title_between text.now lines.now title.opening title.end)) }
+        → text_of made ≡ unescaped names false
+        (title_between text.now lines.now title.opening title.end)) }
 {
     let from = Spot {
         line: title.opening.line,
@@ -446,7 +456,8 @@ fn title_text<'a>(
 /// Returns the destination at a spot, and the spot after it.
 fn destination_at<'a>(text: &'a str, start: Spot) -> Option<(&'a str, Spot)>
     ensures value { (lines : List HeldLine) → IsPlace text.now lines start
-        → option_map (destination_found lines start) result ≡ some_destination (rest_at text.now lines start) }
+        → option_map (destination_found lines start) result
+        ≡ some_destination (rest_at text.now lines start) }
     ensures ends { (lines : List HeldLine) → IsPlace text.now lines start → IfSome result
         (λ found. IsEnd text.now lines found.1 × (count_to lines start ≤ count_to lines found.1)) }
 {
@@ -466,7 +477,8 @@ fn destination_at<'a>(text: &'a str, start: Spot) -> Option<(&'a str, Spot)>
 
 /// Returns what follows a label of this length, and its colon: the destination, and what follows that.
 fn after_label<'a>(text: &'a str, lines: &[HeldLine], length: usize) -> Option<(&'a str, Tail)>
-    ensures value { (names : EntityNames) (label : List ℕ) → length + 1 < 2 ^ 64 → AreHeldLines text.now lines.now
+    ensures value { (names : EntityNames) (label : List ℕ) → length + 1 < 2 ^ 64
+        → AreHeldLines text.now lines.now
         → option_map (defined_by text.now lines.now names label) result
         ≡ with_label names (held_text text.now lines.now) (length, label) }
     ensures ends { length + 1 < 2 ^ 64 → AreHeldLines text.now lines.now → IfSome result
@@ -489,8 +501,9 @@ pub fn read_definition<'a>(
     at: usize,
     names: EntityNames,
 ) -> Result<Option<Definition<'a>>, AllocError>
-    ensures { IfOk result (λ found. (sources : List SourceLine) → AreLinesOf lines.now sources
-        → IsBracketPlace text.now lines.now at → IsFirstDefinition names text.now sources at found) }
+    ensures { IfOk result (λ found. (sources : List SourceLine) → AreLinesOfSource lines.now sources
+        → IsBracketPlace text.now lines.now at
+        → IsFirstDefinition names text.now sources at found) }
 {
     let Some(label) = any_label(alloc, text, lines, at)? else {
         return Ok(None);

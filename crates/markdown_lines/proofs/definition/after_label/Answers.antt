@@ -1,5 +1,5 @@
 -- A colon, white space, a destination, and what follows that.
-use Rattle.std.proofs.Common.{◌≡◌, ◌∙◌, sym, ap, arith, subst, List, ℕ, ◌+◌, ◌<◌, ◌^◌}
+use Rattle.std.proofs.Common.{◌≡◌, ◌∙◌, sym, arith, subst, List, ℕ, ◌+◌, ◌<◌, ◌^◌}
 use Rattle.markdown_scan.specs.declared.entity.EntityNames.{EntityNames}
 use Rattle.markdown_lines.specs.HeldLines.{AreHeldLines}
 use Rattle.markdown_lines.specs.HeldPlaces.{IsPastColon}
@@ -43,7 +43,7 @@ returns-in_err-tail-clause-value c =
     let found = c.in_ok-destination.ensures.value lines past.place in
     let ends = c.in_ok-destination.ensures.ends lines past.place in
     let target = target_found text lines names c.args.length label c.in_ok-destination.destination.now
-        c.in_ok-after.after c.in_ok-start.start c.in_ok-destination.after colon past found ends.1 in
+    c.in_ok-after.after c.in_ok-start.start c.in_ok-destination.after colon past found ends.1 in
     rw c.from_residual-in_err-tail.ensures
     (no_tail text lines names label c.in_ok-destination.destination.now c.in_ok-destination.after
     (c.in_err-tail.ensures.value ends.0.place) ∙ sym target)
@@ -60,7 +60,7 @@ returns-clause-value c =
     let found = c.in_ok-destination.ensures.value lines past.place in
     let ends = c.in_ok-destination.ensures.ends lines past.place in
     let target = target_found text lines names c.args.length label c.in_ok-destination.destination.now
-        c.in_ok-after.after c.in_ok-start.start c.in_ok-destination.after colon past found ends.1 in
+    c.in_ok-after.after c.in_ok-start.start c.in_ok-destination.after colon past found ends.1 in
     let tail = c.in_ok-tail.ensures.ends ends.0 in
     tail_there text lines names label c.in_ok-destination.destination c.in_ok-destination.after c.in_ok-tail.tail
     (c.in_ok-tail.ensures.value ends.0.place) tail.order

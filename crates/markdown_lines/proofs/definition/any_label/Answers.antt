@@ -1,5 +1,5 @@
 -- No label, one in a line, or one in several.
-use Rattle.std.proofs.Common.{◌≡◌, ◌∙◌, ◌++◌, ◌<◌, sym, ap, arith, length, subst, List, ℕ, true, false, drop, slice_range}
+use Rattle.std.proofs.Common.{◌≡◌, ◌++◌, ◌<◌, arith, length, subst, List, ℕ, true, false, drop, slice_range}
 use Rattle.markdown_scan.specs.LineStart.{is_line_over}
 use Rattle.markdown_lines.specs.HeldLabels.{HasNoColon}
 use Rattle.markdown_lines.specs.HeldLines.{IsBracketPlace}
@@ -16,9 +16,9 @@ returns-then-not-may_define-clause-value c =
     let line = c.in-Some.first.now in
     let look = c.in-Some.ensures.item in
     let is = first_line text lines c.args.at c.saturating_add.result line c.part_of-source.result.now c.utf8.text
-        (λ (less : c.args.at < length text). omega (arith, less, c.saturating_add.ensures))
-        (found_line lines 0 line (omega arith) look.1)
-        c.part_of-source.ensures bracket in
+    (λ (less : c.args.at < length text). omega (arith, less, c.saturating_add.ensures))
+    (found_line lines 0 line (omega arith) look.1)
+    c.part_of-source.ensures bracket in
     defines_none text lines c.part_of-source.result.now
     (slice_range text line.stop line.next ++ held_text text (drop 1 lines))
     (subst (λ (xs : List ℕ). (more : List ℕ) → is_line_over more ≡ true → HasNoColon false (xs ++ more))
@@ -32,9 +32,9 @@ returns-in-Some-2-clause-value c =
     let line = c.in-Some.first.now in
     let look = c.in-Some.ensures.item in
     let is = first_line text lines c.args.at c.saturating_add.result line c.part_of-source.result.now c.utf8.text
-        (λ (less : c.args.at < length text). omega (arith, less, c.saturating_add.ensures))
-        (found_line lines 0 line (omega arith) look.1)
-        c.part_of-source.ensures bracket in
+    (λ (less : c.args.at < length text). omega (arith, less, c.saturating_add.ensures))
+    (found_line lines 0 line (omega arith) look.1)
+    c.part_of-source.ensures bracket in
     label_in_line text lines c.part_of-source.result.now
     (slice_range text line.stop line.next ++ held_text text (drop 1 lines))
     (record { text = c.in-Some-2.label; length = c.in-Some-2.length })

@@ -1,5 +1,5 @@
 -- The line is over where the rest of its content is white space.
-use Rattle.std.proofs.Common.{◌≡◌, ◌∙◌, sym, ap, arith, length, ◌≤◌}
+use Rattle.std.proofs.Common.{◌∙◌, ap, arith, length, ◌≤◌}
 use Rattle.std.proofs.lemmas.Option.{slice_get_past}
 use Rattle.std.specs.List.{list_all}
 use Rattle.markdown_lines.specs.HeldPlaces.{IsPlace}

@@ -1,16 +1,17 @@
 -- A line closes the label, too many bytes are joined, the lines end, or the label goes on.
-use Rattle.std.proofs.Common.{◌≡◌, ◌∙◌, ◌+◌, ◌++◌, ◌<◌, ◌≤◌, sym, ap, arith, length, suc, subst, List, ℕ, false}
+use Rattle.std.proofs.Common.{◌∙◌, ◌<◌, ◌≤◌, sym, ap, arith, length, subst, List, ℕ, false}
 use Rattle.std.proofs.lemmas.Option.{slice_get_past}
 use Rattle.std.specs.Str.{IsUtf8}
 use Rattle.std.specs.String.{string_bytes}
 use Rattle.markdown_lines.specs.HeldLabels.{IsDecided, LabelGoesOn, escaped_after, label_of}
 use Rattle.markdown_lines.specs.HeldLines.{IsBracketPlace}
-use Rattle.markdown_lines.specs.HeldLines.{held_text}
 use Rattle.markdown_lines.proofs.HeldLinesLemmas.{found_line, no_line}
 use Rattle.markdown_lines.proofs.JoinedLabelLemmas.{JoinsLabel, joined_all, joined_decided, joined_long, joins_first}
 use Rattle.markdown_lines.proofs.JoinedLabelLemmas.{joins_next, part_of_rest}
 use Rattle.markdown_lines.proofs.definition.joined_lines.Goals.{then-closes_label-via-then-closes_label}
-use Rattle.markdown_lines.proofs.definition.joined_lines.Goals.{then-closes_label-via-else-closes_label+then-as_bytes-gt4000}
+use Rattle.markdown_lines.proofs.definition.joined_lines.Goals.{
+  then-closes_label-via-else-closes_label+then-as_bytes-gt4000,
+}
 use Rattle.markdown_lines.proofs.definition.joined_lines.Goals as goal
 
 pub lines-init : goal.lines-init
@@ -32,7 +33,7 @@ returns-then-closes_label c =
     let there = found_line lines from.line c.in-Some.line.now (omega arith) look.1 in
     let so_far = c.lines.invariant is in
     let has = part_of_rest text lines from c.in-Some.line.now part c.utf8.text there c.part_of-part.ensures
-        so_far.place in
+    so_far.place in
     ap label_of c.in_ok-push_str.ensures.bytes
     ∙ (elim c.then-closes_label.branch [
       | then-closes_label-via-then-closes_label w ↦ joined_decided text lines (string_bytes c.lines.joined) part _ from

@@ -1,5 +1,5 @@
 -- White space ends in its line, at the beginning of the next one, or with the last one.
-use Rattle.std.proofs.Common.{◌≡◌, ◌∙◌, ◌+◌, ◌<◌, ◌≤◌, sym, ap, arith, suc, length, Some}
+use Rattle.std.proofs.Common.{◌≤◌, arith, suc, length}
 use Rattle.markdown_lines.specs.HeldPlaces.{IsPlace}
 use Rattle.markdown_lines.proofs.HeldLinesLemmas.{found_line}
 use Rattle.markdown_lines.proofs.HeldPlacesLemmas.{past_all, past_in_line, past_line}
@@ -39,7 +39,7 @@ returns-clause-value c =
     let there = found_line c.args.lines.now c.args.spot.line c.in_ok-line.line.now (omega arith) look.1 in
     let look_next = c.in_ok-get.ensures.lookup in
     let after = found_line c.args.lines.now c.saturating_add-next.result c.in_ok-get.field-0.now (omega arith)
-        look_next.1 in
+    look_next.1 in
     (past_line c.args.text.now c.args.lines.now c.args.spot c.in_ok-line.line.now c.in_ok-get.field-0.now
     c.saturating_add-next.result there (omega (arith, c.saturating_add-next.ensures)) after
     (omega (arith, c.content_start-at.ensures, c.if-at-line.false)) place).past
@@ -51,7 +51,7 @@ returns-clause-moved c =
     let there = found_line c.args.lines.now c.args.spot.line c.in_ok-line.line.now (omega arith) look.1 in
     let look_next = c.in_ok-get.ensures.lookup in
     let after = found_line c.args.lines.now c.saturating_add-next.result c.in_ok-get.field-0.now (omega arith)
-        look_next.1 in
+    look_next.1 in
     (past_line c.args.text.now c.args.lines.now c.args.spot c.in_ok-line.line.now c.in_ok-get.field-0.now
     c.saturating_add-next.result there (omega (arith, c.saturating_add-next.ensures)) after
     (omega (arith, c.content_start-at.ensures, c.if-at-line.false)) place).moved

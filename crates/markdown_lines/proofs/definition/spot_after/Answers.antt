@@ -7,7 +7,8 @@ use Rattle.markdown_lines.proofs.definition.spot_after.Goals as goal
 
 pub lines-init : goal.lines-init
 lines-init c =
-    λ (text : List ℕ) (fits : length text < 2 ^ 64) (held : AreHeldLines text c.args.lines.now). counts_none text c.args.lines.now c.args.count
+    λ (text : List ℕ) (fits : length text < 2 ^ 64) (held : AreHeldLines text c.args.lines.now).
+    counts_none text c.args.lines.now c.args.count
 
 pub returns-then-left-size : goal.returns-then-left-size
 returns-then-left-size c =

@@ -5,7 +5,7 @@ use Rattle.markdown_lines.proofs.AfterLabelLemmas.{Counts}
 use Rattle.markdown_lines.proofs.definition.spot_after.Given as goal
 
 abbrev pub invariant-lines : goal.invariant-lines
-invariant-lines l = 
+invariant-lines l =
     (text : List ℕ) → length text < 2 ^ 64 → AreHeldLines text l.lines
     → Counts text l.lines l.count l.number l.left
 

@@ -1,5 +1,5 @@
 -- A line more, and the last part.
-use Rattle.std.proofs.Common.{◌≡◌, ◌∙◌, ◌++◌, sym, ap, arith, subst, List, ℕ}
+use Rattle.std.proofs.Common.{◌∙◌, sym, subst, List, ℕ}
 use Rattle.std.specs.String.{string_bytes}
 use Rattle.markdown_lines.specs.HeldPlaces.{IsBetween}
 use Rattle.markdown_lines.proofs.HeldBetweenLemmas.{Joins, joins_last, joins_more}

@@ -1,5 +1,5 @@
 -- A title is read line by line.
-use Rattle.std.proofs.Common.{◌≡◌, ◌∙◌, sym, ap, arith, length, ◌≤◌, ℕ, List, [], subst}
+use Rattle.std.proofs.Common.{◌∙◌, sym, arith, length, ◌≤◌, ℕ, List, [], subst}
 use Rattle.std.proofs.Common.{◌-◌, drop}
 use Rattle.std.proofs.lemmas.List.{length-drop, length-take}
 use Rattle.std.proofs.lemmas.Option.{slice_get_past, slice_get_within}
@@ -28,7 +28,7 @@ pub lines-init : goal.lines-init
 lines-init c =
     λ (place : IsPlace c.args.text.now c.args.lines.now c.args.spot).
     let within = slice_get_within c.args.text.now c.args.spot.at c.in_ok-byte_at.field-0
-        (sym c.byte_at.ensures ∙ c.in_ok-byte_at.was) in
+    (sym c.byte_at.ensures ∙ c.in_ok-byte_at.was) in
     reads_first c.args.text.now c.args.lines.now c.args.spot c.in_ok-byte_at.field-0 c.in_ok-close.close
     c.saturating_add.result c.utf8.text (sym c.byte_at.ensures ∙ c.in_ok-byte_at.was) c.in_ok-close.ensures
     (omega (arith, c.saturating_add.ensures, within)) place
@@ -39,8 +39,8 @@ returns-in-Closes c =
     let look = c.in-Some.ensures.lookup in
     let there = found_line c.args.lines.now c.lines.from.line c.in-Some.line.now (omega arith) look.1 in
     let says = subst (λ (xs : List ℕ). (more : List ℕ)
-        → TitleGoesOn c.in_ok-close.close xs more (line.Closes c.in-Closes.before)) c.bytes_of.ensures
-        c.in-Closes.ensures in
+    → TitleGoesOn c.in_ok-close.close xs more (line.Closes c.in-Closes.before)) c.bytes_of.ensures
+    c.in-Closes.ensures in
     let few = (says []).0 in
     title_closes c.args.text.now c.args.lines.now c.args.spot c.in_ok-close.close c.lines.from c.in-Some.line.now
     c.in-Closes.before c.saturating_add-in-Closes-2.result c.utf8.text there says
@@ -59,7 +59,7 @@ returns-in-Breaks c =
     let look = c.in-Some.ensures.lookup in
     let there = found_line c.args.lines.now c.lines.from.line c.in-Some.line.now (omega arith) look.1 in
     let says = subst (λ (xs : List ℕ). (more : List ℕ) → TitleGoesOn c.in_ok-close.close xs more line.Breaks)
-        c.bytes_of.ensures c.in-Breaks.ensures in
+    c.bytes_of.ensures c.in-Breaks.ensures in
     title_breaks c.args.text.now c.args.lines.now c.args.spot c.in_ok-close.close c.lines.from c.in-Some.line.now
     there says (c.lines.invariant place)
 
@@ -69,7 +69,7 @@ returns-in_err-from-in-None c =
     let look = c.in-Some.ensures.lookup in
     let there = found_line c.args.lines.now c.lines.from.line c.in-Some.line.now (omega arith) look.1 in
     let says = subst (λ (xs : List ℕ). (more : List ℕ) → TitleGoesOn c.in_ok-close.close xs more line.None)
-        c.bytes_of.ensures c.in-None.ensures in
+    c.bytes_of.ensures c.in-None.ensures in
     rw c.from_residual-in_err-from-in-None.ensures
     (title_unclosed c.args.text.now c.args.lines.now c.args.spot c.in_ok-close.close c.lines.from c.in-Some.line.now
     there says c.in_err-from-in-None.ensures (c.lines.invariant place))
@@ -80,7 +80,7 @@ lines-preserved c =
     let look = c.in-Some.ensures.lookup in
     let there = found_line c.args.lines.now c.lines.from.line c.in-Some.line.now (omega arith) look.1 in
     let says = subst (λ (xs : List ℕ). (more : List ℕ) → TitleGoesOn c.in_ok-close.close xs more line.None)
-        c.bytes_of.ensures c.in-None.ensures in
+    c.bytes_of.ensures c.in-None.ensures in
     reads_next c.args.text.now c.args.lines.now c.args.spot c.in_ok-close.close c.lines.from c.in-Some.line.now
     c.in_ok-from-in-None.from there says c.in_ok-from-in-None.ensures (c.lines.invariant place)
 

@@ -1,6 +1,5 @@
 -- White space, a title, and the end of its line.
-use Rattle.std.proofs.Common.{◌≡◌, ◌∙◌, ◌==◌, sym, ap, arith, true, false}
-use Rattle.std.proofs.lemmas.Bool.Decides.{nat_tests}
+use Rattle.std.proofs.Common.{◌∙◌, sym}
 use Rattle.markdown_lines.specs.DefinitionRules.{separation}
 use Rattle.markdown_lines.specs.HeldPlaces.{IsPlace, rest_at}
 use Rattle.markdown_lines.proofs.TitleTailLemmas.{apart, tail_titled}

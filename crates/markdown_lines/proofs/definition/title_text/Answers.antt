@@ -1,5 +1,5 @@
 -- A title is between its marks.
-use Rattle.std.proofs.Common.{◌≡◌, ◌∙◌, sym, ap, arith, false, ◌+◌, ◌-◌}
+use Rattle.std.proofs.Common.{◌≡◌, ◌∙◌, ap, arith, false}
 use Rattle.std.proofs.lemmas.Result.{IfOk-weaker}
 use Rattle.markdown_base.specs.CowText.{text_of}
 use Rattle.markdown_scan.specs.Unescape.{unescaped}
@@ -17,8 +17,8 @@ returns-then-from-to c =
     → text_of made ≡ unescaped c.args.names false (title_between text lines title.opening title.end))
     (λ made is. λ (there : IsTitle text lines title.opening title.end).
     let inside = inside_title text lines title.opening title.end c.saturating_add.result c.saturating_sub.result
-        (omega (arith, c.saturating_add.ensures, next_fits text lines title.opening title.end there))
-        (omega (arith, c.saturating_sub.ensures)) there in
+    (omega (arith, c.saturating_add.ensures, next_fits text lines title.opening title.end there))
+    (omega (arith, c.saturating_sub.ensures)) there in
     is ∙ ap (unescaped c.args.names false)
     (between_here text lines _ _ c.part_of.result.now c.part_of.ensures c.if-from-to.true inside.between
     ∙ inside.same)) c.unescape.ensures.value
@@ -33,8 +33,8 @@ returns c =
     → text_of made ≡ unescaped c.args.names false (title_between text lines title.opening title.end))
     (λ made is. λ (there : IsTitle text lines title.opening title.end).
     let inside = inside_title text lines title.opening title.end c.saturating_add.result c.saturating_sub.result
-        (omega (arith, c.saturating_add.ensures, next_fits text lines title.opening title.end there))
-        (omega (arith, c.saturating_sub.ensures)) there in
+    (omega (arith, c.saturating_add.ensures, next_fits text lines title.opening title.end there))
+    (omega (arith, c.saturating_sub.ensures)) there in
     is ∙ (c.in_ok-unescape.ensures.value
     ∙ ap (unescaped c.args.names false)
     (c.as_str.ensures.value ∙ (c.in_ok-joined.ensures inside.between ∙ inside.same)))) c.into_static.ensures.text
