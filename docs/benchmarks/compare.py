@@ -1,7 +1,7 @@
 """The program beside `cmark`, `pulldown-cmark` and `md4c` on the same texts, as a table: `compare.py PROGRAM`.
 
 Instructions are counted by valgrind; seconds are the best of seven runs, memory the most of one. `md4c` is a library, so
-`md4c.c` is compiled over it.
+`md4c.c` is compiled over it. On documents with tables these are enabled, in `cmark-gfm` in place of `cmark`.
 """
 import os
 import re
@@ -18,6 +18,7 @@ TEXTS = {
     "10 MB of documents": ["documents.py", "10000000"],
     "1 MB of documents with links": ["documents.py", "--links", "1000000"],
 }
+WITH_TABLES = {"1 MB of documents with tables": ["documents.py", "--tables", "1000000"]}
 
 
 def instructions(program, text):
@@ -45,6 +46,19 @@ def memory(program, text):
     return int(said.stderr.split()[-1]) * 1024
 
 
+def show(name, generated, text, programs):
+    """Prints a row of the table for each program, on a text that a script generates."""
+    script, *words = generated
+    with open(text, "w") as made:
+        subprocess.run([sys.executable, os.path.join(HERE, script), *words], stdout=made, check=True)
+    ours = instructions(programs["ours"], text)
+    for program, words in programs.items():
+        count = instructions(words, text)
+        most = memory(words, text) / os.path.getsize(text)
+        cells = [name, program, f"{count / 1e6:.0f}", f"{ours / count:.2f}", f"{seconds(words, text):.2f}", f"{most:.1f}"]
+        print(f"| {' | '.join(cells)} |", flush=True)
+
+
 def main():
     print("| Text | Program | Instructions in millions | Ours to it | Seconds | Memory to the text |")
     print("|---|---|---|---|---|---|")
@@ -57,15 +71,15 @@ def main():
             "`pulldown-cmark`": ["pulldown-cmark"],
             "`md4c`": [md4c],
         }
-        for name, (script, *words) in TEXTS.items():
-            with open(text, "w") as made:
-                subprocess.run([sys.executable, os.path.join(HERE, script), *words], stdout=made, check=True)
-            ours = instructions(programs["ours"], text)
-            for program, words in programs.items():
-                count = instructions(words, text)
-                most = memory(words, text) / os.path.getsize(text)
-                cells = [name, program, f"{count / 1e6:.0f}", f"{ours / count:.2f}", f"{seconds(words, text):.2f}", f"{most:.1f}"]
-                print(f"| {' | '.join(cells)} |", flush=True)
+        for name, generated in TEXTS.items():
+            show(name, generated, text, programs)
+        with_tables = {
+            "ours": [sys.argv[1], "extended", "tables"],
+            "`cmark-gfm`": ["cmark-gfm", "--unsafe", "-e", "table"],
+            "`pulldown-cmark`": ["pulldown-cmark", "-T"],
+        }
+        for name, generated in WITH_TABLES.items():
+            show(name, generated, text, with_tables)
 
 
 main()

@@ -381,6 +381,8 @@ fn after_label<'a>(
 /// Returns the link reference definition whose `[` is at byte offset `at`, in the first of the lines, or `None` where
 /// there is none. Escapes, and entities by these names, are replaced in its destination and title, and stay in its
 /// label.
+// inlined: it is called for each paragraph that begins with a `[`
+#[inline(always)]
 pub fn read_definition<'a>(
     alloc: Global,
     text: &'a str,

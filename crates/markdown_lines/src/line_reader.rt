@@ -182,6 +182,8 @@ impl<'a> LineReader<'a> {
 
     /// Returns what the rest of the line from a place on begins, where `before` is the paragraph that it may go on with.
     /// Fails where memory is refused.
+    // inlined: it is called for most lines
+    #[inline(always)]
     pub fn beginning(&mut self, position: Position, before: Before) -> Result<Begun<'a>, AllocError>
         ensures begins { IfOk result (λ begun. beginning_found self.old begun.start
             ≡ begins_unless_blank (source_read self.old) before (line_at self.old position)) }

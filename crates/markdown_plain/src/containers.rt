@@ -239,6 +239,8 @@ fn reach_blocks(
 }
 
 /// Returns how far the open containers continue in a line.
+// inlined: it is called for each line
+#[inline(always)]
 pub fn reach(pass: &Pass<'_>, line: Line) -> Reached
     ensures { spec.reach_of pass.now.placing.builder.text line.stop result
         ≡ spec.reach_from (old_footnotes_on pass.now.options) pass.now.looseness.item_is_empty
