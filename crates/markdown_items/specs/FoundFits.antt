@@ -2,7 +2,9 @@
 use Rattle.std.specs.Prelude.{◌≡◌, ℕ, ◌+◌, ◌-◌, ◌<◌, ◌≤◌, true, nat_lt, List, [], ◌∷◌, ◌++◌, Option, Some, None}
 use Rattle.std.specs.Prelude.{length, slice_index, encode_utf8, if◌then◌else◌}
 use Rattle.std.specs.Str.{IsCharBoundary}
+use Rattle.markdown_base.specs.declared.item.Item.{Item}
 use Rattle.markdown_base.specs.Bytes.{backtick, exclamation_mark, open_bracket}
+use Rattle.markdown_base.specs.Forest.{Forest}
 use Rattle.markdown_base.specs.WellFormed.{is_delimiter}
 use Rattle.markdown_builder.specs.Bodies.{mark_byte}
 use Rattle.markdown_builder.specs.BuilderView.{BuilderView, IsRunOf, follows_run}
@@ -61,21 +63,26 @@ FoundFits text end at found.Ellipsis = (at + 3 ≤ end) × IsCharBoundary text (
 abbrev pub run_after_text : BuilderView → ℕ → Option ℕ
 run_after_text view to = if nat_lt view.at to then None else view.run
 
--- the builder after the text before an offset and the item found there are appended; a run that directly continues the
--- one appended last becomes text
-abbrev pub view_after : BuilderView → ℕ → Found → BuilderView
-view_after view at (found.Text next) = view
-view_after view at found.Escape = record view { at = at + 1; run = run_after_text view at }
-view_after view at (found.Mark body) = record view { at = at + 1; run = None }
-view_after view at found.Image = record view { at = at + 2; run = None }
-view_after view at (found.Backticks stop) = record view { at = stop; run = None }
-view_after view at (found.EscapedBackticks stop) = record view { at = stop; run = None }
-view_after view at (found.Run stop flags) =
+-- the builder after the text before an offset and the item found there are appended, with the closed trees then; a run
+-- that directly continues the one appended last becomes text
+abbrev pub view_after : BuilderView → List (Forest Item) → ℕ → Found → BuilderView
+view_after view levels at (found.Text next) = view
+view_after view levels at found.Escape = record view { at = at + 1; run = run_after_text view at; levels = levels }
+view_after view levels at (found.Mark body) = record view { at = at + 1; run = None; levels = levels }
+view_after view levels at found.Image = record view { at = at + 2; run = None; levels = levels }
+view_after view levels at (found.Backticks stop) = record view { at = stop; run = None; levels = levels }
+view_after view levels at (found.EscapedBackticks stop) = record view { at = stop; run = None; levels = levels }
+view_after view levels at (found.Run stop flags) =
     if follows_run (run_after_text view at) (slice_index view.text at) then view
-    else record view { at = stop; run = Some (slice_index view.text at) }
-view_after view at (found.Entity stop characters) =
-    record view { at = stop; run = None; texts = view.texts ++ text_in_utf8 characters ∷ [] }
-view_after view at (found.Dashes stop) =
-    record view { at = stop; run = None; texts = view.texts ++ dashes_in_utf8 (dashes_for (stop - at)) ∷ [] }
-view_after view at found.Ellipsis =
-    record view { at = at + 3; run = None; texts = view.texts ++ encode_utf8 ellipsis ∷ [] }
+    else record view { at = stop; run = Some (slice_index view.text at); levels = levels }
+view_after view levels at (found.Entity stop characters) =
+    record view { at = stop; run = None; levels = levels; texts = view.texts ++ text_in_utf8 characters ∷ [] }
+view_after view levels at (found.Dashes stop) =
+    record view {
+      at = stop;
+      run = None;
+      levels = levels;
+      texts = view.texts ++ dashes_in_utf8 (dashes_for (stop - at)) ∷ [];
+    }
+view_after view levels at found.Ellipsis =
+    record view { at = at + 3; run = None; levels = levels; texts = view.texts ++ encode_utf8 ellipsis ∷ [] }

@@ -34,7 +34,11 @@ fn append_text(builder: &mut Builder<'_>, line: Line, to: usize) -> Result<(), A
     requires low { builder.old.at ≤ to }
     requires boundary { IsCharBoundary builder.old.text to }
     ensures { IfOk result (λ _. builder.new
-        ≡ record builder.old { at = to; run = run_after_text builder.old to }) }
+        ≡ record builder.old {
+          at = to;
+          run = run_after_text builder.old to;
+          levels = builder.new.levels;
+        }) }
 {
     let from = builder.at();
     if from < to {
@@ -57,7 +61,8 @@ fn append_run(
     requires inside { builder.old.leaf ≡ true }
     requires placed { builder.old.at ≤ at }
     requires fits { FoundFits builder.old.text line.end at (Found.Run stop flags) }
-    ensures { IfOk result (λ _. builder.new ≡ view_after builder.old at (Found.Run stop flags)) }
+    ensures { IfOk result (λ _. builder.new
+        ≡ view_after builder.old builder.new.levels at (Found.Run stop flags)) }
 {
     let byte = builder.text().as_bytes()[at];
     if builder.at() == at && builder.follows_run(byte) {
@@ -83,6 +88,7 @@ fn append_entity(
     ensures { IfOk result (λ _. builder.new ≡ record builder.old {
       at = stop;
       run = None;
+      levels = builder.new.levels;
       texts = builder.old.texts ++ text_in_utf8 characters ∷ [];
     }) }
 {
@@ -98,6 +104,7 @@ fn append_dashes(builder: &mut Builder<'_>, alloc: Global, stop: usize) -> Resul
     ensures { IfOk result (λ _. builder.new ≡ record builder.old {
       at = stop;
       run = None;
+      levels = builder.new.levels;
       texts = builder.old.texts ++ dashes_in_utf8 (dashes_for (stop - builder.old.at)) ∷ [];
     }) }
 {
@@ -114,6 +121,7 @@ fn append_ellipsis(builder: &mut Builder<'_>, stop: usize) -> Result<(), AllocEr
     ensures { IfOk result (λ _. builder.new ≡ record builder.old {
       at = stop;
       run = None;
+      levels = builder.new.levels;
       texts = builder.old.texts ++ encode_utf8 ellipsis ∷ [];
     }) }
 {
@@ -132,7 +140,7 @@ fn append_found(
     requires inside { builder.old.leaf ≡ true }
     requires placed { builder.old.at ≤ at }
     requires fits { FoundFits builder.old.text line.end at found }
-    ensures { IfOk result (λ _. builder.new ≡ view_after builder.old at found) }
+    ensures { IfOk result (λ _. builder.new ≡ view_after builder.old builder.new.levels at found) }
 {
     match found {
         Found::Text(_) => return Ok(()),
@@ -182,6 +190,7 @@ pub fn items(
     ensures { IfOk result (λ _. builder.new ≡ record builder.old {
       at = end;
       run = builder.new.run;
+      levels = builder.new.levels;
       texts = builder.new.texts;
     }) }
 {

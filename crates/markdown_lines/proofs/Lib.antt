@@ -11,3 +11,15 @@ pub mod HtmlKindsLemmas
 pub mod BlockStartsLemmas
 pub mod UnbrokenLinesLemmas
 pub mod LinesAheadLemmas
+pub mod SeparationLemmas
+pub mod HeldLinesLemmas
+pub mod HeldPlacesLemmas
+pub mod TitleLemmas
+pub mod TitleTailLemmas
+pub mod DestinationLineLemmas
+pub mod HeldBetweenLemmas
+pub mod AfterLabelLemmas
+pub mod HeldLabelsLemmas
+pub mod JoinedLabelLemmas
+pub mod LabelReadLemmas
+pub mod HeldDefinitionsLemmas

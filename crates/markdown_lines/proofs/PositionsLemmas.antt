@@ -35,7 +35,7 @@ in_part text part at stop i e less =
     }
 
 -- the part from a place on is the byte there, and the part after it
-part_next : (text : List ℕ) (at stop : ℕ) → at < stop → at < length text
+pub part_next : (text : List ℕ) (at stop : ℕ) → at < stop → at < length text
     → slice_range text at stop ≡ get_or text at 0 ∷ slice_range text (at + 1) stop
 part_next text at stop before within =
     let size : stop - at ≡ suc (stop - (at + 1)) = omega (arith, before) in

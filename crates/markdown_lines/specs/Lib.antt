@@ -22,6 +22,12 @@ pub mod TaskMarkers
 pub mod SourceLines
 pub mod BlockBeginnings
 pub mod DefinitionRules
+-- the lines of a paragraph as they are held back, and places in them
+pub mod HeldLines
+pub mod HeldDefinitions
+pub mod HeldPlaces
+pub mod HeldTitles
+pub mod HeldLabels
 -- what a reader of lines finds
 pub mod UnbrokenLines
 pub mod UnclosedMetadata

@@ -2,8 +2,10 @@
 -- is counted, and makes nothing.
 use Rattle.std.specs.Prelude.{◌≡◌, ℕ, ◌≤◌, false, [], ◌∷◌, ◌++◌, List, Option, Some, None, length}
 use Rattle.std.specs.Str.{IsCharBoundary}
+use Rattle.markdown_base.specs.declared.item.Item.{Item}
 use Rattle.markdown_base.specs.declared.item.ItemBody.{ItemBody}
 use Rattle.markdown_base.specs.declared.item.ItemBody.TheVariants as body
+use Rattle.markdown_base.specs.Forest.{Forest, nil}
 use Rattle.markdown_builder.specs.Bodies.{is_leaf}
 use Rattle.markdown_base.specs.declared.index.HeadingIndex.{HeadingIndex}
 use Rattle.markdown_base.specs.declared.tag.HeadingLevel.{HeadingLevel}
@@ -33,17 +35,18 @@ IfFitted old new Done = AllFitted new → AllFitted old × Done
 abbrev pub stepped : BuilderView → ℕ → BuilderView
 stepped builder to = record builder { at = to }
 
--- a builder with an item appended up to a byte offset
-abbrev pub extended : BuilderView → ℕ → BuilderView
-extended builder to = record builder { at = to; run = None }
+-- a builder with an item appended up to a byte offset, with the closed trees then
+abbrev pub extended : BuilderView → List (Forest Item) → ℕ → BuilderView
+extended builder levels to = record builder { at = to; run = None; levels = levels }
 
--- a builder whose innermost open block was closed
-abbrev pub closed : BuilderView → BuilderView
-closed builder = record builder { blocks = outer_of builder.blocks; leaf = false; run = None }
+-- a builder whose innermost open block was closed, with the closed trees then
+abbrev pub closed : BuilderView → List (Forest Item) → BuilderView
+closed builder levels =
+    record builder { blocks = outer_of builder.blocks; leaf = false; run = None; levels = levels }
 
 -- more was appended to the open leaf, up to a byte offset
 abbrev pub GoesOn : BuilderView → BuilderView → ℕ → Type 0
-GoesOn old new to = new ≡ record old { at = to; run = new.run; texts = new.texts }
+GoesOn old new to = new ≡ record old { at = to; run = new.run; levels = new.levels; texts = new.texts }
 
 -- a builder in which a block was opened at a byte offset
 abbrev pub opened : BuilderView → ℕ → ItemBody → BuilderView
@@ -52,6 +55,7 @@ opened builder at block = record builder {
   blocks = builder.blocks ++ record { start = at; body = block } ∷ [];
   leaf = is_leaf block;
   run = None;
+  levels = builder.levels ++ nil ∷ [];
 }
 
 -- the innermost open block has another body
@@ -81,5 +85,6 @@ pub record OpensHtml (old new : BuilderView) (from next : ℕ) : Type 0 where
   pub opens : new ≡ record (opened old start body.HtmlBlock) {
     at = after_line from next;
     run = new.run;
+    levels = new.levels;
     texts = new.texts;
   }

@@ -97,7 +97,8 @@ impl<'a> Pass<'a> {
         ensures text { IfOk result (λ _. self.new.placing.builder.text
             ≡ self.old.placing.builder.text) }
         ensures adds { IfOk result (λ _. IfFitted self.old.placing self.new.placing
-            (self.new.placing.builder ≡ extended self.old.placing.builder line.next)) }
+            (self.new.placing.builder
+            ≡ extended self.old.placing.builder self.new.placing.builder.levels line.next)) }
         ensures same { self.new ≡ record self.old { placing = self.new.placing } }
     {
         self.placing.add_rule(line.next)
@@ -159,7 +160,8 @@ impl<'a> Pass<'a> {
         ensures closes { IfOk result (λ _.
             is_closed_at self.old.placing.builder.text position line fence ≡ true →
             IfFitted self.old.placing self.new.placing (self.new.placing.builder
-            ≡ record (closed self.old.placing.builder) { at = line.next })) }
+            ≡ record (closed self.old.placing.builder self.new.placing.builder.levels)
+            { at = line.next })) }
         ensures code { IfOk result (λ _. is_closed_at self.old.placing.builder.text
             position line fence
             ≡ false →
@@ -208,7 +210,8 @@ impl<'a> Pass<'a> {
         ensures closes { IfOk result (λ _. closes_metadata kind
             (slice_range self.old.placing.builder.text line.start line.stop) ≡ true →
             IfFitted self.old.placing self.new.placing (self.new.placing.builder
-            ≡ record (closed self.old.placing.builder) { at = line.next })) }
+            ≡ record (closed self.old.placing.builder self.new.placing.builder.levels)
+            { at = line.next })) }
         ensures text_line { IfOk result (λ _. closes_metadata kind
             (slice_range self.old.placing.builder.text line.start line.stop) ≡ false →
             IfFitted self.old.placing self.new.placing
@@ -279,7 +282,7 @@ impl<'a> Pass<'a> {
             kind
             ≡ true →
             IfFitted self.old.placing self.new.placing (self.new.placing.builder
-            ≡ record (closed self.old.placing.builder) {
+            ≡ record (closed self.old.placing.builder self.new.placing.builder.levels) {
               at = after_line position.at line.next;
               texts = self.new.placing.builder.texts;
             })) }
@@ -317,7 +320,8 @@ impl<'a> Pass<'a> {
         ensures text { self.new.placing.builder.text ≡ self.old.placing.builder.text }
         ensures ends { ends_html_at self.old.placing.builder.text position line kind ≡ true
             → IfFitted self.old.placing self.new.placing
-            (self.new.placing.builder ≡ closed self.old.placing.builder) }
+            (self.new.placing.builder
+            ≡ closed self.old.placing.builder self.new.placing.builder.levels) }
         ensures goes_on { ends_html_at self.old.placing.builder.text position line kind ≡ false
             → self.new ≡ self.old }
         ensures same { self.new ≡ record self.old { placing = self.new.placing } }
@@ -336,6 +340,7 @@ impl<'a> Pass<'a> {
             ≡ record (opened self.old.placing.builder position.at body.IndentCodeBlock) {
               at = after_line position.at line.next;
               run = self.new.placing.builder.run;
+              levels = self.new.placing.builder.levels;
               texts = self.new.placing.builder.texts;
             })) }
         ensures kind { IfOk result (λ _. self.new.leaf ≡ leaf_kind.Indented) }

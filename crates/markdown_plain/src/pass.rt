@@ -110,7 +110,8 @@ impl<'a> Pass<'a> {
     pub fn close_block(&mut self)
         ensures text { self.new.placing.builder.text ≡ self.old.placing.builder.text }
         ensures closes { IfFitted self.old.placing self.new.placing (self.new.placing.builder
-            ≡ record (closed self.old.placing.builder) { at = closing_place self.old }) }
+            ≡ record (closed self.old.placing.builder self.new.placing.builder.levels)
+            { at = closing_place self.old }) }
         ensures same { self.new
             ≡ record self.old { placing = self.new.placing; looseness = self.new.looseness } }
         ensures looseness { self.new.looseness ≡ record self.old.looseness {
@@ -232,9 +233,9 @@ fn close_list(placing: &mut Placing<'_>, character: u8, first: u64, loose: bool)
     ensures text { placing.new.builder.text ≡ placing.old.builder.text }
     ensures settles { IfFitted placing.old placing.new ((settled : BuilderView)
         × HasBody placing.old.builder settled (body.List (not loose) character first)
-        × (placing.new.builder ≡ closed settled)) }
+        × (placing.new.builder ≡ closed settled placing.new.builder.levels)) }
     ensures closes { IfFitted placing.old placing.new
-        (placing.new.builder ≡ closed placing.old.builder) }
+        (placing.new.builder ≡ closed placing.old.builder placing.new.builder.levels) }
 {
     placing.change(ItemBody::List(!loose, character, first));
     placing.close();

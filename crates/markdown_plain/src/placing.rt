@@ -320,7 +320,7 @@ impl<'a> Placing<'a> {
         requires { is_settled body ≡ true }
         ensures text { IfOk result (λ _. self.new.builder.text ≡ self.old.builder.text) }
         ensures appends { IfOk result (λ _. IfFitted self.old self.new
-            (self.new.builder ≡ extended self.old.builder end)) }
+            (self.new.builder ≡ extended self.old.builder self.new.builder.levels end)) }
         ensures fits { IfOk result (λ _. self.old.builder.leaf ≡ true → IsAhead self.old.builder end
             → self.new.misfits ≡ self.old.misfits) }
     {
@@ -344,6 +344,7 @@ impl<'a> Placing<'a> {
             (self.new.builder
             ≡ record self.old.builder {
               run = None;
+              levels = self.new.builder.levels;
               texts = self.old.builder.texts
                   ++ owed_spaces owed ∷ [];
             })) }
@@ -396,7 +397,7 @@ impl<'a> Placing<'a> {
     pub fn add_rule(&mut self, end: usize) -> Result<(), AllocError>
         ensures text { IfOk result (λ _. self.new.builder.text ≡ self.old.builder.text) }
         ensures appends { IfOk result (λ _. IfFitted self.old self.new
-            (self.new.builder ≡ extended self.old.builder end)) }
+            (self.new.builder ≡ extended self.old.builder self.new.builder.levels end)) }
         ensures fits { IfOk result (λ _. self.old.builder.leaf ≡ false
             → IsAhead self.old.builder end
             → self.new.misfits ≡ self.old.misfits) }
@@ -461,7 +462,8 @@ impl<'a> Placing<'a> {
     #[tactic(auto, using(crate::proofs::OpenBlocksLemmas::outer_of_these))]
     pub fn close(&mut self)
         ensures text { self.new.builder.text ≡ self.old.builder.text }
-        ensures closes { IfFitted self.old self.new (self.new.builder ≡ closed self.old.builder) }
+        ensures closes { IfFitted self.old self.new
+            (self.new.builder ≡ closed self.old.builder self.new.builder.levels) }
         ensures fits { (self.old.builder.blocks ≡ [] → ⊥) → self.new.misfits ≡ self.old.misfits }
     {
         if self.builder.close().is_none() {

@@ -5,7 +5,12 @@ use Rattle.markdown_items.proofs.line_items.items.Given as goal
 
 abbrev pub invariant-line : goal.invariant-line
 invariant-line l = record {
-  same : l.builder ≡ record l.fn.builder { at = l.builder.at; run = l.builder.run; texts = l.builder.texts };
+  same : l.builder ≡ record l.fn.builder {
+    at = l.builder.at;
+    run = l.builder.run;
+    levels = l.builder.levels;
+    texts = l.builder.texts;
+  };
   begun : l.fn.builder.at ≤ l.builder.at;
   placed : l.builder.at ≤ l.at;
   within : l.at ≤ l.end;

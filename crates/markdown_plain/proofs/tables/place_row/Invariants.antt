@@ -9,6 +9,7 @@ invariant-cells l = record {
   row : IfFitted l.fn.placing l.placing (l.placing.builder
       ≡ record (opened l.fn.placing.builder l.line.start l.fn.row) {
         at = l.placing.builder.at;
+        levels = l.placing.builder.levels;
         texts = l.placing.builder.texts;
       });
 }
