@@ -23,3 +23,4 @@ pub mod RunMarkLemmas
 pub mod CoveredLemmas
 pub mod CallLemmas
 pub mod ShownLevelsLemmas
+pub mod MorePartsLemmas

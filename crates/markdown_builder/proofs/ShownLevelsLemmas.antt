@@ -1,9 +1,11 @@
 -- What calls of a builder make of its levels, with what their items refer to.
 use Rattle.std.proofs.Common.{◌≡◌, ℕ, zero, suc, ◌+◌, ◌-◌, ◌<◌, List, [], ◌∷◌, ◌++◌, Option, Some, None, Bool, true, false}
-use Rattle.std.proofs.Common.{map, refl, sym, ap, ◌∙◌, cond}
+use Rattle.std.proofs.Common.{map, refl, sym, ap, ◌∙◌, cond, arith, ◌≤◌}
+use Rattle.markdown_base.specs.declared.block_parts.HeadingAttributes.{HeadingAttributes}
 use Rattle.markdown_base.specs.declared.item.Item.{Item}
 use Rattle.markdown_base.specs.declared.item.ItemBody.{ItemBody}
 use Rattle.markdown_base.specs.declared.item.ItemBody.TheVariants as body
+use Rattle.markdown_base.specs.declared.tag.Alignment.{Alignment}
 use Rattle.markdown_base.specs.Forest.{Forest, nil, node, relabelled}
 use Rattle.markdown_builder.specs.Bodies.{is_settled, is_plain_block, mark_byte}
 use Rattle.markdown_builder.specs.Shown.{Shown, Parts, plain_item, chain_of, shown, shown_trees, shown_levels, unnumbered}
@@ -64,3 +66,82 @@ tight_unnumbered other = refl
 tight_text : (texts : List (List ℕ)) (b : ItemBody) → text_shown texts (tight_body b) ≡ text_shown texts b
 tight_text texts body.Paragraph = refl
 tight_text texts other = refl
+
+tight_heading : (headings : List HeadingAttributes) (b : ItemBody)
+    → heading_shown headings (tight_body b) ≡ heading_shown headings b
+tight_heading headings body.Paragraph = refl
+tight_heading headings other = refl
+
+tight_alignments : (alignments : List (List Alignment)) (b : ItemBody)
+    → alignments_shown alignments (tight_body b) ≡ alignments_shown alignments b
+tight_alignments alignments body.Paragraph = refl
+tight_alignments alignments other = refl
+
+tight_is : (parts : Parts) (item : Item) → shown parts (tight_if_paragraph item) ≡ tight_shown (shown parts item)
+tight_is parts item = λ i. record {
+  item = record { start = item.start; end = item.end; body = tight_unnumbered item.body i };
+  text = tight_text parts.texts item.body i;
+  heading = tight_heading parts.headings item.body i;
+  alignments = tight_alignments parts.alignments item.body i;
+}
+
+tight_list_is : (b : ItemBody) → is_tight_list (unnumbered b) ≡ is_tight_list b
+tight_list_is (body.Heading level None) = refl
+tight_list_is (body.Heading level (Some ix)) = refl
+tight_list_is other = refl
+
+settled_is : (parts : Parts) (a : Item) (g : Forest Item)
+    → shown_trees parts (below_closed a g) ≡ settled_below (shown parts a) (shown_trees parts g)
+settled_is parts a g = by_kind (is_tight_list a.body)
+    ∙ ap (λ v. cond v (items_changed tight_shown (shown_trees parts g)) (shown_trees parts g)) (sym (tight_list_is a.body))
+  where
+    by_kind : (v : Bool)
+        → shown_trees parts (cond v (items_changed tight_if_paragraph g) g)
+        ≡ cond v (items_changed tight_shown (shown_trees parts g)) (shown_trees parts g)
+    by_kind true = relabelled_items (shown parts) tight_if_paragraph tight_shown (tight_is parts) g
+    by_kind false = refl
+
+-- ---- the steps
+
+-- trees at the end of the innermost level
+pub trees_shown : (parts : Parts) (levels : List (Forest Item)) (trees : Forest Item)
+    → shown_levels parts (with_trees levels trees) ≡ with_trees (shown_levels parts levels) (shown_trees parts trees)
+trees_shown parts levels trees = relabelled_trees (shown parts) levels trees
+
+-- the innermost block closed
+pub closed_shown : (parts : Parts) (levels : List (Forest Item)) (a : Item)
+    → shown_levels parts (with_closed levels a) ≡ with_block (shown_levels parts levels) (shown parts a)
+closed_shown parts levels a = relabelled_closed (shown parts) below_closed settled_below (settled_is parts) levels a
+
+-- a delimiter run
+pub run_shown : (parts : Parts) (stop : ℕ) (opens closes : Bool) (count : ℕ) → count ≤ stop
+    → shown_trees parts (run_trees stop opens closes count) ≡ chain_of (run_items stop opens closes count)
+run_shown parts stop opens closes zero le = refl
+run_shown parts stop opens closes (suc count) le =
+    let end : (stop - suc count) + 1 ≡ stop - count = omega (arith, le) in
+    ap (λ n. node (plain_item (stop - suc count) n (body.MaybeEmphasis (suc count) opens closes)) nil
+    (shown_trees parts (run_trees stop opens closes count))) end
+    ∙ ap (node (plain_item (stop - suc count) (stop - count) (body.MaybeEmphasis (suc count) opens closes)) nil)
+    (run_shown parts stop opens closes count (omega (arith, le)))
+
+-- an item that refers to nothing
+pub settled_shown : (parts : Parts) (start end : ℕ) (b : ItemBody) → is_settled b ≡ true
+    → shown parts (record { start = start; end = end; body = b }) ≡ plain_item start end b
+settled_shown parts start end (body.TaskListMarker done) h = refl
+settled_shown parts start end body.InlineHtml h = refl
+settled_shown parts start end body.Html h = refl
+settled_shown parts start end (body.SynthesizeChar c) h = refl
+settled_shown parts start end (body.Text escaped) h = refl
+settled_shown parts start end body.SoftBreak h = refl
+settled_shown parts start end (body.HardBreak backslash) h = refl
+settled_shown parts start end other h = cc (h)
+
+-- an open item of one byte
+pub mark_shown : (parts : Parts) (start end byte : ℕ) (b : ItemBody) → mark_byte b ≡ Some byte
+    → shown parts (record { start = start; end = end; body = b }) ≡ plain_item start end b
+mark_shown parts start end byte (body.MaybeMath opens closes context) h = refl
+mark_shown parts start end byte (body.MaybeSmartQuote quote opens closes) h = refl
+mark_shown parts start end byte body.MaybeHtml h = refl
+mark_shown parts start end byte body.MaybeLinkOpen h = refl
+mark_shown parts start end byte (body.MaybeLinkClose reference) h = refl
+mark_shown parts start end byte other h = cc (h)
