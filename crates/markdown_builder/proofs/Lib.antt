@@ -24,3 +24,4 @@ pub mod CoveredLemmas
 pub mod CallLemmas
 pub mod ShownLevelsLemmas
 pub mod MorePartsLemmas
+pub mod ShownStepsLemmas

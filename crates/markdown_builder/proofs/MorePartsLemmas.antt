@@ -6,7 +6,6 @@ use Rattle.std.specs.List.{AllByRecursion}
 use Rattle.std.specs.Option.{option_map}
 use Rattle.std.proofs.lemmas.List.{get_or_append_left, length-append}
 use Rattle.std.proofs.lemmas.Option.{slice_get-get_or}
-use Rattle.markdown_base.specs.declared.block_parts.HeadingAttributes.{HeadingAttributes}
 use Rattle.markdown_base.specs.declared.item.Item.{Item}
 use Rattle.markdown_base.specs.declared.item.ItemBody.{ItemBody}
 use Rattle.markdown_base.specs.declared.item.ItemBody.TheVariants as body
@@ -18,7 +17,7 @@ use Rattle.markdown_base.specs.BlockTree.{Numbered, item_at, numbered, tree_of}
 use Rattle.markdown_base.specs.Forest.{Forest, nil, node, Each, Throughout, relabelled}
 use Rattle.markdown_base.specs.WellFormed.{PartCounts, PartsAreNamed}
 use Rattle.markdown_builder.specs.BuilderRules.{KeepsNodes}
-use Rattle.markdown_builder.specs.Shown.{Shown, Parts, shown, shown_trees, shown_levels, unnumbered, text_shown}
+use Rattle.markdown_builder.specs.Shown.{HeadingWords, Shown, Parts, shown, shown_trees, shown_levels, unnumbered, text_shown}
 use Rattle.markdown_builder.specs.Shown.{heading_shown, heading_with, alignments_shown}
 use Rattle.markdown_builder.specs.TreeLevels.{all_but_last, in_last, levels_in, levels_of}
 use Rattle.markdown_builder.proofs.RisingLemmas.{throughout_below}
@@ -54,7 +53,7 @@ text_of_more texts more (body.FootnoteDefinition ix) counts e named =
     let lt = named.text in get_of_more texts more ix.0 (omega (arith, lt, e))
 text_of_more texts more other counts e named = refl
 
-heading_of_more : (headings more : List HeadingAttributes) (b : ItemBody) (counts : PartCounts)
+heading_of_more : (headings more : List HeadingWords) (b : ItemBody) (counts : PartCounts)
     → counts.attributes ≡ length headings → PartsAreNamed counts b
     → heading_shown (headings ++ more) b ≡ heading_shown headings b
 heading_of_more headings more (body.Heading level (Some ix)) counts e named =
@@ -100,7 +99,7 @@ more_texts parts more levels named =
     same_levels (record parts { texts = parts.texts ++ more }) parts (counts_in parts) levels
     (λ a n. λ i. record (shown parts a) { text = text_of_more parts.texts more a.body (counts_in parts) refl n i }) named
 
-pub more_headings : (parts : Parts) (more : List HeadingAttributes) (levels : List (Forest Item))
+pub more_headings : (parts : Parts) (more : List HeadingWords) (levels : List (Forest Item))
     → AreNamed (counts_in parts) levels
     → shown_levels (record parts { headings = parts.headings ++ more }) levels ≡ shown_levels parts levels
 more_headings parts more levels named =

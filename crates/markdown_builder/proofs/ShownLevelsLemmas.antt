@@ -1,14 +1,13 @@
 -- What calls of a builder make of its levels, with what their items refer to.
 use Rattle.std.proofs.Common.{◌≡◌, ℕ, zero, suc, ◌+◌, ◌-◌, ◌<◌, List, [], ◌∷◌, ◌++◌, Option, Some, None, Bool, true, false}
 use Rattle.std.proofs.Common.{map, refl, sym, ap, ◌∙◌, cond, arith, ◌≤◌}
-use Rattle.markdown_base.specs.declared.block_parts.HeadingAttributes.{HeadingAttributes}
 use Rattle.markdown_base.specs.declared.item.Item.{Item}
 use Rattle.markdown_base.specs.declared.item.ItemBody.{ItemBody}
 use Rattle.markdown_base.specs.declared.item.ItemBody.TheVariants as body
 use Rattle.markdown_base.specs.declared.tag.Alignment.{Alignment}
 use Rattle.markdown_base.specs.Forest.{Forest, nil, node, relabelled}
 use Rattle.markdown_builder.specs.Bodies.{is_settled, is_plain_block, mark_byte}
-use Rattle.markdown_builder.specs.Shown.{Shown, Parts, plain_item, chain_of, shown, shown_trees, shown_levels, unnumbered}
+use Rattle.markdown_builder.specs.Shown.{HeadingWords, Shown, Parts, plain_item, chain_of, shown, shown_trees, shown_levels, unnumbered}
 use Rattle.markdown_builder.specs.Shown.{text_shown, heading_shown, alignments_shown, run_items, tight_shown, settled_below}
 use Rattle.markdown_builder.specs.Shown.{with_block}
 use Rattle.markdown_builder.specs.Tightness.{is_tight_list}
@@ -67,7 +66,7 @@ tight_text : (texts : List (List ℕ)) (b : ItemBody) → text_shown texts (tigh
 tight_text texts body.Paragraph = refl
 tight_text texts other = refl
 
-tight_heading : (headings : List HeadingAttributes) (b : ItemBody)
+tight_heading : (headings : List HeadingWords) (b : ItemBody)
     → heading_shown headings (tight_body b) ≡ heading_shown headings b
 tight_heading headings body.Paragraph = refl
 tight_heading headings other = refl

@@ -1,14 +1,39 @@
 -- A builder as its callers see it, and what its calls require of the text.
 use Rattle.std.specs.Prelude.{◌≡◌, ℕ, ◌-◌, ◌<◌, ◌≤◌, Bool, true, false, ◌==◌, List, [], ◌∷◌, ◌++◌, Option, Some, None}
-use Rattle.std.specs.Prelude.{length, slice_index, slice_get}
+use Rattle.std.specs.Prelude.{length, map, slice_index, slice_get}
+use Rattle.std.specs.Option.{option_map}
 use Rattle.std.specs.Char.{is_ascii_whitespace}
 use Rattle.markdown_base.specs.declared.index.CowIndex.{CowIndex}
+use Rattle.markdown_base.specs.declared.block_parts.BlockParts.{BlockParts}
+use Rattle.markdown_base.specs.declared.block_parts.LinkDef.{LinkDef}
+use Rattle.markdown_base.specs.declared.cow_str.CowStr.{CowStr}
 use Rattle.markdown_base.specs.declared.item.Item.{Item}
 use Rattle.markdown_base.specs.declared.item.ItemBody.{ItemBody}
+use Rattle.markdown_base.specs.declared.tag.Alignment.{Alignment}
+use Rattle.markdown_base.specs.CowText.{text_of}
 use Rattle.markdown_base.specs.Forest.{Forest, nil}
 use Rattle.markdown_builder.specs.declared.open_block.OpenBlock.{OpenBlock}
 use Rattle.markdown_builder.specs.Bodies.{is_leaf}
-use Rattle.markdown_builder.specs.TreeLevels.{one_tree, with_trees, with_closed}
+use Rattle.markdown_builder.specs.Shown.{HeadingWords, Parts, Shown, chain_of, plain_item, shown, synthesized_item, with_block, words_of}
+use Rattle.markdown_builder.specs.TreeLevels.{with_trees}
+
+-- a link reference definition in a text, with the byte offsets at which it begins and ends
+pub record Definition : Type 0 where
+  pub label : List ℕ
+  pub destination : List ℕ
+  pub title : Option (List ℕ)
+  pub start : ℕ
+  pub end : ℕ
+
+-- a stored definition
+abbrev pub definition_view : CowStr × LinkDef → Definition
+definition_view d = record {
+  label = text_of d.0;
+  destination = text_of d.1.dest;
+  title = option_map text_of d.1.title;
+  start = d.1.span.start;
+  end = d.1.span.end;
+}
 
 pub record BuilderView : Type 0 where
   -- the text
@@ -22,9 +47,13 @@ pub record BuilderView : Type 0 where
   -- the character of the delimiter run that was appended last, if no item followed it
   pub run : Option ℕ
   -- the closed trees of each level, the outermost first: those at the top, and those directly in each open block
-  pub levels : List (Forest Item)
-  -- the texts that blocks and items refer to by number
+  pub levels : List (Forest Shown)
+  -- what blocks and items refer to by number: texts, the attributes of headings, the alignments of tables
   pub texts : List (List ℕ)
+  pub headings : List HeadingWords
+  pub alignments : List (List Alignment)
+  -- the definitions
+  pub definitions : List Definition
   -- the labels of the footnotes that are defined
   pub footnotes : List (List ℕ)
 
@@ -39,6 +68,9 @@ nothing_made text =
       run = None;
       levels = nil ∷ [];
       texts = [];
+      headings = [];
+      alignments = [];
+      definitions = [];
       footnotes = [];
     }
 
@@ -57,17 +89,25 @@ abbrev pub follows_run : Option ℕ → ℕ → Bool
 follows_run None byte = false
 follows_run (Some before) byte = byte == before
 
+-- what blocks and items refer to by number
+abbrev pub parts_of : BuilderView → Parts
+parts_of view = record { texts = view.texts; headings = view.headings; alignments = view.alignments }
+
+-- the levels, with items at the end of the innermost
+abbrev pub with_items : List (Forest Shown) → List Shown → List (Forest Shown)
+with_items levels items = with_trees levels (chain_of items)
+
 -- an item with this body is appended, from the current byte offset up to another
 abbrev pub AppendsItem : BuilderView → BuilderView → ItemBody → ℕ → Type 0
 AppendsItem old new body end =
-    new ≡ record old { at = end; run = None; levels = with_trees old.levels (one_tree old.at end body) }
+    new ≡ record old { at = end; run = None; levels = with_items old.levels (plain_item old.at end body ∷ []) }
 
--- likewise an item that refers to a text, which is appended to the texts
-abbrev pub AppendsNaming : BuilderView → BuilderView → (CowIndex → ItemBody) → ℕ → List ℕ → Type 0
-AppendsNaming old new body end text = new ≡ record old {
+-- an item for a text is appended in place of the bytes up to another byte offset, and the text to the texts
+abbrev pub AppendsText : BuilderView → BuilderView → ℕ → List ℕ → Type 0
+AppendsText old new end text = new ≡ record old {
   at = end;
   run = None;
-  levels = with_trees old.levels (one_tree old.at end (body (record { 0 = length old.texts })));
+  levels = with_items old.levels (synthesized_item old.at end text ∷ []);
   texts = old.texts ++ text ∷ [];
 }
 
@@ -99,7 +139,8 @@ Closes old new block outer = new ≡ record old {
   blocks = outer;
   leaf = false;
   run = None;
-  levels = with_closed old.levels (record { start = block.start; end = old.at; body = block.body });
+  levels = with_block old.levels
+      (shown (parts_of old) (record { start = block.start; end = old.at; body = block.body }));
 }
 
 -- the innermost of the open blocks
@@ -115,3 +156,11 @@ LastHasBody old new body = (outer : List OpenBlock) (block : OpenBlock) → old 
 abbrev pub LastBegins : List OpenBlock → List OpenBlock → ℕ → Type 0
 LastBegins old new start = (outer : List OpenBlock) (block : OpenBlock) → old ≡ outer ++ block ∷ []
     → new ≡ outer ++ record block { start = start } ∷ []
+
+-- the parts of a block result are those of a view
+pub record HasParts (view : BuilderView) (parts : BlockParts) : Type 0 where
+  pub texts : map text_of parts.cows.items ≡ view.texts
+  pub headings : map words_of parts.headings.items ≡ view.headings
+  pub alignments : map (λ a. a.items) parts.alignments.items ≡ view.alignments
+  pub definitions : map definition_view parts.definitions.items ≡ view.definitions
+  pub footnotes : map text_of parts.footnotes.items ≡ view.footnotes

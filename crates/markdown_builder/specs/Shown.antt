@@ -1,11 +1,14 @@
 -- The items of a tree with what they refer to, in place of the numbers by which they do, and what the calls of a builder
 -- make of such trees.
 use Rattle.std.specs.Prelude.{ℕ, zero, suc, ◌-◌, Bool, List, [], ◌∷◌, Option, Some, None, cond, map, slice_get, unwrap_or}
+use Rattle.std.specs.declared.alloc.Global.{Global}
+use Rattle.std.specs.declared.vec.Vec.{Vec}
 use Rattle.std.specs.Option.{option_map}
 use Rattle.markdown_base.specs.CowText.{text_of}
 use Rattle.markdown_base.specs.Event.{HeadingView, attribute_view}
 use Rattle.markdown_base.specs.Forest.{Forest, nil, node, relabelled}
 use Rattle.markdown_base.specs.declared.block_parts.HeadingAttributes.{HeadingAttributes}
+use Rattle.markdown_base.specs.declared.cow_str.CowStr.{CowStr}
 use Rattle.markdown_base.specs.declared.item.Item.{Item}
 use Rattle.markdown_base.specs.declared.item.ItemBody.{ItemBody}
 use Rattle.markdown_base.specs.declared.item.ItemBody.TheVariants as body
@@ -41,11 +44,32 @@ abbrev pub chain_of : {A : Type 0} → List A → Forest A
 chain_of [] = nil
 chain_of (a ∷ items) = node a nil (chain_of items)
 
+-- an id, classes and attributes, as they are written after a heading
+pub record HeadingWords : Type 0 where
+  pub id : Option (List ℕ)
+  pub classes : List (List ℕ)
+  pub attributes : List (List ℕ × Option (List ℕ))
+
+abbrev pub words_of : HeadingAttributes → HeadingWords
+words_of a = record {
+  id = option_map text_of a.id;
+  classes = map text_of a.classes.items;
+  attributes = map attribute_view a.attrs.items;
+}
+
 -- what items refer to by numbers
 pub record Parts : Type 0 where
   pub texts : List (List ℕ)
-  pub headings : List HeadingAttributes
+  pub headings : List HeadingWords
   pub alignments : List (List Alignment)
+
+-- these parts, as they are stored
+abbrev pub stored_parts : List CowStr → List HeadingAttributes → List (Vec Alignment Global) → Parts
+stored_parts texts headings alignments = record {
+  texts = map text_of texts;
+  headings = map words_of headings;
+  alignments = map (λ a. a.items) alignments;
+}
 
 -- a body, with the first number in place of the one by which it refers to a part
 abbrev pub unnumbered : ItemBody → ItemBody
@@ -63,17 +87,13 @@ text_shown texts (body.FencedCodeBlock ix) = slice_get texts ix.0
 text_shown texts (body.FootnoteDefinition ix) = slice_get texts ix.0
 text_shown texts other = None
 
--- a heading of a level with its attributes
-abbrev pub heading_with : HeadingLevel → HeadingAttributes → HeadingView
-heading_with level a = record {
-  level = level;
-  id = option_map text_of a.id;
-  classes = map text_of a.classes.items;
-  attributes = map attribute_view a.attrs.items;
-}
+-- a heading of a level with its words
+abbrev pub heading_with : HeadingLevel → HeadingWords → HeadingView
+heading_with level words =
+    record { level = level; id = words.id; classes = words.classes; attributes = words.attributes }
 
 -- the heading with the attributes that a body refers to
-abbrev pub heading_shown : List HeadingAttributes → ItemBody → Option HeadingView
+abbrev pub heading_shown : List HeadingWords → ItemBody → Option HeadingView
 heading_shown headings (body.Heading level (Some ix)) =
     option_map (heading_with level) (slice_get headings (ix.0 - 1))
 heading_shown headings other = None

@@ -34,7 +34,8 @@ pub struct Builder<'a> {
 impl<'a> Model for Builder<'a> {
     ghost use Rattle.std.specs.Prelude.{length, map};
     ghost use Rattle.markdown_base.specs.CowText.{text_of};
-    ghost use Rattle.markdown_builder.specs.BuilderView.{BuilderView};
+    ghost use Rattle.markdown_builder.specs.BuilderView.{BuilderView, definition_view};
+    ghost use Rattle.markdown_builder.specs.Shown.{shown_levels, stored_parts, words_of};
     ghost use Rattle.markdown_builder.specs.TreeLevels.{levels_of};
     ghost use Rattle.markdown_builder.specs.Standing.{IsSound};
 
@@ -53,8 +54,12 @@ impl<'a> Model for Builder<'a> {
       blocks = b.blocks.items;
       leaf = b.leaf;
       run = b.run;
-      levels = levels_of b.tree;
+      levels = shown_levels (stored_parts b.cows.items b.headings.items b.alignments.items)
+          (levels_of b.tree);
       texts = map text_of b.cows.items;
+      headings = map words_of b.headings.items;
+      alignments = map (λ a. a.items) b.alignments.items;
+      definitions = map definition_view b.definitions.items;
       footnotes = map text_of b.footnotes.items;
     } };
 
@@ -78,6 +83,7 @@ impl<'a> Model for Builder<'a> {
 impl<'a> Builder<'a> {
     ghost use Rattle.std.specs.Prelude.{◌≡◌, ℕ, ◌+◌, ◌-◌, ◌≤◌, ◌<◌, ◌++◌, ◌∷◌, [], true, false, Some, None, length};
     ghost use Rattle.std.specs.Prelude.{slice_index, slice_get, IfOk, IfSome, MatchOption};
+    ghost use Rattle.std.specs.Option.{option_map};
     ghost use Rattle.std.specs.Str.{IsCharBoundary};
     ghost use Rattle.markdown_base.specs.declared.item.ItemBody.TheVariants as variant;
     ghost use Rattle.markdown_base.specs.BlockTree.{tree_of};
@@ -88,10 +94,11 @@ impl<'a> Builder<'a> {
     ghost use Rattle.markdown_builder.specs.declared.open_block.OpenBlock.{OpenBlock};
     ghost use Rattle.markdown_builder.specs.Bodies.{is_leaf, is_plain_block, is_settled, mark_byte};
     ghost use Rattle.markdown_builder.specs.BuilderView.{IsWhite, IsRunOf, follows_run, innermost_block, nothing_made};
-    ghost use Rattle.markdown_builder.specs.BuilderView.{AppendsItem, AppendsNaming, Opens, OpensNaming, Closes};
+    ghost use Rattle.markdown_builder.specs.BuilderView.{AppendsItem, AppendsText, Opens, OpensNaming, Closes};
+    ghost use Rattle.markdown_builder.specs.BuilderView.{HasParts, parts_of, with_items};
     ghost use Rattle.markdown_builder.specs.BuilderView.{LastHasBody, LastBegins};
     ghost use Rattle.markdown_builder.specs.HeadingsHoldInline.{HeadingsHoldInline};
-    ghost use Rattle.markdown_builder.specs.TreeLevels.{run_trees, with_trees};
+    ghost use Rattle.markdown_builder.specs.Shown.{run_items, shown_trees, words_of};
     ghost use Rattle.markdown_builder.specs.Tightness.{TightInTightLists};
 
     /// Returns a builder that has made nothing yet.
@@ -258,7 +265,9 @@ impl<'a> Builder<'a> {
     ) -> Result<(), AllocError>
         requires { self.old.leaf ≡ false }
         ensures { IfOk result (λ _. (ix : _)
-            × Opens self.old self.new (variant.Heading level (Some ix))) }
+            × (ix.0 ≡ length self.old.headings + 1)
+            × Opens (record self.old { headings = self.old.headings ++ words_of attributes.entry ∷ [] })
+            self.new (variant.Heading level (Some ix))) }
     {
         let ix = HeadingIndex::of(self.headings.len() + 1)?;
         self.headings.push(attributes)?;
@@ -272,7 +281,10 @@ impl<'a> Builder<'a> {
     /// Opens a table with the alignments of its columns.
     pub fn open_table(&mut self, alignments: Vec<Alignment>) -> Result<(), AllocError>
         requires { self.old.leaf ≡ false }
-        ensures { IfOk result (λ _. (ix : _) × Opens self.old self.new (variant.Table ix)) }
+        ensures { IfOk result (λ _. (ix : _) × (ix.0 ≡ length self.old.alignments)
+            × Opens (record self.old {
+              alignments = self.old.alignments ++ alignments.items ∷ [];
+            }) self.new (variant.Table ix)) }
     {
         let ix = AlignmentIndex(self.alignments.len());
         self.alignments.push(alignments)?;
@@ -343,7 +355,7 @@ impl<'a> Builder<'a> {
         requires low { self.old.at ≤ end }
         requires boundary { IsCharBoundary self.old.text end }
         ensures { IfOk result (λ _.
-            AppendsNaming self.old self.new variant.SynthesizeText end (text_of text.entry)) }
+            AppendsText self.old self.new end (text_of text.entry)) }
     {
         let ix = push_text(&mut self.cows, text)?;
         self.tree.append(Item {
@@ -424,7 +436,7 @@ impl<'a> Builder<'a> {
         ensures { IfOk result (λ _. self.new ≡ record self.old {
           at = end;
           run = Some byte;
-          levels = with_trees self.old.levels (run_trees end opens closes (end - self.old.at));
+          levels = with_items self.old.levels (run_items end opens closes (end - self.old.at));
         }) }
     {
         let start = self.at;
@@ -446,7 +458,16 @@ impl<'a> Builder<'a> {
         requires low { self.old.at ≤ end }
         requires boundary { IsCharBoundary self.old.text end }
         requires bracket { slice_index self.old.text self.old.at ≡ 91 }
-        ensures { IfOk result (λ _. self.new ≡ record self.old { at = end }) }
+        ensures { IfOk result (λ _. self.new ≡ record self.old {
+          at = end;
+          definitions = self.old.definitions ++ record {
+            label = text_of label.entry;
+            destination = text_of dest.entry;
+            title = option_map text_of title.entry;
+            start = self.old.at;
+            end = end;
+          } ∷ [];
+        }) }
     {
         let span = self.at..end;
         self.definitions
@@ -464,7 +485,10 @@ impl<'a> Builder<'a> {
         ensures covered { Covers self.entry.text result.0.nodes result.1 }
         ensures tight { TightInTightLists result.0.nodes }
         ensures headings { HeadingsHoldInline (tree_of result.0.nodes) }
-        ensures tree { self.entry.levels ≡ relabelled (λ n. n.item) (tree_of result.0.nodes) ∷ [] }
+        ensures tree { self.entry.levels
+            ≡ shown_trees (parts_of self.entry) (relabelled (λ n. n.item) (tree_of result.0.nodes))
+            ∷ [] }
+        ensures parts { HasParts self.entry result.1 }
     {
         let parts = BlockParts {
             definitions: self.definitions,

@@ -1,6 +1,10 @@
 -- The block is left, and its paragraphs are made tight if it is a tight list.
 use Rattle.std.proofs.Common.{refl}
 use Rattle.markdown_builder.proofs.CallLemmas.{close_left, close_keeps, close_levels_of}
+use Rattle.std.proofs.Common.{ap, ◌∙◌}
+use Rattle.markdown_builder.specs.Shown.{shown_levels, stored_parts}
+use Rattle.markdown_builder.specs.TreeLevels.{levels_of}
+use Rattle.markdown_builder.proofs.ShownLevelsLemmas.{closed_shown}
 use Rattle.markdown_builder.proofs.builder.Builder.close.Goals as goal
 
 pub tighten_list-requires : goal.tighten_list-requires
@@ -15,6 +19,8 @@ invariant_of-self-2 c =
 
 pub returns : goal.returns
 returns c =
-    let levels = close_levels_of c.pop.new.self.items c.in_ok-block.block c.leave.new.tree c.tighten_list.new.tree
-    c.self.invariant c.in_ok-block.ensures.items c.leave.ensures c.tighten_list.ensures in
+    let parts = stored_parts c.self.inside.cows.items c.self.inside.headings.items c.self.inside.alignments.items in
+    let levels = ap (shown_levels parts) (close_levels_of c.pop.new.self.items c.in_ok-block.block c.leave.new.tree
+    c.tighten_list.new.tree c.self.invariant c.in_ok-block.ensures.items c.leave.ensures c.tighten_list.ensures)
+    ∙ closed_shown parts (levels_of c.self.inside.tree) _ in
     rw (← c.self.view_is) (c.pop.new.self.items, c.in_ok-block.ensures.items, rw levels refl)

@@ -1,5 +1,8 @@
 -- The definition is added.
-use Rattle.std.proofs.Common.{ap, refl}
+use Rattle.std.proofs.Common.{ap, refl, ◌∙◌, List, ◌∷◌, [], map}
+use Rattle.std.proofs.lemmas.List.{map-append}
+use Rattle.markdown_base.specs.declared.cow_str.CowStr.{CowStr}
+use Rattle.markdown_builder.specs.BuilderView.{definition_view}
 use Rattle.markdown_base.specs.declared.block_parts.LinkDef.{LinkDef}
 use Rattle.markdown_builder.specs.Standing.{standpoint}
 use Rattle.markdown_builder.proofs.CallLemmas.{define_keeps}
@@ -14,3 +17,12 @@ invariant_of-self-2 c =
     (define_keeps (standpoint c.args.self.now) c.args.end (c.args.label, made) c.self.invariant
     (ap standpoint c.self.view_is) c.requires.low c.requires.boundary
     c.requires.bracket refl)
+
+pub returns : goal.returns
+returns c =
+    let made : LinkDef = record
+    { dest = c.args.dest; title = c.args.title; span = record { start = c.self.inside.at; end = c.args.end } }
+    in
+    let definitions = ap (λ (ds : List (CowStr × LinkDef)). map definition_view ds) c.in_ok-push.ensures.items
+    ∙ map-append definition_view c.self.inside.definitions.items ((c.args.label, made) ∷ []) in
+    rw (← c.self.view_is) (rw definitions refl)

@@ -36,3 +36,8 @@ returns-clause-tree c =
     let none = finish_spine (standpoint c.args.self) c.self.invariant (ap standpoint c.self.view_is)
     c.requires.closed in
     rw (← c.self.view_is) (rw none refl)
+
+pub returns-clause-parts : goal.returns-clause-parts
+returns-clause-parts c =
+    rw (← c.self.view_is)
+    (record { texts = refl; headings = refl; alignments = refl; definitions = refl; footnotes = refl })

@@ -14,4 +14,12 @@ invariant_of-result c =
 pub returns : goal.returns
 returns c =
     let levels = ap levels_of c.in_ok-new.ensures ∙ levels_laid [] nil in
-    rw (levels, c.new-2.ensures.items, c.new-6.ensures.items, c.new-7.ensures.items) refl
+    rw (
+      levels,
+      c.new-2.ensures.items,
+      c.new-3.ensures.items,
+      c.new-4.ensures.items,
+      c.new-5.ensures.items,
+      c.new-6.ensures.items,
+      c.new-7.ensures.items,
+    ) refl

@@ -9,6 +9,9 @@ use Rattle.markdown_builder.specs.TreeLevels.{levels_of}
 use Rattle.markdown_builder.proofs.BodiesLemmas.{fenced_names}
 use Rattle.markdown_builder.proofs.CallLemmas.{named_keeps, named_refused}
 use Rattle.markdown_builder.proofs.LevelViewLemmas.{enter_levels}
+use Rattle.markdown_builder.specs.Shown.{Parts, stored_parts}
+use Rattle.markdown_builder.proofs.MorePartsLemmas.{more_texts}
+use Rattle.markdown_builder.proofs.ShownStepsLemmas.{opened_shown, stored_named}
 use Rattle.markdown_builder.proofs.builder.Builder.open_fenced.Goals as goal
 
 pub invariant_of-self-in_err-enter : goal.invariant_of-self-in_err-enter
@@ -30,11 +33,16 @@ invariant_of-self-2 c =
 
 pub returns-clause-opens : goal.returns-clause-opens
 returns-clause-opens c =
-    let levels = ap levels_of c.in_ok-enter.ensures.entered ∙ enter_levels c.self.inside.tree _ c.self.invariant.laid in
-    let texts : map text_of c.push_text.new.texts.items
-    ≡ map text_of c.self.inside.cows.items ++ text_of c.args.info ∷ [] =
+    let parts = stored_parts c.self.inside.cows.items c.self.inside.headings.items c.self.inside.alignments.items in
+    let text = text_of c.args.info in
+    let more : Parts = record parts { texts = parts.texts ++ text ∷ [] } in
+    let texts : map text_of c.push_text.new.texts.items ≡ parts.texts ++ text ∷ [] =
     ap (λ (xs : List CowStr). map text_of xs) c.in_ok-ix.ensures.pushed
     ∙ map-append text_of c.self.inside.cows.items _ in
-    let number : length (map text_of c.self.inside.cows.items) ≡ c.in_ok-ix.ix.0 =
+    let number : length parts.texts ≡ c.in_ok-ix.ix.0 =
     length-map c.self.inside.cows.items text_of ∙ sym c.in_ok-ix.ensures.number in
-    rw (← c.self.view_is) (rw (c.in_ok-enter.ensures.opened, levels, texts, number) refl)
+    let levels = opened_shown parts more c.self.inside.tree c.enter.new.tree (more_texts parts (text ∷ []) _
+    (stored_named c.self.inside.text.now c.self.inside.cows.items c.self.inside.headings.items
+    c.self.inside.alignments.items c.self.inside.tree c.self.invariant.stands.nodes))
+    (ap levels_of c.in_ok-enter.ensures.entered ∙ enter_levels c.self.inside.tree _ c.self.invariant.laid) in
+    rw (← c.self.view_is) (rw (c.in_ok-enter.ensures.opened, texts, levels, number) refl)

@@ -8,6 +8,12 @@ use Rattle.markdown_builder.specs.TreeLevels.{levels_of}
 use Rattle.markdown_builder.proofs.BodiesLemmas.{heading_placed}
 use Rattle.markdown_builder.proofs.CallLemmas.{placed_keeps, refused_keeps}
 use Rattle.markdown_builder.proofs.LevelViewLemmas.{enter_levels}
+use Rattle.std.proofs.Common.{List, map, ◌++◌, ◌∷◌, [], sym}
+use Rattle.std.proofs.lemmas.List.{length-map, map-append}
+use Rattle.markdown_base.specs.declared.block_parts.HeadingAttributes.{HeadingAttributes}
+use Rattle.markdown_builder.specs.Shown.{Parts, stored_parts, words_of}
+use Rattle.markdown_builder.proofs.MorePartsLemmas.{more_headings}
+use Rattle.markdown_builder.proofs.ShownStepsLemmas.{opened_shown, stored_named}
 use Rattle.markdown_builder.proofs.builder.Builder.open_heading.Goals as goal
 
 pub invariant_of-self-in_err-enter : goal.invariant_of-self-in_err-enter
@@ -40,5 +46,18 @@ invariant_of-self-2 c =
 
 pub returns : goal.returns
 returns c =
-    let levels = ap levels_of c.in_ok-enter.ensures.entered ∙ enter_levels c.self.inside.tree _ c.self.invariant.laid in
-    rw (← c.self.view_is) (c.in_ok-ix.ix, rw (c.in_ok-enter.ensures.opened, levels) refl)
+    let parts = stored_parts c.self.inside.cows.items c.self.inside.headings.items c.self.inside.alignments.items in
+    let words = words_of c.args.attributes in
+    let more : Parts = record parts { headings = parts.headings ++ words ∷ [] } in
+    let headings : map words_of c.push.new.self.items ≡ parts.headings ++ words ∷ [] =
+    ap (λ (xs : List HeadingAttributes). map words_of xs) c.in_ok-push.ensures.items
+    ∙ map-append words_of c.self.inside.headings.items _ in
+    let count = length-map c.self.inside.headings.items words_of in
+    let number : c.in_ok-ix.ix.0 ≡ length parts.headings + 1 =
+    omega (arith, count, c.len.ensures, c.self.inside.headings.ok.0, c.in_ok-ix.ensures.value) in
+    let levels = opened_shown parts more c.self.inside.tree c.enter.new.tree (more_headings parts (words ∷ []) _
+    (stored_named c.self.inside.text.now c.self.inside.cows.items c.self.inside.headings.items
+    c.self.inside.alignments.items c.self.inside.tree c.self.invariant.stands.nodes))
+    (ap levels_of c.in_ok-enter.ensures.entered ∙ enter_levels c.self.inside.tree _ c.self.invariant.laid) in
+    rw (← c.self.view_is)
+    (c.in_ok-ix.ix, number, rw (c.in_ok-enter.ensures.opened, headings, levels) refl)

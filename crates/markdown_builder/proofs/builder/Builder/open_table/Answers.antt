@@ -8,6 +8,13 @@ use Rattle.markdown_builder.specs.TreeLevels.{levels_of}
 use Rattle.markdown_builder.proofs.BodiesLemmas.{table_placed}
 use Rattle.markdown_builder.proofs.CallLemmas.{placed_keeps, refused_keeps}
 use Rattle.markdown_builder.proofs.LevelViewLemmas.{enter_levels}
+use Rattle.std.proofs.Common.{List, map, ◌++◌, ◌∷◌, [], sym, Vec}
+use Rattle.std.proofs.lemmas.List.{length-map, map-append}
+use Rattle.std.specs.declared.alloc.Global.{Global}
+use Rattle.markdown_base.specs.declared.tag.Alignment.{Alignment}
+use Rattle.markdown_builder.specs.Shown.{Parts, stored_parts}
+use Rattle.markdown_builder.proofs.MorePartsLemmas.{more_alignments}
+use Rattle.markdown_builder.proofs.ShownStepsLemmas.{opened_shown, stored_named}
 use Rattle.markdown_builder.proofs.builder.Builder.open_table.Goals as goal
 
 pub invariant_of-self-in_err-enter : goal.invariant_of-self-in_err-enter
@@ -39,5 +46,19 @@ invariant_of-self-2 c =
 
 pub returns : goal.returns
 returns c =
-    let levels = ap levels_of c.in_ok-enter.ensures.entered ∙ enter_levels c.self.inside.tree _ c.self.invariant.laid in
-    rw (← c.self.view_is) (record { 0 = c.len.result }, rw (c.in_ok-enter.ensures.opened, levels) refl)
+    let parts = stored_parts c.self.inside.cows.items c.self.inside.headings.items c.self.inside.alignments.items in
+    let items : Vec Alignment Global → List Alignment = λ a. a.items in
+    let table = c.args.alignments.items in
+    let more : Parts = record parts { alignments = parts.alignments ++ table ∷ [] } in
+    let alignments : map items c.push.new.self.items ≡ parts.alignments ++ table ∷ [] =
+    ap (λ (xs : List (Vec Alignment Global)). map items xs) c.in_ok-push.ensures.items
+    ∙ map-append items c.self.inside.alignments.items _ in
+    let count = length-map c.self.inside.alignments.items items in
+    let number : c.len.result ≡ length parts.alignments =
+    omega (arith, count, c.len.ensures, c.self.inside.alignments.ok.0) in
+    let levels = opened_shown parts more c.self.inside.tree c.enter.new.tree (more_alignments parts (table ∷ []) _
+    (stored_named c.self.inside.text.now c.self.inside.cows.items c.self.inside.headings.items
+    c.self.inside.alignments.items c.self.inside.tree c.self.invariant.stands.nodes))
+    (ap levels_of c.in_ok-enter.ensures.entered ∙ enter_levels c.self.inside.tree _ c.self.invariant.laid) in
+    rw (← c.self.view_is)
+    (record { 0 = c.len.result }, number, rw (c.in_ok-enter.ensures.opened, alignments, levels) refl)

@@ -1,5 +1,5 @@
 -- The run is there, or some Texts are.
-use Rattle.std.proofs.Common.{ap, refl, ◌∙◌, ◌-◌}
+use Rattle.std.proofs.Common.{ap, refl, ◌∙◌, ◌-◌, arith}
 use Rattle.markdown_base.specs.declared.item.Item.{Item}
 use Rattle.markdown_base.specs.Arena.{Arena}
 use Rattle.markdown_builder.specs.Standing.{standpoint}
@@ -7,6 +7,9 @@ use Rattle.markdown_builder.specs.TreeLevels.{levels_of}
 use Rattle.markdown_builder.specs.TreeSteps.{run_marked}
 use Rattle.markdown_builder.proofs.CallLemmas.{run_nodes, run_refused, run_keeps}
 use Rattle.markdown_builder.proofs.LevelViewLemmas.{run_levels}
+use Rattle.markdown_builder.specs.Shown.{shown_levels, stored_parts}
+use Rattle.markdown_builder.specs.TreeLevels.{with_trees}
+use Rattle.markdown_builder.proofs.ShownLevelsLemmas.{run_shown, trees_shown}
 use Rattle.markdown_builder.proofs.builder.Builder.run.Goals as goal
 
 pub invariant_of-self : goal.invariant_of-self
@@ -49,11 +52,16 @@ invariant_of-self-2 c =
 
 pub returns : goal.returns
 returns c =
+    let parts = stored_parts c.self.inside.cows.items c.self.inside.headings.items c.self.inside.alignments.items in
+    let tree = c.self.inside.tree in
     let start = c.self.inside.at in
     let count = c.args.end - start in
     let marked = c.mark_run.ensures
     ∙ ap (λ (t : Arena Item). run_marked t c.args.end c.args.opens c.args.closes count)
     c.in_ok-append_texts.ensures.appended in
-    let levels = ap levels_of marked
-    ∙ run_levels c.self.inside.tree start c.args.end count c.args.opens c.args.closes c.self.invariant.laid in
+    let levels = ap (shown_levels parts) (ap levels_of marked
+    ∙ run_levels tree start c.args.end count c.args.opens c.args.closes c.self.invariant.laid)
+    ∙ (trees_shown parts (levels_of tree) _
+    ∙ ap (with_trees (shown_levels parts (levels_of tree)))
+    (run_shown parts c.args.end c.args.opens c.args.closes count (omega arith))) in
     rw (← c.self.view_is) (rw levels refl)

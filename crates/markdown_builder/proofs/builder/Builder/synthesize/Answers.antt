@@ -7,6 +7,8 @@ use Rattle.markdown_builder.specs.Standing.{standpoint}
 use Rattle.markdown_builder.specs.TreeLevels.{levels_of}
 use Rattle.markdown_builder.proofs.CallLemmas.{synthesize_keeps, pushed_keeps}
 use Rattle.markdown_builder.proofs.LevelViewLemmas.{append_levels}
+use Rattle.markdown_builder.specs.Shown.{Parts, stored_parts}
+use Rattle.markdown_builder.proofs.ShownStepsLemmas.{stored_named, text_shown_too}
 use Rattle.markdown_builder.proofs.builder.Builder.synthesize.Goals as goal
 
 pub invariant_of-self-in_err-append : goal.invariant_of-self-in_err-append
@@ -23,11 +25,15 @@ invariant_of-self-2 c =
 
 pub returns : goal.returns
 returns c =
-    let levels = ap levels_of c.in_ok-append.ensures.made ∙ append_levels c.self.inside.tree _ c.self.invariant.laid in
-    let texts : map text_of c.push_text.new.texts.items
-    ≡ map text_of c.self.inside.cows.items ++ text_of c.args.text ∷ [] =
+    let parts = stored_parts c.self.inside.cows.items c.self.inside.headings.items c.self.inside.alignments.items in
+    let text = text_of c.args.text in
+    let texts : map text_of c.push_text.new.texts.items ≡ parts.texts ++ text ∷ [] =
     ap (λ (xs : List CowStr). map text_of xs) c.in_ok-ix.ensures.pushed
     ∙ map-append text_of c.self.inside.cows.items _ in
-    let number : length (map text_of c.self.inside.cows.items) ≡ c.in_ok-ix.ix.0 =
-    length-map c.self.inside.cows.items text_of ∙ sym c.in_ok-ix.ensures.number in
-    rw (← c.self.view_is) (rw (levels, texts, number) refl)
+    let number : c.in_ok-ix.ix.0 ≡ length parts.texts =
+    c.in_ok-ix.ensures.number ∙ sym (length-map c.self.inside.cows.items text_of) in
+    let levels = text_shown_too parts c.self.inside.tree c.append.new.self c.self.inside.at c.args.end c.in_ok-ix.ix text number
+    (stored_named c.self.inside.text.now c.self.inside.cows.items c.self.inside.headings.items
+    c.self.inside.alignments.items c.self.inside.tree c.self.invariant.stands.nodes)
+    (ap levels_of c.in_ok-append.ensures.made ∙ append_levels c.self.inside.tree _ c.self.invariant.laid) in
+    rw (← c.self.view_is) (rw (texts, levels) refl)
