@@ -1,17 +1,19 @@
 -- For private clauses: what is found in a line's content fits it, and the builder after it is appended.
-use Rattle.std.specs.Prelude.{◌≡◌, ℕ, ◌+◌, ◌-◌, ◌<◌, ◌≤◌, true, nat_lt, List, [], ◌∷◌, ◌++◌, Option, Some, None}
+use Rattle.std.specs.Prelude.{◌≡◌, ◌≢◌, ℕ, ◌+◌, ◌-◌, ◌<◌, ◌≤◌, true, nat_lt, List, [], ◌∷◌, ◌++◌, Option, Some, None}
 use Rattle.std.specs.Prelude.{length, slice_index, encode_utf8, if◌then◌else◌}
 use Rattle.std.specs.Str.{IsCharBoundary}
-use Rattle.markdown_base.specs.declared.item.Item.{Item}
 use Rattle.markdown_base.specs.Bytes.{backtick, exclamation_mark, open_bracket}
 use Rattle.markdown_base.specs.Forest.{Forest}
 use Rattle.markdown_base.specs.WellFormed.{is_delimiter}
 use Rattle.markdown_builder.specs.Bodies.{mark_byte}
-use Rattle.markdown_builder.specs.BuilderView.{BuilderView, IsRunOf, follows_run}
+use Rattle.markdown_builder.specs.BuilderView.{BuilderView, IsRunOf, follows_run, with_items}
+use Rattle.markdown_builder.specs.Shown.{Shown}
 use Rattle.markdown_items.specs.Dashes.{dashes_for, dashes_in_utf8, ellipsis}
 use Rattle.markdown_items.specs.declared.found.Found.{Found}
 use Rattle.markdown_items.specs.declared.found.Found.TheVariants as found
 use Rattle.markdown_items.specs.declared.found.Line.{Line}
+use Rattle.markdown_items.specs.FoundItems.{found_items}
+use Rattle.markdown_items.specs.FoundView.{found_view}
 use Rattle.markdown_items.specs.LineItems.{is_special}
 use Rattle.markdown_scan.specs.Entity.{text_in_utf8}
 
@@ -53,6 +55,7 @@ FoundFits text end at (found.EscapedBackticks stop) =
     LiesFurther end (at + 1) stop × IsRunOf backtick text (at + 1) stop × IsCharBoundary text (at + 1)
 FoundFits text end at (found.Run stop flags) =
     LiesFurther end at stop × IsRunOf (slice_index text at) text at stop × (is_delimiter (slice_index text at) ≡ true)
+    × (stop < end → slice_index text stop ≢ slice_index text at)
 FoundFits text end at (found.Entity stop characters) =
     LiesFurther end at stop × IsCharBoundary text stop × (length (text_in_utf8 characters) ≤ 6)
 FoundFits text end at (found.Dashes stop) =
@@ -63,26 +66,46 @@ FoundFits text end at found.Ellipsis = (at + 3 ≤ end) × IsCharBoundary text (
 abbrev pub run_after_text : BuilderView → ℕ → Option ℕ
 run_after_text view to = if nat_lt view.at to then None else view.run
 
--- the builder after the text before an offset and the item found there are appended, with the closed trees then; a run
--- that directly continues the one appended last becomes text
-abbrev pub view_after : BuilderView → List (Forest Item) → ℕ → Found → BuilderView
-view_after view levels at (found.Text next) = view
-view_after view levels at found.Escape = record view { at = at + 1; run = run_after_text view at; levels = levels }
-view_after view levels at (found.Mark body) = record view { at = at + 1; run = None; levels = levels }
-view_after view levels at found.Image = record view { at = at + 2; run = None; levels = levels }
-view_after view levels at (found.Backticks stop) = record view { at = stop; run = None; levels = levels }
-view_after view levels at (found.EscapedBackticks stop) = record view { at = stop; run = None; levels = levels }
-view_after view levels at (found.Run stop flags) =
+-- the levels after the text before an offset and the item found there are appended
+abbrev pub levels_after : BuilderView → Line → ℕ → Found → List (Forest Shown)
+levels_after view line at f = with_items view.levels (found_items view.text line view.at at (found_view f))
+
+-- the builder after the text before an offset and the item found there are appended; a run that directly continues the
+-- one appended last becomes text
+abbrev pub view_after : BuilderView → Line → ℕ → Found → BuilderView
+view_after view line at (found.Text next) = view
+view_after view line at found.Escape =
+    record view { at = at + 1; run = run_after_text view at; levels = levels_after view line at found.Escape }
+view_after view line at (found.Mark body) =
+    record view { at = at + 1; run = None; levels = levels_after view line at (found.Mark body) }
+view_after view line at found.Image =
+    record view { at = at + 2; run = None; levels = levels_after view line at found.Image }
+view_after view line at (found.Backticks stop) =
+    record view { at = stop; run = None; levels = levels_after view line at (found.Backticks stop) }
+view_after view line at (found.EscapedBackticks stop) =
+    record view { at = stop; run = None; levels = levels_after view line at (found.EscapedBackticks stop) }
+view_after view line at (found.Run stop flags) =
     if follows_run (run_after_text view at) (slice_index view.text at) then view
-    else record view { at = stop; run = Some (slice_index view.text at); levels = levels }
-view_after view levels at (found.Entity stop characters) =
-    record view { at = stop; run = None; levels = levels; texts = view.texts ++ text_in_utf8 characters ∷ [] }
-view_after view levels at (found.Dashes stop) =
-    record view {
+    else record view {
       at = stop;
-      run = None;
-      levels = levels;
-      texts = view.texts ++ dashes_in_utf8 (dashes_for (stop - at)) ∷ [];
+      run = Some (slice_index view.text at);
+      levels = levels_after view line at (found.Run stop flags);
     }
-view_after view levels at found.Ellipsis =
-    record view { at = at + 3; run = None; levels = levels; texts = view.texts ++ encode_utf8 ellipsis ∷ [] }
+view_after view line at (found.Entity stop characters) = record view {
+  at = stop;
+  run = None;
+  texts = view.texts ++ text_in_utf8 characters ∷ [];
+  levels = levels_after view line at (found.Entity stop characters);
+}
+view_after view line at (found.Dashes stop) = record view {
+  at = stop;
+  run = None;
+  texts = view.texts ++ dashes_in_utf8 (dashes_for (stop - at)) ∷ [];
+  levels = levels_after view line at (found.Dashes stop);
+}
+view_after view line at found.Ellipsis = record view {
+  at = at + 3;
+  run = None;
+  texts = view.texts ++ encode_utf8 ellipsis ∷ [];
+  levels = levels_after view line at found.Ellipsis;
+}

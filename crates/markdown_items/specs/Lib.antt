@@ -4,5 +4,8 @@ pub mod LineItems
 pub mod Dashes
 pub mod FoundView
 pub mod Found
+pub mod ContentItems
 -- for private clauses
 pub mod FoundFits
+pub mod FoundItems
+pub mod RestOfLine

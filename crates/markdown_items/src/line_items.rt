@@ -3,7 +3,10 @@ ghost use Rattle.std.specs.Prelude.{◌≡◌, ◌≤◌, ◌+◌, ◌-◌, ◌+
 ghost use Rattle.std.specs.Str.{IsCharBoundary};
 ghost use Rattle.markdown_scan.specs.Entity.{text_in_utf8};
 ghost use Rattle.markdown_items.specs.Dashes.{dashes_for, dashes_in_utf8, ellipsis};
-ghost use Rattle.markdown_items.specs.LineItems.{is_after_backslash};
+ghost use Rattle.markdown_builder.specs.BuilderView.{with_items};
+ghost use Rattle.markdown_builder.specs.Shown.{synthesized_item};
+ghost use Rattle.markdown_items.specs.ContentItems.{content_items, text_between};
+ghost use Rattle.markdown_items.specs.LineItems.{is_after_backslash, item_extensions};
 ghost use Rattle.markdown_items.specs.FoundFits.{IsAtSpecial, FoundFits, run_after_text, view_after};
 
 use crate::dashes::dashes_for;
@@ -29,16 +32,16 @@ fn is_after_backslash(bytes: &[u8], start: usize, at: usize) -> bool
 /// Appends the text up to `to`, if there is any. The error is a refused allocation.
 // inlined: it is called before each item, and most items are Texts
 #[inline(always)]
+#[tactic(auto, using(crate::proofs::RestOfLineLemmas::no_items))]
 fn append_text(builder: &mut Builder<'_>, line: Line, to: usize) -> Result<(), AllocError>
     requires inside { builder.old.leaf ≡ true }
     requires low { builder.old.at ≤ to }
     requires boundary { IsCharBoundary builder.old.text to }
-    ensures { IfOk result (λ _. builder.new
-        ≡ record builder.old {
-          at = to;
-          run = run_after_text builder.old to;
-          levels = builder.new.levels;
-        }) }
+    ensures { IfOk result (λ _. builder.new ≡ record builder.old {
+      at = to;
+      run = run_after_text builder.old to;
+      levels = with_items builder.old.levels (text_between builder.old.text line builder.old.at to);
+    }) }
 {
     let from = builder.at();
     if from < to {
@@ -50,6 +53,7 @@ fn append_text(builder: &mut Builder<'_>, line: Line, to: usize) -> Result<(), A
 
 /// Appends the text before `at`, and the delimiter run from there up to `stop`. A run that directly continues the one
 /// appended last becomes text, which happens where a caller ends a line within a run.
+#[tactic(auto, using(crate::proofs::RestOfLineLemmas::more_items))]
 fn append_run(
     builder: &mut Builder<'_>,
     line: Line,
@@ -61,8 +65,7 @@ fn append_run(
     requires inside { builder.old.leaf ≡ true }
     requires placed { builder.old.at ≤ at }
     requires fits { FoundFits builder.old.text line.end at (Found.Run stop flags) }
-    ensures { IfOk result (λ _. builder.new
-        ≡ view_after builder.old builder.new.levels at (Found.Run stop flags)) }
+    ensures { IfOk result (λ _. builder.new ≡ view_after builder.old line at (Found.Run stop flags)) }
 {
     let byte = builder.text().as_bytes()[at];
     if builder.at() == at && builder.follows_run(byte) {
@@ -88,8 +91,9 @@ fn append_entity(
     ensures { IfOk result (λ _. builder.new ≡ record builder.old {
       at = stop;
       run = None;
-      levels = builder.new.levels;
       texts = builder.old.texts ++ text_in_utf8 characters ∷ [];
+      levels = with_items builder.old.levels
+          (synthesized_item builder.old.at stop (text_in_utf8 characters) ∷ []);
     }) }
 {
     builder.synthesize(characters.inlined(), stop)
@@ -104,8 +108,10 @@ fn append_dashes(builder: &mut Builder<'_>, alloc: Global, stop: usize) -> Resul
     ensures { IfOk result (λ _. builder.new ≡ record builder.old {
       at = stop;
       run = None;
-      levels = builder.new.levels;
       texts = builder.old.texts ++ dashes_in_utf8 (dashes_for (stop - builder.old.at)) ∷ [];
+      levels = with_items builder.old.levels (synthesized_item builder.old.at stop
+          (dashes_in_utf8 (dashes_for (stop - builder.old.at)))
+          ∷ []);
     }) }
 {
     let dashes = dashes_for(stop - builder.at()).text(alloc)?;
@@ -121,14 +127,16 @@ fn append_ellipsis(builder: &mut Builder<'_>, stop: usize) -> Result<(), AllocEr
     ensures { IfOk result (λ _. builder.new ≡ record builder.old {
       at = stop;
       run = None;
-      levels = builder.new.levels;
       texts = builder.old.texts ++ encode_utf8 ellipsis ∷ [];
+      levels = with_items builder.old.levels
+          (synthesized_item builder.old.at stop (encode_utf8 ellipsis) ∷ []);
     }) }
 {
     builder.synthesize(CowStr::from('…'), stop)
 }
 
 /// Appends the text before `at`, and the item that was found there, if any.
+#[tactic(auto, using(crate::proofs::RestOfLineLemmas::more_items))]
 fn append_found(
     builder: &mut Builder<'_>,
     alloc: Global,
@@ -140,7 +148,7 @@ fn append_found(
     requires inside { builder.old.leaf ≡ true }
     requires placed { builder.old.at ≤ at }
     requires fits { FoundFits builder.old.text line.end at found }
-    ensures { IfOk result (λ _. builder.new ≡ view_after builder.old builder.new.levels at found) }
+    ensures { IfOk result (λ _. builder.new ≡ view_after builder.old line at found) }
 {
     match found {
         Found::Text(_) => return Ok(()),
@@ -187,12 +195,15 @@ pub fn items(
     requires inside { builder.old.leaf ≡ true }
     requires low { builder.old.at ≤ end }
     requires boundary { IsCharBoundary builder.old.text end }
-    ensures { IfOk result (λ _. builder.new ≡ record builder.old {
+    ensures same { IfOk result (λ _. builder.new ≡ record builder.old {
       at = end;
       run = builder.new.run;
-      levels = builder.new.levels;
       texts = builder.new.texts;
+      levels = builder.new.levels;
     }) }
+    ensures items { IfOk result (λ _. builder.old.run ≡ None → builder.new.levels
+        ≡ with_items builder.old.levels
+        (content_items builder.old.text (item_extensions options) builder.old.at end)) }
 {
     let line = Line {
         start: builder.at(),

@@ -1,0 +1,99 @@
+-- What is made of the line so far, with what is still to be read of it, is all of it.
+use Rattle.std.proofs.Common.{rules, ◌≡◌, ℕ, ◌≤◌, ◌<◌, List, true, None, refl, sym, ap, ◌∙◌, subst, arith, slice_index}
+use Rattle.std.proofs.lemmas.Bool.Decides.{nat_tests}
+use Rattle.markdown_base.specs.Forest.{Forest}
+use Rattle.markdown_builder.specs.BuilderView.{BuilderView, with_items}
+use Rattle.markdown_builder.specs.Shown.{Shown}
+use Rattle.markdown_items.specs.declared.found.Line.{Line}
+use Rattle.markdown_items.specs.ContentItems.{content_items}
+use Rattle.markdown_items.specs.Found.{found_at}
+use Rattle.markdown_items.specs.FoundFits.{FoundFits, next_after, view_after}
+use Rattle.markdown_items.specs.FoundView.{found_view}
+use Rattle.markdown_items.specs.LineItems.{is_special, IsFirstSpecial}
+use Rattle.markdown_items.specs.RestOfLine.{AwaitsRest}
+use Rattle.markdown_items.proofs.RestOfLineLemmas.{past_plain, at_start, at_end, at_found, placed_after, begun_after, text_after}
+use Rattle.markdown_items.proofs.line_items.items.Goals as goal
+
+pub line-init : goal.line-init
+line-init c =
+    let view : BuilderView = c.args.builder.now in
+    let extensions = c.of.result in
+    let at = c.first_special-at.result in
+    let bytes = c.as_bytes-bytes.ensures.value ∙ c.text-text.ensures in
+    let first : IsFirstSpecial extensions.dashes view.text view.at c.args.end at =
+    subst (λ (t : List ℕ). IsFirstSpecial extensions.dashes t view.at c.args.end at) bytes
+    (subst (λ n. IsFirstSpecial extensions.dashes c.as_bytes-bytes.result.now n c.args.end at) c.at.ensures.value
+    c.first_special-at.ensures) in
+    record {
+      same = refl;
+      begun = omega arith;
+      placed = first.low;
+      within = first.high;
+      special = c.first_special-at.ensures.stops;
+      rest = λ none. rw c.at.ensures.value
+          (past_plain (record { start = view.at; end = c.args.end; extensions = extensions })
+          (with_items view.levels (content_items view.text extensions view.at c.args.end)) view view.at at
+          (omega arith) first (at_start extensions view c.args.end none));
+    }
+
+pub line-preserved : goal.line-preserved
+line-preserved c =
+    let old : BuilderView = c.args.builder.now in
+    let view : BuilderView = c.line.builder in
+    let line : Line = record { start = c.at.result; end = c.args.end; extensions = c.of.result } in
+    let all : List (Forest Shown) =
+    with_items old.levels (content_items old.text c.of.result old.at c.args.end) in
+    let at = c.line.at in
+    let found = c.find-found.result in
+    let new : BuilderView = c.append_found.new.builder in
+    let next = next_after at found in
+    let then = c.first_special-at-in-line.result in
+    let less = c.line-test.true in
+    let placed = c.line.invariant.placed in
+    let same_text : c.text-text.result.now ≡ view.text =
+    c.text-text.ensures ∙ sym (ap (λ (v : BuilderView). v.text) c.line.invariant.same) in
+    let same_bytes : c.as_bytes-bytes.result.now ≡ view.text = c.as_bytes-bytes.ensures.value ∙ same_text in
+    let fits : FoundFits view.text line.end at found =
+    subst (λ (t : List ℕ). FoundFits t line.end at found) same_text c.find-found.ensures.fits in
+    let value : found_view found ≡ found_at line view.text at =
+    c.find-found.ensures.value ∙ ap (λ (t : List ℕ). found_at line t at) same_text in
+    let special : is_special line.extensions.dashes (slice_index view.text at) ≡ true =
+    subst (λ (t : List ℕ). is_special line.extensions.dashes (slice_index t at) ≡ true) same_bytes
+    (c.line.invariant.special less) in
+    let after : new ≡ view_after view line at found = c.in_ok-append_found.ensures in
+    let ahead : new.at ≤ next =
+    subst (λ (v : BuilderView). v.at ≤ next) (sym after) (placed_after line view at found placed less fits) in
+    let further : view.at ≤ new.at =
+    subst (λ (v : BuilderView). view.at ≤ v.at) (sym after) (begun_after line view at found placed less fits) in
+    record {
+      same = search rules;
+      begun = omega (arith, c.line.invariant.begun, further);
+      placed = search rules;
+      within = search rules;
+      special = search rules;
+      rest = λ none.
+          let awaits : AwaitsRest line all new next =
+          subst (λ (v : BuilderView). AwaitsRest line all v next) (sym after)
+          (at_found line all view at found placed less special fits value (c.line.invariant.rest none)) in
+          let text : c.as_bytes-bytes.result.now ≡ new.text =
+          same_bytes ∙ sym (ap (λ (v : BuilderView). v.text) after ∙ text_after line view at found) in
+          let first : IsFirstSpecial line.extensions.dashes new.text next line.end then =
+          subst (λ (t : List ℕ). IsFirstSpecial line.extensions.dashes t next line.end then) text
+          (subst (λ n. IsFirstSpecial line.extensions.dashes c.as_bytes-bytes.result.now n line.end then) c.next.ensures
+          c.first_special-at-in-line.ensures) in
+          past_plain line all new next then ahead first awaits;
+    }
+
+pub returns-clause-items : goal.returns-clause-items
+returns-clause-items c = λ none.
+    let old : BuilderView = c.args.builder.now in
+    let view : BuilderView = c.line.builder in
+    let line : Line = record { start = c.at.result; end = c.args.end; extensions = c.of.result } in
+    let all : List (Forest Shown) =
+    with_items old.levels (content_items old.text c.of.result old.at c.args.end) in
+    let last : c.line.at ≡ c.args.end = grind (arith, nat_tests, c.line.invariant.within, c.line-test.false) in
+    let awaits : AwaitsRest line all view c.args.end =
+    subst (λ n. AwaitsRest line all view n) last (c.line.invariant.rest none) in
+    ap (λ (v : BuilderView). v.levels) c.in_ok-append_text.ensures
+    ∙ (at_end line all view awaits
+    ∙ ap (λ e. with_items old.levels (content_items old.text e old.at c.args.end)) c.of.ensures)
