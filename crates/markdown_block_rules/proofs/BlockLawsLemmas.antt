@@ -10,7 +10,7 @@ use Rattle.markdown_lines.specs.declared.block_start.Before.TheVariants as parag
 use Rattle.markdown_lines.specs.BlockBeginnings as line
 use Rattle.markdown_lines.specs.BlockBeginnings.{Source, begins}
 use Rattle.markdown_block_rules.specs.BlockGrowth.{Block, Kind, block_with, goes_on, is_nil, is_text}
-use Rattle.markdown_block_rules.specs.BlockGrowth.{followed_by, lazily, line_block, paragraph_leaf}
+use Rattle.markdown_block_rules.specs.BlockGrowth.{lazily, line_block, paragraph_leaf}
 use Rattle.markdown_block_rules.specs.BlockGrowth.{with_lazy, with_line, with_lazy_text}
 use Rattle.markdown_block_rules.specs.BlockLaws.{no_quoted, one_quoted, to_line, rest_of, lone}
 use Rattle.markdown_block_rules.specs.BlockLaws.{with_lines}
@@ -20,6 +20,7 @@ use Rattle.markdown_block_rules.specs.BlockLaws.{is_paragraph_block, end_with_pa
 use Rattle.markdown_block_rules.specs.BlockLaws.{IndentationBeforeTextMayBeLeftOut, OnlyParagraphsGoOnLazily}
 use Rattle.markdown_block_rules.specs.BlockLaws.{LineChangesTheLastBlock}
 use Rattle.markdown_lines.specs.SourceLines.{SourceLine, is_blank_rest, text_line}
+use Rattle.markdown_builder.specs.TreeLevels.{followed_by}
 
 pub marked_line : MarkedLineGoesIntoQuote
 unfolding goes_on

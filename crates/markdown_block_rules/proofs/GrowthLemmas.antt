@@ -24,7 +24,7 @@ use Rattle.markdown_scan.specs.Entity.{entity_names}
 use Rattle.markdown_scan.specs.LineStart.{LineLeft, leading_space}
 use Rattle.markdown_block_rules.specs.BlockGrowth as was
 use Rattle.markdown_block_rules.specs.BlockGrowth.{Block, Kind, another_item, begun_by, begun_in, block_with}
-use Rattle.markdown_block_rules.specs.BlockGrowth.{closes, container_with, cut_paragraph, ends_html, followed_by}
+use Rattle.markdown_block_rules.specs.BlockGrowth.{closes, container_with, cut_paragraph, ends_html}
 use Rattle.markdown_block_rules.specs.BlockGrowth.{goes_on, inside_of}
 use Rattle.markdown_block_rules.specs.BlockGrowth.{is_nil, is_text, leaf_with, line_block, new_blocks, next_item}
 use Rattle.markdown_block_rules.specs.BlockGrowth.{paragraph_with, past_footnote, past_indentation, past_quote}
@@ -34,6 +34,7 @@ use Rattle.markdown_block_rules.specs.TableLines.{alignments_for, fitting, furth
 use Rattle.markdown_block_rules.specs.TableLines.{reads_tables}
 use Rattle.markdown_block_rules.proofs.BlockBeginningsLemmas.{either}
 use Rattle.markdown_block_rules.proofs.OpeningLemmas.{Opens, begins_inside}
+use Rattle.markdown_builder.specs.TreeLevels.{followed_by}
 
 -- a fact of the kind of each block, and of whether the block is directly under the root
 abbrev pub Held : (Bool → Kind → Type 0) → Bool → Forest Block → Type 0

@@ -10,7 +10,7 @@ use Rattle.markdown_lines.specs.BlockBeginnings as line
 use Rattle.markdown_lines.specs.BlockBeginnings.{Source, begins}
 use Rattle.markdown_block_rules.specs.BlockGrowth.{Block, begun_in, block_with, container_with}
 use Rattle.markdown_block_rules.specs.BlockGrowth.{goes_on, inside_of, is_nil}
-use Rattle.markdown_block_rules.specs.BlockGrowth.{item_container, list_container, followed_by, leaf_with}
+use Rattle.markdown_block_rules.specs.BlockGrowth.{item_container, list_container, leaf_with}
 use Rattle.markdown_block_rules.specs.BlockGrowth.{line_block, new_blocks}
 use Rattle.markdown_block_rules.specs.BlockGrowth.{Kind, cut_paragraph, paragraph_leaf, table_after, table_leaf}
 use Rattle.markdown_block_rules.specs.BlockGrowth.{table_of_lines, table_with, with_line}
@@ -24,6 +24,7 @@ use Rattle.markdown_lines.specs.SourceLines.{SourceLine, is_blank_rest}
 use Rattle.markdown_lines.specs.declared.list_marker.ListMarker.{ListMarker}
 use Rattle.markdown_block_rules.proofs.BlockBeginningsLemmas.{HoldsLess, begins_less, begun_same, either}
 use Rattle.markdown_block_rules.proofs.BlockLawsLemmas.{ends_in_block, indented_line}
+use Rattle.markdown_builder.specs.TreeLevels.{followed_by}
 
 -- there are blocks, where there is a result
 abbrev IfThere : Option (Forest Block) → Type 0

@@ -30,11 +30,12 @@ use Rattle.markdown_lines.specs.TableRows.{piece_length}
 use Rattle.markdown_lines.specs.declared.line_break.LineBreak.{LineBreak}
 use Rattle.markdown_scan.specs.Beginnings.{begins_with}
 use Rattle.markdown_scan.specs.Entity.{entity}
-use Rattle.markdown_block_rules.specs.LineContents.{Shown, break_between, broken_line, cell_items, content_items}
-use Rattle.markdown_block_rules.specs.LineContents.{items_read_from, lines_items, pieces_items, plain_item, put_found}
-use Rattle.markdown_block_rules.specs.LineContents.{run_items, source_line, source_lines, synthesized_item}
-use Rattle.markdown_block_rules.specs.LineContents.{text_between}
+use Rattle.markdown_block_rules.specs.LineContents.{break_between, broken_line, cell_items}
+use Rattle.markdown_block_rules.specs.LineContents.{lines_items, pieces_items}
+use Rattle.markdown_block_rules.specs.LineContents.{source_line, source_lines}
 use Rattle.markdown_block_rules.proofs.BlockBeginningsLemmas.{either}
+use Rattle.markdown_builder.specs.Shown.{Shown, plain_item, run_items, synthesized_item}
+use Rattle.markdown_items.specs.ContentItems.{content_items, items_read_from, put_found, text_between}
 
 -- a task marker or metadata
 abbrev pub is_marked : ItemBody → Bool

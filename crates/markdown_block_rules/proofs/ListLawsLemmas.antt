@@ -2,12 +2,13 @@
 use Rattle.std.proofs.Common.{◌≡◌, ℕ, Bool, true, false, refl, sym, ap, ◌∙◌, not, ◌&&◌, ◌||◌}
 use Rattle.std.proofs.lemmas.Bool.{true≢false}
 use Rattle.markdown_base.specs.Forest.{Forest, nil, node}
-use Rattle.markdown_block_rules.specs.BlockGrowth.{Block, followed_by}
+use Rattle.markdown_block_rules.specs.BlockGrowth.{Block}
 use Rattle.markdown_block_rules.specs.BlockRules.{are_separated, block_ends_blank, ends_blank, hold_separated}
 use Rattle.markdown_block_rules.specs.BlockRules.{holds_block, is_loose}
 use Rattle.markdown_block_rules.specs.ListLaws.{BlankLineBetween, IsLooseAsSaid, between_items, in_an_item}
 use Rattle.markdown_block_rules.specs.ListLaws.{ListIsLooseAsSaid}
 use Rattle.markdown_block_rules.proofs.QuotedLinesLemmas.{both_left, both_right}
+use Rattle.markdown_builder.specs.TreeLevels.{followed_by}
 
 right_true : (p q : Bool) → p ≡ false → (p || q) ≡ true → q ≡ true
 right_true true q none one = absurd (true≢false none)

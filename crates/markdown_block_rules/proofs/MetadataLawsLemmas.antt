@@ -20,13 +20,13 @@ use Rattle.markdown_lines.specs.declared.braces.Braces.{Braces}
 use Rattle.markdown_lines.specs.declared.table_row.Cell.{Cell}
 use Rattle.markdown_scan.specs.Entity.{entity_names}
 use Rattle.markdown_block_rules.specs.BlockGrowth as was
-use Rattle.markdown_block_rules.specs.BlockGrowth.{Block, Kind, blocks_of, followed_by}
-use Rattle.markdown_block_rules.specs.BlockRules.{Around, before_braces, block_end, cells_shown, chain_of, code_lines}
+use Rattle.markdown_block_rules.specs.BlockGrowth.{Block, Kind, blocks_of}
+use Rattle.markdown_block_rules.specs.BlockRules.{Around, before_braces, block_end, cells_shown, code_lines}
 use Rattle.markdown_block_rules.specs.BlockRules.{empty_cells, in_no_item, info_of, is_loose, items_after_task}
 use Rattle.markdown_block_rules.specs.BlockRules.{last_braces, last_end, paragraph_body, paragraph_items, shown_block}
 use Rattle.markdown_block_rules.specs.BlockRules.{shown_blocks, shown_cells, shown_heading, shown_row, shown_rows}
 use Rattle.markdown_block_rules.specs.BlockRules.{shown_setext, shown_table, shown_text}
-use Rattle.markdown_block_rules.specs.LineContents.{Shown, cell_items, content_items, lines_items, plain_item}
+use Rattle.markdown_block_rules.specs.LineContents.{cell_items, lines_items}
 use Rattle.markdown_block_rules.specs.LineContents.{source_line, source_lines}
 use Rattle.markdown_block_rules.specs.MetadataLaws.{AreTexts, KeepsMetadataOutermost, MetadataIsOutermost}
 use Rattle.markdown_block_rules.specs.MetadataLaws.{has_metadata, is_metadata, is_text_item}
@@ -37,6 +37,9 @@ use Rattle.markdown_block_rules.proofs.GrowthLemmas.{metadata_closed, metadata_m
 use Rattle.markdown_block_rules.proofs.InlineItemsLemmas.{AreUnmarked, cell_unmarked, content_unmarked, is_marked}
 use Rattle.markdown_block_rules.proofs.InlineItemsLemmas.{lines_unmarked, source_unmarked}
 use Rattle.markdown_block_rules.proofs.KeptLemmas.{IsKept, IsWhole, text_held, text_whole}
+use Rattle.markdown_builder.specs.TreeLevels.{followed_by}
+use Rattle.markdown_builder.specs.Shown.{Shown, chain_of, plain_item}
+use Rattle.markdown_items.specs.ContentItems.{content_items}
 
 -- Metadata contains texts, and is nowhere but among the outermost items, where these are directly under the root.
 record Keeps (top : Bool) (f : Forest Shown) : Type 0 where

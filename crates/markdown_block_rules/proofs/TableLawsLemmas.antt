@@ -9,11 +9,11 @@ use Rattle.markdown_base.specs.declared.tag.Alignment.{Alignment}
 use Rattle.markdown_lines.specs.declared.table_row.Cell.{Cell}
 use Rattle.markdown_lines.specs.BlockBeginnings.{Source}
 use Rattle.markdown_lines.specs.SourceLines.{SourceLine}
-use Rattle.markdown_block_rules.specs.BlockGrowth.{followed_by}
 use Rattle.markdown_block_rules.specs.BlockRules.{cells_shown, empty_cells, shown_cells, shown_row, shown_rows}
-use Rattle.markdown_block_rules.specs.LineContents.{Shown}
+use Rattle.markdown_builder.specs.Shown.{Shown}
 use Rattle.markdown_block_rules.specs.TableLaws.{EachContains, RowsAreEven}
 use Rattle.markdown_block_rules.specs.TableLines.{cells_added, cells_of}
+use Rattle.markdown_builder.specs.TreeLevels.{followed_by}
 
 joined : {A : Type 0} (a b : Forest A) → length (roots (followed_by a b)) ≡ length (roots a) + length (roots b)
 joined nil b = omega arith

@@ -23,15 +23,15 @@ use Rattle.markdown_lines.specs.declared.table_row.Cell.{Cell}
 use Rattle.markdown_scan.specs.Entity.{entity_names}
 use Rattle.markdown_scan.specs.declared.entity.EntityNames.{EntityNames}
 use Rattle.markdown_block_rules.specs.BlockGrowth as was
-use Rattle.markdown_block_rules.specs.BlockGrowth.{Block, Kind, blocks_of, followed_by}
-use Rattle.markdown_block_rules.specs.BlockRules.{Around, before_braces, block_end, cells_shown, chain_of, code_lines}
+use Rattle.markdown_block_rules.specs.BlockGrowth.{Block, Kind, blocks_of}
+use Rattle.markdown_block_rules.specs.BlockRules.{Around, before_braces, block_end, cells_shown, code_lines}
 use Rattle.markdown_block_rules.specs.BlockRules.{cut_before_braces, empty_cells, in_no_item, info_of, is_loose}
 use Rattle.markdown_block_rules.specs.BlockRules.{items_after_task, last_braces, last_end, paragraph_body}
 use Rattle.markdown_block_rules.specs.BlockRules.{paragraph_items}
 use Rattle.markdown_block_rules.specs.BlockRules.{paragraph_lines, shown_block, shown_blocks, shown_cells}
 use Rattle.markdown_block_rules.specs.BlockRules.{shown_heading}
 use Rattle.markdown_block_rules.specs.BlockRules.{shown_row, shown_rows, shown_setext, shown_table, shown_text}
-use Rattle.markdown_block_rules.specs.LineContents.{Shown, cell_items, content_items, lines_items, plain_item}
+use Rattle.markdown_block_rules.specs.LineContents.{cell_items, lines_items}
 use Rattle.markdown_block_rules.specs.LineContents.{source_lines}
 use Rattle.markdown_block_rules.specs.TableLines.{cells_added, cells_of}
 use Rattle.markdown_block_rules.specs.TaskLaws.{KeepsMarkersFirst, TaskMarkersComeFirst, has_marker, has_task}
@@ -43,6 +43,9 @@ use Rattle.markdown_block_rules.proofs.GrowthLemmas.{metadata_closed, metadata_m
 use Rattle.markdown_block_rules.proofs.InlineItemsLemmas.{AreUnmarked, cell_unmarked, content_unmarked, is_marked}
 use Rattle.markdown_block_rules.proofs.InlineItemsLemmas.{lines_unmarked, source_unmarked}
 use Rattle.markdown_block_rules.proofs.KeptLemmas.{IsKept, IsWhole, text_held, text_whole}
+use Rattle.markdown_builder.specs.TreeLevels.{followed_by}
+use Rattle.markdown_builder.specs.Shown.{Shown, chain_of, plain_item}
+use Rattle.markdown_items.specs.ContentItems.{content_items}
 
 -- Items keep their markers first, none of the outermost is one, and where these are in no list item, whose first line
 -- would end at `marked`, none of them directly contains one.

@@ -30,6 +30,7 @@ use Rattle.markdown_lines.specs.SourceLines.{SourceLine, cut, is_blank_rest, lin
 use Rattle.markdown_lines.specs.SourceLines.{end_of_line, stop_of, text_line}
 use Rattle.markdown_block_rules.specs.TableLines.{all_added, alignments_for, further_line, is_row, most_added}
 use Rattle.markdown_block_rules.specs.TableLines.{reads_tables}
+use Rattle.markdown_builder.specs.TreeLevels.{followed_by}
 
 -- what a block is; a blank line is kept where it is, since it may separate blocks
 pub data Kind : Type 0 where
@@ -57,11 +58,6 @@ pub record Block : Type 0 where
   pub first : ℕ
   pub last : ℕ
   pub kind : Kind
-
--- one forest and then another
-abbrev pub followed_by : {A : Type 0} → Forest A → Forest A → Forest A
-followed_by nil others = others
-followed_by (node a below after) others = node a below (followed_by after others)
 
 abbrev pub is_nil : {A : Type 0} → Forest A → Bool
 is_nil nil = true

@@ -8,11 +8,12 @@ use Rattle.markdown_lines.specs.BlockBeginnings as line
 use Rattle.markdown_lines.specs.BlockBeginnings.{Source, begins}
 use Rattle.markdown_block_rules.specs.BlockGrowth.{Block, Kind, content_of, goes_on, is_nil, is_text, item_container}
 use Rattle.markdown_block_rules.specs.BlockGrowth.{list_container}
-use Rattle.markdown_block_rules.specs.BlockGrowth.{followed_by, line_block, paragraph_leaf}
+use Rattle.markdown_block_rules.specs.BlockGrowth.{line_block, paragraph_leaf}
 use Rattle.markdown_block_rules.specs.BlockGrowth.{past_indentation, past_quote, quote_container, with_lazy, with_line}
 use Rattle.markdown_lines.specs.declared.list_marker.ListMarker.{ListMarker}
 use Rattle.markdown_scan.specs.LineStart.{LineLeft}
 use Rattle.markdown_lines.specs.SourceLines.{SourceLine, is_blank_rest, rest_inside, text_line}
+use Rattle.markdown_builder.specs.TreeLevels.{followed_by}
 
 -- a block with a line more
 abbrev pub to_line : SourceLine → Block → Block

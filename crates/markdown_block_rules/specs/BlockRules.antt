@@ -14,17 +14,20 @@ use Rattle.markdown_base.specs.declared.tag.HeadingLevel.{HeadingLevel}
 use Rattle.markdown_lines.specs.declared.table_row.Cell.{Cell}
 use Rattle.markdown_lines.specs.BlockBeginnings.{Source}
 use Rattle.markdown_block_rules.specs.BlockGrowth as was
-use Rattle.markdown_block_rules.specs.BlockGrowth.{Block, Kind, blocks_of, followed_by}
-use Rattle.markdown_lines.specs.DefinitionRules.{Definition, divided}
+use Rattle.markdown_block_rules.specs.BlockGrowth.{Block, Kind, blocks_of}
+use Rattle.markdown_builder.specs.BuilderView.{Definition}
+use Rattle.markdown_lines.specs.DefinitionRules.{divided}
 use Rattle.markdown_lines.specs.HeadingAttributes.{attributes_read, braces_from, braces_in, heading_of_words, words_in}
-use Rattle.markdown_block_rules.specs.LineContents.{Shown, cell_items, content_items, lines_items, plain_item}
-use Rattle.markdown_block_rules.specs.LineContents.{source_lines}
+use Rattle.markdown_block_rules.specs.LineContents.{cell_items, lines_items, source_lines}
+use Rattle.markdown_builder.specs.Shown.{Shown, chain_of, plain_item}
+use Rattle.markdown_items.specs.ContentItems.{content_items}
 use Rattle.markdown_block_rules.specs.TableLines.{cells_added, cells_of}
 use Rattle.markdown_items.specs.LineItems.{item_extensions}
 use Rattle.markdown_lines.specs.SourceLines.{SourceLine, is_blank_rest, without_empty}
 use Rattle.markdown_lines.specs.TaskMarkers.{past_task, task_read}
 use Rattle.markdown_scan.specs.Entity.{entity_names}
 use Rattle.markdown_scan.specs.Unescape.{unescaped}
+use Rattle.markdown_builder.specs.TreeLevels.{followed_by}
 
 -- a line before others, unless it is blank and there are no others
 abbrev pub before_code : SourceLine → List SourceLine → List SourceLine
@@ -98,11 +101,6 @@ hold_separated (node b below after) = are_separated below || hold_separated afte
 -- a list is loose (5.3)
 abbrev pub is_loose : Forest Block → Bool
 is_loose items = are_separated items || hold_separated items
-
--- items beside each other, with nothing below them
-abbrev pub chain_of : List Shown → Forest Shown
-chain_of [] = nil
-chain_of (a ∷ items) = node a nil (chain_of items)
 
 -- a block of a body, and of the text that it refers to
 abbrev pub shown_over : ℕ → ℕ → ItemBody → Option (List ℕ) → Forest Shown → Forest Shown

@@ -5,9 +5,9 @@ use Rattle.markdown_base.specs.Forest.{Forest, nil, node}
 use Rattle.markdown_base.specs.declared.index.CowIndex.{CowIndex}
 use Rattle.markdown_base.specs.declared.item.ItemBody.{ItemBody}
 use Rattle.markdown_lines.specs.BlockBeginnings.{Source}
-use Rattle.markdown_lines.specs.DefinitionRules.{Definition}
+use Rattle.markdown_builder.specs.BuilderView.{Definition}
 use Rattle.markdown_block_rules.specs.BlockRules.{block_definitions, block_tree}
-use Rattle.markdown_block_rules.specs.LineContents.{Shown, plain_item}
+use Rattle.markdown_builder.specs.Shown.{Shown, plain_item}
 
 -- a tree is written as its labels in preorder, each with its depth
 pub record Example : Type 0 where

@@ -1,8 +1,9 @@
 -- When a list is loose, in CommonMark's words (5.3).
 use Rattle.std.specs.Prelude.{◌≡◌, true, false}
 use Rattle.markdown_base.specs.Forest.{Forest, node}
-use Rattle.markdown_block_rules.specs.BlockGrowth.{Block, followed_by}
+use Rattle.markdown_block_rules.specs.BlockGrowth.{Block}
 use Rattle.markdown_block_rules.specs.BlockRules.{block_ends_blank, ends_blank, holds_block, is_loose}
+use Rattle.markdown_builder.specs.TreeLevels.{followed_by}
 
 -- there is a blank line between two of these blocks: one of them ends with a blank line, and another follows it
 pub record BlankLineBetween (blocks : Forest Block) : Type 0 where

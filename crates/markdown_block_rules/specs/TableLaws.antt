@@ -8,7 +8,7 @@ use Rattle.markdown_lines.specs.SourceLines.{SourceLine}
 use Rattle.markdown_block_rules.specs.BlockGrowth as was
 use Rattle.markdown_block_rules.specs.BlockGrowth.{Block, Kind, blocks_of}
 use Rattle.markdown_block_rules.specs.BlockRules.{shown_table}
-use Rattle.markdown_block_rules.specs.LineContents.{Shown}
+use Rattle.markdown_builder.specs.Shown.{Shown}
 use Rattle.markdown_block_rules.specs.TableLines.{cells_of}
 
 -- each block of a forest directly contains this many

@@ -6,7 +6,7 @@ use Rattle.markdown_base.specs.declared.item.ItemBody.{ItemBody}
 use Rattle.markdown_base.specs.declared.item.ItemBody.TheVariants as body
 use Rattle.markdown_lines.specs.BlockBeginnings.{Source}
 use Rattle.markdown_block_rules.specs.BlockRules.{block_tree}
-use Rattle.markdown_block_rules.specs.LineContents.{Shown}
+use Rattle.markdown_builder.specs.Shown.{Shown}
 
 abbrev pub is_task_marker : ItemBody → Bool
 is_task_marker (body.TaskListMarker done) = true

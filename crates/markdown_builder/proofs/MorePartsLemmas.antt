@@ -17,8 +17,9 @@ use Rattle.markdown_base.specs.BlockTree.{Numbered, item_at, numbered, tree_of}
 use Rattle.markdown_base.specs.Forest.{Forest, nil, node, Each, Throughout, relabelled}
 use Rattle.markdown_base.specs.WellFormed.{PartCounts, PartsAreNamed}
 use Rattle.markdown_builder.specs.BuilderRules.{KeepsNodes}
-use Rattle.markdown_builder.specs.Shown.{HeadingWords, Shown, Parts, shown, shown_trees, shown_levels, unnumbered, text_shown}
-use Rattle.markdown_builder.specs.Shown.{heading_shown, heading_with, alignments_shown}
+use Rattle.markdown_builder.specs.Shown.{HeadingWords, Shown, Parts, shown_item, shown_trees, shown_levels, unnumbered}
+use Rattle.markdown_builder.specs.Shown.{text_shown}
+use Rattle.markdown_builder.specs.Shown.{heading_shown, worded_heading, alignments_shown}
 use Rattle.markdown_builder.specs.TreeLevels.{all_but_last, in_last, levels_in, levels_of}
 use Rattle.markdown_builder.proofs.RisingLemmas.{throughout_below}
 
@@ -60,7 +61,7 @@ heading_of_more headings more (body.Heading level (Some ix)) counts e named =
     let bounds = named.attributes in
     let low = bounds.0 in
     let high = bounds.1 in
-    ap (λ found. option_map (heading_with level) found)
+    ap (λ found. option_map (worded_heading level) found)
     (get_of_more headings more (ix.0 - 1) (omega (arith, low, high, e)))
 heading_of_more headings more (body.Heading level None) counts e named = refl
 heading_of_more headings more other counts e named = refl
@@ -84,12 +85,12 @@ same_labels f g P (node a below after) h e =
     ∙ ap (node (g a) (relabelled g below)) (same_labels f g P after h e.2))
 
 same_levels : (p q : Parts) (counts : PartCounts) (levels : List (Forest Item))
-    → ((a : Item) → PartsAreNamed counts a.body → shown p a ≡ shown q a) → AreNamed counts levels
+    → ((a : Item) → PartsAreNamed counts a.body → shown_item p a ≡ shown_item q a) → AreNamed counts levels
     → shown_levels p levels ≡ shown_levels q levels
 same_levels p q counts [] h e = refl
 same_levels p q counts (level ∷ levels) h e =
     ap (λ t. t ∷ shown_levels p levels)
-    (same_labels (shown p) (shown q) (λ a. PartsAreNamed counts a.body) level h e.0)
+    (same_labels (shown_item p) (shown_item q) (λ a. PartsAreNamed counts a.body) level h e.0)
     ∙ ap (λ ls. shown_trees q level ∷ ls) (same_levels p q counts levels h e.1)
 
 pub more_texts : (parts : Parts) (more : List (List ℕ)) (levels : List (Forest Item))
@@ -97,14 +98,16 @@ pub more_texts : (parts : Parts) (more : List (List ℕ)) (levels : List (Forest
     → shown_levels (record parts { texts = parts.texts ++ more }) levels ≡ shown_levels parts levels
 more_texts parts more levels named =
     same_levels (record parts { texts = parts.texts ++ more }) parts (counts_in parts) levels
-    (λ a n. λ i. record (shown parts a) { text = text_of_more parts.texts more a.body (counts_in parts) refl n i }) named
+    (λ a n. λ i. record (shown_item parts a) {
+      text = text_of_more parts.texts more a.body (counts_in parts) refl n i;
+    }) named
 
 pub more_headings : (parts : Parts) (more : List HeadingWords) (levels : List (Forest Item))
     → AreNamed (counts_in parts) levels
     → shown_levels (record parts { headings = parts.headings ++ more }) levels ≡ shown_levels parts levels
 more_headings parts more levels named =
     same_levels (record parts { headings = parts.headings ++ more }) parts (counts_in parts) levels
-    (λ a n. λ i. record (shown parts a) {
+    (λ a n. λ i. record (shown_item parts a) {
       heading = heading_of_more parts.headings more a.body (counts_in parts) refl n i;
     }) named
 
@@ -113,7 +116,7 @@ pub more_alignments : (parts : Parts) (more : List (List Alignment)) (levels : L
     → shown_levels (record parts { alignments = parts.alignments ++ more }) levels ≡ shown_levels parts levels
 more_alignments parts more levels named =
     same_levels (record parts { alignments = parts.alignments ++ more }) parts (counts_in parts) levels
-    (λ a n. λ i. record (shown parts a) {
+    (λ a n. λ i. record (shown_item parts a) {
       alignments = alignments_of_more parts.alignments more a.body (counts_in parts) refl n i;
     }) named
 

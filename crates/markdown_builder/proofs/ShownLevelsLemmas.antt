@@ -1,5 +1,6 @@
 -- What calls of a builder make of its levels, with what their items refer to.
-use Rattle.std.proofs.Common.{◌≡◌, ℕ, zero, suc, ◌+◌, ◌-◌, ◌<◌, List, [], ◌∷◌, ◌++◌, Option, Some, None, Bool, true, false}
+use Rattle.std.proofs.Common.{◌≡◌, ℕ, zero, suc, ◌+◌, ◌-◌, ◌<◌, List, [], ◌∷◌, ◌++◌, Option, Some, None, Bool, true}
+use Rattle.std.proofs.Common.{false}
 use Rattle.std.proofs.Common.{map, refl, sym, ap, ◌∙◌, cond, arith, ◌≤◌}
 use Rattle.markdown_base.specs.declared.item.Item.{Item}
 use Rattle.markdown_base.specs.declared.item.ItemBody.{ItemBody}
@@ -7,11 +8,14 @@ use Rattle.markdown_base.specs.declared.item.ItemBody.TheVariants as body
 use Rattle.markdown_base.specs.declared.tag.Alignment.{Alignment}
 use Rattle.markdown_base.specs.Forest.{Forest, nil, node, relabelled}
 use Rattle.markdown_builder.specs.Bodies.{is_settled, is_plain_block, mark_byte}
-use Rattle.markdown_builder.specs.Shown.{HeadingWords, Shown, Parts, plain_item, chain_of, shown, shown_trees, shown_levels, unnumbered}
-use Rattle.markdown_builder.specs.Shown.{text_shown, heading_shown, alignments_shown, run_items, tight_shown, settled_below}
+use Rattle.markdown_builder.specs.Shown.{HeadingWords, Shown, Parts, plain_item, chain_of, shown_item, shown_trees}
+use Rattle.markdown_builder.specs.Shown.{shown_levels, unnumbered}
+use Rattle.markdown_builder.specs.Shown.{text_shown, heading_shown, alignments_shown, run_items, tight_shown}
+use Rattle.markdown_builder.specs.Shown.{settled_below}
 use Rattle.markdown_builder.specs.Shown.{with_block}
 use Rattle.markdown_builder.specs.Tightness.{is_tight_list}
-use Rattle.markdown_builder.specs.TreeLevels.{followed_by, with_trees, with_closed, with_closed_by, below_closed, tight_body}
+use Rattle.markdown_builder.specs.TreeLevels.{followed_by, with_trees, with_closed, with_closed_by, below_closed}
+use Rattle.markdown_builder.specs.TreeLevels.{tight_body}
 use Rattle.markdown_builder.specs.TreeLevels.{tight_if_paragraph, roots_changed, items_changed, run_trees}
 
 -- ---- relabelled levels
@@ -76,7 +80,8 @@ tight_alignments : (alignments : List (List Alignment)) (b : ItemBody)
 tight_alignments alignments body.Paragraph = refl
 tight_alignments alignments other = refl
 
-tight_is : (parts : Parts) (item : Item) → shown parts (tight_if_paragraph item) ≡ tight_shown (shown parts item)
+tight_is : (parts : Parts) (item : Item)
+    → shown_item parts (tight_if_paragraph item) ≡ tight_shown (shown_item parts item)
 tight_is parts item = λ i. record {
   item = record { start = item.start; end = item.end; body = tight_unnumbered item.body i };
   text = tight_text parts.texts item.body i;
@@ -90,14 +95,15 @@ tight_list_is (body.Heading level (Some ix)) = refl
 tight_list_is other = refl
 
 settled_is : (parts : Parts) (a : Item) (g : Forest Item)
-    → shown_trees parts (below_closed a g) ≡ settled_below (shown parts a) (shown_trees parts g)
+    → shown_trees parts (below_closed a g) ≡ settled_below (shown_item parts a) (shown_trees parts g)
 settled_is parts a g = by_kind (is_tight_list a.body)
-    ∙ ap (λ v. cond v (items_changed tight_shown (shown_trees parts g)) (shown_trees parts g)) (sym (tight_list_is a.body))
+    ∙ ap (λ v. cond v (items_changed tight_shown (shown_trees parts g)) (shown_trees parts g))
+    (sym (tight_list_is a.body))
   where
     by_kind : (v : Bool)
         → shown_trees parts (cond v (items_changed tight_if_paragraph g) g)
         ≡ cond v (items_changed tight_shown (shown_trees parts g)) (shown_trees parts g)
-    by_kind true = relabelled_items (shown parts) tight_if_paragraph tight_shown (tight_is parts) g
+    by_kind true = relabelled_items (shown_item parts) tight_if_paragraph tight_shown (tight_is parts) g
     by_kind false = refl
 
 -- ---- the steps
@@ -105,12 +111,13 @@ settled_is parts a g = by_kind (is_tight_list a.body)
 -- trees at the end of the innermost level
 pub trees_shown : (parts : Parts) (levels : List (Forest Item)) (trees : Forest Item)
     → shown_levels parts (with_trees levels trees) ≡ with_trees (shown_levels parts levels) (shown_trees parts trees)
-trees_shown parts levels trees = relabelled_trees (shown parts) levels trees
+trees_shown parts levels trees = relabelled_trees (shown_item parts) levels trees
 
 -- the innermost block closed
 pub closed_shown : (parts : Parts) (levels : List (Forest Item)) (a : Item)
-    → shown_levels parts (with_closed levels a) ≡ with_block (shown_levels parts levels) (shown parts a)
-closed_shown parts levels a = relabelled_closed (shown parts) below_closed settled_below (settled_is parts) levels a
+    → shown_levels parts (with_closed levels a) ≡ with_block (shown_levels parts levels) (shown_item parts a)
+closed_shown parts levels a =
+    relabelled_closed (shown_item parts) below_closed settled_below (settled_is parts) levels a
 
 -- a delimiter run
 pub run_shown : (parts : Parts) (stop : ℕ) (opens closes : Bool) (count : ℕ) → count ≤ stop
@@ -125,7 +132,7 @@ run_shown parts stop opens closes (suc count) le =
 
 -- an item that refers to nothing
 pub settled_shown : (parts : Parts) (start end : ℕ) (b : ItemBody) → is_settled b ≡ true
-    → shown parts (record { start = start; end = end; body = b }) ≡ plain_item start end b
+    → shown_item parts (record { start = start; end = end; body = b }) ≡ plain_item start end b
 settled_shown parts start end (body.TaskListMarker done) h = refl
 settled_shown parts start end body.InlineHtml h = refl
 settled_shown parts start end body.Html h = refl
@@ -137,7 +144,7 @@ settled_shown parts start end other h = cc (h)
 
 -- an open item of one byte
 pub mark_shown : (parts : Parts) (start end byte : ℕ) (b : ItemBody) → mark_byte b ≡ Some byte
-    → shown parts (record { start = start; end = end; body = b }) ≡ plain_item start end b
+    → shown_item parts (record { start = start; end = end; body = b }) ≡ plain_item start end b
 mark_shown parts start end byte (body.MaybeMath opens closes context) h = refl
 mark_shown parts start end byte (body.MaybeSmartQuote quote opens closes) h = refl
 mark_shown parts start end byte body.MaybeHtml h = refl

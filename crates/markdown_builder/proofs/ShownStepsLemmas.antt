@@ -18,7 +18,8 @@ use Rattle.markdown_base.specs.Forest.{Forest, nil, node}
 use Rattle.markdown_base.specs.WellFormed.{PartCounts}
 use Rattle.markdown_builder.specs.BuilderRules.{KeepsNodes}
 use Rattle.markdown_builder.specs.BuilderView.{with_items}
-use Rattle.markdown_builder.specs.Shown.{Shown, Parts, plain_item, synthesized_item, shown, shown_trees, shown_levels}
+use Rattle.markdown_builder.specs.Shown.{Shown, Parts, plain_item, synthesized_item, shown_item, shown_trees}
+use Rattle.markdown_builder.specs.Shown.{shown_levels}
 use Rattle.markdown_builder.specs.Shown.{stored_parts, words_of}
 use Rattle.markdown_builder.specs.TreeLevels.{levels_of, with_trees}
 use Rattle.markdown_builder.proofs.MorePartsLemmas.{AreNamed, counts_in, levels_named, more_texts}
@@ -41,12 +42,12 @@ stored_named text texts headings alignments tree k =
     rw counts (levels_named text _ tree k)
 
 -- an item that refers to nothing is appended
-pub item_shown : (parts : Parts) (tree new : Arena Item) (start end : ℕ) (b : ItemBody)
-    → shown parts (record { start = start; end = end; body = b }) ≡ plain_item start end b
+pub appended_shown : (parts : Parts) (tree new : Arena Item) (start end : ℕ) (b : ItemBody)
+    → shown_item parts (record { start = start; end = end; body = b }) ≡ plain_item start end b
     → levels_of new ≡ with_trees (levels_of tree) (node (record { start = start; end = end; body = b }) nil nil)
     → shown_levels parts (levels_of new)
     ≡ with_items (shown_levels parts (levels_of tree)) (plain_item start end b ∷ [])
-item_shown parts tree new start end b plain levels =
+appended_shown parts tree new start end b plain levels =
     ap (shown_levels parts) levels
     ∙ (trees_shown parts (levels_of tree) (node (record { start = start; end = end; body = b }) nil nil)
     ∙ ap (λ a. with_trees (shown_levels parts (levels_of tree)) (node a nil nil)) plain)
@@ -68,11 +69,11 @@ text_shown_too parts tree new start end ix t number named levels =
     let item : Item = record { start = start; end = end; body = body.SynthesizeText ix } in
     let found : slice_get (parts.texts ++ t ∷ []) ix.0 ≡ Some t =
     ap (λ n. slice_get (parts.texts ++ t ∷ []) n) number ∙ get_last parts.texts t in
-    let it : shown more item ≡ synthesized_item start end t =
+    let it : shown_item more item ≡ synthesized_item start end t =
     λ i. record (synthesized_item start end t) { text = found i } in
     ap (shown_levels more) levels
     ∙ (trees_shown more (levels_of tree) (node item nil nil)
-    ∙ (ap (λ ls. with_trees ls (node (shown more item) nil nil)) (more_texts parts (t ∷ []) (levels_of tree) named)
+    ∙ (ap (λ ls. with_trees ls (node (shown_item more item) nil nil)) (more_texts parts (t ∷ []) (levels_of tree) named)
     ∙ ap (λ a. with_trees (shown_levels parts (levels_of tree)) (node a nil nil)) it))
 
 -- a block is opened, and a part may be added

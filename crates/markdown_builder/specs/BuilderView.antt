@@ -1,20 +1,26 @@
 -- A builder as its callers see it, and what its calls require of the text.
-use Rattle.std.specs.Prelude.{◌≡◌, ℕ, ◌-◌, ◌<◌, ◌≤◌, Bool, true, false, ◌==◌, List, [], ◌∷◌, ◌++◌, Option, Some, None}
+use Rattle.std.specs.Prelude.{◌≡◌, ℕ, ◌+◌, ◌-◌, ◌<◌, ◌≤◌, Bool, true, false, ◌==◌, List, [], ◌∷◌, ◌++◌, Option, Some}
+use Rattle.std.specs.Prelude.{None}
 use Rattle.std.specs.Prelude.{length, map, slice_index, slice_get}
 use Rattle.std.specs.Option.{option_map}
 use Rattle.std.specs.Char.{is_ascii_whitespace}
+use Rattle.markdown_base.specs.declared.index.AlignmentIndex.{AlignmentIndex}
 use Rattle.markdown_base.specs.declared.index.CowIndex.{CowIndex}
+use Rattle.markdown_base.specs.declared.index.HeadingIndex.{HeadingIndex}
 use Rattle.markdown_base.specs.declared.block_parts.BlockParts.{BlockParts}
 use Rattle.markdown_base.specs.declared.block_parts.LinkDef.{LinkDef}
 use Rattle.markdown_base.specs.declared.cow_str.CowStr.{CowStr}
 use Rattle.markdown_base.specs.declared.item.Item.{Item}
 use Rattle.markdown_base.specs.declared.item.ItemBody.{ItemBody}
+use Rattle.markdown_base.specs.declared.item.ItemBody.TheVariants as body
 use Rattle.markdown_base.specs.declared.tag.Alignment.{Alignment}
+use Rattle.markdown_base.specs.declared.tag.HeadingLevel.{HeadingLevel}
 use Rattle.markdown_base.specs.CowText.{text_of}
 use Rattle.markdown_base.specs.Forest.{Forest, nil}
 use Rattle.markdown_builder.specs.declared.open_block.OpenBlock.{OpenBlock}
 use Rattle.markdown_builder.specs.Bodies.{is_leaf}
-use Rattle.markdown_builder.specs.Shown.{HeadingWords, Parts, Shown, chain_of, plain_item, shown, synthesized_item, with_block, words_of}
+use Rattle.markdown_builder.specs.Shown.{HeadingWords, Parts, Shown, chain_of, plain_item, shown_item}
+use Rattle.markdown_builder.specs.Shown.{synthesized_item, with_block, words_of}
 use Rattle.markdown_builder.specs.TreeLevels.{with_trees}
 
 -- a link reference definition in a text, with the byte offsets at which it begins and ends
@@ -26,8 +32,8 @@ pub record Definition : Type 0 where
   pub end : ℕ
 
 -- a stored definition
-abbrev pub definition_view : CowStr × LinkDef → Definition
-definition_view d = record {
+abbrev pub stored_definition : CowStr × LinkDef → Definition
+stored_definition d = record {
   label = text_of d.0;
   destination = text_of d.1.dest;
   title = option_map text_of d.1.title;
@@ -133,6 +139,16 @@ OpensNaming old new body text = new ≡ record old {
   footnotes = new.footnotes;
 }
 
+-- a heading of a level is opened with an id, classes and attributes
+abbrev pub OpensAttributed : BuilderView → BuilderView → HeadingLevel → HeadingWords → Type 0
+OpensAttributed old new level words = (ix : HeadingIndex) × (ix.0 ≡ length old.headings + 1)
+    × Opens (record old { headings = old.headings ++ words ∷ [] }) new (body.Heading level (Some ix))
+
+-- a table is opened with the alignments of its columns
+abbrev pub OpensTable : BuilderView → BuilderView → List Alignment → Type 0
+OpensTable old new alignments = (ix : AlignmentIndex) × (ix.0 ≡ length old.alignments)
+    × Opens (record old { alignments = old.alignments ++ alignments ∷ [] }) new (body.Table ix)
+
 -- the innermost open block is closed at the current byte offset, and these are still open
 abbrev pub Closes : BuilderView → BuilderView → OpenBlock → List OpenBlock → Type 0
 Closes old new block outer = new ≡ record old {
@@ -140,7 +156,7 @@ Closes old new block outer = new ≡ record old {
   leaf = false;
   run = None;
   levels = with_block old.levels
-      (shown (parts_of old) (record { start = block.start; end = old.at; body = block.body }));
+      (shown_item (parts_of old) (record { start = block.start; end = old.at; body = block.body }));
 }
 
 -- the innermost of the open blocks
@@ -162,5 +178,5 @@ pub record HasParts (view : BuilderView) (parts : BlockParts) : Type 0 where
   pub texts : map text_of parts.cows.items ≡ view.texts
   pub headings : map words_of parts.headings.items ≡ view.headings
   pub alignments : map (λ a. a.items) parts.alignments.items ≡ view.alignments
-  pub definitions : map definition_view parts.definitions.items ≡ view.definitions
+  pub definitions : map stored_definition parts.definitions.items ≡ view.definitions
   pub footnotes : map text_of parts.footnotes.items ≡ view.footnotes

@@ -1,6 +1,7 @@
--- The items of a tree with what they refer to, in place of the numbers by which they do, and what the calls of a builder
--- make of such trees.
-use Rattle.std.specs.Prelude.{ℕ, zero, suc, ◌-◌, Bool, List, [], ◌∷◌, Option, Some, None, cond, map, slice_get, unwrap_or}
+-- The items of a tree with what they refer to, in place of the numbers by which they do; and what the calls of a
+-- builder make of such trees.
+use Rattle.std.specs.Prelude.{ℕ, zero, suc, ◌-◌, Bool, List, [], ◌∷◌, Option, Some, None, cond, map, slice_get}
+use Rattle.std.specs.Prelude.{unwrap_or}
 use Rattle.std.specs.declared.alloc.Global.{Global}
 use Rattle.std.specs.declared.vec.Vec.{Vec}
 use Rattle.std.specs.Option.{option_map}
@@ -88,14 +89,14 @@ text_shown texts (body.FootnoteDefinition ix) = slice_get texts ix.0
 text_shown texts other = None
 
 -- a heading of a level with its words
-abbrev pub heading_with : HeadingLevel → HeadingWords → HeadingView
-heading_with level words =
+abbrev pub worded_heading : HeadingLevel → HeadingWords → HeadingView
+worded_heading level words =
     record { level = level; id = words.id; classes = words.classes; attributes = words.attributes }
 
 -- the heading with the attributes that a body refers to
 abbrev pub heading_shown : List HeadingWords → ItemBody → Option HeadingView
 heading_shown headings (body.Heading level (Some ix)) =
-    option_map (heading_with level) (slice_get headings (ix.0 - 1))
+    option_map (worded_heading level) (slice_get headings (ix.0 - 1))
 heading_shown headings other = None
 
 -- the alignments that a body refers to
@@ -104,8 +105,8 @@ alignments_shown alignments (body.Table ix) = unwrap_or (slice_get alignments ix
 alignments_shown alignments other = []
 
 -- an item with what it refers to
-abbrev pub shown : Parts → Item → Shown
-shown parts item = record {
+abbrev pub shown_item : Parts → Item → Shown
+shown_item parts item = record {
   item = record item { body = unnumbered item.body };
   text = text_shown parts.texts item.body;
   heading = heading_shown parts.headings item.body;
@@ -114,7 +115,7 @@ shown parts item = record {
 
 -- trees with what their items refer to
 abbrev pub shown_trees : Parts → Forest Item → Forest Shown
-shown_trees parts trees = relabelled (shown parts) trees
+shown_trees parts trees = relabelled (shown_item parts) trees
 
 -- likewise, level by level
 abbrev pub shown_levels : Parts → List (Forest Item) → List (Forest Shown)

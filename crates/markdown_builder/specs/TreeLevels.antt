@@ -73,13 +73,14 @@ items_tightened forest = items_changed tight_if_paragraph forest
 abbrev pub below_closed : Item → Forest Item → Forest Item
 below_closed item below = cond (is_tight_list item.body) (items_tightened below) below
 
--- the levels, with the innermost block closed: it and what is in it, as `settled` says, become the last tree of the level
--- around it
+-- the levels, with the innermost block closed: it and what is in it, as `settled` says, become the last tree of the
+-- level around it
 abbrev pub with_closed_by : {A : Type 0} → (A → Forest A → Forest A) → List (Forest A) → A → List (Forest A)
 with_closed_by settled [] a = []
 with_closed_by settled (level ∷ []) a = level ∷ []
 with_closed_by settled (level ∷ inside ∷ []) a = followed_by level (node a (settled a inside) nil) ∷ []
-with_closed_by settled (level ∷ inside ∷ deeper ∷ levels) a = level ∷ with_closed_by settled (inside ∷ deeper ∷ levels) a
+with_closed_by settled (level ∷ inside ∷ deeper ∷ levels) a =
+    level ∷ with_closed_by settled (inside ∷ deeper ∷ levels) a
 
 abbrev pub with_closed : List (Forest Item) → Item → List (Forest Item)
 with_closed levels item = with_closed_by below_closed levels item

@@ -34,7 +34,7 @@ pub struct Builder<'a> {
 impl<'a> Model for Builder<'a> {
     ghost use Rattle.std.specs.Prelude.{length, map};
     ghost use Rattle.markdown_base.specs.CowText.{text_of};
-    ghost use Rattle.markdown_builder.specs.BuilderView.{BuilderView, definition_view};
+    ghost use Rattle.markdown_builder.specs.BuilderView.{BuilderView, stored_definition};
     ghost use Rattle.markdown_builder.specs.Shown.{shown_levels, stored_parts, words_of};
     ghost use Rattle.markdown_builder.specs.TreeLevels.{levels_of};
     ghost use Rattle.markdown_builder.specs.Standing.{IsSound};
@@ -59,7 +59,7 @@ impl<'a> Model for Builder<'a> {
       texts = map text_of b.cows.items;
       headings = map words_of b.headings.items;
       alignments = map (λ a. a.items) b.alignments.items;
-      definitions = map definition_view b.definitions.items;
+      definitions = map stored_definition b.definitions.items;
       footnotes = map text_of b.footnotes.items;
     } };
 
@@ -95,7 +95,7 @@ impl<'a> Builder<'a> {
     ghost use Rattle.markdown_builder.specs.Bodies.{is_leaf, is_plain_block, is_settled, mark_byte};
     ghost use Rattle.markdown_builder.specs.BuilderView.{IsWhite, IsRunOf, follows_run, innermost_block, nothing_made};
     ghost use Rattle.markdown_builder.specs.BuilderView.{AppendsItem, AppendsText, Opens, OpensNaming, Closes};
-    ghost use Rattle.markdown_builder.specs.BuilderView.{HasParts, parts_of, with_items};
+    ghost use Rattle.markdown_builder.specs.BuilderView.{HasParts, OpensAttributed, OpensTable, parts_of, with_items};
     ghost use Rattle.markdown_builder.specs.BuilderView.{LastHasBody, LastBegins};
     ghost use Rattle.markdown_builder.specs.HeadingsHoldInline.{HeadingsHoldInline};
     ghost use Rattle.markdown_builder.specs.Shown.{run_items, shown_trees, words_of};
@@ -264,10 +264,8 @@ impl<'a> Builder<'a> {
         attributes: HeadingAttributes<'a>,
     ) -> Result<(), AllocError>
         requires { self.old.leaf ≡ false }
-        ensures { IfOk result (λ _. (ix : _)
-            × (ix.0 ≡ length self.old.headings + 1)
-            × Opens (record self.old { headings = self.old.headings ++ words_of attributes.entry ∷ [] })
-            self.new (variant.Heading level (Some ix))) }
+        ensures { IfOk result (λ _.
+            OpensAttributed self.old self.new level (words_of attributes.entry)) }
     {
         let ix = HeadingIndex::of(self.headings.len() + 1)?;
         self.headings.push(attributes)?;
@@ -281,10 +279,7 @@ impl<'a> Builder<'a> {
     /// Opens a table with the alignments of its columns.
     pub fn open_table(&mut self, alignments: Vec<Alignment>) -> Result<(), AllocError>
         requires { self.old.leaf ≡ false }
-        ensures { IfOk result (λ _. (ix : _) × (ix.0 ≡ length self.old.alignments)
-            × Opens (record self.old {
-              alignments = self.old.alignments ++ alignments.items ∷ [];
-            }) self.new (variant.Table ix)) }
+        ensures { IfOk result (λ _. OpensTable self.old self.new alignments.items) }
     {
         let ix = AlignmentIndex(self.alignments.len());
         self.alignments.push(alignments)?;

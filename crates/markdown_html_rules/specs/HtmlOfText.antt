@@ -17,7 +17,7 @@ use Rattle.markdown_document.specs.Tables.{Tables, no_tables}
 use Rattle.markdown_inline.specs.Elements.{Placed, events_of, nothing_read}
 use Rattle.markdown_inline.specs.Reading.{reading}
 use Rattle.markdown_lines.specs.BlockBeginnings.{Source}
-use Rattle.markdown_lines.specs.DefinitionRules.{Definition}
+use Rattle.markdown_builder.specs.BuilderView.{Definition}
 use Rattle.markdown_out.specs.EventHtml.{html_of}
 
 -- bytes as the text of an event, wherever they are in memory

@@ -188,7 +188,8 @@ after_found line all view new at f less special fits value awaits after =
 no_run : (end : ℕ) (view : BuilderView) (at : ℕ) → view.run ≡ None → RunIsOver end view at
 no_run end view at none byte some here less = cc (none, some)
 
-pub at_found : (line : Line) (all : List (Forest Shown)) (view : BuilderView) (at : ℕ) (f : Found) → view.at ≤ at → at < line.end
+pub at_found : (line : Line) (all : List (Forest Shown)) (view : BuilderView) (at : ℕ) (f : Found)
+    → view.at ≤ at → at < line.end
     → is_special line.extensions.dashes (slice_index view.text at) ≡ true
     → FoundFits view.text line.end at f → found_view f ≡ found_at line view.text at
     → AwaitsRest line all view at → AwaitsRest line all (view_after view line at f) (next_after at f)

@@ -65,7 +65,8 @@ fn append_run(
     requires inside { builder.old.leaf ≡ true }
     requires placed { builder.old.at ≤ at }
     requires fits { FoundFits builder.old.text line.end at (Found.Run stop flags) }
-    ensures { IfOk result (λ _. builder.new ≡ view_after builder.old line at (Found.Run stop flags)) }
+    ensures { IfOk result (λ _. builder.new
+        ≡ view_after builder.old line at (Found.Run stop flags)) }
 {
     let byte = builder.text().as_bytes()[at];
     if builder.at() == at && builder.follows_run(byte) {

@@ -17,6 +17,7 @@ use Rattle.markdown_lines.specs.Lines.{is_space_or_tab}
 use Rattle.markdown_lines.specs.SourceLines.{SourceLine, without_empty}
 use Rattle.markdown_scan.specs.Unescape.{unescaped}
 use Rattle.markdown_scan.specs.declared.entity.EntityNames.{EntityNames}
+use Rattle.markdown_builder.specs.BuilderView.{Definition}
 
 -- the text of a paragraph's lines, without what precedes their content
 abbrev pub text_of_lines : List ℕ → List SourceLine → List ℕ
@@ -126,14 +127,6 @@ abbrev pub definition_in : EntityNames → List ℕ → Option Defined
 definition_in names bytes =
     if begins_with (codes "[") bytes
     then option_and_then (with_label names bytes) (link_label no_prefix false (drop 1 bytes)) else None
-
--- a definition in a text, with the byte offsets at which it begins and ends
-pub record Definition : Type 0 where
-  pub label : List ℕ
-  pub destination : List ℕ
-  pub title : Option (List ℕ)
-  pub start : ℕ
-  pub end : ℕ
 
 abbrev pub definition_at : List SourceLine → Defined → Definition
 definition_at lines d = record {

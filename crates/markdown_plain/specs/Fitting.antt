@@ -9,7 +9,7 @@ use Rattle.markdown_base.specs.Forest.{Forest, nil}
 use Rattle.markdown_builder.specs.Bodies.{is_leaf}
 use Rattle.markdown_base.specs.declared.index.HeadingIndex.{HeadingIndex}
 use Rattle.markdown_base.specs.declared.tag.HeadingLevel.{HeadingLevel}
-use Rattle.markdown_builder.specs.BuilderView.{BuilderView, Opens}
+use Rattle.markdown_builder.specs.BuilderView.{BuilderView, Definition, Opens}
 use Rattle.markdown_lines.specs.Lines.{AllPass, is_in_blank_line, IsNextContent}
 use Rattle.markdown_plain.specs.declared.placing.Placing.{Placing}
 use Rattle.markdown_plain.specs.CodeLines.{after_line}
@@ -34,6 +34,10 @@ IfFitted old new Done = AllFitted new → AllFitted old × Done
 -- a builder that has moved to a byte offset
 abbrev pub stepped : BuilderView → ℕ → BuilderView
 stepped builder to = record builder { at = to }
+
+-- a builder that has moved to a byte offset past definitions, with those that it has then
+abbrev pub defining : BuilderView → List Definition → ℕ → BuilderView
+defining builder definitions to = record builder { at = to; definitions = definitions }
 
 -- a builder with an item appended up to a byte offset, with the closed trees then
 abbrev pub extended : BuilderView → List (Forest Item) → ℕ → BuilderView
@@ -70,7 +74,8 @@ pub record BeginsAtContent (old new : BuilderView) : Type 0 where
 
 -- a heading of a level was opened, with attributes or without
 abbrev pub OpensHeading : BuilderView → BuilderView → HeadingLevel → Type 0
-OpensHeading old new level = (ix : Option HeadingIndex) × Opens old new (body.Heading level ix)
+OpensHeading old new level =
+    (ix : Option HeadingIndex) × Opens (record old { headings = new.headings }) new (body.Heading level ix)
 
 -- a fenced code block was opened at a byte offset, with an info string, and its first line ends before `next`
 abbrev pub OpensFenced : BuilderView → BuilderView → (at next : ℕ) → List ℕ → Type 0

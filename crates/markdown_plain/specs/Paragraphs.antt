@@ -27,7 +27,14 @@ paragraph_end lines (Some heading) = heading.1.next
 -- a block was opened, filled and closed, and ends at a byte offset
 abbrev pub IsPlacedTo : BuilderView → BuilderView → ℕ → Type 0
 IsPlacedTo old new to =
-    new ≡ record old { at = to; leaf = false; run = None; levels = new.levels; texts = new.texts }
+    new ≡ record old {
+      at = to;
+      leaf = false;
+      run = None;
+      levels = new.levels;
+      texts = new.texts;
+      headings = new.headings;
+    }
 
 -- a paragraph is open
 abbrev pub has_paragraph : Pass → Bool

@@ -4,7 +4,7 @@ ghost use Rattle.std.specs.Prelude.{◌≡◌, ◌<◌, ◌≤◌, ◌++◌, ◌
 ghost use Rattle.std.specs.Prelude.{if◌then◌else◌};
 ghost use Rattle.markdown_base.specs.declared.item.ItemBody.TheVariants as body;
 ghost use Rattle.markdown_builder.specs.BuilderView.{Opens};
-ghost use Rattle.markdown_plain.specs.Fitting.{IfFitted, GoesOn, OpensHeading, stepped};
+ghost use Rattle.markdown_plain.specs.Fitting.{IfFitted, GoesOn, OpensHeading, defining};
 ghost use Rattle.markdown_plain.specs.OpenBlocks.{room_in, without_leaf};
 ghost use Rattle.markdown_plain.specs.Paragraphs.{end_of, has_paragraph, is_item_in, lines_end, paragraph_end};
 ghost use Rattle.markdown_plain.specs.Paragraphs.{task_at, IsPlacedTo};
@@ -38,7 +38,8 @@ fn take_definition<'a>(
 ) -> Result<usize, AllocError>
     ensures text { IfOk result (λ _. placing.new.builder.text ≡ placing.old.builder.text) }
     ensures steps { IfOk result (λ _. IfFitted placing.old placing.new
-        (placing.new.builder ≡ stepped placing.old.builder placing.new.builder.at)) }
+        (placing.new.builder ≡ defining placing.old.builder placing.new.builder.definitions
+        placing.new.builder.at)) }
     ensures within { IfOk result (λ taken. taken ≤ length lines.now) }
     ensures none { IfOk result (λ taken. taken ≡ 0 → placing.new ≡ placing.old) }
     ensures after { IfOk result (λ taken. 0 < taken → IfFitted placing.old placing.new
@@ -75,7 +76,8 @@ fn take_definitions<'a>(
 ) -> Result<usize, AllocError>
     ensures text { IfOk result (λ _. placing.new.builder.text ≡ placing.old.builder.text) }
     ensures steps { IfOk result (λ _. IfFitted placing.old placing.new
-        (placing.new.builder ≡ stepped placing.old.builder placing.new.builder.at)) }
+        (placing.new.builder ≡ defining placing.old.builder placing.new.builder.definitions
+        placing.new.builder.at)) }
     ensures within { IfOk result (λ taken. taken ≤ length lines.now) }
     ensures after { IfOk result (λ taken. 0 < taken → IfFitted placing.old placing.new
         (placing.new.builder.at ≡ end_of lines.now taken)) }
@@ -332,12 +334,14 @@ impl<'a> Pass<'a> {
         ensures text { IfOk result (λ _. self.new.placing.builder.text
             ≡ self.old.placing.builder.text) }
         ensures ends { IfOk result (λ left. left ≡ true → IfFitted self.old.placing self.new.placing
-            (IsPlacedTo self.old.placing.builder self.new.placing.builder
-            (paragraph_end self.old.lines.items heading))) }
+            (IsPlacedTo
+            (record self.old.placing.builder { definitions = self.new.placing.builder.definitions })
+            self.new.placing.builder (paragraph_end self.old.lines.items heading))) }
         ensures defines { IfOk result (λ left. left ≡ false
             → IfFitted self.old.placing self.new.placing
             (self.new.placing.builder
-            ≡ stepped self.old.placing.builder self.new.placing.builder.at)) }
+            ≡ defining self.old.placing.builder self.new.placing.builder.definitions
+            self.new.placing.builder.at)) }
         ensures after { IfOk result (λ left. left ≡ false → 0 < length self.old.lines.items
             → IfFitted self.old.placing self.new.placing
             (self.new.placing.builder.at ≡ lines_end self.old.lines.items)) }

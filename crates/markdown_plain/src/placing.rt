@@ -33,18 +33,20 @@ pub struct Placing<'a> {
 impl<'a> Placing<'a> {
     ghost use Rattle.std.specs.Prelude.{◌≡◌, ◌≤◌, ◌<◌, ◌==◌, ◌++◌, ◌∷◌, [], true, false, Some, None, length};
     ghost use Rattle.std.specs.Prelude.{slice_index, slice_get, IfOk, IfSome};
+    ghost use Rattle.std.specs.Option.{option_map};
     ghost use Rattle.std.specs.Str.{IsCharBoundary};
     ghost use Rattle.markdown_base.specs.declared.item.ItemBody.TheVariants as body;
     ghost use Rattle.markdown_base.specs.CowText.{text_of};
-    ghost use Rattle.markdown_base.specs.declared.index.HeadingIndex.{HeadingIndex};
     ghost use Rattle.markdown_plain.specs.CodeLines.{owed_spaces};
     ghost use Rattle.markdown_plain.specs.OpenBlocks.{outer_of};
     ghost use Rattle.markdown_plain.specs.Stretches.{deep_starts};
     ghost use Rattle.markdown_builder.specs.Bodies.{is_leaf, is_plain_block, is_settled};
     ghost use Rattle.markdown_builder.specs.BuilderView.{IsWhite, innermost_block, nothing_made, Opens, OpensNaming};
+    ghost use Rattle.markdown_builder.specs.BuilderView.{OpensAttributed, OpensTable};
+    ghost use Rattle.markdown_builder.specs.Shown.{words_of};
     ghost use Rattle.markdown_lines.specs.Lines.{IsNextContent};
     ghost use Rattle.markdown_plain.specs.Fitting.{AllFitted, IfFitted, IsAhead, IsWhiteOutside};
-    ghost use Rattle.markdown_plain.specs.Fitting.{BeginsAtContent, GoesOn, HasBody, closed, extended, stepped};
+    ghost use Rattle.markdown_plain.specs.Fitting.{BeginsAtContent, GoesOn, HasBody, closed, defining, extended, stepped};
 
     /// Returns a builder that has made nothing yet.
     pub fn new(alloc: Global, text: &'a str, old: bool) -> Result<Placing<'a>, AllocError>
@@ -189,8 +191,7 @@ impl<'a> Placing<'a> {
     ) -> Result<(), AllocError>
         ensures text { IfOk result (λ _. self.new.builder.text ≡ self.old.builder.text) }
         ensures opens { IfOk result (λ _. IfFitted self.old self.new
-            ((ix : HeadingIndex)
-            × Opens self.old.builder self.new.builder (body.Heading level (Some ix)))) }
+            (OpensAttributed self.old.builder self.new.builder level (words_of attributes.entry))) }
         ensures fits { IfOk result (λ _. self.old.builder.leaf ≡ false
             → self.new.misfits ≡ self.old.misfits) }
     {
@@ -240,8 +241,8 @@ impl<'a> Placing<'a> {
     /// Opens a table at the current byte offset, with the alignments of its columns.
     pub fn open_table(&mut self, alignments: Vec<Alignment>) -> Result<(), AllocError>
         ensures text { IfOk result (λ _. self.new.builder.text ≡ self.old.builder.text) }
-        ensures opens { IfOk result (λ _. IfFitted self.old self.new ((ix : _)
-            × Opens self.old.builder self.new.builder (body.Table ix))) }
+        ensures opens { IfOk result (λ _. IfFitted self.old self.new
+            (OpensTable self.old.builder self.new.builder alignments.items)) }
         ensures fits { IfOk result (λ _. self.old.builder.leaf ≡ false
             → self.new.misfits ≡ self.old.misfits) }
     {
@@ -430,7 +431,14 @@ impl<'a> Placing<'a> {
     pub fn add_definition(&mut self, found: Definition<'a>) -> Result<(), AllocError>
         ensures text { IfOk result (λ _. self.new.builder.text ≡ self.old.builder.text) }
         ensures adds { IfOk result (λ _. IfFitted self.old self.new
-            (self.new.builder ≡ stepped self.old.builder found.entry.end)) }
+            (self.new.builder
+            ≡ defining self.old.builder (self.old.builder.definitions ++ record {
+              label = text_of found.entry.label;
+              destination = text_of found.entry.destination;
+              title = option_map text_of found.entry.title;
+              start = self.old.builder.at;
+              end = found.entry.end;
+            } ∷ []) found.entry.end)) }
         ensures fits { IfOk result (λ _. IsAhead self.old.builder found.entry.end
             → slice_get self.old.builder.text self.old.builder.at ≡ Some 91
             → self.new.misfits ≡ self.old.misfits) }

@@ -1,7 +1,7 @@
 use Rattle.std.proofs.Common.{refl}
 use Rattle.markdown_block_rules.specs.BlockGrowth.{begun_in, goes_on, with_lazy}
 use Rattle.markdown_block_rules.specs.BlockRules.{definitions_in, footnotes_in, shown_blocks}
-use Rattle.markdown_block_rules.specs.LineContents.{items_read_from}
+use Rattle.markdown_items.specs.ContentItems.{items_read_from}
 use Rattle.markdown_lines.specs.DefinitionRules.{divided_in}
 use Rattle.markdown_lines.specs.SourceLines.{lines_from}
 use Rattle.markdown_lines.specs.HtmlBeginnings.{block_tags, is_same_name, verbatim_tags}

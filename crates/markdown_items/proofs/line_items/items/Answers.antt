@@ -11,7 +11,8 @@ use Rattle.markdown_items.specs.FoundFits.{FoundFits, next_after, view_after}
 use Rattle.markdown_items.specs.FoundView.{found_view}
 use Rattle.markdown_items.specs.LineItems.{is_special, IsFirstSpecial}
 use Rattle.markdown_items.specs.RestOfLine.{AwaitsRest}
-use Rattle.markdown_items.proofs.RestOfLineLemmas.{past_plain, at_start, at_end, at_found, placed_after, begun_after, text_after}
+use Rattle.markdown_items.proofs.RestOfLineLemmas.{past_plain, at_start, at_end, at_found, placed_after, begun_after}
+use Rattle.markdown_items.proofs.RestOfLineLemmas.{text_after}
 use Rattle.markdown_items.proofs.line_items.items.Goals as goal
 
 pub line-init : goal.line-init

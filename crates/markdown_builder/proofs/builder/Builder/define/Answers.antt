@@ -2,7 +2,7 @@
 use Rattle.std.proofs.Common.{ap, refl, ◌∙◌, List, ◌∷◌, [], map}
 use Rattle.std.proofs.lemmas.List.{map-append}
 use Rattle.markdown_base.specs.declared.cow_str.CowStr.{CowStr}
-use Rattle.markdown_builder.specs.BuilderView.{definition_view}
+use Rattle.markdown_builder.specs.BuilderView.{stored_definition}
 use Rattle.markdown_base.specs.declared.block_parts.LinkDef.{LinkDef}
 use Rattle.markdown_builder.specs.Standing.{standpoint}
 use Rattle.markdown_builder.proofs.CallLemmas.{define_keeps}
@@ -23,6 +23,6 @@ returns c =
     let made : LinkDef = record
     { dest = c.args.dest; title = c.args.title; span = record { start = c.self.inside.at; end = c.args.end } }
     in
-    let definitions = ap (λ (ds : List (CowStr × LinkDef)). map definition_view ds) c.in_ok-push.ensures.items
-    ∙ map-append definition_view c.self.inside.definitions.items ((c.args.label, made) ∷ []) in
+    let definitions = ap (λ (ds : List (CowStr × LinkDef)). map stored_definition ds) c.in_ok-push.ensures.items
+    ∙ map-append stored_definition c.self.inside.definitions.items ((c.args.label, made) ∷ []) in
     rw (← c.self.view_is) (rw definitions refl)

@@ -5,7 +5,7 @@ use Rattle.markdown_builder.specs.TreeLevels.{levels_of}
 use Rattle.markdown_builder.proofs.CallLemmas.{inline_keeps}
 use Rattle.markdown_builder.proofs.LevelViewLemmas.{append_levels}
 use Rattle.markdown_builder.specs.Shown.{stored_parts}
-use Rattle.markdown_builder.proofs.ShownStepsLemmas.{item_shown}
+use Rattle.markdown_builder.proofs.ShownStepsLemmas.{appended_shown}
 use Rattle.markdown_builder.proofs.ShownLevelsLemmas.{settled_shown}
 use Rattle.markdown_builder.proofs.builder.Builder.inline.Goals as goal
 
@@ -19,6 +19,7 @@ invariant_of-self-2 c =
 pub returns : goal.returns
 returns c =
     let parts = stored_parts c.self.inside.cows.items c.self.inside.headings.items c.self.inside.alignments.items in
-    let levels = item_shown parts c.self.inside.tree c.append.new.self c.self.inside.at c.args.end c.args.body (settled_shown parts c.self.inside.at c.args.end c.args.body c.requires.settled)
+    let levels = appended_shown parts c.self.inside.tree c.append.new.self c.self.inside.at c.args.end
+    c.args.body (settled_shown parts c.self.inside.at c.args.end c.args.body c.requires.settled)
     (ap levels_of c.in_ok-append.ensures.made ∙ append_levels c.self.inside.tree _ c.self.invariant.laid) in
     rw (← c.self.view_is) (rw levels refl)

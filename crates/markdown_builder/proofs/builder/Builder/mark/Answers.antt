@@ -6,7 +6,7 @@ use Rattle.markdown_builder.proofs.CallLemmas.{mark_keeps}
 use Rattle.markdown_builder.proofs.LevelViewLemmas.{append_levels}
 use Rattle.std.proofs.Common.{◌+◌}
 use Rattle.markdown_builder.specs.Shown.{stored_parts}
-use Rattle.markdown_builder.proofs.ShownStepsLemmas.{item_shown}
+use Rattle.markdown_builder.proofs.ShownStepsLemmas.{appended_shown}
 use Rattle.markdown_builder.proofs.ShownLevelsLemmas.{mark_shown}
 use Rattle.markdown_builder.proofs.builder.Builder.mark.Goals as goal
 
@@ -20,6 +20,8 @@ invariant_of-self-2 c =
 pub returns : goal.returns
 returns c =
     let parts = stored_parts c.self.inside.cows.items c.self.inside.headings.items c.self.inside.alignments.items in
-    let levels = item_shown parts c.self.inside.tree c.append.new.self c.self.inside.at (c.self.inside.at + 1) c.args.body (mark_shown parts c.self.inside.at (c.self.inside.at + 1) _ c.args.body c.requires.byte)
+    let levels = appended_shown parts c.self.inside.tree c.append.new.self c.self.inside.at
+    (c.self.inside.at + 1) c.args.body
+    (mark_shown parts c.self.inside.at (c.self.inside.at + 1) _ c.args.body c.requires.byte)
     (ap levels_of c.in_ok-append.ensures.made ∙ append_levels c.self.inside.tree _ c.self.invariant.laid) in
     rw (← c.self.view_is) (rw levels refl)

@@ -6,7 +6,7 @@ use Rattle.markdown_builder.proofs.CallLemmas.{rule_keeps}
 use Rattle.markdown_builder.proofs.LevelViewLemmas.{append_levels}
 use Rattle.markdown_base.specs.declared.item.ItemBody.TheVariants as body
 use Rattle.markdown_builder.specs.Shown.{stored_parts}
-use Rattle.markdown_builder.proofs.ShownStepsLemmas.{item_shown}
+use Rattle.markdown_builder.proofs.ShownStepsLemmas.{appended_shown}
 use Rattle.markdown_builder.proofs.builder.Builder.rule.Goals as goal
 
 pub invariant_of-self-2 : goal.invariant_of-self-2
@@ -18,6 +18,6 @@ invariant_of-self-2 c =
 pub returns : goal.returns
 returns c =
     let parts = stored_parts c.self.inside.cows.items c.self.inside.headings.items c.self.inside.alignments.items in
-    let levels = item_shown parts c.self.inside.tree c.append.new.self c.self.inside.at c.args.end body.Rule refl
+    let levels = appended_shown parts c.self.inside.tree c.append.new.self c.self.inside.at c.args.end body.Rule refl
     (ap levels_of c.in_ok-append.ensures.made ∙ append_levels c.self.inside.tree _ c.self.invariant.laid) in
     rw (← c.self.view_is) (rw levels refl)

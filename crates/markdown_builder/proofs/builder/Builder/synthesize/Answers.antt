@@ -32,7 +32,8 @@ returns c =
     ∙ map-append text_of c.self.inside.cows.items _ in
     let number : c.in_ok-ix.ix.0 ≡ length parts.texts =
     c.in_ok-ix.ensures.number ∙ sym (length-map c.self.inside.cows.items text_of) in
-    let levels = text_shown_too parts c.self.inside.tree c.append.new.self c.self.inside.at c.args.end c.in_ok-ix.ix text number
+    let levels = text_shown_too parts c.self.inside.tree c.append.new.self c.self.inside.at c.args.end
+    c.in_ok-ix.ix text number
     (stored_named c.self.inside.text.now c.self.inside.cows.items c.self.inside.headings.items
     c.self.inside.alignments.items c.self.inside.tree c.self.invariant.stands.nodes)
     (ap levels_of c.in_ok-append.ensures.made ∙ append_levels c.self.inside.tree _ c.self.invariant.laid) in
