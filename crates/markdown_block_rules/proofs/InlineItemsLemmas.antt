@@ -1,4 +1,4 @@
--- No inline item that lines consist of is a task marker or metadata.
+-- No inline item that lines consist of is a task marker, metadata or a table.
 use Rattle.std.proofs.Common.{◌≡◌, ℕ, zero, suc, ◌+◌, ◌-◌, ◌%◌, Bool, true, false, not, ◌==◌, ◌&&◌, ◌||◌, List, [], ◌∷◌}
 use Rattle.std.proofs.Common.{◌++◌, Option, Some, None, refl, length, nat_le, nat_lt, slice_index, slice_range, codes}
 use Rattle.std.proofs.Common.{encode_utf8, replicate}
@@ -37,10 +37,11 @@ use Rattle.markdown_block_rules.proofs.BlockBeginningsLemmas.{either}
 use Rattle.markdown_builder.specs.Shown.{Shown, plain_item, run_items, synthesized_item}
 use Rattle.markdown_items.specs.ContentItems.{content_items, items_read_from, put_found, text_between}
 
--- a task marker or metadata
+-- a task marker, metadata or a table
 abbrev pub is_marked : ItemBody → Bool
 is_marked (body.TaskListMarker done) = true
 is_marked (body.MetadataBlock kind) = true
+is_marked (body.Table alignments) = true
 is_marked other = false
 
 -- none of some items is one of these
@@ -55,9 +56,9 @@ between_unmarked text line from to =
     either AreUnmarked (nat_lt from to)
     (plain_item from to (body.Text (is_after_backslash text line.start from)) ∷ []) [] (refl, tt) tt
 
-run_unmarked : (stop : ℕ) (flags : Flags) (count : ℕ) → AreUnmarked (run_items stop flags count)
-run_unmarked stop flags zero = tt
-run_unmarked stop flags (suc count) = (refl, run_unmarked stop flags count)
+run_unmarked : (stop : ℕ) (opens closes : Bool) (count : ℕ) → AreUnmarked (run_items stop opens closes count)
+run_unmarked stop opens closes zero = tt
+run_unmarked stop opens closes (suc count) = (refl, run_unmarked stop opens closes count)
 
 -- what is found is no such mark
 abbrev IsUnmarked : FoundView → Type 0
@@ -86,9 +87,10 @@ put_unmarked text line more from at rest (found.EscapedBackticks stop) is =
     (between_unmarked text line from at) (refl, rest stop stop)
 put_unmarked text line more from at rest (found.DelimiterRun stop flags) is =
     let between = text_between text line from at in
-    let run = run_items stop flags (stop - at) in
+    let run = run_items stop flags.opens flags.closes (stop - at) in
     joined (between ++ run) (more stop stop)
-    (joined between run (between_unmarked text line from at) (run_unmarked stop flags (stop - at))) (rest stop stop)
+    (joined between run (between_unmarked text line from at)
+    (run_unmarked stop flags.opens flags.closes (stop - at))) (rest stop stop)
 put_unmarked text line more from at rest (found.Entity stop characters) is =
     joined (text_between text line from at) (synthesized_item at stop characters ∷ more stop stop)
     (between_unmarked text line from at) (refl, rest stop stop)

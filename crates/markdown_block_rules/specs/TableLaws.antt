@@ -1,30 +1,50 @@
 -- Rows of tables have as many cells as their table has columns, and few of these are added to a text.
-use Rattle.std.specs.Prelude.{◌≡◌, ◌≤◌, ℕ, ◌-◌, List, ◌∷◌, length, max, ⊤}
+use Rattle.std.specs.Prelude.{◌≡◌, ◌≤◌, ℕ, ◌-◌, Bool, true, false, List, ◌∷◌, length, max, ⊤, ⊥}
 use Rattle.std.specs.List.{sum_by}
-use Rattle.markdown_base.specs.Forest.{Forest, nil, node, preorder, roots}
-use Rattle.markdown_base.specs.declared.tag.Alignment.{Alignment}
+use Rattle.markdown_base.specs.Forest.{Forest, Throughout, nil, node, preorder, roots}
+use Rattle.markdown_base.specs.declared.item.ItemBody.{ItemBody}
+use Rattle.markdown_base.specs.declared.item.ItemBody.TheVariants as body
 use Rattle.markdown_lines.specs.BlockBeginnings.{Source}
 use Rattle.markdown_lines.specs.SourceLines.{SourceLine}
 use Rattle.markdown_block_rules.specs.BlockGrowth as was
 use Rattle.markdown_block_rules.specs.BlockGrowth.{Block, Kind, blocks_of}
-use Rattle.markdown_block_rules.specs.BlockRules.{shown_table}
+use Rattle.markdown_block_rules.specs.BlockRules.{block_tree}
 use Rattle.markdown_builder.specs.Shown.{Shown}
 use Rattle.markdown_block_rules.specs.TableLines.{cells_of}
 
--- each block of a forest directly contains this many
+abbrev pub is_table : ItemBody → Bool
+is_table (body.Table alignments) = true
+is_table other = false
+
+-- each item of a forest directly contains this many
 abbrev pub EachContains : {A : Type 0} → ℕ → Forest A → Type 0
 EachContains count nil = ⊤
 EachContains count (node a below after) = (length (roots below) ≡ count) × EachContains count after
 
--- each table contains rows that all have as many cells as it has alignments
-abbrev pub HoldsEvenRows : Forest Shown → Type 0
-HoldsEvenRows nil = ⊤
-HoldsEvenRows (node table rows after) = EachContains (length table.alignments) rows
+-- these siblings are cells
+abbrev pub AreCells : Forest Shown → Type 0
+AreCells nil = ⊤
+AreCells (node cell below after) = (cell.item.body ≡ body.TableCell) × AreCells after
 
+-- these siblings are rows of cells
+abbrev pub AreRows : Forest Shown → Type 0
+AreRows nil = ⊤
+AreRows (node row cells after) = (row.item.body ≡ body.TableRow) × AreCells cells × AreRows after
+
+-- the first of these siblings is a head of cells, and the others are rows of cells
+abbrev pub AreHeadAndRows : Forest Shown → Type 0
+AreHeadAndRows nil = ⊥
+AreHeadAndRows (node head cells rows) = (head.item.body ≡ body.TableHead) × AreCells cells × AreRows rows
+
+-- An item, with the items below it. If it is a table, these are its head and its rows, and each of them has as many
+-- cells as the table has alignments.
+pub record KeepsRowsEven (a : Shown) (below : Forest Shown) : Type 0 where
+  pub rows : is_table a.item.body ≡ true → AreHeadAndRows below
+  pub even : is_table a.item.body ≡ true → EachContains (length a.alignments) below
+
+-- that holds for each item of a text
 abbrev pub RowsAreEven : Type 0
-RowsAreEven =
-    (s : Source) (start end : ℕ) (head : SourceLine) (alignments : List Alignment) (rows : List SourceLine)
-    → HoldsEvenRows (shown_table s start end head alignments rows)
+RowsAreEven = (s : Source) → Throughout (λ a below after. KeepsRowsEven a below) (block_tree s)
 
 -- how many cells more a table of this many columns has than a row is written with
 abbrev pub cells_lacking : (columns : ℕ) → SourceLine → ℕ

@@ -139,7 +139,8 @@ pub fn a_blank_line_ends_a_paragraph()
     ensures { BlankLineEndsParagraph }
 {}
 
-/// States that each row of a table, its head included, has as many cells as the table has alignments.
+/// States that a table directly contains its head and then its rows, and that each of these contains cells, as many as the
+/// table has alignments.
 pub fn rows_are_even()
     ensures { RowsAreEven }
 {}
