@@ -1,9 +1,8 @@
 -- The rows of tables, their cells, and how many these are.
-use Rattle.std.proofs.Common.{◌≡◌, ℕ, zero, suc, ◌+◌, ◌-◌, Bool, true, false, not, ◌==◌, List, [], ◌∷◌, length, take}
+use Rattle.std.proofs.Common.{◌≡◌, ℕ, zero, suc, ◌+◌, Bool, true, false, not, ◌==◌, List, [], ◌∷◌, length, take}
 use Rattle.std.proofs.Common.{Option, Some, None, refl, sym, ◌∙◌, arith, length-take}
 use Rattle.std.proofs.lemmas.Bool.{true≢false}
-use Rattle.std.specs.Prelude.{⊤, if◌then◌else◌}
-use Rattle.std.specs.List.{AllByRecursion}
+use Rattle.std.specs.Prelude.{if◌then◌else◌}
 use Rattle.markdown_base.specs.Forest.{Forest, Throughout, nil, node, roots}
 use Rattle.markdown_base.specs.declared.item.ItemBody.{ItemBody}
 use Rattle.markdown_base.specs.declared.item.ItemBody.TheVariants as body
@@ -27,7 +26,7 @@ use Rattle.markdown_block_rules.specs.BlockRules.{last_braces, last_end, paragra
 use Rattle.markdown_block_rules.specs.BlockRules.{shown_blocks, shown_cells, shown_heading, shown_row, shown_rows}
 use Rattle.markdown_block_rules.specs.BlockRules.{shown_setext, shown_table, shown_text}
 use Rattle.markdown_block_rules.specs.LineContents.{cell_items, lines_items, source_lines}
-use Rattle.markdown_block_rules.specs.TableLaws.{AreCells, AreHeadAndRows, AreRows, EachContains, KeepsRowsEven}
+use Rattle.markdown_block_rules.specs.TableLaws.{AreCells, AreRows, EachContains, KeepsRowsEven}
 use Rattle.markdown_block_rules.specs.TableLaws.{RowsAreEven, is_table}
 use Rattle.markdown_block_rules.specs.TableLines.{cells_added, cells_of}
 use Rattle.markdown_block_rules.proofs.InlineItemsLemmas.{AreUnmarked, cell_unmarked, content_unmarked, is_marked}

@@ -1,5 +1,6 @@
--- Rows of tables have as many cells as their table has columns, and few of these are added to a text.
-use Rattle.std.specs.Prelude.{◌≡◌, ◌≤◌, ℕ, ◌-◌, Bool, true, false, List, ◌∷◌, length, max, ⊤, ⊥}
+-- Tables contain a head and rows, which have as many cells as their table has columns, and few of these are added to a
+-- text.
+use Rattle.std.specs.Prelude.{◌≡◌, ◌≤◌, ℕ, ◌-◌, Bool, true, false, ◌∷◌, length, max, ⊤}
 use Rattle.std.specs.List.{sum_by}
 use Rattle.markdown_base.specs.Forest.{Forest, Throughout, nil, node, preorder, roots}
 use Rattle.markdown_base.specs.declared.item.ItemBody.{ItemBody}
