@@ -2,7 +2,7 @@
 -- is counted, and makes nothing.
 use Rattle.std.specs.Prelude.{◌≡◌, ℕ, ◌≤◌, false, [], ◌∷◌, ◌++◌, List, Option, Some, None, length}
 use Rattle.std.specs.Str.{IsCharBoundary}
-use Rattle.markdown_base.specs.declared.item.Item.{Item}
+use Rattle.markdown_builder.specs.Shown.{Shown}
 use Rattle.markdown_base.specs.declared.item.ItemBody.{ItemBody}
 use Rattle.markdown_base.specs.declared.item.ItemBody.TheVariants as body
 use Rattle.markdown_base.specs.Forest.{Forest, nil}
@@ -40,11 +40,11 @@ abbrev pub defining : BuilderView → List Definition → ℕ → BuilderView
 defining builder definitions to = record builder { at = to; definitions = definitions }
 
 -- a builder with an item appended up to a byte offset, with the closed trees then
-abbrev pub extended : BuilderView → List (Forest Item) → ℕ → BuilderView
+abbrev pub extended : BuilderView → List (Forest Shown) → ℕ → BuilderView
 extended builder levels to = record builder { at = to; run = None; levels = levels }
 
 -- a builder whose innermost open block was closed, with the closed trees then
-abbrev pub closed : BuilderView → List (Forest Item) → BuilderView
+abbrev pub closed : BuilderView → List (Forest Shown) → BuilderView
 closed builder levels =
     record builder { blocks = outer_of builder.blocks; leaf = false; run = None; levels = levels }
 

@@ -10,6 +10,7 @@ invariant-cells l = record {
       ≡ record (opened l.fn.placing.builder l.line.start l.fn.row) {
         at = l.placing.builder.at;
         levels = l.placing.builder.levels;
+        headings = l.placing.builder.headings;
         texts = l.placing.builder.texts;
       });
 }

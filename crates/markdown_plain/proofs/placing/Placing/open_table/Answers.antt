@@ -8,5 +8,5 @@ pub invariant_of-self-in-Ok : goal.invariant_of-self-in-Ok
 invariant_of-self-in-Ok c = record {
   stretched = stretches_inside c.args.self.now.stretches c.enter.new.self c.open_blocks.result.now
       c.args.self.now.builder.blocks _ _ c.open_blocks.ensures c.in_ok-enter.ensures.entered
-      c.args.self.now.stretched (ap (λ (b : BuilderView). b.blocks) c.in-Ok.ensures.1);
+      c.args.self.now.stretched (ap (λ (b : BuilderView). b.blocks) c.in-Ok.ensures.2);
 }
