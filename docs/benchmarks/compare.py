@@ -1,7 +1,8 @@
-"""The program beside `cmark`, `pulldown-cmark` and `md4c` on the same texts, as a table: `compare.py PROGRAM`.
+"""The program beside `cmark`, `pulldown-cmark` and `md4c` on the same texts, as a table: `compare.py PROGRAM [TOOL]`.
 
 Instructions are counted by valgrind; seconds are the best of seven runs, memory the most of one. `md4c` is a library, so
-`md4c.c` is compiled over it. On documents with tables these are enabled, in `cmark-gfm` in place of `cmark`.
+`md4c.c` is compiled over it. On documents with tables these are enabled, in the program `markdown`, if it is given as TOOL, and
+in `cmark-gfm` in place of `cmark`.
 """
 import os
 import re
@@ -73,8 +74,10 @@ def main():
         }
         for name, generated in TEXTS.items():
             show(name, generated, text, programs)
+        if len(sys.argv) < 3:
+            return
         with_tables = {
-            "ours": [sys.argv[1], "extended", "tables"],
+            "ours": [sys.argv[2], "-e", "tables"],
             "`cmark-gfm`": ["cmark-gfm", "--unsafe", "-e", "table"],
             "`pulldown-cmark`": ["pulldown-cmark", "-T"],
         }
