@@ -9,6 +9,7 @@ pub mod Arena
 pub mod ArenaChanges
 pub mod Forest
 pub mod HeadingLevels
+pub mod HeadingWords
 pub mod BlockTree
 pub mod WellFormed
 pub mod Coverage

@@ -17,9 +17,10 @@ use Rattle.markdown_base.specs.BlockTree.{Numbered, item_at, numbered, tree_of}
 use Rattle.markdown_base.specs.Forest.{Forest, nil, node, Each, Throughout, relabelled}
 use Rattle.markdown_base.specs.WellFormed.{PartCounts, PartsAreNamed}
 use Rattle.markdown_builder.specs.BuilderRules.{KeepsNodes}
-use Rattle.markdown_builder.specs.Shown.{HeadingWords, Shown, Parts, shown_item, shown_trees, shown_levels, unnumbered}
+use Rattle.markdown_base.specs.HeadingWords.{HeadingWords, worded_heading}
+use Rattle.markdown_builder.specs.Shown.{Shown, Parts, shown_item, shown_trees, shown_levels, unnumbered}
 use Rattle.markdown_builder.specs.Shown.{text_shown}
-use Rattle.markdown_builder.specs.Shown.{heading_shown, worded_heading, alignments_shown}
+use Rattle.markdown_builder.specs.Shown.{heading_shown, alignments_shown}
 use Rattle.markdown_builder.specs.TreeLevels.{all_but_last, in_last, levels_in, levels_of}
 use Rattle.markdown_builder.proofs.RisingLemmas.{throughout_below}
 

@@ -8,7 +8,8 @@ use Rattle.markdown_base.specs.declared.item.ItemBody.TheVariants as body
 use Rattle.markdown_base.specs.declared.tag.Alignment.{Alignment}
 use Rattle.markdown_base.specs.Forest.{Forest, nil, node, relabelled}
 use Rattle.markdown_builder.specs.Bodies.{is_settled, is_plain_block, mark_byte}
-use Rattle.markdown_builder.specs.Shown.{HeadingWords, Shown, Parts, plain_item, chain_of, shown_item, shown_trees}
+use Rattle.markdown_base.specs.HeadingWords.{HeadingWords}
+use Rattle.markdown_builder.specs.Shown.{Shown, Parts, plain_item, chain_of, shown_item, shown_trees}
 use Rattle.markdown_builder.specs.Shown.{shown_levels, unnumbered}
 use Rattle.markdown_builder.specs.Shown.{text_shown, heading_shown, alignments_shown, run_items, tight_shown}
 use Rattle.markdown_builder.specs.Shown.{settled_below}

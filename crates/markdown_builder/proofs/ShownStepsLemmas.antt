@@ -20,7 +20,8 @@ use Rattle.markdown_builder.specs.BuilderRules.{KeepsNodes}
 use Rattle.markdown_builder.specs.BuilderView.{with_items}
 use Rattle.markdown_builder.specs.Shown.{Shown, Parts, plain_item, synthesized_item, shown_item, shown_trees}
 use Rattle.markdown_builder.specs.Shown.{shown_levels}
-use Rattle.markdown_builder.specs.Shown.{stored_parts, words_of}
+use Rattle.markdown_base.specs.HeadingWords.{words_of}
+use Rattle.markdown_builder.specs.Shown.{stored_parts}
 use Rattle.markdown_builder.specs.TreeLevels.{levels_of, with_trees}
 use Rattle.markdown_builder.proofs.MorePartsLemmas.{AreNamed, counts_in, levels_named, more_texts}
 use Rattle.markdown_builder.proofs.ShownLevelsLemmas.{trees_shown}

@@ -19,8 +19,9 @@ use Rattle.markdown_base.specs.CowText.{text_of}
 use Rattle.markdown_base.specs.Forest.{Forest, nil}
 use Rattle.markdown_builder.specs.declared.open_block.OpenBlock.{OpenBlock}
 use Rattle.markdown_builder.specs.Bodies.{is_leaf}
-use Rattle.markdown_builder.specs.Shown.{HeadingWords, Parts, Shown, chain_of, plain_item, shown_item}
-use Rattle.markdown_builder.specs.Shown.{synthesized_item, with_block, words_of}
+use Rattle.markdown_base.specs.HeadingWords.{HeadingWords, words_of}
+use Rattle.markdown_builder.specs.Shown.{Parts, Shown, chain_of, plain_item, shown_item}
+use Rattle.markdown_builder.specs.Shown.{synthesized_item, with_block}
 use Rattle.markdown_builder.specs.TreeLevels.{with_trees}
 
 -- a link reference definition in a text, with the byte offsets at which it begins and ends

@@ -6,15 +6,15 @@ use Rattle.std.specs.declared.alloc.Global.{Global}
 use Rattle.std.specs.declared.vec.Vec.{Vec}
 use Rattle.std.specs.Option.{option_map}
 use Rattle.markdown_base.specs.CowText.{text_of}
-use Rattle.markdown_base.specs.Event.{HeadingView, attribute_view}
+use Rattle.markdown_base.specs.Event.{HeadingView}
 use Rattle.markdown_base.specs.Forest.{Forest, nil, node, relabelled}
+use Rattle.markdown_base.specs.HeadingWords.{HeadingWords, words_of, worded_heading}
 use Rattle.markdown_base.specs.declared.block_parts.HeadingAttributes.{HeadingAttributes}
 use Rattle.markdown_base.specs.declared.cow_str.CowStr.{CowStr}
 use Rattle.markdown_base.specs.declared.item.Item.{Item}
 use Rattle.markdown_base.specs.declared.item.ItemBody.{ItemBody}
 use Rattle.markdown_base.specs.declared.item.ItemBody.TheVariants as body
 use Rattle.markdown_base.specs.declared.tag.Alignment.{Alignment}
-use Rattle.markdown_base.specs.declared.tag.HeadingLevel.{HeadingLevel}
 use Rattle.markdown_builder.specs.TreeLevels.{items_changed, tight_if_paragraph, with_closed_by}
 use Rattle.markdown_builder.specs.Tightness.{is_tight_list}
 
@@ -45,19 +45,6 @@ abbrev pub chain_of : {A : Type 0} → List A → Forest A
 chain_of [] = nil
 chain_of (a ∷ items) = node a nil (chain_of items)
 
--- an id, classes and attributes, as they are written after a heading
-pub record HeadingWords : Type 0 where
-  pub id : Option (List ℕ)
-  pub classes : List (List ℕ)
-  pub attributes : List (List ℕ × Option (List ℕ))
-
-abbrev pub words_of : HeadingAttributes → HeadingWords
-words_of a = record {
-  id = option_map text_of a.id;
-  classes = map text_of a.classes.items;
-  attributes = map attribute_view a.attrs.items;
-}
-
 -- what items refer to by numbers
 pub record Parts : Type 0 where
   pub texts : List (List ℕ)
@@ -87,11 +74,6 @@ text_shown texts (body.SynthesizeText ix) = slice_get texts ix.0
 text_shown texts (body.FencedCodeBlock ix) = slice_get texts ix.0
 text_shown texts (body.FootnoteDefinition ix) = slice_get texts ix.0
 text_shown texts other = None
-
--- a heading of a level with its words
-abbrev pub worded_heading : HeadingLevel → HeadingWords → HeadingView
-worded_heading level words =
-    record { level = level; id = words.id; classes = words.classes; attributes = words.attributes }
 
 -- the heading with the attributes that a body refers to
 abbrev pub heading_shown : List HeadingWords → ItemBody → Option HeadingView

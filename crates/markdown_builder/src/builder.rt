@@ -35,7 +35,8 @@ impl<'a> Model for Builder<'a> {
     ghost use Rattle.std.specs.Prelude.{length, map};
     ghost use Rattle.markdown_base.specs.CowText.{text_of};
     ghost use Rattle.markdown_builder.specs.BuilderView.{BuilderView, stored_definition};
-    ghost use Rattle.markdown_builder.specs.Shown.{shown_levels, stored_parts, words_of};
+    ghost use Rattle.markdown_base.specs.HeadingWords.{words_of};
+    ghost use Rattle.markdown_builder.specs.Shown.{shown_levels, stored_parts};
     ghost use Rattle.markdown_builder.specs.TreeLevels.{levels_of};
     ghost use Rattle.markdown_builder.specs.Standing.{IsSound};
 
@@ -90,6 +91,7 @@ impl<'a> Builder<'a> {
     ghost use Rattle.markdown_base.specs.CowText.{text_of};
     ghost use Rattle.markdown_base.specs.Coverage.{Covers};
     ghost use Rattle.markdown_base.specs.Forest.{relabelled};
+    ghost use Rattle.markdown_base.specs.HeadingWords.{words_of};
     ghost use Rattle.markdown_base.specs.WellFormed.{IsWellFormed, is_delimiter};
     ghost use Rattle.markdown_builder.specs.declared.open_block.OpenBlock.{OpenBlock};
     ghost use Rattle.markdown_builder.specs.Bodies.{is_leaf, is_plain_block, is_settled, mark_byte};
@@ -98,7 +100,7 @@ impl<'a> Builder<'a> {
     ghost use Rattle.markdown_builder.specs.BuilderView.{HasParts, OpensAttributed, OpensTable, parts_of, with_items};
     ghost use Rattle.markdown_builder.specs.BuilderView.{LastHasBody, LastBegins};
     ghost use Rattle.markdown_builder.specs.HeadingsHoldInline.{HeadingsHoldInline};
-    ghost use Rattle.markdown_builder.specs.Shown.{run_items, shown_trees, words_of};
+    ghost use Rattle.markdown_builder.specs.Shown.{run_items, shown_trees};
     ghost use Rattle.markdown_builder.specs.Tightness.{TightInTightLists};
 
     /// Returns a builder that has made nothing yet.

@@ -1,10 +1,10 @@
 -- What items refer to by number: texts, links, the alignments of tables and the attributes of headings.
-use Rattle.std.specs.Prelude.{ℕ, zero, suc, ◌-◌, List, [], ◌∷◌, map, Option, Some, None}
-use Rattle.std.specs.Option.{option_map}
+use Rattle.std.specs.Prelude.{ℕ, zero, suc, ◌-◌, List, [], ◌∷◌, Option, Some, None}
 use Rattle.std.specs.declared.alloc.Global.{Global}
 use Rattle.std.specs.declared.vec.Vec.{Vec}
 use Rattle.markdown_base.specs.CowText.{text_of}
-use Rattle.markdown_base.specs.Event.{LinkView, HeadingView, attribute_view, link_view}
+use Rattle.markdown_base.specs.Event.{LinkView, HeadingView, link_view}
+use Rattle.markdown_base.specs.HeadingWords.{words_of, worded_heading}
 use Rattle.markdown_base.specs.declared.block_parts.BlockParts.{BlockParts}
 use Rattle.markdown_base.specs.declared.block_parts.HeadingAttributes.{HeadingAttributes}
 use Rattle.markdown_base.specs.declared.cow_str.CowStr.{CowStr}
@@ -78,12 +78,7 @@ plain_heading level = record { level = level; id = None; classes = []; attribute
 
 -- a heading with the attributes that follow it in braces: an id, classes, and others, each with its value if it has one
 abbrev pub heading_with : HeadingLevel → HeadingAttributes → HeadingView
-heading_with level a = record {
-  level = level;
-  id = option_map text_of a.id;
-  classes = map text_of a.classes.items;
-  attributes = map attribute_view a.attrs.items;
-}
+heading_with level a = worded_heading level (words_of a)
 
 -- a heading with the attributes at this position of the table, from 0
 abbrev pub heading_at : HeadingLevel → List HeadingAttributes → ℕ → HeadingView

@@ -43,7 +43,7 @@ impl<'a> Placing<'a> {
     ghost use Rattle.markdown_builder.specs.Bodies.{is_leaf, is_plain_block, is_settled};
     ghost use Rattle.markdown_builder.specs.BuilderView.{IsWhite, innermost_block, nothing_made, Opens, OpensNaming};
     ghost use Rattle.markdown_builder.specs.BuilderView.{OpensAttributed, OpensTable};
-    ghost use Rattle.markdown_builder.specs.Shown.{words_of};
+    ghost use Rattle.markdown_base.specs.HeadingWords.{words_of};
     ghost use Rattle.markdown_lines.specs.Lines.{IsNextContent};
     ghost use Rattle.markdown_plain.specs.Fitting.{AllFitted, IfFitted, IsAhead, IsWhiteOutside};
     ghost use Rattle.markdown_plain.specs.Fitting.{BeginsAtContent, GoesOn, HasBody, closed, defining, extended, stepped};

@@ -11,7 +11,8 @@ use Rattle.markdown_builder.proofs.LevelViewLemmas.{enter_levels}
 use Rattle.std.proofs.Common.{List, map, ◌++◌, ◌∷◌, [], sym}
 use Rattle.std.proofs.lemmas.List.{length-map, map-append}
 use Rattle.markdown_base.specs.declared.block_parts.HeadingAttributes.{HeadingAttributes}
-use Rattle.markdown_builder.specs.Shown.{Parts, stored_parts, words_of}
+use Rattle.markdown_base.specs.HeadingWords.{words_of}
+use Rattle.markdown_builder.specs.Shown.{Parts, stored_parts}
 use Rattle.markdown_builder.proofs.MorePartsLemmas.{more_headings}
 use Rattle.markdown_builder.proofs.ShownStepsLemmas.{opened_shown, stored_named}
 use Rattle.markdown_builder.proofs.builder.Builder.open_heading.Goals as goal
