@@ -1,15 +1,3 @@
-mod AddedCellsLemmas
-mod BlockBeginningsLemmas
-mod BlockLawsLemmas
-mod GrowthLemmas
-mod IndentedLinesLemmas
-mod InlineItemsLemmas
-mod KeptLemmas
-mod LeafLawsLemmas
-mod LineLawsLemmas
-mod ListLawsLemmas
-mod MetadataLawsLemmas
-mod OpeningLemmas
-mod QuotedLinesLemmas
-mod TableLawsLemmas
-mod TaskLawsLemmas
+pub mod BlockBeginningsLemmas
+pub mod OpeningLemmas
+pub mod GrowthLemmas

@@ -1,5 +1,2 @@
-//! What a text's blocks are, by CommonMark 0.31.2, as a definition, and its laws. There is no code that runs.
+//! What a text's blocks are, by CommonMark 0.31.2, as a definition. There is no code.
 #![tactic(auto)]
-
-pub mod examples;
-pub mod laws;

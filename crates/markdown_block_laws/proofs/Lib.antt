@@ -1,0 +1,12 @@
+mod AddedCellsLemmas
+mod BlockLawsLemmas
+mod IndentedLinesLemmas
+mod InlineItemsLemmas
+mod KeptLemmas
+mod LeafLawsLemmas
+mod LineLawsLemmas
+mod ListLawsLemmas
+mod MetadataLawsLemmas
+mod QuotedLinesLemmas
+mod TableLawsLemmas
+mod TaskLawsLemmas

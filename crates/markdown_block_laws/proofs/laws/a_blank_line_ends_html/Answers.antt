@@ -1,0 +1,5 @@
+use Rattle.markdown_block_laws.proofs.LeafLawsLemmas.{blank_line_ends_html}
+use Rattle.markdown_block_laws.proofs.laws.a_blank_line_ends_html.Goals as goal
+
+pub returns : goal.returns
+returns c = blank_line_ends_html

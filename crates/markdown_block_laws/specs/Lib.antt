@@ -1,0 +1,20 @@
+-- what CommonMark says of blocks, as laws
+pub mod LineLaws
+pub mod BlockLaws
+pub mod ListLaws
+pub mod LeafLaws
+-- what the extensions of blocks that are read make
+pub mod TableLaws
+pub mod TaskLaws
+pub mod MetadataLaws
+-- CommonMark's examples
+pub mod ExampleTrees
+pub mod ExamplesOfLines
+pub mod ExamplesOfHeadings
+pub mod ExamplesOfCode
+pub mod ExamplesOfHtml
+pub mod ExamplesOfDefinitions
+pub mod ExamplesOfContainers
+pub mod ExamplesOfSpans
+pub mod ExamplesOfEmphasis
+pub mod ExamplesOfLinks

@@ -1,5 +1,0 @@
-use Rattle.markdown_block_rules.proofs.LeafLawsLemmas.{blank_line_ends_paragraph}
-use Rattle.markdown_block_rules.proofs.laws.a_blank_line_ends_a_paragraph.Goals as goal
-
-pub returns : goal.returns
-returns c = blank_line_ends_paragraph

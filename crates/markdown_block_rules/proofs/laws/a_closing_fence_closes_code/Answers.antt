@@ -1,5 +1,0 @@
-use Rattle.markdown_block_rules.proofs.LeafLawsLemmas.{closing_fence_closes}
-use Rattle.markdown_block_rules.proofs.laws.a_closing_fence_closes_code.Goals as goal
-
-pub returns : goal.returns
-returns c = closing_fence_closes

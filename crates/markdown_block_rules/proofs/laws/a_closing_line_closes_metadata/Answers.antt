@@ -1,5 +1,0 @@
-use Rattle.markdown_block_rules.proofs.LeafLawsLemmas.{closing_line_closes}
-use Rattle.markdown_block_rules.proofs.laws.a_closing_line_closes_metadata.Goals as goal
-
-pub returns : goal.returns
-returns c = closing_line_closes

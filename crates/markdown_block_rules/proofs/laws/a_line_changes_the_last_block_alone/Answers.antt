@@ -1,5 +1,0 @@
-use Rattle.markdown_block_rules.proofs.BlockLawsLemmas.{last_block}
-use Rattle.markdown_block_rules.proofs.laws.a_line_changes_the_last_block_alone.Goals as goal
-
-pub returns : goal.returns
-returns c = last_block

@@ -1,5 +1,0 @@
-use Rattle.markdown_block_rules.proofs.LineLawsLemmas.{line_content}
-use Rattle.markdown_block_rules.proofs.laws.a_line_is_its_content.Goals as goal
-
-pub returns : goal.returns
-returns c = line_content

@@ -1,5 +1,0 @@
-use Rattle.markdown_block_rules.proofs.IndentedLinesLemmas.{item_after_blank}
-use Rattle.markdown_block_rules.proofs.laws.an_item_may_begin_with_a_blank_line.Goals as goal
-
-pub returns : goal.returns
-returns c = item_after_blank

@@ -1,5 +1,0 @@
-use Rattle.markdown_block_rules.proofs.LeafLawsLemmas.{closed_code_ends}
-use Rattle.markdown_block_rules.proofs.laws.closed_code_ends_before_a_line.Goals as goal
-
-pub returns : goal.returns
-returns c = closed_code_ends

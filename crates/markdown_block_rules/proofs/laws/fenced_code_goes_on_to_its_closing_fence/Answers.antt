@@ -1,5 +1,0 @@
-use Rattle.markdown_block_rules.proofs.LeafLawsLemmas.{fenced_code_goes_on}
-use Rattle.markdown_block_rules.proofs.laws.fenced_code_goes_on_to_its_closing_fence.Goals as goal
-
-pub returns : goal.returns
-returns c = fenced_code_goes_on

@@ -1,5 +1,0 @@
-use Rattle.markdown_block_rules.proofs.AddedCellsLemmas.{few_added}
-use Rattle.markdown_block_rules.proofs.laws.few_cells_are_added.Goals as goal
-
-pub returns : goal.returns
-returns c = few_added

@@ -1,5 +1,0 @@
-use Rattle.markdown_block_rules.proofs.LeafLawsLemmas.{headings_end}
-use Rattle.markdown_block_rules.proofs.laws.headings_and_breaks_end_with_their_line.Goals as goal
-
-pub returns : goal.returns
-returns c = headings_end

@@ -1,5 +1,0 @@
-use Rattle.markdown_block_rules.proofs.LeafLawsLemmas.{html_goes_on}
-use Rattle.markdown_block_rules.proofs.laws.html_goes_on_to_its_end_condition.Goals as goal
-
-pub returns : goal.returns
-returns c = html_goes_on

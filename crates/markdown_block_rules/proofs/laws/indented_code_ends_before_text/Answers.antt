@@ -1,5 +1,0 @@
-use Rattle.markdown_block_rules.proofs.LeafLawsLemmas.{indented_code_ends}
-use Rattle.markdown_block_rules.proofs.laws.indented_code_ends_before_text.Goals as goal
-
-pub returns : goal.returns
-returns c = indented_code_ends

@@ -1,5 +1,0 @@
-use Rattle.markdown_block_rules.proofs.LeafLawsLemmas.{metadata_goes_on}
-use Rattle.markdown_block_rules.proofs.laws.metadata_goes_on_to_its_closing_line.Goals as goal
-
-pub returns : goal.returns
-returns c = metadata_goes_on

@@ -1,5 +1,0 @@
-use Rattle.markdown_block_rules.proofs.MetadataLawsLemmas.{metadata_outermost}
-use Rattle.markdown_block_rules.proofs.laws.metadata_is_outermost.Goals as goal
-
-pub returns : goal.returns
-returns c = metadata_outermost

@@ -1,5 +1,0 @@
-use Rattle.markdown_block_rules.proofs.BlockLawsLemmas.{only_paragraphs}
-use Rattle.markdown_block_rules.proofs.laws.only_paragraphs_go_on_lazily.Goals as goal
-
-pub returns : goal.returns
-returns c = only_paragraphs
