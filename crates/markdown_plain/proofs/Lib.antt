@@ -1,6 +1,8 @@
 -- laws on the open blocks, and on what containers take of a line
 pub mod OpenBlocksLemmas
-pub mod ContainersLemmas
+pub mod LeafTreesLemmas
+pub mod LeafTreesLemmas
+mod ContainersLemmas
 pub mod StretchesLemmas
 -- on lines that are taken, and on when lists become loose
 pub mod ParagraphsLemmas
