@@ -22,6 +22,10 @@ code_after text position line columns = (leading_space columns (left_from text p
 abbrev pub held : Line → LineLeft → HeldLine
 held line left = record { start = left.scanned; stop = line.stop; next = line.next; owed = left.owed }
 
+-- a whole line
+abbrev pub whole_of : Line → HeldLine
+whole_of line = record { start = line.start; stop = line.stop; next = line.next; owed = 0 }
+
 -- a fence that closes a code block follows less than four columns of space, from a place on
 abbrev pub is_closed_at : List ℕ → Position → Line → Fence → Bool
 is_closed_at text position line fence =

@@ -1,7 +1,9 @@
 -- the builder, and the calls of it
 pub mod OpenBlocks
 pub mod CodeLines
+pub mod HeldSources
 pub mod Fitting
+pub mod LeafTrees
 -- what the pass keeps between lines
 pub mod ListLooseness
 pub mod Paragraphs

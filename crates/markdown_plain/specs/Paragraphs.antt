@@ -1,13 +1,23 @@
 -- Where paragraphs end, and headings that are made of them.
-use Rattle.std.specs.Prelude.{◌≡◌, ℕ, ◌-◌, Bool, false, ◌&&◌, not, ◌==◌, List, Option, Some, None, length}
+use Rattle.std.specs.Prelude.{◌≡◌, ℕ, ◌-◌, ◌≤◌, Bool, false, ◌&&◌, not, ◌==◌, List, [], ◌∷◌, ◌++◌, Option, Some, None, length, drop}
 use Rattle.std.specs.Prelude.{slice_get, slice_range, nat_le, if◌then◌else◌}
 use Rattle.std.specs.Option.{option_map_or}
+use Rattle.markdown_base.specs.Forest.{Forest}
+use Rattle.markdown_base.specs.declared.item.ItemBody.TheVariants as body
 use Rattle.markdown_base.specs.declared.tag.HeadingLevel.{HeadingLevel}
 use Rattle.markdown_lines.specs.declared.held_line.HeldLine.{HeldLine}
 use Rattle.markdown_lines.specs.declared.line.Line.{Line}
 use Rattle.markdown_lines.specs.TaskMarkers.{task_read}
 use Rattle.markdown_builder.specs.declared.open_block.OpenBlock.{OpenBlock}
 use Rattle.markdown_builder.specs.BuilderView.{BuilderView, innermost_block}
+use Rattle.markdown_builder.specs.Shown.{Shown}
+use Rattle.markdown_scan.specs.Entity.{entity_names}
+use Rattle.markdown_scan.specs.declared.entity.EntityNames.{EntityNames}
+use Rattle.markdown_lines.specs.BlockBeginnings.{Source}
+use Rattle.markdown_lines.specs.DefinitionRules.{Divided, divided}
+use Rattle.markdown_lines.specs.SourceLines.{SourceLine}
+use Rattle.markdown_block_rules.specs.BlockGrowth.{Block}
+use Rattle.markdown_block_rules.specs.BlockRules.{shown_setext, shown_text}
 use Rattle.markdown_plain.specs.ListLooseness.{is_item}
 use Rattle.markdown_plain.specs.declared.pass.Pass.{Pass}
 
@@ -50,3 +60,31 @@ abbrev pub task_at : Pass → Line → (start : ℕ) → Option Bool
 task_at pass line start =
     if option_map_or (λ block. is_item_in block line) (innermost_block pass.placing.builder.blocks) false
     then task_read pass.options (slice_range pass.placing.builder.text start line.stop) else None
+
+-- the text that the pass reads, with its options
+abbrev pub source_of : Pass → Source
+source_of pass = record { text = pass.placing.builder.text; options = pass.options }
+
+-- the definitions at the beginning of these lines, and the lines after them, as the pass reads them
+abbrev pub divided_of : Pass → List SourceLine → Divided
+divided_of pass sources = divided (entity_names pass.options) pass.placing.builder.text sources
+
+-- the definitions at the beginning of a paragraph were taken, which are in this number of lines
+pub record IsDivided (names : EntityNames) (old new : BuilderView) (sources : List SourceLine) (taken : ℕ) : Type 0 where
+  pub definitions : new.definitions ≡ old.definitions ++ (divided names old.text sources).definitions
+  pub lines : drop taken sources ≡ (divided names old.text sources).lines
+
+-- the task marker of a paragraph's first line, where that is the line of an item's marker, which ends at `marked`
+abbrev pub first_task : Source → (marked : ℕ) → List SourceLine → Option Bool
+first_task s marked [] = None
+first_task s marked (l ∷ lines) = if l.next == marked then task_read s.options l.left.bytes else None
+
+-- a paragraph's first line ends at this byte offset, or after it
+abbrev pub EndsFrom : ℕ → List SourceLine → Type 0
+EndsFrom marked [] = Unit
+EndsFrom marked (l ∷ lines) = marked ≤ l.next
+
+-- what is left of a paragraph after its definitions: a paragraph, or the heading that it turned out to be
+abbrev pub shown_ended : Source → (marked : ℕ) → Block → Option (HeadingLevel × Line) → List SourceLine → Forest Shown
+shown_ended s marked b None lines = shown_text s marked b body.Paragraph lines
+shown_ended s marked b (Some heading) lines = shown_setext s marked b heading.0 lines

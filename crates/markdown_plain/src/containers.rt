@@ -288,6 +288,7 @@ impl<'a> Pass<'a> {
         ensures same { self.new ≡ record self.old {
           placing = self.new.placing;
           lines = self.new.lines;
+          blanks = self.new.blanks;
           looseness = self.new.looseness;
         } }
     {
@@ -346,6 +347,7 @@ impl<'a> Pass<'a> {
         ensures same { self.new ≡ record self.old {
           placing = self.new.placing;
           lines = self.new.lines;
+          blanks = self.new.blanks;
           looseness = self.new.looseness;
         } }
     {

@@ -1,15 +1,27 @@
 //! Leaf blocks other than paragraphs (CommonMark 4.1 to 4.6): how they are opened, and how they continue. Functions
 //! that return a `Result` fail only where memory is refused.
-ghost use Rattle.std.specs.Prelude.{◌≡◌, ◌++◌, ◌∷◌, [], true, false, ℕ, List, IfOk, slice_range};
+ghost use Rattle.std.specs.Prelude.{◌≡◌, ◌++◌, ◌∷◌, [], true, false, ℕ, List, Some, None, IfOk, slice_range};
 ghost use Rattle.markdown_base.specs.declared.item.ItemBody.TheVariants as body;
 ghost use Rattle.markdown_scan.specs.Entity.{entity_names};
 ghost use Rattle.markdown_scan.specs.Unescape.{unescaped};
 ghost use Rattle.markdown_lines.specs.LineBytes.{IsPartOf};
+ghost use Rattle.markdown_lines.specs.Lines.{IsNextContent};
 ghost use Rattle.markdown_lines.specs.MetadataBlocks.{closes_metadata};
 ghost use Rattle.markdown_plain.specs.declared.pass.LeafKind.TheVariants as leaf_kind;
-ghost use Rattle.markdown_plain.specs.CodeLines.{after_line, code_after, ends_html_at, held, is_closed_at};
+ghost use Rattle.markdown_base.specs.Forest.{nil};
+ghost use Rattle.markdown_builder.specs.BuilderView.{BuilderView};
+ghost use Rattle.markdown_builder.specs.Shown.{chain_of};
+ghost use Rattle.markdown_lines.specs.SourceLines.{SourceLine, cut};
+ghost use Rattle.markdown_block_rules.specs.BlockRules.{shown_heading, shown_over};
+ghost use Rattle.markdown_items.specs.ContentItems.{content_items};
+ghost use Rattle.markdown_items.specs.LineItems.{item_extensions};
+ghost use Rattle.markdown_block_rules.specs.LineContents.{source_line, source_lines};
+ghost use Rattle.markdown_plain.specs.CodeLines.{after_line, code_after, ends_html_at, held, is_closed_at, whole_of};
 ghost use Rattle.markdown_plain.specs.Fitting.{IfFitted, GoesOn, OpensFenced, OpensHeading, OpensHtml, closed, extended, opened};
-ghost use Rattle.markdown_plain.specs.Paragraphs.{IsPlacedTo};
+ghost use Rattle.markdown_plain.specs.Fitting.{BracesStand, OpensHeadingOf, PutsBlock, stepped};
+ghost use Rattle.markdown_plain.specs.HeldSources.{AreHeld, IsHeld, IsRest};
+ghost use Rattle.markdown_plain.specs.LeafTrees.{HasItems, HasTrees, OpensWith};
+ghost use Rattle.markdown_plain.specs.Paragraphs.{source_of, IsPlacedTo};
 
 use crate::pass::{LeafKind, Pass};
 use crate::placing::Placing;
@@ -35,6 +47,9 @@ fn add_code(placing: &mut Placing<'_>, line: HeldLine) -> Result<(), AllocError>
     ensures text { IfOk result (λ _. placing.new.builder.text ≡ placing.old.builder.text) }
     ensures goes_on { IfOk result (λ _. IfFitted placing.old placing.new
         (GoesOn placing.old.builder placing.new.builder (after_line line.start line.next))) }
+    ensures items { IfOk result (λ _. (source : SourceLine) → IsHeld line source
+        → IfFitted placing.old placing.new (HasItems placing.old.builder placing.new.builder
+        (source_line (body.Text false) source))) }
 {
     placing.step_to(line.start);
     placing.add_owed(line.owed)?;
@@ -52,6 +67,9 @@ fn add_codes(placing: &mut Placing<'_>, lines: &[HeldLine]) -> Result<(), AllocE
     ensures text { IfOk result (λ _. placing.new.builder.text ≡ placing.old.builder.text) }
     ensures goes_on { IfOk result (λ _. IfFitted placing.old placing.new
         (GoesOn placing.old.builder placing.new.builder placing.new.builder.at)) }
+    ensures items { IfOk result (λ _. (sources : List SourceLine) → AreHeld lines.now sources
+        → IfFitted placing.old placing.new (HasItems placing.old.builder placing.new.builder
+        (source_lines (body.Text false) sources))) }
 {
     'lines: for line in lines {
         add_code(placing, *line)?;
@@ -70,6 +88,8 @@ pub fn open_heading(
     ensures text { IfOk result (λ _. placing.new.builder.text ≡ placing.old.builder.text) }
     ensures opens { IfOk result (λ _. IfFitted placing.old placing.new
         (OpensHeading placing.old.builder placing.new.builder level)) }
+    ensures heading { IfOk result (λ _. BracesStand placing.old.builder.text braces
+        → IfFitted placing.old placing.new (OpensHeadingOf placing.old.builder placing.new.builder level braces)) }
 {
     let Some(braces) = braces else {
         return placing.open_block(ItemBody::Heading(level, None));
@@ -91,6 +111,18 @@ fn rest_of(line: Line, position: Position) -> HeldLine
     }
 }
 
+/// Returns a whole line.
+fn whole_of(line: Line) -> HeldLine
+    ensures { result ≡ whole_of line }
+{
+    HeldLine {
+        start: line.start,
+        stop: line.stop,
+        next: line.next,
+        owed: 0,
+    }
+}
+
 impl<'a> Pass<'a> {
     /// Adds a thematic break that begins here.
     pub fn add_thematic_break(&mut self, line: Line) -> Result<(), AllocError>
@@ -99,6 +131,9 @@ impl<'a> Pass<'a> {
         ensures adds { IfOk result (λ _. IfFitted self.old.placing self.new.placing
             (self.new.placing.builder
             ≡ extended self.old.placing.builder self.new.placing.builder.levels line.next)) }
+        ensures tree { IfOk result (λ _. IfFitted self.old.placing self.new.placing
+            (HasTrees self.old.placing.builder self.new.placing.builder
+            (shown_over self.old.placing.builder.at line.next body.Rule None nil))) }
         ensures same { self.new ≡ record self.old { placing = self.new.placing } }
     {
         self.placing.add_rule(line.next)
@@ -111,6 +146,13 @@ impl<'a> Pass<'a> {
             ≡ self.old.placing.builder.text) }
         ensures adds { IfOk result (λ _. IfFitted self.old.placing self.new.placing
             (IsPlacedTo self.old.placing.builder self.new.placing.builder line.next)) }
+        ensures tree { IfOk result (λ _. BracesStand self.old.placing.builder.text heading.braces
+            → IfFitted self.old.placing self.new.placing
+            (HasTrees self.old.placing.builder self.new.placing.builder
+            (shown_heading (source_of self.old) self.old.placing.builder.at line.next heading.level
+            heading.braces
+            (chain_of (content_items self.old.placing.builder.text
+            (item_extensions self.old.options) heading.from heading.to))))) }
         ensures same { self.new ≡ record self.old { placing = self.new.placing } }
     {
         open_heading(self.alloc, &mut self.placing, heading.level, heading.braces)?;
@@ -162,6 +204,16 @@ impl<'a> Pass<'a> {
             IfFitted self.old.placing self.new.placing (self.new.placing.builder
             ≡ record (closed self.old.placing.builder self.new.placing.builder.levels)
             { at = line.next })) }
+        ensures tree { IfOk result (λ _.
+            is_closed_at self.old.placing.builder.text position line fence ≡ true →
+            IfFitted self.old.placing self.new.placing (PutsBlock
+            (stepped self.old.placing.builder line.next) self.new.placing.builder)) }
+        ensures items { IfOk result (λ _. (source : SourceLine)
+            → IsRest self.old.placing.builder.text position line source
+            → is_closed_at self.old.placing.builder.text position line fence ≡ false
+            → IfFitted self.old.placing self.new.placing
+            (HasItems self.old.placing.builder self.new.placing.builder
+            (source_line (body.Text false) (cut fence.indent source)))) }
         ensures code { IfOk result (λ _. is_closed_at self.old.placing.builder.text
             position line fence
             ≡ false →
@@ -212,6 +264,16 @@ impl<'a> Pass<'a> {
             IfFitted self.old.placing self.new.placing (self.new.placing.builder
             ≡ record (closed self.old.placing.builder self.new.placing.builder.levels)
             { at = line.next })) }
+        ensures tree { IfOk result (λ _. closes_metadata kind
+            (slice_range self.old.placing.builder.text line.start line.stop) ≡ true →
+            IfFitted self.old.placing self.new.placing (PutsBlock
+            (stepped self.old.placing.builder line.next) self.new.placing.builder)) }
+        ensures items { IfOk result (λ _. (source : SourceLine)
+            → IsHeld (whole_of line) source → closes_metadata kind
+            (slice_range self.old.placing.builder.text line.start line.stop) ≡ false
+            → IfFitted self.old.placing self.new.placing
+            (HasItems self.old.placing.builder self.new.placing.builder
+            (source_line (body.Text false) source))) }
         ensures text_line { IfOk result (λ _. closes_metadata kind
             (slice_range self.old.placing.builder.text line.start line.stop) ≡ false →
             IfFitted self.old.placing self.new.placing
@@ -225,13 +287,7 @@ impl<'a> Pass<'a> {
             self.placing.close();
             return Ok(());
         }
-        let whole = HeldLine {
-            start: line.start,
-            stop: line.stop,
-            next: line.next,
-            owed: 0,
-        };
-        add_code(&mut self.placing, whole)
+        add_code(&mut self.placing, whole_of(line))
     }
 
     /// Opens an HTML block with a line whose rest begins at a place. The block starts at the line's first content byte;
@@ -256,6 +312,20 @@ impl<'a> Pass<'a> {
             ≡ false →
             IfFitted self.old.placing self.new.placing
             (OpensHtml self.old.placing.builder self.new.placing.builder position.at line.next)) }
+        ensures items { IfOk result (λ _. (source : SourceLine)
+            → IsRest self.old.placing.builder.text position line source
+            → ends_html_at self.old.placing.builder.text position line kind ≡ false
+            → IfFitted self.old.placing self.new.placing
+            (OpensWith self.old.placing.builder self.new.placing.builder
+            (source_line body.Html source))) }
+        ensures tree { IfOk result (λ _. (source : SourceLine)
+            → IsRest self.old.placing.builder.text position line source
+            → ends_html_at self.old.placing.builder.text position line kind ≡ true
+            → IfFitted self.old.placing self.new.placing ((start : ℕ)
+            × IsNextContent self.old.placing.builder.text position.at (Some start)
+            × HasTrees self.old.placing.builder self.new.placing.builder
+            (shown_over start (after_line position.at line.next) body.HtmlBlock None
+            (chain_of (source_line body.Html source))))) }
         ensures kind { IfOk result (λ _. self.new.leaf ≡ leaf_kind.Html kind) }
         ensures same { self.new
             ≡ record self.old { placing = self.new.placing; leaf = self.new.leaf } }
@@ -286,6 +356,19 @@ impl<'a> Pass<'a> {
               at = after_line position.at line.next;
               texts = self.new.placing.builder.texts;
             })) }
+        ensures tree { IfOk result (λ _. (source : SourceLine)
+            → IsRest self.old.placing.builder.text position line source
+            → ends_html_at self.old.placing.builder.text position line kind ≡ true
+            → IfFitted self.old.placing self.new.placing ((between : BuilderView)
+            × HasItems self.old.placing.builder between (source_line body.Html source)
+            × GoesOn self.old.placing.builder between (after_line position.at line.next)
+            × PutsBlock between self.new.placing.builder)) }
+        ensures items { IfOk result (λ _. (source : SourceLine)
+            → IsRest self.old.placing.builder.text position line source
+            → ends_html_at self.old.placing.builder.text position line kind ≡ false
+            → IfFitted self.old.placing self.new.placing
+            (HasItems self.old.placing.builder self.new.placing.builder
+            (source_line body.Html source))) }
         ensures goes_on { IfOk result (λ _.
             ends_html_at self.old.placing.builder.text position line kind ≡ false →
             IfFitted self.old.placing self.new.placing
@@ -305,6 +388,11 @@ impl<'a> Pass<'a> {
         ensures goes_on { IfOk result (λ _. IfFitted self.old.placing self.new.placing
             (GoesOn self.old.placing.builder self.new.placing.builder
             (after_line position.at line.next))) }
+        ensures items { IfOk result (λ _. (source : SourceLine)
+            → IsRest self.old.placing.builder.text position line source
+            → IfFitted self.old.placing self.new.placing
+            (HasItems self.old.placing.builder self.new.placing.builder
+            (source_line body.Html source))) }
         ensures same { self.new ≡ record self.old { placing = self.new.placing } }
     {
         self.placing.step_to(position.at);
@@ -322,6 +410,9 @@ impl<'a> Pass<'a> {
             → IfFitted self.old.placing self.new.placing
             (self.new.placing.builder
             ≡ closed self.old.placing.builder self.new.placing.builder.levels) }
+        ensures tree { ends_html_at self.old.placing.builder.text position line kind ≡ true
+            → IfFitted self.old.placing self.new.placing
+            (PutsBlock self.old.placing.builder self.new.placing.builder) }
         ensures goes_on { ends_html_at self.old.placing.builder.text position line kind ≡ false
             → self.new ≡ self.old }
         ensures same { self.new ≡ record self.old { placing = self.new.placing } }
@@ -343,6 +434,11 @@ impl<'a> Pass<'a> {
               levels = self.new.placing.builder.levels;
               texts = self.new.placing.builder.texts;
             })) }
+        ensures items { IfOk result (λ _. (source : SourceLine)
+            → IsRest self.old.placing.builder.text position line source
+            → IfFitted self.old.placing self.new.placing
+            (OpensWith self.old.placing.builder self.new.placing.builder
+            (source_line (body.Text false) source))) }
         ensures kind { IfOk result (λ _. self.new.leaf ≡ leaf_kind.Indented) }
         ensures same { self.new
             ≡ record self.old { placing = self.new.placing; leaf = self.new.leaf } }
@@ -360,23 +456,33 @@ impl<'a> Pass<'a> {
         ensures goes_on { IfOk result (λ _. IfFitted self.old.placing self.new.placing
             (GoesOn self.old.placing.builder self.new.placing.builder
             (after_line position.at line.next))) }
-        ensures emptied { IfOk result (λ _. self.new.lines.items ≡ []) }
+        ensures items { IfOk result (λ _. (blank : List SourceLine) (source : SourceLine)
+            → AreHeld self.old.blanks.items blank
+            → IsRest self.old.placing.builder.text position line source
+            → IfFitted self.old.placing self.new.placing
+            (HasItems self.old.placing.builder self.new.placing.builder
+            (source_lines (body.Text false) (blank ++ source ∷ [])))) }
+        ensures emptied { IfOk result (λ _. self.new.blanks.items ≡ []) }
         ensures same { self.new
-            ≡ record self.old { placing = self.new.placing; lines = self.new.lines } }
+            ≡ record self.old { placing = self.new.placing; blanks = self.new.blanks } }
     {
-        add_codes(&mut self.placing, &self.lines)?;
-        self.lines.clear();
+        add_codes(&mut self.placing, &self.blanks)?;
+        self.blanks.clear();
         add_code(&mut self.placing, rest_of(line, position))
     }
 
     /// Holds back a blank line of the open indented code block.
     pub fn hold_blank(&mut self, line: Line, position: Position) -> Result<(), AllocError>
-        ensures held { IfOk result (λ _. self.new.lines.items ≡ self.old.lines.items
+        ensures held { IfOk result (λ _. self.new.blanks.items ≡ self.old.blanks.items
             ++ held line (code_after self.old.placing.builder.text position line 4) ∷ []) }
-        ensures same { self.new ≡ record self.old { lines = self.new.lines } }
+        ensures source { IfOk result (λ _. (blank : List SourceLine) (source : SourceLine)
+            → AreHeld self.old.blanks.items blank
+            → IsRest self.old.placing.builder.text position line source
+            → AreHeld self.new.blanks.items (blank ++ cut 4 source ∷ [])) }
+        ensures same { self.new ≡ record self.old { blanks = self.new.blanks } }
     {
         let code = read_space(self.placing.text(), position, line.stop, 4).after;
-        self.lines.push(rest_of(line, code))?;
+        self.blanks.push(rest_of(line, code))?;
         Ok(())
     }
 }

@@ -1,13 +1,19 @@
 //! A paragraph: its lines, the breaks between them, and what else it may turn out to be (CommonMark 4.3, 4.7, 4.8).
 //! Functions that return a `Result` fail only where memory is refused.
-ghost use Rattle.std.specs.Prelude.{◌≡◌, ◌<◌, ◌≤◌, ◌++◌, ◌∷◌, [], true, false, None, length, IfOk, MatchOption};
+ghost use Rattle.std.specs.Prelude.{◌≡◌, ℕ, ◌<◌, ◌≤◌, ◌++◌, ◌∷◌, [], true, false, None, List, length, IfOk, MatchOption};
 ghost use Rattle.std.specs.Prelude.{if◌then◌else◌};
 ghost use Rattle.markdown_base.specs.declared.item.ItemBody.TheVariants as body;
 ghost use Rattle.markdown_builder.specs.BuilderView.{Opens};
 ghost use Rattle.markdown_plain.specs.Fitting.{IfFitted, GoesOn, OpensHeading, defining};
 ghost use Rattle.markdown_plain.specs.OpenBlocks.{room_in, without_leaf};
 ghost use Rattle.markdown_plain.specs.Paragraphs.{end_of, has_paragraph, is_item_in, lines_end, paragraph_end};
-ghost use Rattle.markdown_plain.specs.Paragraphs.{task_at, IsPlacedTo};
+ghost use Rattle.markdown_plain.specs.Paragraphs.{divided_of, first_task, shown_ended, source_of, task_at};
+ghost use Rattle.markdown_plain.specs.Paragraphs.{EndsFrom, IsDivided};
+ghost use Rattle.markdown_plain.specs.Paragraphs.{IsPlacedTo};
+ghost use Rattle.markdown_plain.specs.HeldSources.{IsParagraph};
+ghost use Rattle.markdown_plain.specs.LeafTrees.{HasTrees};
+ghost use Rattle.markdown_lines.specs.SourceLines.{SourceLine};
+ghost use Rattle.markdown_block_rules.specs.BlockGrowth.{Block};
 
 use crate::leaves::open_heading;
 use crate::pass::Pass;
@@ -81,6 +87,10 @@ fn take_definitions<'a>(
     ensures within { IfOk result (λ taken. taken ≤ length lines.now) }
     ensures after { IfOk result (λ taken. 0 < taken → IfFitted placing.old placing.new
         (placing.new.builder.at ≡ end_of lines.now taken)) }
+    ensures divides { IfOk result (λ taken. (sources : List SourceLine)
+        → IsParagraph placing.old.builder.text lines.now sources
+        → IfFitted placing.old placing.new
+        (IsDivided names placing.old.builder placing.new.builder sources taken)) }
 {
     let mut taken = 0;
     'definitions: for _ in 0..lines.len() {
@@ -345,6 +355,20 @@ impl<'a> Pass<'a> {
         ensures after { IfOk result (λ left. left ≡ false → 0 < length self.old.lines.items
             → IfFitted self.old.placing self.new.placing
             (self.new.placing.builder.at ≡ lines_end self.old.lines.items)) }
+        ensures definitions { IfOk result (λ _. (sources : List SourceLine)
+            → IsParagraph self.old.placing.builder.text self.old.lines.items sources
+            → IfFitted self.old.placing self.new.placing (self.new.placing.builder.definitions
+            ≡ self.old.placing.builder.definitions
+            ++ (divided_of self.old sources).definitions)) }
+        ensures tree { IfOk result (λ _. (sources : List SourceLine) (marked : ℕ) (b : Block)
+            → IsParagraph self.old.placing.builder.text self.old.lines.items sources
+            → self.old.task ≡ first_task (source_of self.old) marked sources
+            → EndsFrom marked sources
+            → b.last ≡ paragraph_end self.old.lines.items heading
+            → IfFitted self.old.placing self.new.placing
+            (HasTrees self.old.placing.builder self.new.placing.builder
+            (shown_ended (source_of self.old) marked b heading
+            (divided_of self.old sources).lines))) }
         ensures emptied { IfOk result (λ _. self.new.lines.items ≡ []) }
         ensures same { self.new
             ≡ record self.old { placing = self.new.placing; lines = self.new.lines } }

@@ -1,6 +1,6 @@
 //! The state of the block pass between two lines, and the closing of blocks. Functions that return a `Result` fail only
 //! where memory is refused.
-ghost use Rattle.std.specs.Prelude.{◌≡◌, [], ◌&&◌, false, not, length, take, IfOk};
+ghost use Rattle.std.specs.Prelude.{◌≡◌, [], ◌&&◌, true, false, not, length, take, IfOk};
 ghost use Rattle.std.specs.Option.{option_map};
 ghost use Rattle.markdown_base.specs.declared.item.ItemBody.TheVariants as body;
 ghost use Rattle.markdown_builder.specs.BuilderView.{BuilderView, innermost_block, nothing_made};
@@ -40,8 +40,10 @@ pub struct Pass<'a> {
     pub alloc: Global,
     pub options: Options,
     pub placing: Placing<'a>,
-    /// the lines of the open paragraph; in an indented code block, the blank lines after which it may continue
+    /// the lines of the open paragraph
     pub lines: Vec<HeldLine>,
+    /// the blank lines after which the open indented code block may continue
+    pub blanks: Vec<HeldLine>,
     /// the task marker that the open paragraph begins with, if any, by whether the task is done
     pub task: Option<bool>,
     /// the kind of the code or HTML block that was opened last
@@ -59,6 +61,7 @@ impl<'a> Pass<'a> {
         ensures fitted { IfOk result (λ made. AllFitted made.placing) }
         ensures options { IfOk result (λ made. made.options ≡ options) }
         ensures lines { IfOk result (λ made. made.lines.items ≡ []) }
+        ensures blanks { IfOk result (λ made. made.blanks.items ≡ []) }
         ensures placed { IfOk result (λ made. made.placed ≡ 0) }
     {
         let old = options.contains(Options::ENABLE_OLD_FOOTNOTES);
@@ -67,6 +70,7 @@ impl<'a> Pass<'a> {
             options,
             placing: Placing::new(alloc, text, old)?,
             lines: Vec::new(alloc),
+            blanks: Vec::new(alloc),
             task: None,
             leaf: LeafKind::Indented,
             looseness: Looseness::new(alloc),
@@ -146,9 +150,12 @@ impl<'a> Pass<'a> {
         ensures outside { IfOk result (λ _. IfFitted self.old.placing self.new.placing
             (self.new.placing.builder.leaf ≡ false)) }
         ensures ended { IfOk result (λ _. self.new.lines.items ≡ []) }
+        ensures dropped { IfOk result (λ _. self.old.placing.builder.leaf ≡ true
+            → self.new.blanks.items ≡ []) }
         ensures same { self.new ≡ record self.old {
           placing = self.new.placing;
           lines = self.new.lines;
+          blanks = self.new.blanks;
           looseness = self.new.looseness;
         } }
         ensures looseness { self.new.looseness ≡ record self.old.looseness {
@@ -174,9 +181,12 @@ impl<'a> Pass<'a> {
         ensures outside { IfOk result (λ _. IfFitted self.old.placing self.new.placing
             (self.new.placing.builder.leaf ≡ false)) }
         ensures ended { IfOk result (λ _. self.new.lines.items ≡ []) }
+        ensures dropped { IfOk result (λ _. self.old.placing.builder.leaf ≡ true
+            → self.new.blanks.items ≡ []) }
         ensures same { self.new ≡ record self.old {
           placing = self.new.placing;
           lines = self.new.lines;
+          blanks = self.new.blanks;
           looseness = self.new.looseness;
         } }
         ensures looseness { IfOk result (λ _. self.new.looseness
@@ -203,11 +213,17 @@ impl<'a> Pass<'a> {
         ensures outside { IfOk result (λ _. IfFitted self.old.placing self.new.placing
             (self.new.placing.builder.leaf ≡ false)) }
         ensures ended { IfOk result (λ _. self.new.lines.items ≡ []) }
-        ensures same { self.new
-            ≡ record self.old { placing = self.new.placing; lines = self.new.lines } }
+        ensures dropped { IfOk result (λ _. self.old.placing.builder.leaf ≡ true
+            → self.new.blanks.items ≡ []) }
+        ensures same { self.new ≡ record self.old {
+          placing = self.new.placing;
+          lines = self.new.lines;
+          blanks = self.new.blanks;
+        } }
     {
         if self.placing.is_in_leaf() {
             self.lines.clear();
+            self.blanks.clear();
             self.placing.close();
         } else if !self.lines.is_empty() {
             self.end_paragraph(None)?;

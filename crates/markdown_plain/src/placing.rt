@@ -42,11 +42,14 @@ impl<'a> Placing<'a> {
     ghost use Rattle.markdown_plain.specs.Stretches.{deep_starts};
     ghost use Rattle.markdown_builder.specs.Bodies.{is_leaf, is_plain_block, is_settled};
     ghost use Rattle.markdown_builder.specs.BuilderView.{IsWhite, innermost_block, nothing_made, Opens, OpensNaming};
-    ghost use Rattle.markdown_builder.specs.BuilderView.{OpensAttributed, OpensTable};
+    ghost use Rattle.markdown_builder.specs.BuilderView.{OpensAttributed, OpensTable, AppendsItem, AppendsText};
+    ghost use Rattle.markdown_builder.specs.BuilderView.{with_items};
     ghost use Rattle.markdown_base.specs.HeadingWords.{words_of};
+    ghost use Rattle.markdown_items.specs.ContentItems.{content_items};
+    ghost use Rattle.markdown_items.specs.LineItems.{item_extensions};
     ghost use Rattle.markdown_lines.specs.Lines.{IsNextContent};
     ghost use Rattle.markdown_plain.specs.Fitting.{AllFitted, IfFitted, IsAhead, IsWhiteOutside};
-    ghost use Rattle.markdown_plain.specs.Fitting.{BeginsAtContent, GoesOn, HasBody, closed, defining, extended, stepped};
+    ghost use Rattle.markdown_plain.specs.Fitting.{BeginsAtContent, GoesOn, HasBody, PutsBlock, closed, defining, stepped};
 
     /// Returns a builder that has made nothing yet.
     pub fn new(alloc: Global, text: &'a str, old: bool) -> Result<Placing<'a>, AllocError>
@@ -321,7 +324,7 @@ impl<'a> Placing<'a> {
         requires { is_settled body ≡ true }
         ensures text { IfOk result (λ _. self.new.builder.text ≡ self.old.builder.text) }
         ensures appends { IfOk result (λ _. IfFitted self.old self.new
-            (self.new.builder ≡ extended self.old.builder self.new.builder.levels end)) }
+            (AppendsItem self.old.builder self.new.builder body end)) }
         ensures fits { IfOk result (λ _. self.old.builder.leaf ≡ true → IsAhead self.old.builder end
             → self.new.misfits ≡ self.old.misfits) }
     {
@@ -342,13 +345,8 @@ impl<'a> Placing<'a> {
     pub fn add_owed(&mut self, owed: usize) -> Result<(), AllocError>
         ensures text { IfOk result (λ _. self.new.builder.text ≡ self.old.builder.text) }
         ensures owed { IfOk result (λ _. 0 < owed → IfFitted self.old self.new
-            (self.new.builder
-            ≡ record self.old.builder {
-              run = None;
-              levels = self.new.builder.levels;
-              texts = self.old.builder.texts
-                  ++ owed_spaces owed ∷ [];
-            })) }
+            (AppendsText self.old.builder self.new.builder self.old.builder.at
+            (owed_spaces owed))) }
         ensures nothing { IfOk result (λ _. owed ≡ 0 → self.new ≡ self.old) }
         ensures fits { IfOk result (λ _. self.old.builder.leaf ≡ true
             → self.new.misfits ≡ self.old.misfits) }
@@ -378,6 +376,11 @@ impl<'a> Placing<'a> {
         ensures text { IfOk result (λ _. self.new.builder.text ≡ self.old.builder.text) }
         ensures appends { IfOk result (λ _. IfFitted self.old self.new
             (GoesOn self.old.builder self.new.builder end)) }
+        ensures items { IfOk result (λ _. IfFitted self.old self.new
+            (self.old.builder.run ≡ None → self.new.builder.levels
+            ≡ with_items self.old.builder.levels
+            (content_items self.old.builder.text (item_extensions options)
+            self.old.builder.at end))) }
         ensures fits { IfOk result (λ _. self.old.builder.leaf ≡ true → IsAhead self.old.builder end
             → self.new.misfits ≡ self.old.misfits) }
     {
@@ -398,7 +401,7 @@ impl<'a> Placing<'a> {
     pub fn add_rule(&mut self, end: usize) -> Result<(), AllocError>
         ensures text { IfOk result (λ _. self.new.builder.text ≡ self.old.builder.text) }
         ensures appends { IfOk result (λ _. IfFitted self.old self.new
-            (self.new.builder ≡ extended self.old.builder self.new.builder.levels end)) }
+            (AppendsItem self.old.builder self.new.builder body.Rule end)) }
         ensures fits { IfOk result (λ _. self.old.builder.leaf ≡ false
             → IsAhead self.old.builder end
             → self.new.misfits ≡ self.old.misfits) }
@@ -472,6 +475,7 @@ impl<'a> Placing<'a> {
         ensures text { self.new.builder.text ≡ self.old.builder.text }
         ensures closes { IfFitted self.old self.new
             (self.new.builder ≡ closed self.old.builder self.new.builder.levels) }
+        ensures tree { IfFitted self.old self.new (PutsBlock self.old.builder self.new.builder) }
         ensures fits { (self.old.builder.blocks ≡ [] → ⊥) → self.new.misfits ≡ self.old.misfits }
     {
         if self.builder.close().is_none() {

@@ -1,10 +1,18 @@
--- The text stays, and the leaf goes on.
-use Rattle.std.proofs.Common.{◌≡◌}
+-- The text stays, and the leaf goes on with the lines so far.
+use Rattle.std.proofs.Common.{◌≡◌, false, List, take}
+use Rattle.markdown_base.specs.declared.item.ItemBody.TheVariants as body
+use Rattle.markdown_block_rules.specs.LineContents.{source_lines}
+use Rattle.markdown_lines.specs.SourceLines.{SourceLine}
 use Rattle.markdown_plain.specs.Fitting.{IfFitted, GoesOn}
+use Rattle.markdown_plain.specs.HeldSources.{AreHeld}
+use Rattle.markdown_plain.specs.LeafTrees.{HasItems}
 use Rattle.markdown_plain.proofs.leaves.add_codes.Given as goal
 
 abbrev pub invariant-lines : goal.invariant-lines
 invariant-lines l = record {
   text : l.placing.builder.text ≡ l.fn.placing.builder.text;
   goes_on : IfFitted l.fn.placing l.placing (GoesOn l.fn.placing.builder l.placing.builder l.placing.builder.at);
+  items : (sources : List SourceLine) → AreHeld l.lines sources → IfFitted l.fn.placing l.placing
+      (HasItems l.fn.placing.builder l.placing.builder
+      (source_lines (body.Text false) (take l.line-index sources)));
 }

@@ -28,6 +28,7 @@ blocks-2-preserved c =
           let done = c.close_block.ensures.closes fitted in
           ((before.closes done.0).0, ap (λ (b : BuilderView). b.leaf) done.1);
       ended = search rules;
+      dropped = search rules;
       same = search rules;
       looseness = search rules;
     }

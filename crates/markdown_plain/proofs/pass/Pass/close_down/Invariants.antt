@@ -1,5 +1,5 @@
 -- The text stays, and each turn closes one of the blocks that were open without the leaf.
-use Rattle.std.proofs.Common.{◌≡◌, ◌+◌, [], false, length, take}
+use Rattle.std.proofs.Common.{◌≡◌, ◌+◌, [], true, false, length, take}
 use Rattle.markdown_plain.specs.Fitting.{IfFitted}
 use Rattle.markdown_plain.specs.OpenBlocks.{without_leaf}
 use Rattle.markdown_plain.proofs.pass.Pass.close_down.Given as goal
@@ -13,9 +13,11 @@ invariant-blocks-2 l = record {
       (length l.self.placing.builder.blocks + l._closed ≡ length l.initial.self.placing.builder.blocks + l.depth);
   outside : IfFitted l.fn.self.placing l.self.placing (l.self.placing.builder.leaf ≡ false);
   ended : l.self.lines.items ≡ [];
+  dropped : l.fn.self.placing.builder.leaf ≡ true → l.self.blanks.items ≡ [];
   same : l.self ≡ record l.fn.self {
     placing = l.self.placing;
     lines = l.self.lines;
+    blanks = l.self.blanks;
     looseness = l.self.looseness;
   };
   looseness : l.self.looseness ≡ record l.fn.self.looseness {
