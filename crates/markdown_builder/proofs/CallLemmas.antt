@@ -16,6 +16,7 @@ use Rattle.markdown_base.specs.Arena.{Arena}
 use Rattle.markdown_base.specs.ArenaChanges.{appended, changed_at}
 use Rattle.markdown_base.specs.Item.{is_childless}
 use Rattle.markdown_base.specs.WellFormed.{PartCounts, source_of, is_delimiter}
+use Rattle.markdown_base.proofs.WellFormedLemmas.{HasMore}
 use Rattle.markdown_builder.specs.declared.open_block.OpenBlock.{OpenBlock}
 use Rattle.markdown_builder.specs.Bodies.{is_leaf, is_plain_block, is_settled, mark_byte}
 use Rattle.markdown_builder.specs.BuilderView.{IsWhite, IsRunOf, follows_run, innermost_block, LastHasBody, LastBegins}
@@ -58,20 +59,28 @@ pub placed_keeps : {s : State} (now : Standpoint) (many : PartCounts) (b : ItemB
 placed_keeps {s} now many b k e outside placed parent = opened s many b k (ap (λ (v : Standpoint). v.leaf) e ∙ outside)
     placed parent
 
--- a block whose parts were pushed, and that was not entered
-pub refused_keeps : {s : State} (now : Standpoint) (many : PartCounts) (b : ItemBody) (tree : Arena Item) → IsSound s
-    → seen s ≡ now
-    → now.leaf ≡ false
-    → MayBePlaced s.counts many b → is_childless b ≡ false
-    → (tree ≡ s.tree) ⊎ (tree ≡ appended s.tree (item_over s.at s.at b))
+-- a block whose parts were pushed, and that was not entered: an empty paragraph may be there in its place
+pub refused_keeps : {s : State} (now : Standpoint) (many : PartCounts) (tree : Arena Item) → IsSound s → seen s ≡ now
+    → now.leaf ≡ false → HasMore s.counts many
+    → (tree ≡ s.tree) ⊎ (tree ≡ appended s.tree (item_over s.at s.at body.Paragraph))
     → IsSound (record s { counts = many; tree = tree })
-refused_keeps {s} now many b tree k e outside placed parent =
+refused_keeps {s} now many tree k e outside more =
+    let placed : MayBePlaced s.counts many body.Paragraph = record {
+      more = more;
+      unresolved = refl;
+      no_run = refl;
+      placed = refl;
+      named = record { text = tt; alignments = tt; attributes = tt };
+      texts = tt;
+      alignments = tt;
+      loose = refl;
+    } in
     ⊎_elim (λ (q : tree ≡ s.tree). subst (λ (t : Arena Item). IsSound (record s { counts = many; tree = t })) (sym q)
-    (more_parts s many placed.more k))
-    (λ (q : tree ≡ appended s.tree (item_over s.at s.at b)). subst
+    (more_parts s many more k))
+    (λ (q : tree ≡ appended s.tree (item_over s.at s.at body.Paragraph)). subst
     (λ (t : Arena Item). IsSound (record s { counts = many; tree = t }))
     (sym q)
-    (opened_alone s many b s.run k (ap (λ (v : Standpoint). v.leaf) e ∙ outside) placed parent))
+    (opened_alone s many body.Paragraph s.run k (ap (λ (v : Standpoint). v.leaf) e ∙ outside) placed refl))
 
 -- a block that names the text which was pushed: it goes into the tree
 pub named_keeps : {s : State} (now : Standpoint) (many : PartCounts) (b : ItemBody) (ix : CowIndex) → IsSound s → seen s
@@ -83,29 +92,11 @@ named_keeps {s} now many b ix k e outside n more names parent = placed_keeps now
     (text_placed s.counts many b ix.0 n more
     names) parent
 
--- a block that refers to the text which was pushed, and that was not entered
-pub named_refused : {s : State} (now : Standpoint) (many : PartCounts) (b : ItemBody) (ix : CowIndex)
-    (tree : Arena Item) → IsSound s
-    → seen s ≡ now → now.leaf ≡ false
-    → ix.0 ≡ s.counts.texts → one_text_more s.counts many → NamesText b ix.0 → is_childless b ≡ false
-    → (tree ≡ s.tree) ⊎ (tree ≡ appended s.tree (item_over s.at s.at b))
-    → IsSound (record s { counts = many; tree = tree })
-named_refused {s} now many b ix tree k e outside n more names parent =
-    refused_keeps now many b tree k e outside (text_placed s.counts many b ix.0 n more names) parent
-
 -- `open`
 pub open_keeps : {s : State} (now : Standpoint) (b : ItemBody) → IsSound s → seen s ≡ now → is_plain_block b ≡ true
     → now.leaf ≡ false
     → IsSound (after_opening s s.counts b)
 open_keeps {s} now b k e h outside = placed_keeps now s.counts b k e outside (plain_placed s.counts b (block_plain b h))
-    (block_parent b h)
-
-pub open_refused : {s : State} (now : Standpoint) (b : ItemBody) (tree : Arena Item) → IsSound s → seen s ≡ now
-    → is_plain_block b ≡ true
-    → now.leaf ≡ false
-    → (tree ≡ s.tree) ⊎ (tree ≡ appended s.tree (item_over s.at s.at b)) → IsSound (record s { tree = tree })
-open_refused {s} now b tree k e h outside = refused_keeps now s.counts b tree k e outside
-    (plain_placed s.counts b (block_plain b h))
     (block_parent b h)
 
 -- `inline`
@@ -248,15 +239,16 @@ synthesize_keeps {s} now many end ix k e n more =
     (placed_new s.counts many s.at end (body.SynthesizeText ix) placed) (sym within) refl refl)
 
 -- a text that was pushed, and that nothing refers to
+pub one_more_text : (few many : PartCounts) → one_text_more few many → HasMore few many
+one_more_text few many more = record {
+  texts = omega (arith, more.0);
+  alignments = omega (arith, more.1);
+  attributes = omega (arith, more.2);
+}
+
 pub pushed_keeps : {s : State} (many : PartCounts) → IsSound s → one_text_more s.counts many
     → IsSound (record s { counts = many })
-pushed_keeps {s} many k more =
-    more_parts s many (record {
-      texts = omega (arith, more.0);
-      alignments = omega (arith, more.1);
-      attributes = omega
-          (arith, more.2);
-    }) k
+pushed_keeps {s} many k more = more_parts s many (one_more_text s.counts many more) k
 
 -- `mark`
 pub mark_keeps : {s : State} (now : Standpoint) (b : ItemBody) → IsSound s → seen s ≡ now → now.leaf ≡ true

@@ -12,7 +12,8 @@ use Rattle.markdown_builder.specs.TreeLevels.{followed_by, run_trees, with_trees
 use Rattle.markdown_builder.specs.TreeSteps.{texts_appended, run_marked, TightensList}
 use Rattle.markdown_builder.proofs.ClosedLevelLemmas.{close_laid}
 use Rattle.markdown_builder.proofs.LevelsLemmas.{append_laid}
-use Rattle.markdown_builder.proofs.LevelStepLemmas.{enter_laid, write_laid, IsWrittenTree, run_laid, IsLeftTree}
+use Rattle.markdown_builder.proofs.LevelStepLemmas.{byte_texts, enter_laid, texts_laid, write_laid}
+use Rattle.markdown_builder.proofs.LevelStepLemmas.{IsWrittenTree, run_laid, IsLeftTree}
 use Rattle.markdown_builder.proofs.ReadLevelsLemmas.{levels_laid}
 
 -- the closed trees before each open block
@@ -55,6 +56,13 @@ pub append_levels : (tree : Arena Item) (x : Item) → IsLaidOut tree
     → levels_of (appended tree x) ≡ with_trees (levels_of tree) (node x nil nil)
 append_levels tree x k = more_levels k.frames k.inside (node x nil nil) tree (appended tree x) k.is
     (ap (λ (t : Arena Item). appended t x) k.is ∙ append_laid k.frames k.inside x)
+
+-- Texts are appended
+pub texts_levels : (tree : Arena Item) (start count : ℕ) → IsLaidOut tree
+    → levels_of (texts_appended tree start count) ≡ with_trees (levels_of tree) (byte_texts start count)
+texts_levels tree start count k =
+    more_levels k.frames k.inside (byte_texts start count) tree (texts_appended tree start count) k.is
+    (ap (λ (t : Arena Item). texts_appended t start count) k.is ∙ texts_laid k.frames k.inside start count)
 
 -- a delimiter run is appended
 pub run_levels : (tree : Arena Item) (start stop total : ℕ) (opens closes : Bool) → IsLaidOut tree

@@ -25,3 +25,5 @@ pub mod CallLemmas
 pub mod ShownLevelsLemmas
 pub mod MorePartsLemmas
 pub mod ShownStepsLemmas
+pub mod OpenRowsLemmas
+pub mod RowInsideLemmas

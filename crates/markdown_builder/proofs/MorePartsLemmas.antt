@@ -1,7 +1,7 @@
 -- A part that is added changes nothing of what earlier items refer to.
-use Rattle.std.proofs.Common.{◌≡◌, ℕ, suc, ◌+◌, ◌-◌, ◌<◌, ◌≤◌, List, [], ◌∷◌, ◌++◌, Option, Some, None}
-use Rattle.std.proofs.Common.{map, length, get_or, refl, sym, ap, ◌∙◌, arith}
-use Rattle.std.specs.Prelude.{IfSome, slice_get, unwrap_or, ⊤}
+use Rattle.std.proofs.Common.{◌≡◌, ℕ, ◌-◌, ◌<◌, List, [], ◌∷◌, ◌++◌, Some, None}
+use Rattle.std.proofs.Common.{length, refl, sym, ap, ◌∙◌, arith}
+use Rattle.std.specs.Prelude.{slice_get, unwrap_or}
 use Rattle.std.specs.List.{AllByRecursion}
 use Rattle.std.specs.Option.{option_map}
 use Rattle.std.proofs.lemmas.List.{get_or_append_left, length-append}
@@ -9,16 +9,15 @@ use Rattle.std.proofs.lemmas.Option.{slice_get-get_or}
 use Rattle.markdown_base.specs.declared.item.Item.{Item}
 use Rattle.markdown_base.specs.declared.item.ItemBody.{ItemBody}
 use Rattle.markdown_base.specs.declared.item.ItemBody.TheVariants as body
-use Rattle.markdown_base.specs.declared.node.Node.{Node}
 use Rattle.markdown_base.specs.declared.tag.Alignment.{Alignment}
-use Rattle.markdown_base.specs.Arena.{Arena, child_of}
-use Rattle.markdown_base.specs.ArenaForest.{links_of, numbers_below}
-use Rattle.markdown_base.specs.BlockTree.{Numbered, item_at, numbered, tree_of}
-use Rattle.markdown_base.specs.Forest.{Forest, nil, node, Each, Throughout, relabelled}
+use Rattle.markdown_base.specs.Arena.{Arena}
+use Rattle.markdown_base.specs.ArenaForest.{numbers_below}
+use Rattle.markdown_base.specs.BlockTree.{item_at, numbered, tree_of}
+use Rattle.markdown_base.specs.Forest.{Forest, nil, node, Each, relabelled}
 use Rattle.markdown_base.specs.WellFormed.{PartCounts, PartsAreNamed}
 use Rattle.markdown_builder.specs.BuilderRules.{KeepsNodes}
 use Rattle.markdown_base.specs.HeadingWords.{HeadingWords, worded_heading}
-use Rattle.markdown_builder.specs.Shown.{Shown, Parts, shown_item, shown_trees, shown_levels, unnumbered}
+use Rattle.markdown_builder.specs.Shown.{Parts, shown_item, shown_trees, shown_levels}
 use Rattle.markdown_builder.specs.Shown.{text_shown}
 use Rattle.markdown_builder.specs.Shown.{heading_shown, alignments_shown}
 use Rattle.markdown_builder.specs.TreeLevels.{all_but_last, in_last, levels_in, levels_of}
@@ -123,11 +122,10 @@ more_alignments parts more levels named =
 
 -- ---- each item refers to parts that are there
 
-but_last : {A : Type 0} (P : A → Type 0) (trees : Forest Item) (Q : Item → Type 0) → Each Q trees
-    → Each Q (all_but_last trees)
-but_last P nil Q e = tt
-but_last P (node a below nil) Q e = tt
-but_last P (node a below (node b inside after)) Q e = (e.0, e.1, but_last P (node b inside after) Q e.2)
+but_last : (trees : Forest Item) (Q : Item → Type 0) → Each Q trees → Each Q (all_but_last trees)
+but_last nil Q e = tt
+but_last (node a below nil) Q e = tt
+but_last (node a below (node b inside after)) Q e = (e.0, e.1, but_last (node b inside after) Q e.2)
 
 in_the_last : (trees : Forest Item) (Q : Item → Type 0) → Each Q trees → Each Q (in_last trees)
 in_the_last nil Q e = tt
@@ -138,7 +136,7 @@ each_level : (spine : List ℕ) (trees : Forest Item) (Q : Item → Type 0) → 
     → AllByRecursion (λ t. Each Q t) (levels_in spine trees)
 each_level [] trees Q e = (e, tt)
 each_level (number ∷ spine) trees Q e =
-    (but_last Q trees Q e, each_level spine (in_last trees) Q (in_the_last trees Q e))
+    (but_last trees Q e, each_level spine (in_last trees) Q (in_the_last trees Q e))
 
 each_relabelled : {A B : Type 0} (f : A → B) (P : B → Type 0) (trees : Forest A) → Each (λ a. P (f a)) trees
     → Each P (relabelled f trees)

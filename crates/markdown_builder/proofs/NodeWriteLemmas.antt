@@ -6,11 +6,13 @@ use Rattle.std.specs.Prelude.{slice_index_or}
 use Rattle.std.proofs.lemmas.List.{length-append}
 use Rattle.markdown_base.specs.declared.item.Item.{Item}
 use Rattle.markdown_base.specs.declared.node.Node.{Node}
-use Rattle.markdown_base.specs.ArenaChanges.{innermost, changed_at, follower, appended}
+use Rattle.markdown_base.specs.Arena.{Arena}
+use Rattle.markdown_base.specs.ArenaChanges.{innermost, changed_at, follower, led_to, appended}
 use Rattle.markdown_base.specs.ArenaForest.{links_of}
 use Rattle.markdown_base.specs.BlockTree.{item_at, no_item}
-use Rattle.markdown_base.proofs.ArenaLemmas.{length-changed_at}
+use Rattle.markdown_base.proofs.ArenaLemmas.{length-changed_at, length-led_to}
 use Rattle.markdown_builder.specs.Rising.{link_of, place_down, place_at}
+use Rattle.markdown_builder.specs.Standing.{with_item}
 
 -- ---- one field of the nodes
 
@@ -190,3 +192,50 @@ item_writes nodes at item h = record {
 -- no item stands at a number that no node has
 pub item_beyond : (nodes : List (Node Item)) (i : ℕ) → length nodes ≤ i → item_at nodes i ≡ no_item
 item_beyond nodes i h = field_none (λ n. n.item) no_item nodes i h
+
+-- ---- a written item of the node that was appended last
+
+-- two changes of different fields
+changes_commute : (f g : Node Item → Node Item) → ((n : Node Item) → f (g n) ≡ g (f n)) → (i j : ℕ)
+    → (nodes : List (Node Item))
+    → changed_at i f (changed_at j g nodes) ≡ changed_at j g (changed_at i f nodes)
+changes_commute f g c i j [] = refl
+changes_commute f g c zero zero (n ∷ nodes) = ap (λ (m : Node Item). m ∷ nodes) (c n)
+changes_commute f g c zero (suc j) (n ∷ nodes) = refl
+changes_commute f g c (suc i) zero (n ∷ nodes) = refl
+changes_commute f g c (suc i) (suc j) (n ∷ nodes) =
+    ap (λ (ns : List (Node Item)). n ∷ ns) (changes_commute f g c i j nodes)
+
+-- a change of the last node
+last_changed : (f : Node Item → Node Item) (nodes : List (Node Item)) (n : Node Item)
+    → changed_at (length nodes) f (nodes ++ n ∷ []) ≡ nodes ++ f n ∷ []
+last_changed f [] n = refl
+last_changed f (m ∷ nodes) n = ap (λ (ns : List (Node Item)). m ∷ ns) (last_changed f nodes n)
+
+last_led : (y : Item) (nodes : List (Node Item)) (n : Node Item) (spine : List ℕ) (cursor : Option ℕ)
+    → changed_at (length nodes) (λ m. record m { item = y }) (led_to (length nodes) spine cursor (nodes ++ n ∷ []))
+    ≡ led_to (length nodes) spine cursor (nodes ++ record n { item = y } ∷ [])
+last_led y nodes n spine (Some before) =
+    changes_commute (λ m. record m { item = y }) (λ m. record m { next = Some (length nodes) }) (λ m. refl)
+    (length nodes) before (nodes ++ n ∷ [])
+    ∙ ap (λ (ns : List (Node Item)). changed_at before (λ m. record m { next = Some (length nodes) }) ns)
+    (last_changed (λ m. record m { item = y }) nodes n)
+last_led y nodes n spine None =
+    changes_commute (λ m. record m { item = y }) (λ m. record m { child = Some (length nodes) }) (λ m. refl)
+    (length nodes) (innermost spine) (nodes ++ n ∷ [])
+    ∙ ap (λ (ns : List (Node Item)). changed_at (innermost spine) (λ m. record m { child = Some (length nodes) }) ns)
+    (last_changed (λ m. record m { item = y }) nodes n)
+
+-- an item that is appended and then replaced by another is as that other one appended
+pub appended_then_written : (tree : Arena Item) (x y : Item)
+    → with_item (appended tree x) (length tree.nodes) y ≡ appended tree y
+appended_then_written tree x y =
+    ap (λ (ns : List (Node Item)). record (appended tree y) { nodes = ns }) (last_led y tree.nodes _ tree.spine tree.cursor)
+
+-- its number is that of a node
+pub appended_number : (tree : Arena Item) (x : Item) → length tree.nodes < length (appended tree x).nodes
+appended_number tree x =
+    let n : Node Item = record { item = x; child = None; next = follower tree.nodes tree.spine tree.cursor } in
+    let led = length-led_to (length tree.nodes) tree.spine tree.cursor (tree.nodes ++ n ∷ []) in
+    let more = length-append tree.nodes (n ∷ []) in
+    omega (arith, led, more)

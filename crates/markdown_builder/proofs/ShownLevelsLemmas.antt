@@ -1,5 +1,5 @@
 -- What calls of a builder make of its levels, with what their items refer to.
-use Rattle.std.proofs.Common.{◌≡◌, ℕ, zero, suc, ◌+◌, ◌-◌, ◌<◌, List, [], ◌∷◌, ◌++◌, Option, Some, None, Bool, true}
+use Rattle.std.proofs.Common.{◌≡◌, ℕ, zero, suc, ◌+◌, ◌-◌, List, [], ◌∷◌, Some, None, Bool, true}
 use Rattle.std.proofs.Common.{false}
 use Rattle.std.proofs.Common.{map, refl, sym, ap, ◌∙◌, cond, arith, ◌≤◌}
 use Rattle.markdown_base.specs.declared.item.Item.{Item}
@@ -7,9 +7,9 @@ use Rattle.markdown_base.specs.declared.item.ItemBody.{ItemBody}
 use Rattle.markdown_base.specs.declared.item.ItemBody.TheVariants as body
 use Rattle.markdown_base.specs.declared.tag.Alignment.{Alignment}
 use Rattle.markdown_base.specs.Forest.{Forest, nil, node, relabelled}
-use Rattle.markdown_builder.specs.Bodies.{is_settled, is_plain_block, mark_byte}
+use Rattle.markdown_builder.specs.Bodies.{is_settled, mark_byte}
 use Rattle.markdown_base.specs.HeadingWords.{HeadingWords}
-use Rattle.markdown_builder.specs.Shown.{Shown, Parts, plain_item, chain_of, shown_item, shown_trees}
+use Rattle.markdown_builder.specs.Shown.{Parts, plain_item, chain_of, shown_item, shown_trees}
 use Rattle.markdown_builder.specs.Shown.{shown_levels, unnumbered}
 use Rattle.markdown_builder.specs.Shown.{text_shown, heading_shown, alignments_shown, run_items, tight_shown}
 use Rattle.markdown_builder.specs.Shown.{settled_below}
@@ -21,7 +21,7 @@ use Rattle.markdown_builder.specs.TreeLevels.{tight_if_paragraph, roots_changed,
 
 -- ---- relabelled levels
 
-relabelled_followed : {A B : Type 0} (f : A → B) (g h : Forest A)
+pub relabelled_followed : {A B : Type 0} (f : A → B) (g h : Forest A)
     → relabelled f (followed_by g h) ≡ followed_by (relabelled f g) (relabelled f h)
 relabelled_followed f nil h = refl
 relabelled_followed f (node a below after) h = ap (node (f a) (relabelled f below)) (relabelled_followed f after h)

@@ -1,6 +1,6 @@
 -- What each step of a builder makes of the levels that its callers see, with what their items refer to.
-use Rattle.std.proofs.Common.{◌≡◌, ℕ, zero, suc, ◌+◌, ◌-◌, ◌<◌, ◌≤◌, List, [], ◌∷◌, ◌++◌, Option, Some, None, Bool}
-use Rattle.std.proofs.Common.{map, length, refl, sym, ap, ◌∙◌, arith}
+use Rattle.std.proofs.Common.{◌≡◌, ℕ, List, [], ◌∷◌, ◌++◌, Some}
+use Rattle.std.proofs.Common.{length, refl, ap, ◌∙◌}
 use Rattle.std.specs.Prelude.{slice_get}
 use Rattle.std.specs.declared.alloc.Global.{Global}
 use Rattle.std.specs.declared.vec.Vec.{Vec}
@@ -14,11 +14,10 @@ use Rattle.markdown_base.specs.declared.item.ItemBody.{ItemBody}
 use Rattle.markdown_base.specs.declared.item.ItemBody.TheVariants as body
 use Rattle.markdown_base.specs.declared.tag.Alignment.{Alignment}
 use Rattle.markdown_base.specs.Arena.{Arena}
-use Rattle.markdown_base.specs.Forest.{Forest, nil, node}
-use Rattle.markdown_base.specs.WellFormed.{PartCounts}
+use Rattle.markdown_base.specs.Forest.{nil, node}
 use Rattle.markdown_builder.specs.BuilderRules.{KeepsNodes}
 use Rattle.markdown_builder.specs.BuilderView.{with_items}
-use Rattle.markdown_builder.specs.Shown.{Shown, Parts, plain_item, synthesized_item, shown_item, shown_trees}
+use Rattle.markdown_builder.specs.Shown.{Parts, plain_item, synthesized_item, shown_item, shown_trees}
 use Rattle.markdown_builder.specs.Shown.{shown_levels}
 use Rattle.markdown_base.specs.HeadingWords.{words_of}
 use Rattle.markdown_builder.specs.Shown.{stored_parts}
@@ -54,7 +53,7 @@ appended_shown parts tree new start end b plain levels =
     ∙ ap (λ a. with_trees (shown_levels parts (levels_of tree)) (node a nil nil)) plain)
 
 -- the last of a longer list
-get_last : {A : Type 0} (xs : List A) (y : A) → slice_get (xs ++ y ∷ []) (length xs) ≡ Some y
+pub get_last : {A : Type 0} (xs : List A) (y : A) → slice_get (xs ++ y ∷ []) (length xs) ≡ Some y
 get_last [] y = refl
 get_last (x ∷ xs) y = get_last xs y
 

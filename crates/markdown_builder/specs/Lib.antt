@@ -6,10 +6,12 @@ pub mod BuilderView
 pub mod Tightness
 pub mod ClosedLists
 pub mod HeadingsHoldInline
+pub mod EvenRows
 -- the representation
 pub mod Rising
 pub mod BuilderRules
 pub mod Levels
 pub mod ForestCode
 pub mod Standing
+pub mod OpenRows
 pub mod TreeSteps

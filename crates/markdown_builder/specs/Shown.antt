@@ -5,15 +5,18 @@ use Rattle.std.specs.Prelude.{unwrap_or}
 use Rattle.std.specs.declared.alloc.Global.{Global}
 use Rattle.std.specs.declared.vec.Vec.{Vec}
 use Rattle.std.specs.Option.{option_map}
+use Rattle.markdown_base.specs.BlockTree.{tree_of}
 use Rattle.markdown_base.specs.CowText.{text_of}
 use Rattle.markdown_base.specs.Event.{HeadingView}
 use Rattle.markdown_base.specs.Forest.{Forest, nil, node, relabelled}
 use Rattle.markdown_base.specs.HeadingWords.{HeadingWords, words_of, worded_heading}
+use Rattle.markdown_base.specs.declared.block_parts.BlockParts.{BlockParts}
 use Rattle.markdown_base.specs.declared.block_parts.HeadingAttributes.{HeadingAttributes}
 use Rattle.markdown_base.specs.declared.cow_str.CowStr.{CowStr}
 use Rattle.markdown_base.specs.declared.item.Item.{Item}
 use Rattle.markdown_base.specs.declared.item.ItemBody.{ItemBody}
 use Rattle.markdown_base.specs.declared.item.ItemBody.TheVariants as body
+use Rattle.markdown_base.specs.declared.node.Node.{Node}
 use Rattle.markdown_base.specs.declared.tag.Alignment.{Alignment}
 use Rattle.markdown_builder.specs.TreeLevels.{items_changed, tight_if_paragraph, with_closed_by}
 use Rattle.markdown_builder.specs.Tightness.{is_tight_list}
@@ -120,3 +123,9 @@ settled_below a below = cond (is_tight_list a.item.body) (items_changed tight_sh
 -- the levels, with the innermost block closed: it and what is in it become the last tree of the level around it
 abbrev pub with_block : List (Forest Shown) → Shown → List (Forest Shown)
 with_block levels a = with_closed_by settled_below levels a
+
+-- the tree of a block result, whose items are stored in nodes, with what they refer to among its parts
+abbrev pub shown_result : List (Node Item) → BlockParts → Forest Shown
+shown_result nodes parts =
+    shown_trees (stored_parts parts.cows.items parts.headings.items parts.alignments.items)
+    (relabelled (λ n. n.item) (tree_of nodes))

@@ -1,7 +1,9 @@
 //! The builder: the state of a block result in progress, and the calls that continue it. Calls that return a `Result`
 //! fail only where memory is refused; how much of the call was done by then is unspecified.
-ghost use Rattle.std.specs.Prelude.{◌≡◌};
+ghost use Rattle.std.specs.Prelude.{◌≡◌, length, map};
 ghost use Rattle.markdown_builder.specs.Bodies.{is_leaf};
+ghost use Rattle.markdown_builder.specs.EvenRows.{is_table_row};
+ghost use Rattle.markdown_builder.specs.Shown.{alignments_shown};
 
 use crate::open_block::OpenBlock;
 use crate::tight::tighten_list;
@@ -39,6 +41,8 @@ impl<'a> Model for Builder<'a> {
     ghost use Rattle.markdown_builder.specs.Shown.{shown_levels, stored_parts};
     ghost use Rattle.markdown_builder.specs.TreeLevels.{levels_of};
     ghost use Rattle.markdown_builder.specs.Standing.{IsSound};
+    ghost use Rattle.markdown_base.specs.declared.item.ItemBody.TheVariants as body;
+    ghost use Rattle.markdown_builder.specs.OpenRows.{KeepOpenRows};
 
     ghost Value = { BuilderView };
 
@@ -78,7 +82,9 @@ impl<'a> Model for Builder<'a> {
       leaf = b.leaf;
       run = b.run;
       at = b.at;
-    }) };
+    }) × KeepOpenRows (map (λ a. a.items) b.alignments.items) body.Root b.blocks.items
+        (shown_levels (stored_parts b.cows.items b.headings.items b.alignments.items)
+        (levels_of b.tree)) };
 }
 
 impl<'a> Builder<'a> {
@@ -99,8 +105,9 @@ impl<'a> Builder<'a> {
     ghost use Rattle.markdown_builder.specs.BuilderView.{AppendsItem, AppendsText, Opens, OpensNaming, Closes};
     ghost use Rattle.markdown_builder.specs.BuilderView.{HasParts, OpensAttributed, OpensTable, parts_of, with_items};
     ghost use Rattle.markdown_builder.specs.BuilderView.{LastHasBody, LastBegins};
+    ghost use Rattle.markdown_builder.specs.EvenRows.{HasEvenRows, InnermostRowIsEven, is_in_row, open_columns};
     ghost use Rattle.markdown_builder.specs.HeadingsHoldInline.{HeadingsHoldInline};
-    ghost use Rattle.markdown_builder.specs.Shown.{run_items, shown_trees};
+    ghost use Rattle.markdown_builder.specs.Shown.{run_items, shown_result, shown_trees};
     ghost use Rattle.markdown_builder.specs.Tightness.{TightInTightLists};
 
     /// Returns a builder that has made nothing yet.
@@ -151,6 +158,28 @@ impl<'a> Builder<'a> {
         self.leaf
     }
 
+    /// Returns whether the innermost open block is a row of a table, or its head. Where it is not, it may be closed.
+    #[tactic(auto, using(crate::proofs::RowInsideLemmas::no_row_inside))]
+    pub fn is_in_row(&self) -> bool
+        ensures row { result ≡ is_in_row self.now.blocks }
+        ensures even { result ≡ false → InnermostRowIsEven self.now }
+    {
+        match self.blocks.last() {
+            Some(block) => is_table_row(block.body),
+            None => false,
+        }
+    }
+
+    /// Returns the number of columns of the innermost open block, if it is a table, and otherwise 0.
+    pub fn columns(&self) -> usize
+        ensures { result ≡ open_columns self.now }
+    {
+        match self.blocks.last() {
+            Some(block) => alignments_listed(&self.alignments, block.body),
+            None => 0,
+        }
+    }
+
     /// Returns whether a delimiter run of this character would directly follow one of the same character.
     pub fn follows_run(&self, byte: u8) -> bool
         ensures { result ≡ follows_run self.now.run byte }
@@ -185,10 +214,12 @@ impl<'a> Builder<'a> {
     }
 
     /// Closes the innermost open block, which ends at the current byte offset, and returns it; `None` where no block is
-    /// open. The paragraphs of a tight list are made tight as the list is closed.
+    /// open. The paragraphs of a tight list are made tight as the list is closed. A row of a table has to contain as many
+    /// items as the table has alignments.
     // inlined: every paragraph is closed
     #[inline(always)]
     pub fn close(&mut self) -> Option<OpenBlock>
+        requires { InnermostRowIsEven self.old }
         ensures { MatchOption result
             ((self.old.blocks ≡ []) × (self.new ≡ self.old))
             (λ block. (outer : _) × (self.old.blocks ≡ outer ++ block ∷ [])
@@ -474,7 +505,7 @@ impl<'a> Builder<'a> {
     }
 
     /// Returns what was made, when the whole text is read and all blocks are closed. The paragraphs directly in the
-    /// items of tight lists are tight.
+    /// items of tight lists are tight, and rows have as many cells as their table has alignments.
     pub fn finish(self) -> (Tree<Item>, BlockParts<'a>)
         requires closed { self.blocks ≡ [] }
         requires read { self.at ≡ length self.text }
@@ -482,6 +513,7 @@ impl<'a> Builder<'a> {
         ensures covered { Covers self.entry.text result.0.nodes result.1 }
         ensures tight { TightInTightLists result.0.nodes }
         ensures headings { HeadingsHoldInline (tree_of result.0.nodes) }
+        ensures rows { HasEvenRows (shown_result result.0.nodes result.1) }
         ensures tree { self.entry.levels
             ≡ shown_trees (parts_of self.entry) (relabelled (λ n. n.item) (tree_of result.0.nodes))
             ∷ [] }
@@ -513,5 +545,28 @@ fn is_leaf(body: ItemBody) -> bool
         | ItemBody::DefinitionListTitle
         | ItemBody::TableCell => true,
         _ => false,
+    }
+}
+
+/// Returns whether a body is that of a row of a table, or of its head.
+fn is_table_row(body: ItemBody) -> bool
+    ensures { result ≡ is_table_row body }
+{
+    match body {
+        ItemBody::TableHead | ItemBody::TableRow => true,
+        _ => false,
+    }
+}
+
+/// Returns how many of the listed alignments a body refers to.
+fn alignments_listed(listed: &[Vec<Alignment>], body: ItemBody) -> usize
+    ensures { result ≡ length (alignments_shown (map (λ a. a.items) listed.now) body) }
+{
+    match body {
+        ItemBody::Table(ix) => match listed.get(ix.0) {
+            Some(alignments) => alignments.len(),
+            None => 0,
+        },
+        _ => 0,
     }
 }

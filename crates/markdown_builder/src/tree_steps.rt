@@ -1,5 +1,6 @@
 //! The steps in which a builder changes its tree.
 ghost use Rattle.std.specs.Prelude.{◌≡◌, ℕ, ◌+◌, ◌-◌, ◌<◌, ◌≤◌, ◌⊎◌, List, ◌++◌, ◌∷◌, [], Some, length, IfOk, OnErr};
+ghost use Rattle.markdown_base.specs.declared.item.ItemBody.TheVariants as block;
 ghost use Rattle.markdown_base.specs.ArenaChanges.{appended, changed_at};
 ghost use Rattle.markdown_builder.specs.Standing.{entered, open_item, with_item};
 ghost use Rattle.markdown_builder.specs.TreeSteps.{texts_appended, run_marked};
@@ -12,17 +13,36 @@ use markdown_base::item::{Item, ItemBody};
 use markdown_base::tree::Tree;
 use std::alloc::AllocError;
 
-/// Appends an item and enters it. Fails where memory is refused; the item may then have been appended.
-fn go_into(tree: &mut Tree<Item>, item: Item) -> Result<(), AllocError>
-    ensures entered { IfOk result (λ _. tree.new ≡ entered tree.old item) }
-    ensures refused { OnErr result ((tree.new ≡ tree.old) ⊎ (tree.new ≡ appended tree.old item)) }
+/// Returns a paragraph without content at a byte offset.
+fn empty_paragraph(at: usize) -> Item
+    ensures { result ≡ record { start = at; end = at; body = block.Paragraph } }
 {
-    tree.append(item)?;
-    tree.push()?;
-    Ok(())
+    Item {
+        start: at,
+        end: at,
+        body: ItemBody::Paragraph,
+    }
 }
 
-/// Appends a block and enters it. Fails where memory is refused; its item may then have been appended.
+/// Appends an item at its start and enters it. Fails where memory is refused; an empty paragraph may then have been
+/// appended in its place.
+fn go_into(tree: &mut Tree<Item>, item: Item) -> Result<(), AllocError>
+    ensures entered { IfOk result (λ _. tree.new ≡ entered tree.old item) }
+    ensures refused { OnErr result ((tree.new ≡ tree.old) ⊎ (tree.new
+        ≡ appended tree.old (record { start = item.start; end = item.start; body = block.Paragraph }))) }
+{
+    let number = tree.append(item)?;
+    match tree.push() {
+        Ok(_) => Ok(()),
+        Err(refused) => {
+            tree.set_item(number, empty_paragraph(item.start));
+            Err(refused.into())
+        }
+    }
+}
+
+/// Appends a block and enters it. Fails where memory is refused; an empty paragraph may then have been appended in its
+/// place.
 pub fn enter(
     tree: &mut Tree<Item>,
     blocks: &mut Vec<OpenBlock>,
@@ -35,20 +55,20 @@ pub fn enter(
         ≡ blocks.old.items ++ record { start = start; body = body }
         ∷ []) }
     ensures refused { OnErr result ((tree.new ≡ tree.old) ⊎ (tree.new
-        ≡ appended tree.old (record { start = start; end = start; body = body }))) }
+        ≡ appended tree.old (record { start = start; end = start; body = block.Paragraph }))) }
     ensures stays { OnErr result (blocks.new.items ≡ blocks.old.items) }
 {
+    blocks.push(OpenBlock { start, body })?;
     let item = Item {
         start,
         end: start,
         body,
     };
-    go_into(tree, item)?;
-    match blocks.push(OpenBlock { start, body }) {
+    match go_into(tree, item) {
         Ok(()) => Ok(()),
         Err(refused) => {
-            tree.pop();
-            Err(refused.into())
+            let _block = blocks.pop();
+            Err(refused)
         }
     }
 }

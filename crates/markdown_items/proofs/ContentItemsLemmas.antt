@@ -1,8 +1,8 @@
 -- How the items of a line's content are read: plain bytes are skipped together, and what is found at a special byte is
 -- put before the items that follow it.
-use Rattle.std.proofs.Common.{◌≡◌, ℕ, zero, suc, ◌+◌, ◌-◌, ◌<◌, ◌≤◌, List, [], ◌∷◌, ◌++◌, refl, sym, ap, ◌∙◌}
+use Rattle.std.proofs.Common.{◌≡◌, ℕ, zero, suc, ◌+◌, ◌<◌, ◌≤◌, List, ◌++◌, refl, sym, ap, ◌∙◌}
 use Rattle.std.proofs.Common.{true, false, arith, nat_le}
-use Rattle.std.specs.Prelude.{slice_index, if◌then◌else◌, not}
+use Rattle.std.specs.Prelude.{slice_index}
 use Rattle.std.proofs.lemmas.Bool.Decides.{nat_tests}
 use Rattle.std.proofs.lemmas.List.{append_assoc}
 use Rattle.markdown_builder.specs.Shown.{Shown}

@@ -1,20 +1,22 @@
 -- What is made of a line so far, with what is still to be read of it, is the same after each step.
 use Rattle.std.proofs.Common.{◌≡◌, ◌≢◌, ℕ, zero, suc, ◌+◌, ◌-◌, ◌<◌, ◌≤◌, List, [], ◌∷◌, ◌++◌, Option, Some, None}
-use Rattle.std.proofs.Common.{Bool, true, false, refl, sym, ap, ◌∙◌, arith, length}
-use Rattle.std.specs.Prelude.{slice_index, nat_lt, if◌then◌else◌, ◌==◌, IfSome}
+use Rattle.std.proofs.Common.{Bool, true, false, refl, sym, ap, ◌∙◌, arith}
+use Rattle.std.specs.Prelude.{slice_index, nat_lt, if◌then◌else◌}
 use Rattle.std.proofs.lemmas.Bool.Decides.{nat_tests}
 use Rattle.std.proofs.lemmas.Option.{same_Some}
 use Rattle.markdown_base.specs.Forest.{Forest, nil, node}
 use Rattle.markdown_builder.specs.BuilderView.{BuilderView, follows_run, with_items}
 use Rattle.markdown_builder.specs.Shown.{Shown, chain_of}
 use Rattle.markdown_builder.specs.TreeLevels.{followed_by, with_trees}
+use Rattle.markdown_builder.proofs.LaidLemmas.{followed_by-assoc, followed_by-nil}
 use Rattle.markdown_items.specs.declared.extensions.Extensions.{Extensions}
 use Rattle.markdown_items.specs.declared.found.Found.{Found}
 use Rattle.markdown_items.specs.declared.found.Found.TheVariants as found
 use Rattle.markdown_items.specs.declared.found.Line.{Line}
-use Rattle.markdown_items.specs.ContentItems.{content_items, items_read_from, text_between}
+use Rattle.markdown_items.specs.ContentItems.{AddsItems, content_items, items_read_from, text_between}
 use Rattle.markdown_items.specs.Found.{found_at}
-use Rattle.markdown_items.specs.FoundFits.{FoundFits, LiesFurther, levels_after, next_after, run_after_text, view_after}
+use Rattle.markdown_items.specs.FoundFits.{FoundFits, levels_after, next_after, run_after_text}
+use Rattle.markdown_items.specs.FoundFits.{view_after}
 use Rattle.markdown_items.specs.FoundItems.{found_items, text_from, read_on}
 use Rattle.markdown_items.specs.FoundView.{found_view}
 use Rattle.markdown_items.specs.LineItems.{is_special, IsFirstSpecial}
@@ -23,14 +25,6 @@ use Rattle.markdown_items.proofs.ContentItemsLemmas.{plain_bytes, special_byte, 
 use Rattle.markdown_items.proofs.ItemLemmas.{goes_on}
 
 -- ---- items appended
-
-followed_by-nil : {A : Type 0} (f : Forest A) → followed_by f nil ≡ f
-followed_by-nil nil = refl
-followed_by-nil (node a below after) = ap (node a below) (followed_by-nil after)
-
-followed_by_assoc : {A : Type 0} (f g h : Forest A) → followed_by (followed_by f g) h ≡ followed_by f (followed_by g h)
-followed_by_assoc nil g h = refl
-followed_by_assoc (node a below after) g h = ap (node a below) (followed_by_assoc after g h)
 
 chain_of-append : {A : Type 0} (xs ys : List A) → chain_of (xs ++ ys) ≡ followed_by (chain_of xs) (chain_of ys)
 chain_of-append [] ys = refl
@@ -44,7 +38,7 @@ no_trees (level ∷ inner ∷ levels) = ap (λ ls. level ∷ ls) (no_trees (inne
 more_trees : {A : Type 0} (levels : List (Forest A)) (f g : Forest A)
     → with_trees (with_trees levels f) g ≡ with_trees levels (followed_by f g)
 more_trees [] f g = refl
-more_trees (level ∷ []) f g = ap (λ h. h ∷ []) (followed_by_assoc level f g)
+more_trees (level ∷ []) f g = ap (λ h. h ∷ []) (followed_by-assoc level f g)
 more_trees (level ∷ inner ∷ []) f g = ap (λ ls. level ∷ ls) (more_trees (inner ∷ []) f g)
 more_trees (level ∷ inner ∷ deeper ∷ levels) f g =
     ap (λ ls. level ∷ ls) (more_trees (inner ∷ deeper ∷ levels) f g)
@@ -303,3 +297,33 @@ text_after line view at (found.Run stop flags) =
     either true = refl
     either false = refl
 text_after line view at other = refl
+
+-- ---- that items are appended, whatever run came before
+
+pub adds_none : (view : BuilderView) → AddsItems view view
+adds_none view = ([], sym (no_items view.levels))
+
+pub adds_more : (old view new : BuilderView) → AddsItems old view → AddsItems view new → AddsItems old new
+adds_more old view new before after = (
+  before.0 ++ after.0,
+  after.1 ∙ (ap (λ (ls : List (Forest Shown)). with_items ls after.0) before.1
+      ∙ more_items old.levels before.0 after.0),
+)
+
+pub adds_found : (view : BuilderView) (line : Line) (at : ℕ) (f : Found) → AddsItems view (view_after view line at f)
+adds_found view line at (found.Text next) = adds_none view
+adds_found view line at found.Escape = (_, refl)
+adds_found view line at (found.Mark body) = (_, refl)
+adds_found view line at found.Image = (_, refl)
+adds_found view line at (found.Backticks stop) = (_, refl)
+adds_found view line at (found.EscapedBackticks stop) = (_, refl)
+adds_found view line at (found.Run stop flags) =
+    by_run (follows_run (run_after_text view at) (slice_index view.text at)) refl
+  where
+    by_run : (follows : Bool) → follows_run (run_after_text view at) (slice_index view.text at) ≡ follows
+        → AddsItems view (view_after view line at (found.Run stop flags))
+    by_run true is = rw is (adds_none view)
+    by_run false is = rw is (_, refl)
+adds_found view line at (found.Entity stop characters) = (_, refl)
+adds_found view line at (found.Dashes stop) = (_, refl)
+adds_found view line at found.Ellipsis = (_, refl)

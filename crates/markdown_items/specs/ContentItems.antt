@@ -1,7 +1,8 @@
 -- The inline items of a line's content, open or settled, in the order of the text.
-use Rattle.std.specs.Prelude.{ℕ, zero, suc, ◌+◌, ◌-◌, false, true, not, nat_le, nat_lt, List, [], ◌∷◌, ◌++◌}
+use Rattle.std.specs.Prelude.{◌≡◌, ℕ, zero, suc, ◌+◌, ◌-◌, false, true, not, nat_le, nat_lt, List, [], ◌∷◌, ◌++◌}
 use Rattle.std.specs.Prelude.{slice_index, encode_utf8, if◌then◌else◌}
 use Rattle.markdown_base.specs.declared.item.ItemBody.TheVariants as body
+use Rattle.markdown_builder.specs.BuilderView.{BuilderView, with_items}
 use Rattle.markdown_builder.specs.Shown.{Shown, plain_item, run_items, synthesized_item}
 use Rattle.markdown_items.specs.declared.extensions.Extensions.{Extensions}
 use Rattle.markdown_items.specs.declared.found.Line.{Line}
@@ -53,3 +54,7 @@ items_read_from (suc n) text line from at =
 abbrev pub content_items : List ℕ → Extensions → (start end : ℕ) → List Shown
 content_items text extensions start end =
     items_read_from (suc (end - start)) text (record { start = start; end = end; extensions = extensions }) start start
+
+-- items were appended to the open leaf, and nothing else was made of the closed trees
+abbrev pub AddsItems : BuilderView → BuilderView → Type 0
+AddsItems old new = (items : List Shown) × (new.levels ≡ with_items old.levels items)

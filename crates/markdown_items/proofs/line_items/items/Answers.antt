@@ -1,18 +1,18 @@
 -- What is made of the line so far, with what is still to be read of it, is all of it.
-use Rattle.std.proofs.Common.{rules, ◌≡◌, ℕ, ◌≤◌, ◌<◌, List, true, None, refl, sym, ap, ◌∙◌, subst, arith, slice_index}
+use Rattle.std.proofs.Common.{rules, ◌≡◌, ℕ, ◌≤◌, List, true, refl, sym, ap, ◌∙◌, subst, arith, slice_index}
 use Rattle.std.proofs.lemmas.Bool.Decides.{nat_tests}
 use Rattle.markdown_base.specs.Forest.{Forest}
 use Rattle.markdown_builder.specs.BuilderView.{BuilderView, with_items}
 use Rattle.markdown_builder.specs.Shown.{Shown}
 use Rattle.markdown_items.specs.declared.found.Line.{Line}
-use Rattle.markdown_items.specs.ContentItems.{content_items}
+use Rattle.markdown_items.specs.ContentItems.{AddsItems, content_items}
 use Rattle.markdown_items.specs.Found.{found_at}
 use Rattle.markdown_items.specs.FoundFits.{FoundFits, next_after, view_after}
 use Rattle.markdown_items.specs.FoundView.{found_view}
 use Rattle.markdown_items.specs.LineItems.{is_special, IsFirstSpecial}
 use Rattle.markdown_items.specs.RestOfLine.{AwaitsRest}
 use Rattle.markdown_items.proofs.RestOfLineLemmas.{past_plain, at_start, at_end, at_found, placed_after, begun_after}
-use Rattle.markdown_items.proofs.RestOfLineLemmas.{text_after}
+use Rattle.markdown_items.proofs.RestOfLineLemmas.{adds_found, adds_more, adds_none, text_after}
 use Rattle.markdown_items.proofs.line_items.items.Goals as goal
 
 pub line-init : goal.line-init
@@ -27,6 +27,7 @@ line-init c =
     c.first_special-at.ensures) in
     record {
       same = refl;
+      inside = adds_none view;
       begun = omega arith;
       placed = first.low;
       within = first.high;
@@ -68,6 +69,9 @@ line-preserved c =
     subst (λ (v : BuilderView). view.at ≤ v.at) (sym after) (begun_after line view at found placed less fits) in
     record {
       same = search rules;
+      inside = subst (λ (v : BuilderView). AddsItems old v) (sym after)
+          (adds_more old view (view_after view line at found) c.line.invariant.inside
+          (adds_found view line at found));
       begun = omega (arith, c.line.invariant.begun, further);
       placed = search rules;
       within = search rules;
@@ -98,3 +102,8 @@ returns-clause-items c = λ none.
     ap (λ (v : BuilderView). v.levels) c.in_ok-append_text.ensures
     ∙ (at_end line all view awaits
     ∙ ap (λ e. with_items old.levels (content_items old.text e old.at c.args.end)) c.of.ensures)
+
+pub returns-clause-inside : goal.returns-clause-inside
+returns-clause-inside c =
+    adds_more c.args.builder.now c.line.builder c.append_text.new.builder c.line.invariant.inside
+    (_, ap (λ (v : BuilderView). v.levels) c.in_ok-append_text.ensures)

@@ -1,7 +1,7 @@
 -- The items up to here are appended but for a text, and a special byte comes next.
 use Rattle.std.proofs.Common.{◌≡◌, ◌-◌, ◌<◌, ◌≤◌, true, None, slice_index}
 use Rattle.markdown_builder.specs.BuilderView.{with_items}
-use Rattle.markdown_items.specs.ContentItems.{content_items}
+use Rattle.markdown_items.specs.ContentItems.{AddsItems, content_items}
 use Rattle.markdown_items.specs.LineItems.{is_special}
 use Rattle.markdown_items.specs.RestOfLine.{AwaitsRest}
 use Rattle.markdown_items.proofs.line_items.items.Given as goal
@@ -14,6 +14,7 @@ invariant-line l = record {
     levels = l.builder.levels;
     texts = l.builder.texts;
   };
+  inside : AddsItems l.fn.builder l.builder;
   begun : l.fn.builder.at ≤ l.builder.at;
   placed : l.builder.at ≤ l.at;
   within : l.at ≤ l.end;

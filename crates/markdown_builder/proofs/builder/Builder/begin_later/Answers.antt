@@ -3,20 +3,27 @@ use Rattle.std.proofs.Common.{◌∙◌, ap, refl}
 use Rattle.markdown_builder.specs.BuilderView.{innermost_block}
 use Rattle.markdown_builder.specs.Standing.{standpoint}
 use Rattle.markdown_builder.proofs.CallLemmas.{begin_later_keeps, rewritten_levels}
+use Rattle.markdown_builder.specs.Shown.{stored_parts}
+use Rattle.markdown_builder.proofs.OpenRowsLemmas.{replaced_rows}
 use Rattle.markdown_builder.proofs.builder.Builder.begin_later.Goals as goal
 
 pub invariant_of-self : goal.invariant_of-self
 invariant_of-self c =
-    begin_later_keeps (standpoint c.args.self.now) c.in-Some.open.now c.args.start c.replace_last.new.blocks.items
-    c.rewrite.new.tree c.self.invariant
-    (ap standpoint c.self.view_is)
-    c.requires.low c.requires.boundary c.requires.white
-    (c.in-Some.ensures.value ∙ ap innermost_block c.deref.ensures.value)
-    c.replace_last.ensures c.rewrite.ensures
+    let parts = stored_parts c.self.inside.cows.items c.self.inside.headings.items c.self.inside.alignments.items in
+    let now = record c.in-Some.open.now { start = c.args.start } in
+    let last = c.in-Some.ensures.value ∙ ap innermost_block c.deref.ensures.value in
+    let levels = rewritten_levels c.in-Some.open.now now c.rewrite.new.tree c.self.invariant.0 last c.rewrite.ensures in (
+      begin_later_keeps (standpoint c.args.self.now) c.in-Some.open.now c.args.start c.replace_last.new.blocks.items
+          c.rewrite.new.tree c.self.invariant.0 (ap standpoint c.self.view_is)
+          c.requires.low c.requires.boundary c.requires.white last c.replace_last.ensures c.rewrite.ensures,
+      rw levels (replaced_rows parts.alignments c.in-Some.open.now now c.self.inside.blocks.items
+          c.replace_last.new.blocks.items _ last c.replace_last.ensures
+          (λ trees k. k) c.self.invariant.1),
+    )
 
 pub returns-in-Some-clause-same : goal.returns-in-Some-clause-same
 returns-in-Some-clause-same c =
     let levels = rewritten_levels c.in-Some.open.now (record c.in-Some.open.now { start = c.args.start })
-    c.rewrite.new.tree c.self.invariant
+    c.rewrite.new.tree c.self.invariant.0
     (c.in-Some.ensures.value ∙ ap innermost_block c.deref.ensures.value) c.rewrite.ensures in
     rw (← c.self.view_is) (rw levels refl)

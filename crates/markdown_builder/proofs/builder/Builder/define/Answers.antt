@@ -12,11 +12,13 @@ pub invariant_of-self-2 : goal.invariant_of-self-2
 invariant_of-self-2 c =
     let made : LinkDef = record
     { dest = c.args.dest; title = c.args.title; span = record { start = c.self.inside.at; end = c.args.end } }
-    in
-    rw c.in_ok-push.ensures.items
-    (define_keeps (standpoint c.args.self.now) c.args.end (c.args.label, made) c.self.invariant
-    (ap standpoint c.self.view_is) c.requires.low c.requires.boundary
-    c.requires.bracket refl)
+    in (
+      rw c.in_ok-push.ensures.items
+          (define_keeps (standpoint c.args.self.now) c.args.end (c.args.label, made) c.self.invariant.0
+          (ap standpoint c.self.view_is) c.requires.low c.requires.boundary
+          c.requires.bracket refl),
+      c.self.invariant.1,
+    )
 
 pub returns : goal.returns
 returns c =

@@ -8,8 +8,11 @@ use Rattle.markdown_builder.proofs.builder.Builder.new.Goals as goal
 
 pub invariant_of-result : goal.invariant_of-result
 invariant_of-result c =
-    rw (c.new-5.ensures.items, c.new-7.ensures.items)
-    (begun c.args.text.now _ c.in_ok-new.field-0 c.utf8.text c.in_ok-new.ensures)
+    let levels = ap levels_of c.in_ok-new.ensures ∙ levels_laid [] nil in (
+      rw (c.new-5.ensures.items, c.new-7.ensures.items)
+          (begun c.args.text.now _ c.in_ok-new.field-0 c.utf8.text c.in_ok-new.ensures),
+      rw (levels, c.new-7.ensures.items) (tt, tt),
+    )
 
 pub returns : goal.returns
 returns c =
