@@ -494,8 +494,7 @@ fn after_label<'a>(text: &'a str, lines: &[HeldLine], length: usize) -> Option<(
 /// Returns the link reference definition whose `[` is at byte offset `at`, in the first of the lines, or `None` where
 /// there is none. Escapes, and entities by these names, are replaced in its destination and title, and stay in its
 /// label.
-// inlined: it is called for each paragraph that begins with a `[`
-#[inline(always)]
+#[inline(never)]
 pub fn read_definition<'a>(
     alloc: Global,
     text: &'a str,

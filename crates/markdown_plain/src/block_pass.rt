@@ -20,7 +20,7 @@ use markdown_base::tag::{BlockQuoteKind, HeadingLevel, MetadataBlockKind};
 use markdown_base::tree::Tree;
 use markdown_builder::open_block::OpenBlock;
 use markdown_lines::atx_heading::AtxHeading;
-use markdown_lines::block_start::{Before, BlockStart, ItemStart};
+use markdown_lines::block_start::{Before, Begun, BlockStart, ItemStart};
 use markdown_lines::bytes::{byte_at, bytes_of, is_white};
 use markdown_lines::extended_only::is_read;
 use markdown_lines::fence::OpeningFence;
@@ -43,6 +43,8 @@ struct LineRest<'a> {
     depth: usize,
     /// the paragraph that it may go on with
     before: Before,
+    /// where it begins if it is no row of the open table, as long as that is not known
+    unless_row: Option<Position>,
 }
 
 /// Returns whether a line with this first byte after white space may begin a block other than a paragraph, or be the
@@ -58,6 +60,8 @@ fn may_begin_block(byte: u8) -> bool {
 
 /// Returns whether the byte at an offset in a line is not white space and begins no block other than a paragraph, nor a
 /// delimiter row. In most lines the first byte is a letter.
+// inlined: it is called for each line
+#[inline(always)]
 fn begins_text(text: &str, at: usize, stop: usize) -> bool {
     at < stop
         && match byte_at(text, at) {
@@ -77,6 +81,17 @@ fn are_lists(blocks: &[OpenBlock], depth: usize) -> bool {
         }
     }
     true
+}
+
+/// Returns the rest of a line to be read first as a row, from its first byte after white space on: what ends a table is
+/// what would end a paragraph that the line continued lazily.
+fn as_row<'a>(rest: LineRest<'a>, content: usize) -> LineRest<'a> {
+    LineRest {
+        position: Position::new(content),
+        before: Before::Lazy,
+        unless_row: Some(rest.position),
+        ..rest
+    }
 }
 
 impl<'a> Pass<'a> {
@@ -122,18 +137,18 @@ impl<'a> Pass<'a> {
         if reached.content >= line.stop {
             return self.read_blank(line, reached);
         }
-        if reached.all && self.is_in_table() && self.add_row(line, reached.content, ahead)? {
-            self.see_content(line);
-            return Ok(());
-        }
         let outermost = are_lists(self.placing.open_blocks(), reached.depth);
-        let rest = LineRest {
+        let mut rest = LineRest {
             line,
             reader: LineReader::new(self.alloc, ahead, self.options, line, outermost),
             position: reached.position,
             depth: reached.depth,
             before: self.paragraph_before(reached.all),
+            unless_row: None,
         };
+        if reached.all && self.is_in_table() {
+            rest = as_row(rest, reached.content);
+        }
         self.read_rest(rest)?;
         self.see_content(line);
         Ok(())
@@ -201,9 +216,10 @@ impl<'a> Pass<'a> {
     {
         let mut here = rest;
         // each container takes at least one byte of the line; what is left after the last one is read too, and a line
-        // that underlines definitions is read twice
-        'blocks: for _ in rest.line.start..rest.line.next.saturating_add(2) {
-            if here.position.owed == 0
+        // that underlines definitions, or ends a table, is read twice
+        'blocks: for _ in rest.line.start..rest.line.next.saturating_add(3) {
+            if here.unless_row.is_none()
+                && here.position.owed == 0
                 && begins_text(self.placing.text(), here.position.at, here.line.stop)
             {
                 return self.add_text(here.line, here.position.at, here.depth);
@@ -224,6 +240,9 @@ impl<'a> Pass<'a> {
             return Ok(false);
         }
         let begun = rest.reader.beginning(rest.position, rest.before)?;
+        if let Some(outside) = rest.unless_row {
+            return self.read_row(rest, begun, outside);
+        }
         let at = begun.at;
         match begun.start {
             BlockStart::Nothing => self.skip_blank(rest.line),
@@ -252,6 +271,29 @@ impl<'a> Pass<'a> {
             }
             _ => Ok(false),
         }
+    }
+
+    /// Reads a row of the open table, which begins nothing but text. Returns whether the rest of the line is still to be
+    /// read, where it is none: from a place outside the table on.
+    fn read_row(
+        &mut self,
+        rest: &mut LineRest<'a>,
+        begun: Begun<'a>,
+        outside: Position,
+    ) -> Result<bool, AllocError>
+        ensures { IfOk result (λ _. self.new.placing.builder.text ≡ self.old.placing.builder.text) }
+    {
+        let is_text = match begun.start {
+            BlockStart::Text => true,
+            _ => false,
+        };
+        if is_text && self.add_row(rest.line, begun.at)? {
+            return Ok(false);
+        }
+        rest.unless_row = None;
+        rest.position = outside;
+        rest.before = self.paragraph_before(true);
+        Ok(true)
     }
 
     /// Passes over the rest of a line that is blank. Returns false, as for all blocks that are not containers.

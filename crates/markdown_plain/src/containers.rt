@@ -54,6 +54,7 @@ fn is_container(body: ItemBody) -> bool
 
 /// Returns the place after the marker of a block quote, with at most one column of space after it; `None` where there
 /// is no marker.
+#[inline(always)]
 fn past_quote(text: &str, position: Position, stop: usize) -> Option<Position>
     ensures { spec.LeftAt text.now stop
         (spec.past_quote (left_from text.now position stop)) result }
@@ -110,6 +111,7 @@ fn past_footnote(
 /// Returns the place after what an open container takes of a line, or `None` where it does not continue. `reached` is
 /// what was reached outside it; `old`, whether footnote definitions are those of the old style; `empty`, whether the
 /// container is an item that is empty so far.
+#[inline(always)]
 fn past_container(
     text: &str,
     body: ItemBody,
@@ -135,6 +137,7 @@ fn past_container(
 }
 
 /// Returns what is reached with one more container, which continues up to a place.
+#[inline(always)]
 fn after_container(
     text: &str,
     body: ItemBody,
@@ -168,6 +171,7 @@ fn after_container(
 
 /// Returns whether an open block with this body, which is not the innermost, takes nothing of the rest of a line and
 /// continues in it.
+#[inline(always)]
 fn is_skipped(body: ItemBody, old: bool, line: Line, reached: Reached) -> bool
     ensures { result ≡ true → (text : List ℕ) → TakesNothing (nat_le line.stop reached.content)
         (left_from text reached.position line.stop) (taken_by old body) }
@@ -187,6 +191,7 @@ fn is_skipped(body: ItemBody, old: bool, line: Line, reached: Reached) -> bool
 
 /// Returns how far open blocks continue in a line. `stretches` are those of the blocks, and `item_is_empty` is whether
 /// the item that was opened last is empty so far.
+#[inline(always)]
 fn reach_blocks(
     text: &str,
     blocks: &[OpenBlock],
@@ -239,7 +244,7 @@ fn reach_blocks(
 }
 
 /// Returns how far the open containers continue in a line.
-// inlined: it is called for each line
+// inlined, with what it calls: it is called for most lines
 #[inline(always)]
 pub fn reach(pass: &Pass<'_>, line: Line) -> Reached
     ensures { spec.reach_of pass.now.placing.builder.text line.stop result

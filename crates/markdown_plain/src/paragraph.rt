@@ -262,6 +262,8 @@ impl<'a> Pass<'a> {
 
     /// Adds a line, from its first content byte at byte offset `start` on, to the open paragraph; where none is open,
     /// begins one inside the outermost `depth` of the open blocks.
+    // inlined: it is called for each line of a paragraph
+    #[inline(always)]
     pub fn add_text(&mut self, line: Line, start: usize, depth: usize) -> Result<(), AllocError>
         ensures text { IfOk result (λ _. self.new.placing.builder.text
             ≡ self.old.placing.builder.text) }

@@ -320,6 +320,8 @@ impl<'a> Placing<'a> {
     }
 
     /// Appends a settled inline item up to byte offset `end`.
+    // inlined: it is called for each line break
+    #[inline(always)]
     pub fn add_inline(&mut self, body: ItemBody, end: usize) -> Result<(), AllocError>
         requires { is_settled body ≡ true }
         ensures text { IfOk result (λ _. self.new.builder.text ≡ self.old.builder.text) }

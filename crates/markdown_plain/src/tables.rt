@@ -1,7 +1,6 @@
 //! Tables: how one begins at its delimiter row, and its rows. Functions that return a `Result` fail only where memory is
 //! refused.
 ghost use Rattle.std.specs.Prelude.{◌≡◌, ◌≤◌, false, true, length, IfOk};
-ghost use Rattle.std.specs.Str.{IsCharBoundary};
 ghost use Rattle.markdown_builder.specs.Bodies.{is_leaf, is_plain_block};
 ghost use Rattle.markdown_plain.specs.Fitting.{GoesOn, IfFitted};
 ghost use Rattle.markdown_plain.specs.Paragraphs.{IsPlacedTo};
@@ -12,14 +11,11 @@ use crate::placing::Placing;
 use markdown_base::item::ItemBody;
 use markdown_base::options::Options;
 use markdown_base::tag::Alignment;
-use markdown_lines::block_start::{Before, BlockStart};
 use markdown_lines::bytes::{byte_at, bytes_of};
 use markdown_lines::definition::read_definition;
 use markdown_lines::extended_only::is_read;
 use markdown_lines::held_line::HeldLine;
 use markdown_lines::line::Line;
-use markdown_lines::line_reader::LineReader;
-use markdown_lines::lines_ahead::LinesAhead;
 use markdown_lines::position::Position;
 use markdown_lines::space::read_space;
 use markdown_lines::table_row::{
@@ -284,22 +280,14 @@ impl<'a> Pass<'a> {
         )
     }
 
-    /// Adds a row to the open table, if a line of the text whose lines are `ahead` is one, and returns whether it is. Its
-    /// first byte that is neither a space nor a tab is at the byte offset `start`.
-    pub fn add_row(
-        &mut self,
-        line: Line,
-        start: usize,
-        ahead: &mut LinesAhead<'a>,
-    ) -> Result<bool, AllocError>
-        requires { IsCharBoundary ahead.old.text.now line.stop }
-        ensures text { IfOk result (λ _. self.new.placing.builder.text
-            ≡ self.old.placing.builder.text) }
-        ensures ahead { ahead.new.text.now ≡ ahead.old.text.now }
+    /// Adds a row to the open table, if a line has a cell and may have the cells that it lacks, and returns whether it is
+    /// one. Its first byte that is neither a space nor a tab is at the byte offset `start`, and begins nothing but text.
+    pub fn add_row(&mut self, line: Line, start: usize) -> Result<bool, AllocError>
+        ensures { IfOk result (λ _. self.new.placing.builder.text ≡ self.old.placing.builder.text) }
     {
         let text = self.placing.text();
         let count = count_cells(text, start, line.stop);
-        if count == 0 || self.ends_table(line, start, ahead)? || !self.tables.add(count) {
+        if count == 0 || !self.tables.add(count) {
             return Ok(false);
         }
         let row = HeldLine {
@@ -317,24 +305,5 @@ impl<'a> Pass<'a> {
             self.options,
         )?;
         Ok(true)
-    }
-
-    /// Returns whether a line begins a block that ends a table, at the byte offset `start`: one that would end a
-    /// paragraph which the line continued lazily.
-    fn ends_table(
-        &self,
-        line: Line,
-        start: usize,
-        ahead: &mut LinesAhead<'a>,
-    ) -> Result<bool, AllocError>
-        requires { IsCharBoundary ahead.old.text.now line.stop }
-        ensures { ahead.new.text.now ≡ ahead.old.text.now }
-    {
-        let mut reader = LineReader::new(self.alloc, ahead, self.options, line, false);
-        let begun = reader.beginning(Position::new(start), Before::Lazy)?;
-        match begun.start {
-            BlockStart::Text => Ok(false),
-            _ => Ok(true),
-        }
     }
 }
