@@ -6,3 +6,4 @@ pub mod StretchesLemmas
 -- on lines that are taken, and on when lists become loose
 pub mod ParagraphsLemmas
 pub mod ListLoosenessLemmas
+pub mod DividedLemmas

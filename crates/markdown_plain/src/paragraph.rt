@@ -12,6 +12,8 @@ ghost use Rattle.markdown_plain.specs.Paragraphs.{EndsFrom, IsDivided};
 ghost use Rattle.markdown_plain.specs.Paragraphs.{IsPlacedTo};
 ghost use Rattle.markdown_plain.specs.HeldSources.{IsParagraph};
 ghost use Rattle.markdown_plain.specs.LeafTrees.{HasTrees};
+ghost use Rattle.markdown_plain.specs.TakenDefinitions.{TakesDefinitions};
+ghost use Rattle.markdown_lines.specs.DefinitionRules.{divided};
 ghost use Rattle.markdown_lines.specs.SourceLines.{SourceLine};
 ghost use Rattle.markdown_block_rules.specs.BlockGrowth.{Block};
 
@@ -50,6 +52,14 @@ fn take_definition<'a>(
     ensures none { IfOk result (λ taken. taken ≡ 0 → placing.new ≡ placing.old) }
     ensures after { IfOk result (λ taken. 0 < taken → IfFitted placing.old placing.new
         (placing.new.builder.at ≡ end_of lines.now taken)) }
+    ensures takes { IfOk result (λ taken. (sources : List SourceLine)
+        → IsParagraph placing.old.builder.text lines.now sources
+        → IfFitted placing.old placing.new
+        (TakesDefinitions names placing.old.builder placing.new.builder lines.now sources taken)) }
+    ensures over { IfOk result (λ taken. taken ≡ 0 → (sources : List SourceLine)
+        → IsParagraph placing.old.builder.text lines.now sources
+        → divided names placing.old.builder.text sources
+        ≡ record { definitions = []; lines = sources }) }
 {
     let text = placing.text();
     let Some(first) = lines.first() else {
@@ -93,10 +103,7 @@ fn take_definitions<'a>(
         (IsDivided names placing.old.builder placing.new.builder sources taken)) }
 {
     let mut taken = 0;
-    'definitions: for _ in 0..lines.len() {
-        if taken >= lines.len() {
-            break;
-        }
+    'definitions: while taken < lines.len() {
         let more = take_definition(alloc, placing, &lines[taken..], names)?;
         if more == 0 {
             break;

@@ -1,7 +1,11 @@
--- The text stays, and nothing but the current byte offset changes: it is after the lines that are taken.
-use Rattle.std.proofs.Common.{◌≡◌, ◌<◌, ◌≤◌, length}
+-- The text stays, and nothing but the current byte offset and the definitions change: those of the lines that are taken
+-- were added, after which the byte offset is.
+use Rattle.std.proofs.Common.{◌≡◌, ◌<◌, ◌≤◌, ◌-◌, List, length}
+use Rattle.markdown_lines.specs.SourceLines.{SourceLine}
 use Rattle.markdown_plain.specs.Fitting.{IfFitted, defining}
+use Rattle.markdown_plain.specs.HeldSources.{IsParagraph}
 use Rattle.markdown_plain.specs.Paragraphs.{end_of}
+use Rattle.markdown_plain.specs.TakenDefinitions.{TakesDefinitions}
 use Rattle.markdown_plain.proofs.paragraph.take_definitions.Given as goal
 
 abbrev pub invariant-definitions : goal.invariant-definitions
@@ -11,4 +15,10 @@ invariant-definitions l = record {
       ≡ defining l.fn.placing.builder l.placing.builder.definitions l.placing.builder.at);
   within : l.taken ≤ length l.lines;
   after : 0 < l.taken → IfFitted l.fn.placing l.placing (l.placing.builder.at ≡ end_of l.lines l.taken);
+  takes : (sources : List SourceLine) → IsParagraph l.fn.placing.builder.text l.lines sources
+      → IfFitted l.fn.placing l.placing
+      (TakesDefinitions l.names l.fn.placing.builder l.placing.builder l.lines sources l.taken);
 }
+
+abbrev pub decreases-definitions : goal.decreases-definitions
+decreases-definitions l = length l.lines - l.taken

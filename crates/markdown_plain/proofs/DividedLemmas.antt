@@ -1,0 +1,379 @@
+-- What a paragraph is divided into where its first definition is taken, and where there is none.
+use Rattle.std.proofs.Common.{◌≡◌, ℕ, zero, suc, ◌+◌, ◌-◌, ◌<◌, ◌≤◌, Bool, true, false, ◌==◌, List, [], ◌∷◌, ◌++◌}
+use Rattle.std.proofs.Common.{Option, Some, None, length, drop, refl, sym, ap, ◌∙◌, arith, subst, codes, get_or}
+use Rattle.std.proofs.Common.{append_assoc, if◌then◌else◌, nat_eq, nat_le, not, slice_range, take}
+use Rattle.std.proofs.lemmas.Bool.{true≢false}
+use Rattle.std.proofs.lemmas.Bool.Decides.{nat_tests}
+use Rattle.std.proofs.lemmas.List.{append-nil, drop-drop, length-drop}
+use Rattle.std.proofs.lemmas.Option.{get_or_from_slice_get, slice_get-get_or}
+use Rattle.std.specs.List.{slice_get}
+use Rattle.std.specs.Option.{option_eq, option_map}
+use Rattle.markdown_base.proofs.ByteListLemmas.{part_length}
+use Rattle.markdown_base.specs.CowText.{text_of}
+use Rattle.markdown_builder.specs.BuilderView.{BuilderView, Definition}
+use Rattle.markdown_lines.specs.DefinitionRules.{Defined, Divided, definition_at, definition_in, divided, divided_in}
+use Rattle.markdown_lines.specs.DefinitionRules.{lines_behind, more_definitions, text_of_lines}
+use Rattle.markdown_lines.specs.HeldDefinitions.{IsDefinitionOf}
+use Rattle.markdown_lines.specs.HeldLines.{AreHeldFrom, AreLinesOfSource, IsBracketPlace}
+use Rattle.markdown_lines.specs.SourceLines.{SourceLine, without_empty}
+use Rattle.markdown_lines.specs.declared.definition.Definition.{Definition as Found}
+use Rattle.markdown_lines.specs.declared.held_line.HeldLine.{HeldLine}
+use Rattle.markdown_lines.proofs.HeldLinesLemmas.{bounds_of}
+use Rattle.markdown_lines.proofs.PositionsLemmas.{part_next}
+use Rattle.markdown_scan.specs.Beginnings.{begins_with}
+use Rattle.markdown_scan.specs.declared.entity.EntityNames.{EntityNames}
+use Rattle.markdown_plain.specs.HeldSources.{AreInOrder, AreInParagraph, AreTextLines, IsParagraph}
+use Rattle.markdown_plain.specs.Paragraphs.{IsDivided}
+use Rattle.markdown_plain.specs.TakenDefinitions.{TakesDefinitions, after_definitions}
+
+-- a definition takes a line or more
+fewer_behind : (lines : List SourceLine) (count : ℕ) → length (lines_behind lines count) ≤ length lines - 1
+fewer_behind [] count = omega arith
+fewer_behind (l ∷ lines) count =
+    let fewer = fewer_behind lines (count - (l.next - l.left.scanned)) in
+    omega (arith, decided (nat_le count (l.next - l.left.scanned)) refl fewer)
+  where
+    decided : (within : Bool) → nat_le count (l.next - l.left.scanned) ≡ within
+        → length (lines_behind lines (count - (l.next - l.left.scanned))) ≤ length lines - 1
+        → length (lines_behind (l ∷ lines) count) ≤ length lines
+    decided true p fewer = rw p (omega arith)
+    decided false p fewer = rw p (omega (arith, fewer))
+
+-- there are no more definitions than lines
+enough : (names : EntityNames) (n m : ℕ) (text : List ℕ) (lines : List SourceLine) → length lines ≤ n
+    → length lines ≤ m → divided_in names n text lines ≡ divided_in names m text lines
+unfolding divided_in
+enough names zero zero text lines few also = refl
+enough names zero (suc m) text [] few also = refl
+enough names zero (suc m) text (l ∷ lines) few also = absurd (omega (arith, few))
+enough names (suc n) zero text [] few also = refl
+enough names (suc n) zero text (l ∷ lines) few also = absurd (omega (arith, also))
+enough names (suc n) (suc m) text lines few also =
+    by (definition_in names (text_of_lines text lines)) (λ (count : ℕ).
+    let fewer = fewer_behind lines count in
+    enough names n m text (lines_behind lines count) (omega (arith, fewer, few)) (omega (arith, fewer, also)))
+  where
+    by : (found : Option Defined)
+        → ((count : ℕ) → divided_in names n text (lines_behind lines count)
+        ≡ divided_in names m text (lines_behind lines count))
+        → more_definitions (divided_in names n text) lines found
+        ≡ more_definitions (divided_in names m text) lines found
+    by None same = refl
+    by (Some d) same = ap (after_definitions (definition_at lines d ∷ [])) (same d.length)
+
+-- where there is none
+none_in : (names : EntityNames) (n : ℕ) (text : List ℕ) (lines : List SourceLine)
+    → definition_in names (text_of_lines text lines) ≡ None
+    → divided_in names n text lines ≡ record { definitions = []; lines = lines }
+unfolding divided_in
+none_in names zero text lines none = refl
+none_in names (suc n) text lines none = ap (more_definitions (divided_in names n text) lines) none
+
+-- lines of a paragraph after its first, or all where something is left of that
+pub record AreFilled (text : List ℕ) (lines : List HeldLine) (sources : List SourceLine) : Type 0 where
+  pub held : AreHeldFrom text 0 lines
+  pub are : AreTextLines text lines sources
+
+from_first : (text : List ℕ) (from : ℕ) (lines : List HeldLine) → AreHeldFrom text from lines → AreHeldFrom text 0 lines
+from_first text from [] held = held
+from_first text from (line ∷ lines) held = (omega arith, held.1)
+
+in_paragraph : (text : List ℕ) (lines : List HeldLine) → AreHeldFrom text 0 lines → AreInParagraph text lines
+in_paragraph text [] held = held
+in_paragraph text (line ∷ lines) held =
+    let other = differs line.start line.stop held.1.0.some in
+    subst (λ (empty : Bool). AreInOrder empty text line lines) (sym other) held
+  where
+    differs : (n m : ℕ) → n < m → (n == m) ≡ false
+    differs n m less = grind (arith, nat_tests)
+
+paragraph_of : (text : List ℕ) (lines : List HeldLine) (sources : List SourceLine) → AreFilled text lines sources
+    → IsParagraph text lines sources
+paragraph_of text lines sources filled = record { inside = in_paragraph text lines filled.held; are = filled.are }
+
+-- what is left of them
+filled_left : (text : List ℕ) (lines : List HeldLine) (sources : List SourceLine) (count : ℕ)
+    → AreFilled text lines sources → AreFilled text (drop count lines) (drop count sources)
+filled_left text lines sources zero filled = filled
+filled_left text [] [] (suc count) filled = filled
+filled_left text [] (source ∷ sources) (suc count) filled = absurd filled.are
+filled_left text (line ∷ lines) [] (suc count) filled = absurd filled.are
+filled_left text (line ∷ lines) (source ∷ sources) (suc count) filled =
+    filled_left text lines sources count
+    (record { held = from_first text line.next lines filled.held.1.1; are = filled.are.1 })
+
+-- none of them is empty
+no_empty : (text : List ℕ) (lines : List HeldLine) (sources : List SourceLine) → AreFilled text lines sources
+    → without_empty sources ≡ sources
+no_empty text [] [] filled = refl
+no_empty text [] (source ∷ sources) filled = absurd filled.are
+no_empty text (line ∷ lines) [] filled = absurd filled.are
+no_empty text (line ∷ lines) (source ∷ sources) filled =
+    let bounds = bounds_of text line filled.held.1.0 in
+    let size = part_length text line.start line.stop (omega (arith, bounds.next, bounds.within)) in
+    let bytes = ap length filled.are.0.bytes in
+    let some : (length source.left.bytes == 0) ≡ false =
+    not_none (length source.left.bytes) (omega (arith, bounds.stop, size, bytes)) in
+    rw some refl
+  where
+    not_none : (n : ℕ) → 0 < n → (n == 0) ≡ false
+    not_none n some = grind (arith, nat_tests)
+
+divided_filled : (names : EntityNames) (text : List ℕ) (lines : List HeldLine) (sources : List SourceLine)
+    → AreFilled text lines sources → divided names text sources ≡ divided_in names (length sources) text sources
+divided_filled names text lines sources filled =
+    ap (divided_in names (length sources) text) (no_empty text lines sources filled)
+
+-- a paragraph whose first line is not empty
+pub filled_of : (text : List ℕ) (lines : List HeldLine) (sources : List SourceLine) (line : HeldLine)
+    → slice_get lines 0 ≡ Some line → (line.start ≡ line.stop → ⊥) → IsParagraph text lines sources
+    → AreFilled text lines sources
+filled_of text [] sources line there some is = cc
+filled_of text (first ∷ lines) sources line there some is =
+    let same : first ≡ line = cc in
+    let other : (first.start == first.stop) ≡ false =
+    differs first.start first.stop (subst (λ (l : HeldLine). l.start ≡ l.stop → ⊥) (sym same) some) in
+    record {
+      held = subst (λ (empty : Bool). AreInOrder empty text first lines) other is.inside;
+      are = is.are;
+    }
+  where
+    differs : (n m : ℕ) → (n ≡ m → ⊥) → (n == m) ≡ false
+    differs n m other = grind (arith, nat_tests)
+
+-- one whose first line is
+pub takes_empty : (names : EntityNames) (old new : BuilderView) (lines : List HeldLine) (sources : List SourceLine)
+    (line : HeldLine) → slice_get lines 0 ≡ Some line → line.start ≡ line.stop
+    → IsParagraph old.text lines sources → new.definitions ≡ old.definitions
+    → TakesDefinitions names old new lines sources 1
+takes_empty names old new [] sources line there none is kept = cc
+takes_empty names old new (first ∷ lines) [] line there none is kept = absurd is.are
+takes_empty names old new (first ∷ lines) (source ∷ sources) line there none is kept =
+    let same : first ≡ line = cc in
+    let empty = subst (λ (l : HeldLine). l.start ≡ l.stop) (sym same) none in
+    let test : (first.start == first.stop) ≡ true = equal first.start first.stop empty in
+    let held = subst (λ (empty : Bool). AreInOrder empty old.text first lines) test is.inside in
+    let filled : AreFilled old.text lines sources =
+    record { held = from_first old.text first.next lines held; are = is.are.1 } in
+    let bytes : source.left.bytes ≡ [] = sym is.are.0.bytes
+    ∙ (ap (λ n. slice_range old.text n first.stop) empty ∙ nothing old.text first.stop) in
+    record {
+      first = [];
+      definitions = kept ∙ sym (append-nil old.definitions);
+      others = ap (λ (xs : List ℕ). divided_in names (suc (length sources)) old.text
+          (if length xs == 0 then sources else source ∷ sources)) bytes
+          ∙ (enough names (suc (length sources)) (length sources) old.text sources (omega arith) (omega arith)
+          ∙ sym (divided_filled names old.text lines sources filled));
+      left = paragraph_of old.text lines sources filled;
+    }
+  where
+    equal : (n m : ℕ) → n ≡ m → (n == m) ≡ true
+    equal n m same = grind (arith, nat_tests)
+
+    nothing : (text : List ℕ) (at : ℕ) → slice_range text at at ≡ []
+    nothing text at = let none : at - at ≡ 0 = omega arith in ap (λ n. take n (drop at text)) none
+
+-- there is no definition at the beginning of a paragraph
+pub none_there : (names : EntityNames) (text : List ℕ) (lines : List HeldLine) (sources : List SourceLine)
+    → AreFilled text lines sources → definition_in names (text_of_lines text sources) ≡ None
+    → divided names text sources ≡ record { definitions = []; lines = sources }
+none_there names text lines sources filled none =
+    divided_filled names text lines sources filled ∙ none_in names (length sources) text sources none
+
+-- nor in no lines
+pub no_line : (names : EntityNames) (text : List ℕ) (lines : List HeldLine) (sources : List SourceLine)
+    → slice_get lines 0 ≡ None → IsParagraph text lines sources
+    → divided names text sources ≡ record { definitions = []; lines = sources }
+no_line names text [] [] none is = none_in names 0 text [] refl
+no_line names text [] (source ∷ sources) none is = absurd is.are
+no_line names text (line ∷ lines) sources none is = cc
+
+-- nor where a paragraph begins with another byte than a `[`
+pub no_bracket : (names : EntityNames) (text : List ℕ) (lines : List HeldLine) (sources : List SourceLine)
+    (line : HeldLine) → slice_get lines 0 ≡ Some line → AreFilled text lines sources
+    → (slice_get text line.start ≡ Some 91 → ⊥) → definition_in names (text_of_lines text sources) ≡ None
+no_bracket names text [] sources line there filled other = cc
+no_bracket names text (first ∷ lines) [] line there filled other = absurd filled.are
+no_bracket names text (first ∷ lines) (source ∷ sources) line there filled other =
+    let same : first ≡ line = cc in
+    let bounds = bounds_of text first filled.held.1.0 in
+    let within : first.start < length text = omega (arith, bounds.stop, bounds.next, bounds.within) in
+    let byte = get_or text first.start 0 in
+    let more = slice_range text (first.start + 1) first.next ++ text_of_lines text sources in
+    let not : begins_with (codes "[") (byte ∷ more) ≡ false =
+    other_byte byte more (λ (e : byte ≡ 91). other (ap (λ (l : HeldLine). slice_get text l.start) (sym same)
+    ∙ (slice_get-get_or text first.start 0 within ∙ ap Some e))) in
+    let part = ap (λ n. slice_range text n source.next) (sym filled.are.0.start)
+    ∙ (ap (slice_range text first.start) (sym filled.are.0.next)
+    ∙ part_next text first.start first.next (omega (arith, bounds.stop, bounds.next)) within) in
+    ap (λ (xs : List ℕ). definition_in names (xs ++ text_of_lines text sources)) part
+    ∙ not_begun names (byte ∷ more) not
+  where
+    differs : (n m : ℕ) → (n ≡ m → ⊥) → (n == m) ≡ false
+    differs n m other = grind (arith, nat_tests)
+
+    other_byte : (b : ℕ) (bytes : List ℕ) → (b ≡ 91 → ⊥) → begins_with (codes "[") (b ∷ bytes) ≡ false
+    other_byte b bytes other =
+        let not : nat_eq 91 b ≡ false = differs 91 b (λ (e : 91 ≡ b). other (sym e)) in rw not refl
+
+    not_begun : (names : EntityNames) (bytes : List ℕ) → begins_with (codes "[") bytes ≡ false
+        → definition_in names bytes ≡ None
+    not_begun names bytes not = rw not refl
+
+-- lines of a paragraph are lines of the source
+pub lines_of_source : (text : List ℕ) (lines : List HeldLine) (sources : List SourceLine)
+    → AreTextLines text lines sources → AreLinesOfSource lines sources
+lines_of_source text [] [] are = are
+lines_of_source text [] (source ∷ sources) are = absurd are
+lines_of_source text (line ∷ lines) [] are = absurd are
+lines_of_source text (line ∷ lines) (source ∷ sources) are =
+    (are.0.start, (are.0.next, lines_of_source text lines sources are.1))
+
+pub as_many : (text : List ℕ) (lines : List HeldLine) (sources : List SourceLine) → AreTextLines text lines sources
+    → length lines ≡ length sources
+as_many text [] [] are = refl
+as_many text [] (source ∷ sources) are = absurd are
+as_many text (line ∷ lines) [] are = absurd are
+as_many text (line ∷ lines) (source ∷ sources) are = ap suc (as_many text lines sources are.1)
+
+-- a `[` is the first byte of a paragraph, or another byte is
+pub is_bracket : (found : Option ℕ) → not (option_eq nat_eq found (Some 91)) ≡ false → found ≡ Some 91
+is_bracket None e = absurd (true≢false e)
+is_bracket (Some b) e = ap Some (by b e)
+  where
+    by : (b : ℕ) → not (nat_eq b 91) ≡ false → b ≡ 91
+    by b e = grind (arith, nat_tests)
+
+pub no_bracket_byte : (found : Option ℕ) → not (option_eq nat_eq found (Some 91)) ≡ true → found ≡ Some 91 → ⊥
+no_bracket_byte None e same = cc
+no_bracket_byte (Some b) e same = by b e (some_same b same)
+  where
+    by : (b : ℕ) → not (nat_eq b 91) ≡ true → b ≡ 91 → ⊥
+    by b e same = grind (arith, nat_tests)
+
+    some_same : (b : ℕ) → Some b ≡ Some 91 → b ≡ 91
+    some_same b same = cc
+
+pub bracket_place : (text : List ℕ) (lines : List HeldLine) (sources : List SourceLine) (line : HeldLine)
+    → slice_get lines 0 ≡ Some line → AreFilled text lines sources → slice_get text line.start ≡ Some 91
+    → IsBracketPlace text lines line.start
+bracket_place text lines sources line there filled byte = record {
+  held = filled.held;
+  line = line;
+  there = there;
+  begins = refl;
+  bracket = get_or_from_slice_get text line.start 91 0 byte;
+}
+
+-- after the first definition
+divided_on : (names : EntityNames) (text : List ℕ) (sources : List SourceLine) (count : ℕ) (d : Defined) → 0 < count
+    → count ≤ length sources → definition_in names (text_of_lines text sources) ≡ Some d
+    → lines_behind sources d.length ≡ drop count sources
+    → divided_in names (length sources) text sources
+    ≡ after_definitions (definition_at sources d ∷ [])
+    (divided_in names (length (drop count sources)) text (drop count sources))
+unfolding divided_in
+divided_on names text [] count d some few is behind = absurd (omega (arith, some, few))
+divided_on names text (source ∷ sources) count d some few is behind =
+    let size = length-drop count (source ∷ sources) in
+    let begins = λ (others : Divided). after_definitions (definition_at (source ∷ sources) d ∷ []) others in
+    ap (more_definitions (divided_in names (length sources) text) (source ∷ sources)) is
+    ∙ (ap (λ (ls : List SourceLine). begins (divided_in names (length sources) text ls)) behind
+    ∙ ap begins (enough names (length sources) (length (drop count (source ∷ sources))) text
+    (drop count (source ∷ sources)) (omega (arith, some, size)) (omega arith)))
+
+-- the first definition is taken
+pub takes_first : (names : EntityNames) (old new : BuilderView) (lines : List HeldLine) (sources : List SourceLine)
+    (at : ℕ) (found : Found) → AreFilled old.text lines sources → IsDefinitionOf names old.text sources at found
+    → new.definitions ≡ old.definitions ++ record {
+      label = text_of found.label;
+      destination = text_of found.destination;
+      title = option_map text_of found.title;
+      start = at;
+      end = found.end;
+    } ∷ []
+    → TakesDefinitions names old new lines sources found.lines
+takes_first names old new lines sources at found filled is adds =
+    let left = filled_left old.text lines sources found.lines filled in
+    record {
+      first = definition_at sources is.defined ∷ [];
+      definitions = adds ∙ ap (λ (d : Definition). old.definitions ++ d ∷ []) same;
+      others = divided_filled names old.text lines sources filled
+          ∙ (divided_on names old.text sources found.lines is.defined is.lines.0 is.lines.1 is.is is.behind
+          ∙ ap (after_definitions (definition_at sources is.defined ∷ [])) (sym (divided_filled names old.text
+          (drop found.lines lines) (drop found.lines sources) left)));
+      left = paragraph_of old.text (drop found.lines lines) (drop found.lines sources) left;
+    }
+  where
+    same : record {
+      label = text_of found.label;
+      destination = text_of found.destination;
+      title = option_map text_of found.title;
+      start = at;
+      end = found.end;
+    } ≡ definition_at sources is.defined
+    same = rw (is.label, is.destination, is.title, is.start, is.end) refl
+
+-- nothing is taken yet
+pub takes_none : (names : EntityNames) (old : BuilderView) (lines : List HeldLine) (sources : List SourceLine)
+    → IsParagraph old.text lines sources → TakesDefinitions names old old lines sources 0
+takes_none names old lines sources is = record {
+  first = [];
+  definitions = sym (append-nil old.definitions);
+  others = refl;
+  left = is;
+}
+
+-- more are taken
+pub takes_more : (names : EntityNames) (old mid new : BuilderView) (lines : List HeldLine)
+    (sources : List SourceLine) (taken more : ℕ) → mid.text ≡ old.text
+    → TakesDefinitions names old mid lines sources taken
+    → TakesDefinitions names mid new (drop taken lines) (drop taken sources) more
+    → TakesDefinitions names old new lines sources (more + taken)
+takes_more names old mid new lines sources taken more text before after =
+    let count : taken + more ≡ more + taken = omega arith in
+    let here = drop-drop more taken lines ∙ ap (λ n. drop n lines) count in
+    let there = drop-drop more taken sources ∙ ap (λ n. drop n sources) count in
+    let rest = divided names old.text (drop more (drop taken sources)) in
+    let others = subst (λ (t : List ℕ). divided names t (drop taken sources)
+    ≡ after_definitions after.first (divided names t (drop more (drop taken sources)))) text after.others in
+    record {
+      first = before.first ++ after.first;
+      definitions = after.definitions ∙ (ap (λ (ds : List Definition). ds ++ after.first) before.definitions
+          ∙ append_assoc old.definitions before.first after.first);
+      others = before.others
+          ∙ (ap (after_definitions before.first) others
+          ∙ (ap (λ (ds : List Definition). record { definitions = ds; lines = rest.lines })
+          (sym (append_assoc before.first after.first rest.definitions))
+          ∙ ap (λ (ls : List SourceLine). after_definitions (before.first ++ after.first)
+          (divided names old.text ls)) there));
+      left = subst (λ (ls : List HeldLine). IsParagraph old.text ls (drop (more + taken) sources)) here
+          (subst (λ (ls : List SourceLine). IsParagraph old.text (drop more (drop taken lines)) ls) there
+          (subst (λ (t : List ℕ). IsParagraph t (drop more (drop taken lines)) (drop more (drop taken sources))) text
+          after.left));
+    }
+
+-- all are taken
+pub takes_all : (names : EntityNames) (old new : BuilderView) (lines : List HeldLine) (sources : List SourceLine)
+    (taken : ℕ) → TakesDefinitions names old new lines sources taken
+    → divided names old.text (drop taken sources) ≡ record { definitions = []; lines = drop taken sources }
+    → IsDivided names old new sources taken
+takes_all names old new lines sources taken takes over =
+    let others = takes.others ∙ ap (after_definitions takes.first) over in
+    record {
+      definitions = takes.definitions ∙ ap (λ (ds : List Definition). old.definitions ++ ds)
+          (sym (append-nil takes.first) ∙ sym (ap (λ (d : Divided). d.definitions) others));
+      lines = sym (ap (λ (d : Divided). d.lines) others);
+    }
+
+-- no line is left
+pub none_left : (names : EntityNames) (text : List ℕ) (lines : List HeldLine) (sources : List SourceLine)
+    (taken : ℕ) → AreTextLines text (drop taken lines) (drop taken sources) → length lines ≤ taken
+    → divided names text (drop taken sources) ≡ record { definitions = []; lines = drop taken sources }
+none_left names text lines sources taken are all =
+    by (drop taken sources) (as_many text (drop taken lines) (drop taken sources) are)
+  where
+    by : (rest : List SourceLine) → length (drop taken lines) ≡ length rest
+        → divided names text rest ≡ record { definitions = []; lines = rest }
+    by [] e = none_in names 0 text [] refl
+    by (l ∷ rest) e = absurd (omega (arith, e, all, length-drop taken lines))
