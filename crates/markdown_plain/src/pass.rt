@@ -4,7 +4,7 @@ ghost use Rattle.std.specs.Prelude.{◌≡◌, [], ◌&&◌, true, false, not, l
 ghost use Rattle.std.specs.Option.{option_map};
 ghost use Rattle.markdown_base.specs.declared.item.ItemBody.TheVariants as body;
 ghost use Rattle.markdown_builder.specs.BuilderView.{BuilderView, innermost_block, nothing_made};
-ghost use Rattle.markdown_plain.specs.Fitting.{AllFitted, HasBody, IfFitted, closed};
+ghost use Rattle.markdown_plain.specs.Fitting.{AllFitted, HasBody, IfFitted, PutsBlock, closed};
 ghost use Rattle.markdown_plain.specs.OpenBlocks.{innermost_is, is_list, room_in, without_leaf};
 ghost use Rattle.markdown_plain.specs.Containers.{closing_place};
 ghost use Rattle.markdown_plain.specs.Paragraphs.{has_paragraph};
@@ -210,6 +210,9 @@ impl<'a> Pass<'a> {
             ≡ self.old.placing.builder.text) }
         ensures ends { IfOk result (λ _. IfFitted self.old.placing self.new.placing
             (self.new.placing.builder.blocks ≡ without_leaf self.old.placing.builder)) }
+        ensures tree { IfOk result (λ _. self.old.placing.builder.leaf ≡ true
+            → IfFitted self.old.placing self.new.placing
+            (PutsBlock self.old.placing.builder self.new.placing.builder)) }
         ensures outside { IfOk result (λ _. IfFitted self.old.placing self.new.placing
             (self.new.placing.builder.leaf ≡ false)) }
         ensures ended { IfOk result (λ _. self.new.lines.items ≡ []) }
