@@ -13,7 +13,7 @@ use Rattle.markdown_base.specs.CowText.{text_of}
 use Rattle.markdown_builder.specs.BuilderView.{BuilderView, Definition}
 use Rattle.markdown_lines.specs.DefinitionRules.{Defined, Divided, definition_at, definition_in, divided, divided_in}
 use Rattle.markdown_lines.specs.DefinitionRules.{lines_behind, more_definitions, text_of_lines}
-use Rattle.markdown_lines.specs.HeldDefinitions.{IsDefinitionOf}
+use Rattle.markdown_lines.specs.HeldDefinitions.{IsDefinitionOf, IsFirstDefinition}
 use Rattle.markdown_lines.specs.HeldLines.{AreHeldFrom, AreLinesOfSource, IsBracketPlace}
 use Rattle.markdown_lines.specs.SourceLines.{SourceLine, without_empty}
 use Rattle.markdown_lines.specs.declared.definition.Definition.{Definition as Found}
@@ -25,6 +25,9 @@ use Rattle.markdown_scan.specs.declared.entity.EntityNames.{EntityNames}
 use Rattle.markdown_plain.specs.HeldSources.{AreInOrder, AreInParagraph, AreTextLines, IsParagraph}
 use Rattle.markdown_plain.specs.Paragraphs.{IsDivided}
 use Rattle.markdown_plain.specs.TakenDefinitions.{TakesDefinitions, after_definitions}
+
+differs : (n m : ℕ) → (n ≡ m → ⊥) → (n == m) ≡ false
+differs n m other = grind (arith, nat_tests)
 
 -- a definition takes a line or more
 fewer_behind : (lines : List SourceLine) (count : ℕ) → length (lines_behind lines count) ≤ length lines - 1
@@ -81,11 +84,9 @@ from_first text from (line ∷ lines) held = (omega arith, held.1)
 in_paragraph : (text : List ℕ) (lines : List HeldLine) → AreHeldFrom text 0 lines → AreInParagraph text lines
 in_paragraph text [] held = held
 in_paragraph text (line ∷ lines) held =
-    let other = differs line.start line.stop held.1.0.some in
+    let some = held.1.0.some in
+    let other = differs line.start line.stop (λ (e : line.start ≡ line.stop). omega (arith, some, e)) in
     subst (λ (empty : Bool). AreInOrder empty text line lines) (sym other) held
-  where
-    differs : (n m : ℕ) → n < m → (n == m) ≡ false
-    differs n m less = grind (arith, nat_tests)
 
 paragraph_of : (text : List ℕ) (lines : List HeldLine) (sources : List SourceLine) → AreFilled text lines sources
     → IsParagraph text lines sources
@@ -112,12 +113,9 @@ no_empty text (line ∷ lines) (source ∷ sources) filled =
     let bounds = bounds_of text line filled.held.1.0 in
     let size = part_length text line.start line.stop (omega (arith, bounds.next, bounds.within)) in
     let bytes = ap length filled.are.0.bytes in
-    let some : (length source.left.bytes == 0) ≡ false =
-    not_none (length source.left.bytes) (omega (arith, bounds.stop, size, bytes)) in
+    let some : (length source.left.bytes == 0) ≡ false = differs (length source.left.bytes) 0
+    (λ (e : length source.left.bytes ≡ 0). omega (arith, bounds.stop, size, bytes, e)) in
     rw some refl
-  where
-    not_none : (n : ℕ) → 0 < n → (n == 0) ≡ false
-    not_none n some = grind (arith, nat_tests)
 
 divided_filled : (names : EntityNames) (text : List ℕ) (lines : List HeldLine) (sources : List SourceLine)
     → AreFilled text lines sources → divided names text sources ≡ divided_in names (length sources) text sources
@@ -137,11 +135,8 @@ filled_of text (first ∷ lines) sources line there some is =
       held = subst (λ (empty : Bool). AreInOrder empty text first lines) other is.inside;
       are = is.are;
     }
-  where
-    differs : (n m : ℕ) → (n ≡ m → ⊥) → (n == m) ≡ false
-    differs n m other = grind (arith, nat_tests)
 
--- one whose first line is
+-- the first line of a paragraph is taken, where it is empty
 pub takes_empty : (names : EntityNames) (old new : BuilderView) (lines : List HeldLine) (sources : List SourceLine)
     (line : HeldLine) → slice_get lines 0 ≡ Some line → line.start ≡ line.stop
     → IsParagraph old.text lines sources → new.definitions ≡ old.definitions
@@ -209,9 +204,6 @@ no_bracket names text (first ∷ lines) (source ∷ sources) line there filled o
     ap (λ (xs : List ℕ). definition_in names (xs ++ text_of_lines text sources)) part
     ∙ not_begun names (byte ∷ more) not
   where
-    differs : (n m : ℕ) → (n ≡ m → ⊥) → (n == m) ≡ false
-    differs n m other = grind (arith, nat_tests)
-
     other_byte : (b : ℕ) (bytes : List ℕ) → (b ≡ 91 → ⊥) → begins_with (codes "[") (b ∷ bytes) ≡ false
     other_byte b bytes other =
         let not : nat_eq 91 b ≡ false = differs 91 b (λ (e : 91 ≡ b). other (sym e)) in rw not refl
@@ -221,7 +213,7 @@ no_bracket names text (first ∷ lines) (source ∷ sources) line there filled o
     not_begun names bytes not = rw not refl
 
 -- lines of a paragraph are lines of the source
-pub lines_of_source : (text : List ℕ) (lines : List HeldLine) (sources : List SourceLine)
+lines_of_source : (text : List ℕ) (lines : List HeldLine) (sources : List SourceLine)
     → AreTextLines text lines sources → AreLinesOfSource lines sources
 lines_of_source text [] [] are = are
 lines_of_source text [] (source ∷ sources) are = absurd are
@@ -236,34 +228,43 @@ as_many text [] (source ∷ sources) are = absurd are
 as_many text (line ∷ lines) [] are = absurd are
 as_many text (line ∷ lines) (source ∷ sources) are = ap suc (as_many text lines sources are.1)
 
--- a `[` is the first byte of a paragraph, or another byte is
-pub is_bracket : (found : Option ℕ) → not (option_eq nat_eq found (Some 91)) ≡ false → found ≡ Some 91
-is_bracket None e = absurd (true≢false e)
-is_bracket (Some b) e = ap Some (by b e)
-  where
-    by : (b : ℕ) → not (nat_eq b 91) ≡ false → b ≡ 91
-    by b e = grind (arith, nat_tests)
-
+-- the first byte is no `[`
 pub no_bracket_byte : (found : Option ℕ) → not (option_eq nat_eq found (Some 91)) ≡ true → found ≡ Some 91 → ⊥
 no_bracket_byte None e same = cc
-no_bracket_byte (Some b) e same = by b e (some_same b same)
+no_bracket_byte (Some b) e same = by b e (inside b same)
   where
     by : (b : ℕ) → not (nat_eq b 91) ≡ true → b ≡ 91 → ⊥
     by b e same = grind (arith, nat_tests)
 
-    some_same : (b : ℕ) → Some b ≡ Some 91 → b ≡ 91
-    some_same b same = cc
+    inside : (b : ℕ) → Some b ≡ Some 91 → b ≡ 91
+    inside b same = cc
 
-pub bracket_place : (text : List ℕ) (lines : List HeldLine) (sources : List SourceLine) (line : HeldLine)
-    → slice_get lines 0 ≡ Some line → AreFilled text lines sources → slice_get text line.start ≡ Some 91
-    → IsBracketPlace text lines line.start
-bracket_place text lines sources line there filled byte = record {
-  held = filled.held;
-  line = line;
-  there = there;
-  begins = refl;
-  bracket = get_or_from_slice_get text line.start 91 0 byte;
-}
+-- or it is one
+bracket_byte : (found : Option ℕ) → not (option_eq nat_eq found (Some 91)) ≡ false → found ≡ Some 91
+bracket_byte None e = absurd (true≢false e)
+bracket_byte (Some b) e = ap Some (by b e)
+  where
+    by : (b : ℕ) → not (nat_eq b 91) ≡ false → b ≡ 91
+    by b e = grind (arith, nat_tests)
+
+-- what is read at the beginning of a paragraph that begins with a `[`
+pub first_read : (names : EntityNames) (text read : List ℕ) (lines : List HeldLine) (sources : List SourceLine)
+    (line : HeldLine) (byte : Option ℕ) (found : Option Found)
+    → slice_get lines 0 ≡ Some line → AreFilled text lines sources → read ≡ text → byte ≡ slice_get read line.start
+    → not (option_eq nat_eq byte (Some 91)) ≡ false
+    → ((sources : List SourceLine) → AreLinesOfSource lines sources → IsBracketPlace read lines line.start
+    → IsFirstDefinition names read sources line.start found)
+    → IsFirstDefinition names text sources line.start found
+first_read names text read lines sources line byte found there filled same is_byte is_bracket reads =
+    let bracket = sym is_byte ∙ bracket_byte byte is_bracket in
+    subst (λ (t : List ℕ). IsFirstDefinition names t sources line.start found) same
+    (reads sources (lines_of_source text lines sources filled.are) (record {
+      held = subst (λ (t : List ℕ). AreHeldFrom t 0 lines) (sym same) filled.held;
+      line = line;
+      there = there;
+      begins = refl;
+      bracket = get_or_from_slice_get read line.start 91 0 bracket;
+    }))
 
 -- after the first definition
 divided_on : (names : EntityNames) (text : List ℕ) (sources : List SourceLine) (count : ℕ) (d : Defined) → 0 < count
@@ -314,16 +315,6 @@ takes_first names old new lines sources at found filled is adds =
     } ≡ definition_at sources is.defined
     same = rw (is.label, is.destination, is.title, is.start, is.end) refl
 
--- nothing is taken yet
-pub takes_none : (names : EntityNames) (old : BuilderView) (lines : List HeldLine) (sources : List SourceLine)
-    → IsParagraph old.text lines sources → TakesDefinitions names old old lines sources 0
-takes_none names old lines sources is = record {
-  first = [];
-  definitions = sym (append-nil old.definitions);
-  others = refl;
-  left = is;
-}
-
 -- more are taken
 pub takes_more : (names : EntityNames) (old mid new : BuilderView) (lines : List HeldLine)
     (sources : List SourceLine) (taken more : ℕ) → mid.text ≡ old.text
@@ -354,11 +345,11 @@ takes_more names old mid new lines sources taken more text before after =
     }
 
 -- all are taken
-pub takes_all : (names : EntityNames) (old new : BuilderView) (lines : List HeldLine) (sources : List SourceLine)
+pub is_divided : (names : EntityNames) (old new : BuilderView) (lines : List HeldLine) (sources : List SourceLine)
     (taken : ℕ) → TakesDefinitions names old new lines sources taken
     → divided names old.text (drop taken sources) ≡ record { definitions = []; lines = drop taken sources }
     → IsDivided names old new sources taken
-takes_all names old new lines sources taken takes over =
+is_divided names old new lines sources taken takes over =
     let others = takes.others ∙ ap (after_definitions takes.first) over in
     record {
       definitions = takes.definitions ∙ ap (λ (ds : List Definition). old.definitions ++ ds)

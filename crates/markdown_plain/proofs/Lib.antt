@@ -5,5 +5,5 @@ pub mod ContainersLemmas
 pub mod StretchesLemmas
 -- on lines that are taken, and on when lists become loose
 pub mod ParagraphsLemmas
-pub mod ListLoosenessLemmas
 pub mod DividedLemmas
+pub mod ListLoosenessLemmas

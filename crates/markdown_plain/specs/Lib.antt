@@ -7,7 +7,7 @@ pub mod LeafTrees
 -- what the pass keeps between lines
 pub mod ListLooseness
 pub mod Paragraphs
+pub mod TakenDefinitions
 pub mod Stretches
 pub mod Containers
 pub mod NewContainers
-pub mod TakenDefinitions

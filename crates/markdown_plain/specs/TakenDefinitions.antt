@@ -7,7 +7,7 @@ use Rattle.markdown_lines.specs.declared.held_line.HeldLine.{HeldLine}
 use Rattle.markdown_scan.specs.declared.entity.EntityNames.{EntityNames}
 use Rattle.markdown_plain.specs.HeldSources.{IsParagraph}
 
--- a paragraph that begins with these definitions, and then with what the rest of it begins with
+-- what a paragraph is divided into that begins with these definitions, by what the rest of it is divided into
 abbrev pub after_definitions : List Definition → Divided → Divided
 after_definitions definitions rest = record rest { definitions = definitions ++ rest.definitions }
 

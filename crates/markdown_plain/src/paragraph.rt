@@ -83,7 +83,6 @@ fn take_definition<'a>(
 }
 
 /// Takes all definitions at the beginning of a paragraph's lines, and returns their number of lines.
-#[tactic(auto, using(crate::proofs::ParagraphsLemmas::end_of_more))]
 fn take_definitions<'a>(
     alloc: Global,
     placing: &mut Placing<'a>,
