@@ -1,5 +1,6 @@
 -- Items in an open leaf, lines of code among them, and whole leaves.
-use Rattle.std.proofs.Common.{◌≡◌, ℕ, zero, suc, ◌+◌, ◌-◌, ◌<◌, ◌≤◌, Bool, true, false, List, [], ◌∷◌, ◌++◌, length, take}
+use Rattle.std.proofs.Common.{◌≡◌, ℕ, zero, suc, ◌+◌, ◌-◌, ◌<◌, ◌≤◌, Bool, true, false, List, [], ◌∷◌, ◌++◌, length}
+use Rattle.std.proofs.Common.{take}
 use Rattle.std.proofs.Common.{refl, sym, ap, ◌∙◌, subst, arith, append_assoc, append-nil}
 use Rattle.std.specs.Option.{option_map}
 use Rattle.std.specs.Prelude.{Option, Some, None, cond, nat_le, nat_lt, ◌==◌, ◌||◌, if◌then◌else◌, replicate, slice_get}
@@ -17,8 +18,8 @@ use Rattle.markdown_base.specs.declared.tag.HeadingLevel.{HeadingLevel}
 use Rattle.markdown_builder.specs.declared.open_block.OpenBlock.{OpenBlock}
 use Rattle.markdown_builder.specs.BuilderView.{BuilderView, AppendsItem, AppendsText, Opens, innermost_block, parts_of}
 use Rattle.markdown_builder.specs.BuilderView.{with_items}
-use Rattle.markdown_builder.specs.Shown.{Shown, chain_of, plain_item, settled_below, shown_item, synthesized_item, tight_shown}
-use Rattle.markdown_builder.specs.Shown.{with_block}
+use Rattle.markdown_builder.specs.Shown.{Shown, chain_of, plain_item, settled_below, shown_item, synthesized_item}
+use Rattle.markdown_builder.specs.Shown.{tight_shown, with_block}
 use Rattle.markdown_builder.specs.Tightness.{is_tight_list}
 use Rattle.markdown_builder.specs.TreeLevels.{followed_by, items_changed, with_trees}
 use Rattle.markdown_items.proofs.RestOfLineLemmas.{more_items, no_items}
@@ -71,7 +72,11 @@ last_level_of : (first : Forest Shown) (levels : List (Forest Shown)) → LastLe
 last_level_of first [] = record { outer = []; level = first; is = refl }
 last_level_of first (second ∷ levels) =
     let rest = last_level_of second levels in
-    record { outer = first ∷ rest.outer; level = rest.level; is = ap (λ (ls : List (Forest Shown)). first ∷ ls) rest.is }
+    record {
+      outer = first ∷ rest.outer;
+      level = rest.level;
+      is = ap (λ (ls : List (Forest Shown)). first ∷ ls) rest.is;
+    }
 
 last_level : (levels : List (Forest Shown)) → (levels ≡ [] → ⊥) → LastLevel levels
 last_level [] some = absurd (some refl)
@@ -265,10 +270,10 @@ pub code_line : (levels owed whole : List (Forest Shown)) (b : ItemBody) (line :
 code_line levels owed whole b line source is none some over more =
     let start = source.left.scanned in
     let first = code_owed levels owed line source is none some in
-    let second : whole ≡ with_items owed (if nat_lt start source.next then plain_item start source.next b ∷ [] else []) =
+    let after : List Shown = if nat_lt start source.next then plain_item start source.next b ∷ [] else [] in
+    let second : whole ≡ with_items owed after =
     code_rest owed whole b line source is over more in
-    second ∙ (ap (λ ls. with_items ls (if nat_lt start source.next then plain_item start source.next b ∷ [] else [])) first
-    ∙ more_items levels _ _)
+    second ∙ (ap (λ ls. with_items ls after) first ∙ more_items levels _ after)
 
 -- the columns that a tab owes at a byte offset were added to these levels
 pub record OwedAdded (levels : List (Forest Shown)) (start owed : ℕ) (now : BuilderView) : Type 0 where
@@ -307,8 +312,8 @@ owed_added old here new start (suc owed) step some none fitted =
     )
 
 -- a line that is over when what a tab owes was added
-pub line_over : (levels : List (Forest Shown)) (b : ItemBody) (line : HeldLine) (source : SourceLine) (now : BuilderView)
-    → IsHeld line source → OwedAdded levels line.start line.owed now → line.next ≤ line.start
+pub line_over : (levels : List (Forest Shown)) (b : ItemBody) (line : HeldLine) (source : SourceLine)
+    (now : BuilderView) → IsHeld line source → OwedAdded levels line.start line.owed now → line.next ≤ line.start
     → now.levels ≡ with_items levels (source_line b source)
 line_over levels b line source now is o over =
     code_line levels now.levels now.levels b line source is o.none o.some (λ e. refl)
@@ -349,7 +354,8 @@ pub takes_all : (lines : List HeldLine) (sources : List SourceLine) → AreHeld 
 takes_all [] [] are = refl
 takes_all [] (source ∷ sources) are = absurd are
 takes_all (line ∷ lines) [] are = absurd are
-takes_all (line ∷ lines) (source ∷ sources) are = ap (λ (ls : List SourceLine). source ∷ ls) (takes_all lines sources are.1)
+takes_all (line ∷ lines) (source ∷ sources) are =
+    ap (λ (ls : List SourceLine). source ∷ ls) (takes_all lines sources are.1)
 
 pub lines_append : (b : ItemBody) (xs ys : List SourceLine)
     → source_lines b (xs ++ ys) ≡ source_lines b xs ++ source_lines b ys
