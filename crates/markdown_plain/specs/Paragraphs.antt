@@ -1,6 +1,6 @@
 -- Where paragraphs end, and headings that are made of them.
-use Rattle.std.specs.Prelude.{◌≡◌, ℕ, ◌-◌, ◌≤◌, Bool, false, ◌&&◌, not, ◌==◌, List, [], ◌∷◌, ◌++◌, Option, Some, None, length, drop}
-use Rattle.std.specs.Prelude.{slice_get, slice_range, nat_le, if◌then◌else◌}
+use Rattle.std.specs.Prelude.{◌≡◌, ℕ, ◌-◌, ◌≤◌, Bool, false, ◌&&◌, not, ◌==◌, List, [], ◌∷◌, ◌++◌, Option, Some}
+use Rattle.std.specs.Prelude.{None, length, drop, slice_get, slice_range, nat_le, if◌then◌else◌}
 use Rattle.std.specs.Option.{option_map_or}
 use Rattle.markdown_base.specs.Forest.{Forest}
 use Rattle.markdown_base.specs.declared.item.ItemBody.TheVariants as body
@@ -70,7 +70,8 @@ abbrev pub divided_of : Pass → List SourceLine → Divided
 divided_of pass sources = divided (entity_names pass.options) pass.placing.builder.text sources
 
 -- the definitions at the beginning of a paragraph were taken, which are in this number of lines
-pub record IsDivided (names : EntityNames) (old new : BuilderView) (sources : List SourceLine) (taken : ℕ) : Type 0 where
+pub record IsDivided (names : EntityNames) (old new : BuilderView) (sources : List SourceLine) (taken : ℕ)
+    : Type 0 where
   pub definitions : new.definitions ≡ old.definitions ++ (divided names old.text sources).definitions
   pub lines : drop taken sources ≡ (divided names old.text sources).lines
 

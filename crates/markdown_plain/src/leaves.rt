@@ -89,7 +89,8 @@ pub fn open_heading(
     ensures opens { IfOk result (λ _. IfFitted placing.old placing.new
         (OpensHeading placing.old.builder placing.new.builder level)) }
     ensures heading { IfOk result (λ _. BracesStand placing.old.builder.text braces
-        → IfFitted placing.old placing.new (OpensHeadingOf placing.old.builder placing.new.builder level braces)) }
+        → IfFitted placing.old placing.new
+        (OpensHeadingOf placing.old.builder placing.new.builder level braces)) }
 {
     let Some(braces) = braces else {
         return placing.open_block(ItemBody::Heading(level, None));

@@ -15,7 +15,8 @@ pub invariant_of-self : goal.invariant_of-self
 invariant_of-self c =
     let parts = stored_parts c.self.inside.cows.items c.self.inside.headings.items c.self.inside.alignments.items in (
       rw c.in_err-enter.ensures.stays
-          (refused_keeps (standpoint c.args.self.now) _ c.enter.new.tree c.self.invariant.0 (ap standpoint c.self.view_is)
+          (refused_keeps (standpoint c.args.self.now) _ c.enter.new.tree c.self.invariant.0
+          (ap standpoint c.self.view_is)
           c.requires.outside (same_parts _) c.in_err-enter.ensures.refused),
       rw c.in_err-enter.ensures.stays
           (refused_rows parts c.self.inside.blocks.items c.self.inside.tree c.enter.new.tree c.self.inside.at _ refl
