@@ -2,14 +2,15 @@
 -- is counted, and makes nothing.
 use Rattle.std.specs.Prelude.{◌≡◌, ℕ, ◌≤◌, false, [], ◌∷◌, ◌++◌, List, Option, Some, None, length}
 use Rattle.std.specs.Str.{IsCharBoundary}
-use Rattle.markdown_builder.specs.Shown.{Shown}
+use Rattle.markdown_builder.specs.Shown.{Shown, shown_item, with_block}
 use Rattle.markdown_base.specs.declared.item.ItemBody.{ItemBody}
 use Rattle.markdown_base.specs.declared.item.ItemBody.TheVariants as body
 use Rattle.markdown_base.specs.Forest.{Forest, nil}
 use Rattle.markdown_builder.specs.Bodies.{is_leaf}
 use Rattle.markdown_base.specs.declared.index.HeadingIndex.{HeadingIndex}
 use Rattle.markdown_base.specs.declared.tag.HeadingLevel.{HeadingLevel}
-use Rattle.markdown_builder.specs.BuilderView.{BuilderView, Definition, Opens}
+use Rattle.markdown_builder.specs.declared.open_block.OpenBlock.{OpenBlock}
+use Rattle.markdown_builder.specs.BuilderView.{BuilderView, Definition, Opens, parts_of}
 use Rattle.markdown_lines.specs.Lines.{AllPass, is_in_blank_line, IsNextContent}
 use Rattle.markdown_plain.specs.declared.placing.Placing.{Placing}
 use Rattle.markdown_plain.specs.CodeLines.{after_line}
@@ -47,6 +48,13 @@ extended builder levels to = record builder { at = to; run = None; levels = leve
 abbrev pub closed : BuilderView → List (Forest Shown) → BuilderView
 closed builder levels =
     record builder { blocks = outer_of builder.blocks; leaf = false; run = None; levels = levels }
+
+-- the innermost open block was put into the level around it, with its trees, as it is closed at the current byte offset
+pub record PutsBlock (old new : BuilderView) : Type 0 where
+  pub block : OpenBlock
+  pub was : old.blocks ≡ outer_of old.blocks ++ block ∷ []
+  pub levels : new.levels ≡ with_block old.levels
+      (shown_item (parts_of old) (record { start = block.start; end = old.at; body = block.body }))
 
 -- more was appended to the open leaf, up to a byte offset
 abbrev pub GoesOn : BuilderView → BuilderView → ℕ → Type 0

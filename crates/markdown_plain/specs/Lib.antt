@@ -2,6 +2,7 @@
 pub mod OpenBlocks
 pub mod CodeLines
 pub mod Fitting
+pub mod TableRows
 -- what the pass keeps between lines
 pub mod ListLooseness
 pub mod Paragraphs
