@@ -4,6 +4,7 @@ pub mod CodeLines
 pub mod HeldSources
 pub mod Fitting
 pub mod LeafTrees
+pub mod TableRows
 -- what the pass keeps between lines
 pub mod ListLooseness
 pub mod Paragraphs

@@ -6,7 +6,9 @@ ghost use Rattle.std.specs.Str.{IsCharBoundary};
 ghost use Rattle.markdown_base.specs.BlockTree.{tree_of};
 ghost use Rattle.markdown_base.specs.Coverage.{Covers};
 ghost use Rattle.markdown_base.specs.WellFormed.{IsWellFormed};
+ghost use Rattle.markdown_builder.specs.EvenRows.{HasEvenRows};
 ghost use Rattle.markdown_builder.specs.HeadingsHoldInline.{HeadingsHoldInline};
+ghost use Rattle.markdown_builder.specs.Shown.{shown_result};
 ghost use Rattle.markdown_builder.specs.Tightness.{TightInTightLists};
 
 use crate::containers::{Reached, reach};
@@ -523,6 +525,7 @@ pub fn blocks<'a>(
     ensures covered { IfOk result (λ made. Covers text.now made.0.nodes made.1) }
     ensures tight { IfOk result (λ made. TightInTightLists made.0.nodes) }
     ensures headings { IfOk result (λ made. HeadingsHoldInline (tree_of made.0.nodes)) }
+    ensures rows { IfOk result (λ made. HasEvenRows (shown_result made.0.nodes made.1)) }
 {
     let Placing {
         builder,

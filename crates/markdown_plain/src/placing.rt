@@ -2,7 +2,9 @@
 //! lie between characters, inline items are put into a leaf, and blocks outside one. A call that does not fit is
 //! counted, and makes nothing; the tests show that there is none. Functions that return a `Result` fail only where
 //! memory is refused.
-ghost use Rattle.std.specs.Prelude.{◌≡◌};
+ghost use Rattle.std.specs.Prelude.{◌≡◌, true, false, length};
+ghost use Rattle.markdown_builder.specs.Bodies.{is_leaf, is_plain_block};
+ghost use Rattle.markdown_builder.specs.EvenRows.{InnermostRowIsEven, is_table_row};
 ghost use Rattle.markdown_plain.specs.OpenBlocks.{outer_of};
 ghost use Rattle.markdown_plain.specs.Stretches.{IsOf};
 
@@ -50,6 +52,8 @@ impl<'a> Placing<'a> {
     ghost use Rattle.markdown_lines.specs.Lines.{IsNextContent};
     ghost use Rattle.markdown_plain.specs.Fitting.{AllFitted, IfFitted, IsAhead, IsWhiteOutside};
     ghost use Rattle.markdown_plain.specs.Fitting.{BeginsAtContent, GoesOn, HasBody, PutsBlock, closed, defining, stepped};
+    ghost use Rattle.markdown_builder.specs.EvenRows.{is_in_row};
+    ghost use Rattle.markdown_items.specs.ContentItems.{AddsItems};
 
     /// Returns a builder that has made nothing yet.
     pub fn new(alloc: Global, text: &'a str, old: bool) -> Result<Placing<'a>, AllocError>
@@ -383,6 +387,8 @@ impl<'a> Placing<'a> {
             ≡ with_items self.old.builder.levels
             (content_items self.old.builder.text (item_extensions options)
             self.old.builder.at end))) }
+        ensures inside { IfOk result (λ _. IfFitted self.old self.new
+            (AddsItems self.old.builder self.new.builder)) }
         ensures fits { IfOk result (λ _. self.old.builder.leaf ≡ true → IsAhead self.old.builder end
             → self.new.misfits ≡ self.old.misfits) }
     {
@@ -471,9 +477,44 @@ impl<'a> Placing<'a> {
         }
     }
 
+    /// Closes the innermost open block, which ends at the current byte offset and is no row.
+    pub fn close(&mut self)
+        ensures text { self.new.builder.text ≡ self.old.builder.text }
+        ensures closes { IfFitted self.old self.new
+            (self.new.builder ≡ closed self.old.builder self.new.builder.levels) }
+        ensures tree { IfFitted self.old self.new (PutsBlock self.old.builder self.new.builder) }
+        ensures fits { (self.old.builder.blocks ≡ [] → ⊥) → is_in_row self.old.builder.blocks ≡ false
+            → self.new.misfits ≡ self.old.misfits }
+    {
+        if self.builder.is_in_row() {
+            self.miss();
+            return;
+        }
+        self.close_innermost();
+    }
+
+    /// Closes a row of a table, which ends at the current byte offset. It has as many cells as the table has columns,
+    /// where all calls so far fitted; otherwise that is not known.
+    pub fn close_row(&mut self)
+        requires { AllFitted self.old → InnermostRowIsEven self.old.builder }
+        ensures text { self.new.builder.text ≡ self.old.builder.text }
+        ensures closes { IfFitted self.old self.new
+            (self.new.builder ≡ closed self.old.builder self.new.builder.levels) }
+        ensures tree { IfFitted self.old self.new (PutsBlock self.old.builder self.new.builder) }
+        ensures fits { (self.old.builder.blocks ≡ [] → ⊥) → AllFitted self.old
+            → self.new.misfits ≡ self.old.misfits }
+    {
+        if self.misfits != 0 {
+            self.miss();
+            return;
+        }
+        self.close_innermost();
+    }
+
     /// Closes the innermost open block, which ends at the current byte offset.
     #[tactic(auto, using(crate::proofs::OpenBlocksLemmas::outer_of_these))]
-    pub fn close(&mut self)
+    fn close_innermost(&mut self)
+        requires { InnermostRowIsEven self.old.builder }
         ensures text { self.new.builder.text ≡ self.old.builder.text }
         ensures closes { IfFitted self.old self.new
             (self.new.builder ≡ closed self.old.builder self.new.builder.levels) }
@@ -487,7 +528,8 @@ impl<'a> Placing<'a> {
         self.stretches.leave(self.builder.open_blocks());
     }
 
-    /// Closes all open blocks, each of which counts as a call that does not fit.
+    /// Closes all open blocks, each of which counts as a call that does not fit. A row, whose cells may be too few, is made
+    /// another block before.
     pub fn close_all(&mut self)
         ensures text { self.new.builder.text ≡ self.old.builder.text }
         ensures closed { self.new.builder.blocks ≡ [] }
@@ -496,6 +538,7 @@ impl<'a> Placing<'a> {
     {
         'blocks: while !self.builder.open_blocks().is_empty() {
             self.stretches.forget();
+            leave_row(&mut self.builder);
             self.builder.close();
             self.miss();
         }
@@ -524,5 +567,29 @@ impl<'a> Placing<'a> {
         } else {
             self.builder.rule(end)
         }
+    }
+}
+
+/// Returns the body of a block that is no row, and is a leaf or not.
+fn no_row(leaf: bool) -> ItemBody
+    ensures block { is_plain_block result ≡ true }
+    ensures leaf { is_leaf result ≡ leaf }
+    ensures other { is_table_row result ≡ false }
+{
+    if leaf {
+        ItemBody::Paragraph
+    } else {
+        ItemBody::BlockQuote(None)
+    }
+}
+
+/// Makes the innermost open block another, if it is a row.
+fn leave_row(builder: &mut Builder<'_>)
+    ensures even { InnermostRowIsEven builder.new }
+    ensures same { builder.new ≡ record builder.old { blocks = builder.new.blocks } }
+    ensures depth { length builder.new.blocks ≡ length builder.old.blocks }
+{
+    if builder.is_in_row() {
+        builder.change(no_row(builder.is_in_leaf()));
     }
 }

@@ -3,7 +3,9 @@
 ghost use Rattle.std.specs.Prelude.{◌≡◌, ◌≤◌, false, true, length, IfOk};
 ghost use Rattle.markdown_builder.specs.Bodies.{is_leaf, is_plain_block};
 ghost use Rattle.markdown_plain.specs.Fitting.{GoesOn, IfFitted};
+ghost use Rattle.markdown_items.specs.ContentItems.{AddsItems};
 ghost use Rattle.markdown_plain.specs.Paragraphs.{IsPlacedTo};
+ghost use Rattle.markdown_plain.specs.TableRows.{PutsTree};
 
 use crate::containers::reach;
 use crate::pass::{Pass, innermost};
@@ -30,6 +32,8 @@ fn add_cell_items(placing: &mut Placing<'_>, cell: Cell, options: Options) -> Re
     ensures text { IfOk result (λ _. placing.new.builder.text ≡ placing.old.builder.text) }
     ensures goes_on { IfOk result (λ _. IfFitted placing.old placing.new
         (GoesOn placing.old.builder placing.new.builder placing.new.builder.at)) }
+    ensures inside { IfOk result (λ _. IfFitted placing.old placing.new
+        (AddsItems placing.old.builder placing.new.builder)) }
 {
     let mut from = cell.from;
     'pieces: while from < cell.to {
@@ -48,6 +52,8 @@ fn place_cell(placing: &mut Placing<'_>, cell: Cell, options: Options) -> Result
     ensures text { IfOk result (λ _. placing.new.builder.text ≡ placing.old.builder.text) }
     ensures placed { IfOk result (λ _. IfFitted placing.old placing.new
         (IsPlacedTo placing.old.builder placing.new.builder cell.end)) }
+    ensures tree { IfOk result (λ _. IfFitted placing.old placing.new
+        (PutsTree placing.old.builder placing.new.builder)) }
 {
     placing.step_to(cell.start);
     placing.open_block(ItemBody::TableCell)?;
@@ -63,6 +69,8 @@ fn place_empty_cell(placing: &mut Placing<'_>, at: usize) -> Result<(), AllocErr
     ensures text { IfOk result (λ _. placing.new.builder.text ≡ placing.old.builder.text) }
     ensures placed { IfOk result (λ _. IfFitted placing.old placing.new
         (IsPlacedTo placing.old.builder placing.new.builder at)) }
+    ensures tree { IfOk result (λ _. IfFitted placing.old placing.new
+        (PutsTree placing.old.builder placing.new.builder)) }
 {
     placing.step_to(at);
     placing.open_block(ItemBody::TableCell)?;
@@ -70,14 +78,13 @@ fn place_empty_cell(placing: &mut Placing<'_>, at: usize) -> Result<(), AllocErr
     Ok(())
 }
 
-/// Places a line as a row of this many cells: those beyond them are in no item, and those that it lacks are empty ones at
-/// its end.
+/// Places a line as a row of as many cells as the open table has columns: those beyond them are in no item, and those that
+/// it lacks are empty ones at its end.
 #[tactic(auto, using(crate::proofs::OpenBlocksLemmas::outer_of_opened))]
 fn place_row(
     placing: &mut Placing<'_>,
     row: ItemBody,
     line: HeldLine,
-    columns: usize,
     options: Options,
 ) -> Result<(), AllocError>
     requires block { is_plain_block row ≡ true }
@@ -87,10 +94,11 @@ fn place_row(
         (IsPlacedTo placing.old.builder placing.new.builder line.next)) }
 {
     let text = placing.text();
+    let columns = placing.builder.columns();
     placing.step_to(line.start);
     placing.open_block(row)?;
     let mut start = cells_start(text, line.start, line.stop);
-    'cells: for _ in 0..columns {
+    'cells: for _count in 0..columns {
         match next_cell(text, start, line.stop) {
             Some(cell) => {
                 place_cell(placing, cell, options)?;
@@ -103,7 +111,7 @@ fn place_row(
         }
     }
     placing.step_to(line.next);
-    placing.close();
+    placing.close_row();
     Ok(())
 }
 
@@ -267,15 +275,13 @@ impl<'a> Pass<'a> {
     {
         let _head = self.lines.pop();
         self.end_leaf()?;
-        let columns = alignments.len();
-        self.tables.columns = columns;
+        self.tables.columns = alignments.len();
         self.placing.step_to(head.start);
         self.placing.open_table(alignments)?;
         place_row(
             &mut self.placing,
             ItemBody::TableHead,
             head,
-            columns,
             self.options,
         )
     }
@@ -296,14 +302,7 @@ impl<'a> Pass<'a> {
             next: line.next,
             owed: 0,
         };
-        let columns = self.tables.columns;
-        place_row(
-            &mut self.placing,
-            ItemBody::TableRow,
-            row,
-            columns,
-            self.options,
-        )?;
+        place_row(&mut self.placing, ItemBody::TableRow, row, self.options)?;
         Ok(true)
     }
 }

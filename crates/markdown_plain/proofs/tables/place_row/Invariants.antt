@@ -1,6 +1,7 @@
 -- The text stays, and the row is open.
 use Rattle.std.proofs.Common.{◌≡◌}
 use Rattle.markdown_plain.specs.Fitting.{IfFitted, opened}
+use Rattle.markdown_plain.specs.TableRows.{HasCells}
 use Rattle.markdown_plain.proofs.tables.place_row.Given as goal
 
 abbrev pub invariant-cells : goal.invariant-cells
@@ -13,4 +14,5 @@ invariant-cells l = record {
         headings = l.placing.builder.headings;
         texts = l.placing.builder.texts;
       });
+  cells : IfFitted l.fn.placing l.placing (HasCells l.fn.placing.builder.levels l._count l.placing.builder.levels);
 }

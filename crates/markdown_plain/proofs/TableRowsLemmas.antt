@@ -1,0 +1,146 @@
+-- A cell is one tree of its row, and a row with as many cells as the open table has columns may be closed.
+use Rattle.std.proofs.Common.{◌≡◌, ℕ, suc, ◌+◌, List, [], ◌∷◌, ◌++◌, Option, Some, true, false, length, refl, sym, ap}
+use Rattle.std.proofs.Common.{◌∙◌, subst, arith}
+use Rattle.std.specs.Option.{option_map_or}
+use Rattle.std.proofs.lemmas.List.{append_assoc, length-append}
+use Rattle.markdown_base.specs.Forest.{Forest, nil, node, roots}
+use Rattle.markdown_base.specs.declared.item.ItemBody.{ItemBody}
+use Rattle.markdown_builder.specs.declared.open_block.OpenBlock.{OpenBlock}
+use Rattle.markdown_builder.specs.BuilderView.{BuilderView, LastHasBody, innermost_block, parts_of, with_items}
+use Rattle.markdown_builder.specs.EvenRows.{InnermostRowIsEven, is_in_row, is_table_row, open_columns}
+use Rattle.markdown_builder.specs.Shown.{Shown, alignments_shown, chain_of, settled_below, shown_item, with_block}
+use Rattle.markdown_builder.specs.TreeLevels.{followed_by, with_trees}
+use Rattle.markdown_builder.proofs.RowInsideLemmas.{no_row_inside}
+use Rattle.markdown_items.specs.ContentItems.{AddsItems}
+use Rattle.markdown_items.proofs.RestOfLineLemmas.{adds_more}
+use Rattle.markdown_plain.specs.declared.placing.Placing.{Placing}
+use Rattle.markdown_plain.specs.Fitting.{IfFitted, PutsBlock}
+use Rattle.markdown_plain.specs.OpenBlocks.{outer_of}
+use Rattle.markdown_plain.specs.TableRows.{HasCells, PutsTree}
+use Rattle.markdown_plain.proofs.OpenBlocksLemmas.{innermost_of_opened, last_apart}
+
+-- ---- levels
+
+-- trees at the end of the innermost level
+trees_last : {A : Type 0} (outer : List (Forest A)) (level trees : Forest A)
+    → with_trees (outer ++ level ∷ []) trees ≡ outer ++ followed_by level trees ∷ []
+trees_last [] level trees = refl
+trees_last (a ∷ []) level trees = refl
+trees_last (a ∷ b ∷ outer) level trees = ap (λ ls. a ∷ ls) (trees_last (b ∷ outer) level trees)
+
+-- the innermost block, closed, is a tree of the level around it
+closed_tree : (outer : List (Forest Shown)) (inside : Forest Shown) (a : Shown) → (outer ≡ [] → ⊥)
+    → with_block (outer ++ inside ∷ []) a ≡ with_trees outer (node a (settled_below a inside) nil)
+closed_tree [] inside a some = absurd (some refl)
+closed_tree (l ∷ []) inside a some = refl
+closed_tree (l ∷ m ∷ []) inside a some = refl
+closed_tree (l ∷ m ∷ n ∷ outer) inside a some =
+    ap (λ ls. l ∷ ls) (closed_tree (m ∷ n ∷ outer) inside a (λ e. cc (e)))
+
+-- items were appended, and then, from where the levels are the same, more of them
+pub adds_later : (old view moved new : BuilderView) → AddsItems old view → moved.levels ≡ view.levels
+    → AddsItems moved new → AddsItems old new
+adds_later old view moved new before same after =
+    adds_more old view new before (after.0, after.1 ∙ ap (λ ls. with_items ls after.0) same)
+
+-- a cell was opened, filled and closed
+pub cell_put : (old opened filled new : BuilderView) → opened.levels ≡ old.levels ++ nil ∷ [] → AddsItems opened filled
+    → PutsBlock filled new → PutsTree old new
+cell_put old opened filled new begun adds puts =
+    let a = shown_item (parts_of filled)
+    (record { start = puts.block.start; end = filled.at; body = puts.block.body }) in
+    let inside = chain_of adds.0 in
+    (
+      a,
+      settled_below a inside,
+      λ some. puts.levels ∙ (ap (λ (ls : List (Forest Shown)). with_block ls a)
+          (adds.1 ∙ (ap (λ (ls : List (Forest Shown)). with_items ls adds.0) begun
+          ∙ trees_last old.levels nil inside))
+          ∙ closed_tree old.levels inside a some),
+    )
+
+-- ---- counted cells
+
+more_roots : (f : Forest Shown) (a : Shown) (below : Forest Shown)
+    → length (roots (followed_by f (node a below nil))) ≡ length (roots f) + 1
+more_roots nil a below = refl
+more_roots (node b inside after) a below = let h = more_roots after a below in omega (arith, h)
+
+pub no_cells : (outer levels : List (Forest Shown)) → levels ≡ outer ++ nil ∷ [] → HasCells outer 0 levels
+no_cells outer levels e = (nil, e, refl)
+
+-- one cell more
+pub more_cells : (outer : List (Forest Shown)) (count : ℕ) (old new : BuilderView) → HasCells outer count old.levels
+    → PutsTree old new → HasCells outer (count + 1) new.levels
+more_cells outer count old new has puts =
+    let some : old.levels ≡ [] → ⊥ = λ e.
+    let none : length (outer ++ has.0 ∷ []) ≡ 0 = ap length (sym has.1 ∙ e) in
+    let one = length-append outer (has.0 ∷ []) in
+    omega (arith, none, one) in
+    (
+      followed_by has.0 (node puts.0 puts.1 nil),
+      puts.2 some ∙ (ap (λ ls. with_trees ls (node puts.0 puts.1 nil)) has.1 ∙ trees_last outer has.0 _),
+      more_roots has.0 puts.0 puts.1 ∙ ap (λ n. n + 1) has.2,
+    )
+
+-- the same, where all calls fitted
+pub cell_counted : (outer : List (Forest Shown)) (count : ℕ) (first before after now : Placing) → now ≡ after
+    → IfFitted first before (HasCells outer count before.builder.levels)
+    → IfFitted before after (PutsTree before.builder after.builder)
+    → IfFitted first now (HasCells outer (count + 1) now.builder.levels)
+cell_counted outer count first before after now is had puts fitted =
+    let put = puts (ap (λ (p : Placing). p.misfits) (sym is) ∙ fitted) in
+    let has = had put.0 in (
+      has.0,
+      subst (λ (p : Placing). HasCells outer (count + 1) p.builder.levels) (sym is)
+          (more_cells outer count before.builder after.builder has.1 put.1),
+    )
+
+-- two lists that end with an element are one
+ends_same : {A : Type 0} (xs ys : List A) (x y : A) → xs ++ x ∷ [] ≡ ys ++ y ∷ [] → (xs ≡ ys) × (x ≡ y)
+ends_same [] [] x y e = (refl, cc (e))
+ends_same [] (z ∷ []) x y e = cc (e)
+ends_same [] (z ∷ w ∷ ys) x y e = cc (e)
+ends_same (z ∷ []) [] x y e = cc (e)
+ends_same (z ∷ w ∷ xs) [] x y e = cc (e)
+ends_same {A} (z ∷ xs) (w ∷ ys) x y e =
+    let tail : xs ++ x ∷ [] ≡ ys ++ y ∷ [] = cc (e) in
+    let head : z ≡ w = cc (e) in
+    let r = ends_same xs ys x y tail in
+    (rw (head, r.0) refl, r.1)
+
+-- a row was opened, and has as many cells as the table around it has columns
+pub row_is_even : (old view : BuilderView) (row : OpenBlock) (count : ℕ) → view.blocks ≡ old.blocks ++ row ∷ []
+    → view.alignments ≡ old.alignments → HasCells old.levels count view.levels → count ≡ open_columns old
+    → InnermostRowIsEven view
+row_is_even old view row count whole listed has columns outer table last levels cells e l t r =
+    let around = ends_same (outer ++ table ∷ []) old.blocks last row
+    (append_assoc outer (table ∷ []) (last ∷ []) ∙ (sym e ∙ whole)) in
+    let inside = ends_same levels old.levels cells has.0 (sym l ∙ has.1) in
+    let inner : innermost_block old.blocks ≡ Some table =
+    ap innermost_block (sym around.0) ∙ innermost_of_opened outer table in
+    ap (λ f. length (roots f)) inside.1 ∙ (has.2 ∙ (columns
+    ∙ (ap (λ (o : Option OpenBlock).
+    option_map_or (λ block. length (alignments_shown old.alignments block.body)) o 0) inner
+    ∙ ap (λ listing. length (alignments_shown listing table.body)) (sym listed))))
+
+-- ---- a row that is made another block
+
+some_row : (blocks : List OpenBlock) → is_in_row blocks ≡ true → blocks ≡ [] → ⊥
+some_row [] row e = cc (row)
+some_row (block ∷ blocks) row e = cc (e)
+
+pub row_left : (old new : BuilderView) (b : ItemBody) → is_in_row old.blocks ≡ true → is_table_row b ≡ false
+    → LastHasBody old.blocks new.blocks b → InnermostRowIsEven new
+row_left old new b row other changed =
+    let p = last_apart old.blocks (some_row old.blocks row) in
+    let now = changed (outer_of old.blocks) p.block p.is in
+    no_row_inside new (ap (λ (o : Option OpenBlock). option_map_or (λ block. is_table_row block.body) o false)
+    (ap innermost_block now ∙ innermost_of_opened (outer_of old.blocks) _) ∙ other)
+
+pub same_depth : (old new : List OpenBlock) (b : ItemBody) → is_in_row old ≡ true → LastHasBody old new b
+    → length new ≡ length old
+same_depth old new b row changed =
+    let p = last_apart old (some_row old row) in
+    let now = changed (outer_of old) p.block p.is in
+    ap length now ∙ (length-append (outer_of old) _ ∙ (sym (length-append (outer_of old) _) ∙ ap length (sym p.is)))
