@@ -51,6 +51,7 @@ struct LineRest<'a> {
 
 /// Returns whether a line with this first byte after white space may begin a block other than a paragraph, or be the
 /// delimiter row of a table.
+#[inline(always)]
 fn may_begin_block(byte: u8) -> bool {
     match byte {
         b'>' | b'#' | b'`' | b'~' | b'<' | b'[' => true,
@@ -85,15 +86,12 @@ fn are_lists(blocks: &[OpenBlock], depth: usize) -> bool {
     true
 }
 
-/// Returns the rest of a line to be read first as a row, from its first byte after white space on: what ends a table is
-/// what would end a paragraph that the line continued lazily.
-fn as_row<'a>(rest: LineRest<'a>, content: usize) -> LineRest<'a> {
-    LineRest {
-        position: Position::new(content),
-        before: Before::Lazy,
-        unless_row: Some(rest.position),
-        ..rest
-    }
+/// Has the rest of a line be read first as a row, from its first byte after white space on: what ends a table is what
+/// would end a paragraph that the line continued lazily.
+fn try_as_row(rest: &mut LineRest<'_>, content: usize) {
+    rest.unless_row = Some(rest.position);
+    rest.position = Position::new(content);
+    rest.before = Before::Lazy;
 }
 
 impl<'a> Pass<'a> {
@@ -149,9 +147,9 @@ impl<'a> Pass<'a> {
             unless_row: None,
         };
         if reached.all && self.is_in_table() {
-            rest = as_row(rest, reached.content);
+            try_as_row(&mut rest, reached.content);
         }
-        self.read_rest(rest)?;
+        self.read_rest(&mut rest)?;
         self.see_content(line);
         Ok(())
     }
@@ -213,20 +211,20 @@ impl<'a> Pass<'a> {
     }
 
     /// Reads what the open containers left of a line: opens blocks as long as some begin.
-    fn read_rest(&mut self, rest: LineRest<'a>) -> Result<(), AllocError>
+    #[inline(always)]
+    fn read_rest(&mut self, rest: &mut LineRest<'a>) -> Result<(), AllocError>
         ensures { IfOk result (λ _. self.new.placing.builder.text ≡ self.old.placing.builder.text) }
     {
-        let mut here = rest;
         // each container takes at least one byte of the line; what is left after the last one is read too, and a line
         // that underlines definitions, or ends a table, is read twice
         'blocks: for _ in rest.line.start..rest.line.next.saturating_add(3) {
-            if here.unless_row.is_none()
-                && here.position.owed == 0
-                && begins_text(self.placing.text(), here.position.at, here.line.stop)
+            if rest.unless_row.is_none()
+                && rest.position.owed == 0
+                && begins_text(self.placing.text(), rest.position.at, rest.line.stop)
             {
-                return self.add_text(here.line, here.position.at, here.depth);
+                return self.add_text(rest.line, rest.position.at, rest.depth);
             }
-            if !self.read_block(&mut here)? {
+            if !self.read_block(rest)? {
                 break;
             }
         }
@@ -277,6 +275,8 @@ impl<'a> Pass<'a> {
 
     /// Reads a row of the open table, which begins nothing but text. Returns whether the rest of the line is still to be
     /// read, where it is none: from a place outside the table on.
+    // apart, so that lines outside tables take fewer instructions
+    #[inline(never)]
     fn read_row(
         &mut self,
         rest: &mut LineRest<'a>,

@@ -73,6 +73,7 @@ impl<'a> Writer<'a> {
     }
 
     /// Appends the HTML of an End outside images.
+    #[inline(always)]
     pub(super) fn end(&mut self, s: &mut String, tag: TagEnd) -> Result<(), AllocError>
         requires { self.old.image ≡ None }
         ensures ok { OnOk result (Appends s.old s.new (joined (end_parts (view self.old) tag))) }

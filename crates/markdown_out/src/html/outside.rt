@@ -16,6 +16,7 @@ impl<'a> Writer<'a> {
     ghost use Rattle.markdown_out.specs.Writer.{view, view_after, IsSingle, IsVerbatim};
 
     /// Appends a Text outside images; in metadata it writes nothing.
+    #[inline(always)]
     fn text(&mut self, s: &mut String, words: &str) -> Result<(), AllocError>
         requires { self.old.image ≡ None }
         ensures ok { OnOk result (Appends s.old s.new (joined (outside_parts (view self.old)
@@ -101,6 +102,7 @@ impl<'a> Writer<'a> {
     }
 
     /// Appends a Text outside images, however it is held. Most are slices of the source, which need not be dropped.
+    #[inline(always)]
     fn any_text(&mut self, s: &mut String, words: CowStr<'a>) -> Result<(), AllocError>
         requires { self.old.image ≡ None }
         ensures ok { OnOk result (Appends s.old s.new (joined (outside_parts (view self.old)
@@ -121,6 +123,7 @@ impl<'a> Writer<'a> {
     }
 
     /// Appends an event outside images that is neither a Start, an End, a Text nor a footnote reference, and drops it.
+    #[inline(always)]
     fn owned_single(&mut self, s: &mut String, event: Event<'a>) -> Result<(), AllocError>
         requires outside { self.old.image ≡ None }
         requires single { IsSingle (event_view event) }
@@ -138,6 +141,7 @@ impl<'a> Writer<'a> {
 
     /// Appends the HTML of an event outside images. The most frequent events are taken apart here, so that only the
     /// others are moved as a whole.
+    #[inline(always)]
     pub(super) fn outside(&mut self, s: &mut String, event: Event<'a>) -> Result<(), AllocError>
         requires { self.old.image ≡ None }
         ensures ok { OnOk result (Appends s.old s.new (joined (outside_parts (view self.old)

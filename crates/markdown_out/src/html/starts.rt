@@ -175,6 +175,7 @@ impl<'a> Writer<'a> {
 
     /// Appends the HTML of a Start outside images. The most frequent tags are handled here, so that only the others are
     /// moved as a whole, and dropped.
+    #[inline(always)]
     pub(super) fn start(&mut self, s: &mut String, tag: Tag<'a>) -> Result<(), AllocError>
         requires { self.old.image ≡ None }
         ensures ok { OnOk result (Appends s.old s.new (joined (start_parts (view self.old)
@@ -191,6 +192,7 @@ impl<'a> Writer<'a> {
             Tag::Item => "\n<li>",
             Tag::Emphasis => "<em>",
             Tag::Strong => "<strong>",
+            Tag::TableCell => return self.cell(s),
             Tag::Link {
                 link_type,
                 dest_url,
