@@ -46,52 +46,24 @@ use Rattle.markdown_plain.specs.HeldSources.{AreHeld, IsHeld, IsRest}
 -- ---- levels
 
 -- trees at the end of the innermost level
-trees_last : (outer : List (Forest Shown)) (level trees : Forest Shown)
+pub trees_last : {A : Type 0} (outer : List (Forest A)) (level trees : Forest A)
     → with_trees (outer ++ level ∷ []) trees ≡ outer ++ followed_by level trees ∷ []
 trees_last [] level trees = refl
 trees_last (a ∷ []) level trees = refl
-trees_last (a ∷ b ∷ outer) level trees = ap (λ (ls : List (Forest Shown)). a ∷ ls) (trees_last (b ∷ outer) level trees)
+trees_last (a ∷ b ∷ outer) level trees = ap (λ ls. a ∷ ls) (trees_last (b ∷ outer) level trees)
 
--- the innermost block closed
-closed_last : (outer : List (Forest Shown)) (level inside : Forest Shown) (a : Shown)
-    → with_block ((outer ++ level ∷ []) ++ inside ∷ []) a
-    ≡ outer ++ followed_by level (node a (settled_below a inside) nil) ∷ []
-closed_last [] level inside a = refl
-closed_last (x ∷ []) level inside a = refl
-closed_last (x ∷ y ∷ []) level inside a = refl
-closed_last (x ∷ y ∷ z ∷ outer) level inside a =
-    ap (λ (ls : List (Forest Shown)). x ∷ ls) (closed_last (y ∷ z ∷ outer) level inside a)
-
--- the last of some levels, and those outside it
-record LastLevel (levels : List (Forest Shown)) : Type 0 where
-  outer : List (Forest Shown)
-  level : Forest Shown
-  is : levels ≡ outer ++ level ∷ []
-
-last_level_of : (first : Forest Shown) (levels : List (Forest Shown)) → LastLevel (first ∷ levels)
-last_level_of first [] = record { outer = []; level = first; is = refl }
-last_level_of first (second ∷ levels) =
-    let rest = last_level_of second levels in
-    record {
-      outer = first ∷ rest.outer;
-      level = rest.level;
-      is = ap (λ (ls : List (Forest Shown)). first ∷ ls) rest.is;
-    }
-
-last_level : (levels : List (Forest Shown)) → (levels ≡ [] → ⊥) → LastLevel levels
-last_level [] some = absurd (some refl)
-last_level (first ∷ levels) some = last_level_of first levels
+-- the innermost block, closed, is a tree of the level around it
+pub closed_tree : (outer : List (Forest Shown)) (inside : Forest Shown) (a : Shown) → (outer ≡ [] → ⊥)
+    → with_block (outer ++ inside ∷ []) a ≡ with_trees outer (node a (settled_below a inside) nil)
+closed_tree [] inside a some = absurd (some refl)
+closed_tree (l ∷ []) inside a some = refl
+closed_tree (l ∷ m ∷ []) inside a some = refl
+closed_tree (l ∷ m ∷ n ∷ outer) inside a some =
+    ap (λ ls. l ∷ ls) (closed_tree (m ∷ n ∷ outer) inside a (λ e. cc (e)))
 
 -- a block that is no tight list keeps what is in it
 settled_leaf : (a : Shown) (inside : Forest Shown) → is_tight_list a.item.body ≡ false → settled_below a inside ≡ inside
 settled_leaf a inside e = ap (λ b. cond b (items_changed tight_shown inside) inside) e
-
-put_last : (outer : List (Forest Shown)) (level inside : Forest Shown) (a : Shown) → is_tight_list a.item.body ≡ false
-    → with_block ((outer ++ level ∷ []) ++ inside ∷ []) a ≡ with_trees (outer ++ level ∷ []) (node a inside nil)
-put_last outer level inside a e =
-    closed_last outer level inside a
-    ∙ (ap (λ f. outer ++ followed_by level (node a f nil) ∷ []) (settled_leaf a inside e)
-    ∙ sym (trees_last outer level (node a inside nil)))
 
 -- a leaf that was opened, filled and closed is put into the innermost level
 pub put_leaf : (levels : List (Forest Shown)) (items : List Shown) (a : Shown) → (levels ≡ [] → ⊥)
@@ -99,9 +71,8 @@ pub put_leaf : (levels : List (Forest Shown)) (items : List Shown) (a : Shown) �
     → with_block (with_items (levels ++ nil ∷ []) items) a ≡ with_trees levels (node a (chain_of items) nil)
 put_leaf levels items a some e =
     ap (λ ls. with_block ls a) (trees_last levels nil (chain_of items))
-    ∙ (let last = last_level levels some in
-    subst (λ ls. with_block (ls ++ chain_of items ∷ []) a ≡ with_trees ls (node a (chain_of items) nil)) (sym last.is)
-    (put_last last.outer last.level (chain_of items) a e))
+    ∙ (closed_tree levels (chain_of items) a some
+    ∙ ap (λ f. with_trees levels (node a f nil)) (settled_leaf a (chain_of items) e))
 
 -- the innermost block is the last
 same_block : (blocks outer others : List OpenBlock) (a b : OpenBlock) → blocks ≡ outer ++ a ∷ []

@@ -17,25 +17,10 @@ use Rattle.markdown_plain.specs.declared.placing.Placing.{Placing}
 use Rattle.markdown_plain.specs.Fitting.{IfFitted, PutsBlock}
 use Rattle.markdown_plain.specs.OpenBlocks.{outer_of}
 use Rattle.markdown_plain.specs.TableRows.{HasCells, PutsTree}
+use Rattle.markdown_plain.proofs.LeafTreesLemmas.{closed_tree, trees_last}
 use Rattle.markdown_plain.proofs.OpenBlocksLemmas.{innermost_of_opened, last_apart}
 
--- ---- levels
-
--- trees at the end of the innermost level
-trees_last : {A : Type 0} (outer : List (Forest A)) (level trees : Forest A)
-    → with_trees (outer ++ level ∷ []) trees ≡ outer ++ followed_by level trees ∷ []
-trees_last [] level trees = refl
-trees_last (a ∷ []) level trees = refl
-trees_last (a ∷ b ∷ outer) level trees = ap (λ ls. a ∷ ls) (trees_last (b ∷ outer) level trees)
-
--- the innermost block, closed, is a tree of the level around it
-closed_tree : (outer : List (Forest Shown)) (inside : Forest Shown) (a : Shown) → (outer ≡ [] → ⊥)
-    → with_block (outer ++ inside ∷ []) a ≡ with_trees outer (node a (settled_below a inside) nil)
-closed_tree [] inside a some = absurd (some refl)
-closed_tree (l ∷ []) inside a some = refl
-closed_tree (l ∷ m ∷ []) inside a some = refl
-closed_tree (l ∷ m ∷ n ∷ outer) inside a some =
-    ap (λ ls. l ∷ ls) (closed_tree (m ∷ n ∷ outer) inside a (λ e. cc (e)))
+-- ---- cells
 
 -- items were appended, and then, from where the levels are the same, more of them
 pub adds_later : (old view moved new : BuilderView) → AddsItems old view → moved.levels ≡ view.levels
@@ -49,8 +34,7 @@ pub cell_put : (old opened filled new : BuilderView) → opened.levels ≡ old.l
 cell_put old opened filled new begun adds puts =
     let a = shown_item (parts_of filled)
     (record { start = puts.block.start; end = filled.at; body = puts.block.body }) in
-    let inside = chain_of adds.0 in
-    (
+    let inside = chain_of adds.0 in (
       a,
       settled_below a inside,
       λ some. puts.levels ∙ (ap (λ (ls : List (Forest Shown)). with_block ls a)
@@ -76,8 +60,7 @@ more_cells outer count old new has puts =
     let some : old.levels ≡ [] → ⊥ = λ e.
     let none : length (outer ++ has.0 ∷ []) ≡ 0 = ap length (sym has.1 ∙ e) in
     let one = length-append outer (has.0 ∷ []) in
-    omega (arith, none, one) in
-    (
+    omega (arith, none, one) in (
       followed_by has.0 (node puts.0 puts.1 nil),
       puts.2 some ∙ (ap (λ ls. with_trees ls (node puts.0 puts.1 nil)) has.1 ∙ trees_last outer has.0 _),
       more_roots has.0 puts.0 puts.1 ∙ ap (λ n. n + 1) has.2,

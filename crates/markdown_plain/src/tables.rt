@@ -278,12 +278,7 @@ impl<'a> Pass<'a> {
         self.tables.columns = alignments.len();
         self.placing.step_to(head.start);
         self.placing.open_table(alignments)?;
-        place_row(
-            &mut self.placing,
-            ItemBody::TableHead,
-            head,
-            self.options,
-        )
+        place_row(&mut self.placing, ItemBody::TableHead, head, self.options)
     }
 
     /// Adds a row to the open table, if a line has a cell and may have the cells that it lacks, and returns whether it is
