@@ -5,5 +5,7 @@ pub mod LeafTreesLemmas
 mod ContainersLemmas
 pub mod StretchesLemmas
 -- on lines that are taken, and on when lists become loose
+pub mod ParagraphLinesLemmas
+pub mod ParagraphTreesLemmas
 pub mod ParagraphsLemmas
 pub mod ListLoosenessLemmas

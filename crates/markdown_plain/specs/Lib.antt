@@ -10,3 +10,4 @@ pub mod Paragraphs
 pub mod Stretches
 pub mod Containers
 pub mod NewContainers
+pub mod ParagraphItems
