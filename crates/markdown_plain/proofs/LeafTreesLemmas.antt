@@ -1,22 +1,46 @@
 -- Items in an open leaf, lines of code among them, and whole leaves.
 use Rattle.std.proofs.Common.{◌≡◌, ℕ, zero, suc, ◌+◌, ◌-◌, ◌<◌, ◌≤◌, Bool, true, false, List, [], ◌∷◌, ◌++◌, length, take}
 use Rattle.std.proofs.Common.{refl, sym, ap, ◌∙◌, subst, arith, append_assoc, append-nil}
-use Rattle.std.specs.Prelude.{Some, cond, nat_lt, ◌==◌, if◌then◌else◌, replicate, slice_get}
+use Rattle.std.specs.Option.{option_map}
+use Rattle.std.specs.Prelude.{Option, Some, None, cond, nat_le, nat_lt, ◌==◌, ◌||◌, if◌then◌else◌, replicate, slice_get}
 use Rattle.std.proofs.lemmas.Bool.Decides.{nat_tests}
 use Rattle.std.proofs.lemmas.Option.{same_Some}
-use Rattle.markdown_base.specs.Bytes.{space}
+use Rattle.markdown_base.specs.Bytes.{space, tab}
 use Rattle.markdown_base.specs.Forest.{Forest, nil, node}
+use Rattle.markdown_base.specs.HeadingWords.{HeadingWords, words_of, worded_heading}
+use Rattle.markdown_base.specs.declared.block_parts.HeadingAttributes.{HeadingAttributes}
+use Rattle.markdown_base.specs.declared.index.HeadingIndex.{HeadingIndex}
 use Rattle.markdown_base.specs.declared.item.ItemBody.{ItemBody}
+use Rattle.markdown_base.specs.declared.item.ItemBody.TheVariants as body
+use Rattle.markdown_base.specs.declared.tag.Alignment.{Alignment}
+use Rattle.markdown_base.specs.declared.tag.HeadingLevel.{HeadingLevel}
+use Rattle.markdown_builder.specs.declared.open_block.OpenBlock.{OpenBlock}
+use Rattle.markdown_builder.specs.BuilderView.{BuilderView, AppendsItem, AppendsText, Opens, innermost_block, parts_of}
 use Rattle.markdown_builder.specs.BuilderView.{with_items}
-use Rattle.markdown_builder.specs.Shown.{Shown, chain_of, plain_item, settled_below, synthesized_item, with_block}
+use Rattle.markdown_builder.specs.Shown.{Shown, chain_of, plain_item, settled_below, shown_item, synthesized_item, tight_shown}
+use Rattle.markdown_builder.specs.Shown.{with_block}
 use Rattle.markdown_builder.specs.Tightness.{is_tight_list}
-use Rattle.markdown_builder.specs.TreeLevels.{followed_by, with_closed_by, with_trees}
+use Rattle.markdown_builder.specs.TreeLevels.{followed_by, items_changed, with_trees}
 use Rattle.markdown_items.proofs.RestOfLineLemmas.{more_items, no_items}
+use Rattle.markdown_scan.specs.LineStart.{LineLeft, Space, column_after, leading_space, space_from, space_width}
 use Rattle.markdown_lines.specs.declared.held_line.HeldLine.{HeldLine}
-use Rattle.markdown_lines.specs.SourceLines.{SourceLine}
+use Rattle.markdown_lines.specs.declared.line.Line.{Line}
+use Rattle.markdown_lines.specs.declared.position.Position.{Position}
+use Rattle.markdown_lines.specs.Lines.{IsNextContent}
+use Rattle.markdown_lines.specs.Positions.{left_from}
+use Rattle.markdown_lines.specs.declared.braces.Braces.{Braces}
+use Rattle.markdown_lines.specs.BlockBeginnings.{Source}
+use Rattle.markdown_lines.specs.HeadingAttributes.{AreAttributes, classes_among, heading_of_words, id_among, words_in}
+use Rattle.markdown_lines.specs.SourceLines.{SourceLine, cut}
+use Rattle.markdown_block_rules.specs.BlockRules.{shown_heading, shown_over}
 use Rattle.markdown_block_rules.specs.LineContents.{source_line, source_lines}
+use Rattle.markdown_plain.specs.declared.placing.Placing.{Placing}
+use Rattle.markdown_plain.specs.Fitting.{AllFitted, BeginsAtContent, IfFitted, OpensHeadingOf, PutsBlock, stepped}
+use Rattle.markdown_plain.specs.LeafTrees.{HasTrees}
+use Rattle.markdown_plain.specs.OpenBlocks.{outer_of}
+use Rattle.markdown_plain.proofs.OpenBlocksLemmas.{innermost_of_opened}
 use Rattle.markdown_plain.specs.CodeLines.{owed_spaces}
-use Rattle.markdown_plain.specs.HeldSources.{AreHeld, IsHeld}
+use Rattle.markdown_plain.specs.HeldSources.{AreHeld, IsHeld, IsRest}
 
 -- ---- levels
 
@@ -55,7 +79,7 @@ last_level (first ∷ levels) some = last_level_of first levels
 
 -- a block that is no tight list keeps what is in it
 settled_leaf : (a : Shown) (inside : Forest Shown) → is_tight_list a.item.body ≡ false → settled_below a inside ≡ inside
-settled_leaf a inside e = ap (λ b. cond b _ inside) e
+settled_leaf a inside e = ap (λ b. cond b (items_changed tight_shown inside) inside) e
 
 put_last : (outer : List (Forest Shown)) (level inside : Forest Shown) (a : Shown) → is_tight_list a.item.body ≡ false
     → with_block ((outer ++ level ∷ []) ++ inside ∷ []) a ≡ with_trees (outer ++ level ∷ []) (node a inside nil)
@@ -74,6 +98,117 @@ put_leaf levels items a some e =
     subst (λ ls. with_block (ls ++ chain_of items ∷ []) a ≡ with_trees ls (node a (chain_of items) nil)) (sym last.is)
     (put_last last.outer last.level (chain_of items) a e))
 
+-- the innermost block is the last
+same_block : (blocks outer others : List OpenBlock) (a b : OpenBlock) → blocks ≡ outer ++ a ∷ []
+    → blocks ≡ others ++ b ∷ [] → a ≡ b
+same_block blocks outer others a b e f =
+    same_Some a b (sym (innermost_of_opened outer a) ∙ (ap innermost_block (sym e ∙ f) ∙ innermost_of_opened others b))
+
+-- the leaf that was opened and filled is put into the innermost level, as it is shown
+pub put_opened : (levels : List (Forest Shown)) (now new : BuilderView) (outer : List OpenBlock) (block : OpenBlock)
+    (items : List Shown) (a : Shown)
+    → now.blocks ≡ outer ++ block ∷ [] → now.levels ≡ with_items (levels ++ nil ∷ []) items
+    → shown_item (parts_of now) (record { start = block.start; end = now.at; body = block.body }) ≡ a
+    → is_tight_list a.item.body ≡ false → PutsBlock now new → (levels ≡ [] → ⊥)
+    → new.levels ≡ with_trees levels (node a (chain_of items) nil)
+put_opened levels now new outer block items a blocks filled is leaf put some =
+    let same = same_block now.blocks outer (outer_of now.blocks) block put.block blocks put.was in
+    put.levels
+    ∙ (ap (λ (b : OpenBlock). with_block now.levels
+    (shown_item (parts_of now) (record { start = b.start; end = now.at; body = b.body }))) (sym same)
+    ∙ (ap (with_block now.levels) is
+    ∙ (ap (λ ls. with_block ls a) filled ∙ put_leaf levels items a some leaf)))
+
+-- an HTML block that was opened and filled, and moved to its first content byte, is put into the innermost level
+pub put_begun : (old opened filled begun new : BuilderView) (from : ℕ) (items : List Shown)
+    → Opens (stepped old from) opened body.HtmlBlock → filled.blocks ≡ opened.blocks
+    → filled.levels ≡ with_items opened.levels items → BeginsAtContent filled begun → begun.levels ≡ filled.levels
+    → PutsBlock begun new
+    → (start : ℕ) × IsNextContent filled.text from (Some start)
+    × HasTrees old new (shown_over start begun.at body.HtmlBlock None (chain_of items))
+put_begun old opened filled begun new from items opens blocks levels begins kept put =
+    let block : OpenBlock = record { start = from; body = body.HtmlBlock } in
+    let there = blocks ∙ ap (λ (b : BuilderView). b.blocks) opens in
+    let same = same_block filled.blocks old.blocks (outer_of filled.blocks) block begins.blocks.block there
+    begins.blocks.was in (
+      begins.start,
+      subst (λ (b : OpenBlock). IsNextContent filled.text b.start (Some begins.start)) (sym same) begins.content,
+      λ some. put_opened old.levels begun new (outer_of filled.blocks)
+          (record begins.blocks.block { start = begins.start }) items _ begins.blocks.becomes
+          (kept ∙ (levels ∙ ap (λ (b : BuilderView). with_items b.levels items) opens))
+          (ap (λ (b : OpenBlock). shown_item (parts_of begun)
+          (record { start = begins.start; end = begun.at; body = b.body })) (sym same)) refl put some,
+    )
+
+-- ---- headings
+
+-- the last of some, by their number
+get_last : {A : Type 0} (xs : List A) (x : A) → slice_get (xs ++ x ∷ []) (length xs) ≡ Some x
+get_last [] x = refl
+get_last (y ∷ xs) x = get_last xs x
+
+-- attributes are those of these words
+pub words_heading : (level : HeadingLevel) (made : HeadingAttributes) (words : List (List ℕ)) → AreAttributes made words
+    → worded_heading level (words_of made) ≡ heading_of_words level words
+words_heading level made words are =
+    let w = words_of made in
+    ap (λ id. record { level = level; id = id; classes = w.classes; attributes = w.attributes }) are.id
+    ∙ (ap (λ classes. record { level = level; id = id_among words; classes = classes; attributes = w.attributes })
+    are.classes
+    ∙ ap (λ names. record {
+      level = level;
+      id = id_among words;
+      classes = classes_among words;
+      attributes = names;
+    }) are.names)
+
+-- a heading as it is shown, where its attributes were appended last
+attributed_shown : (texts : List (List ℕ)) (alignments : List (List Alignment)) (headings before : List HeadingWords)
+    (words : HeadingWords) (level : HeadingLevel) (ix : HeadingIndex) (start end : ℕ)
+    → headings ≡ before ++ words ∷ [] → ix.0 ≡ length before + 1
+    → shown_item (record { texts = texts; headings = headings; alignments = alignments })
+    (record { start = start; end = end; body = body.Heading level (Some ix) })
+    ≡ record {
+      item = record { start = start; end = end; body = body.Heading level (Some (record { 0 = 1 })) };
+      text = None;
+      heading = Some (worded_heading level words);
+      alignments = [];
+    }
+attributed_shown texts alignments headings before words level ix start end more number =
+    let place : ix.0 - 1 ≡ length before = omega (arith, number) in
+    ap (λ found. record {
+      item = record { start = start; end = end; body = body.Heading level (Some (record { 0 = 1 })) };
+      text = None;
+      heading = option_map (worded_heading level) found;
+      alignments = [];
+    }) (ap (λ n. slice_get headings n) place ∙ (ap (λ hs. slice_get hs (length before)) more ∙ get_last before words))
+
+-- a heading that was opened and filled is put into the innermost level
+pub put_heading : (s : Source) (old opened now new : BuilderView) (level : HeadingLevel) (braces : Option Braces)
+    (items : List Shown) → s.text ≡ old.text
+    → OpensHeadingOf old opened level braces → now.blocks ≡ opened.blocks → now.headings ≡ opened.headings
+    → now.levels ≡ with_items opened.levels items → PutsBlock now new
+    → HasTrees old new (shown_heading s old.at now.at level braces (chain_of items))
+put_heading s old opened now new level None items text opens blocks headings filled put some =
+    put_opened old.levels now new old.blocks (record { start = old.at; body = body.Heading level None }) items _
+    (blocks ∙ ap (λ (b : BuilderView). b.blocks) opens)
+    (filled ∙ ap (λ (b : BuilderView). with_items b.levels items) opens) refl refl put some
+put_heading s old opened now new level (Some braces) items text opens blocks headings filled put some =
+    let words = opens.0 in
+    let ix = opens.2.0 in
+    let is = opens.2.2 in
+    put_opened old.levels now new old.blocks (record { start = old.at; body = body.Heading level (Some ix) }) items _
+    (blocks ∙ ap (λ (b : BuilderView). b.blocks) is)
+    (filled ∙ ap (λ (b : BuilderView). with_items b.levels items) is)
+    (attributed_shown now.texts now.alignments now.headings old.headings words level ix old.at now.at
+    (headings ∙ ap (λ (b : BuilderView). b.headings) is) opens.2.1
+    ∙ ap (λ h. record {
+      item = record { start = old.at; end = now.at; body = body.Heading level (Some (record { 0 = 1 })) };
+      text = None;
+      heading = Some h;
+      alignments = [];
+    }) (opens.1 ∙ ap (λ t. heading_of_words level (words_in t braces)) (sym text))) refl put some
+
 -- ---- lines of code
 
 owed_is : (n : ℕ) → 0 < n → n ≤ 3 → owed_spaces n ≡ replicate n space
@@ -86,8 +221,8 @@ owed_is (suc (suc (suc (suc n)))) some few = absurd (omega (arith, few))
 -- what holds of either value of a test
 on_test : {A : Type 0} (P : A → Type 0) (test : Bool) (x y : A) → (test ≡ true → P x) → (test ≡ false → P y)
     → P (if test then x else y)
-on_test P true x y yes no = yes refl
-on_test P false x y yes no = no refl
+on_test P true x y first second = first refl
+on_test P false x y first second = second refl
 
 -- the columns that a tab owes before a line
 code_owed : (levels owed : List (Forest Shown)) (line : HeldLine) (source : SourceLine) → IsHeld line source
@@ -132,7 +267,62 @@ code_line levels owed whole b line source is none some over more =
     let first = code_owed levels owed line source is none some in
     let second : whole ≡ with_items owed (if nat_lt start source.next then plain_item start source.next b ∷ [] else []) =
     code_rest owed whole b line source is over more in
-    second ∙ (ap (λ ls. with_items ls _) first ∙ more_items levels _ _)
+    second ∙ (ap (λ ls. with_items ls (if nat_lt start source.next then plain_item start source.next b ∷ [] else [])) first
+    ∙ more_items levels _ _)
+
+-- the columns that a tab owes at a byte offset were added to these levels
+pub record OwedAdded (levels : List (Forest Shown)) (start owed : ℕ) (now : BuilderView) : Type 0 where
+  pub at : now.at ≡ start
+  pub none : owed ≡ 0 → now.levels ≡ levels
+  pub some : 0 < owed → now.levels ≡ with_items levels (synthesized_item start start (owed_spaces owed) ∷ [])
+
+pub owed_added : (old here new : Placing) (start owed : ℕ)
+    → IfFitted old here (here.builder ≡ stepped old.builder start)
+    → (0 < owed → IfFitted here new (AppendsText here.builder new.builder here.builder.at (owed_spaces owed)))
+    → (owed ≡ 0 → new ≡ here) → IfFitted old new (OwedAdded old.builder.levels start owed new.builder)
+owed_added old here new start zero step some none fitted =
+    let same = none refl in
+    let done = step (subst (λ (p : Placing). AllFitted p) same fitted) in
+    let is : new.builder ≡ stepped old.builder start = ap (λ (p : Placing). p.builder) same ∙ done.1 in (
+      done.0,
+      record {
+        at = ap (λ (b : BuilderView). b.at) is;
+        none = λ e. ap (λ (b : BuilderView). b.levels) is;
+        some = λ more. absurd (omega (arith, more));
+      },
+    )
+owed_added old here new start (suc owed) step some none fitted =
+    let more = some (omega arith) fitted in
+    let done = step more.0 in
+    let at = ap (λ (b : BuilderView). b.at) done.1 in (
+      done.0,
+      record {
+        at = ap (λ (b : BuilderView). b.at) more.1 ∙ at;
+        none = λ e. absurd (omega (arith, e));
+        some = λ any. ap (λ (b : BuilderView). b.levels) more.1
+            ∙ (ap (λ ls. with_items ls (synthesized_item here.builder.at here.builder.at (owed_spaces (suc owed)) ∷ []))
+            (ap (λ (b : BuilderView). b.levels) done.1)
+            ∙ ap (λ n. with_items old.builder.levels (synthesized_item n n (owed_spaces (suc owed)) ∷ [])) at);
+      },
+    )
+
+-- a line that is over when what a tab owes was added
+pub line_over : (levels : List (Forest Shown)) (b : ItemBody) (line : HeldLine) (source : SourceLine) (now : BuilderView)
+    → IsHeld line source → OwedAdded levels line.start line.owed now → line.next ≤ line.start
+    → now.levels ≡ with_items levels (source_line b source)
+line_over levels b line source now is o over =
+    code_line levels now.levels now.levels b line source is o.none o.some (λ e. refl)
+    (λ more. absurd (omega (arith, more, over)))
+
+-- a line that is added after what a tab owes
+pub line_added : (levels : List (Forest Shown)) (b : ItemBody) (line : HeldLine) (source : SourceLine)
+    (now new : BuilderView) → IsHeld line source → OwedAdded levels line.start line.owed now → line.start < line.next
+    → AppendsItem now new b line.next → new.levels ≡ with_items levels (source_line b source)
+line_added levels b line source now new is o more adds =
+    code_line levels now.levels new.levels b line source is o.none o.some
+    (λ over. absurd (omega (arith, more, over)))
+    (λ any. ap (λ (v : BuilderView). v.levels) adds
+    ∙ ap (λ n. with_items now.levels (plain_item n line.next b ∷ [])) o.at)
 
 -- ---- lines that were taken in order
 
@@ -144,22 +334,22 @@ pub record TakesNext (lines : List HeldLine) (sources : List SourceLine) (number
 
 pub takes_next : (lines : List HeldLine) (sources : List SourceLine) (number : ℕ) (line : HeldLine)
     → AreHeld lines sources → slice_get lines number ≡ Some line → TakesNext lines sources number line
-takes_next [] [] number line held e = absurd (grind e)
-takes_next [] (source ∷ sources) number line held e = absurd held
-takes_next (first ∷ lines) [] number line held e = absurd held
-takes_next (first ∷ lines) (source ∷ sources) zero line held e =
-    record { source = source; is = subst (λ l. IsHeld l source) (same_Some e) held.0; taken = refl }
-takes_next (first ∷ lines) (source ∷ sources) (suc number) line held e =
-    let rest = takes_next lines sources number line held.1 e in
+takes_next [] [] number line are e = absurd (grind (arith, e))
+takes_next [] (source ∷ sources) number line are e = absurd are
+takes_next (first ∷ lines) [] number line are e = absurd are
+takes_next (first ∷ lines) (source ∷ sources) zero line are e =
+    record { source = source; is = subst (λ l. IsHeld l source) (same_Some first line e) are.0; taken = refl }
+takes_next (first ∷ lines) (source ∷ sources) (suc number) line are e =
+    let rest = takes_next lines sources number line are.1 e in
     record { source = rest.source; is = rest.is; taken = ap (λ (ls : List SourceLine). source ∷ ls) rest.taken }
 
 -- all of them were taken
 pub takes_all : (lines : List HeldLine) (sources : List SourceLine) → AreHeld lines sources
     → take (length lines) sources ≡ sources
-takes_all [] [] held = refl
-takes_all [] (source ∷ sources) held = absurd held
-takes_all (line ∷ lines) [] held = absurd held
-takes_all (line ∷ lines) (source ∷ sources) held = ap (λ (ls : List SourceLine). source ∷ ls) (takes_all lines sources held.1)
+takes_all [] [] are = refl
+takes_all [] (source ∷ sources) are = absurd are
+takes_all (line ∷ lines) [] are = absurd are
+takes_all (line ∷ lines) (source ∷ sources) are = ap (λ (ls : List SourceLine). source ∷ ls) (takes_all lines sources are.1)
 
 pub lines_append : (b : ItemBody) (xs ys : List SourceLine)
     → source_lines b (xs ++ ys) ≡ source_lines b xs ++ source_lines b ys
@@ -167,19 +357,83 @@ lines_append b [] ys = refl
 lines_append b (x ∷ xs) ys =
     ap (λ items. source_line b x ++ items) (lines_append b xs ys) ∙ sym (append_assoc (source_line b x) _ _)
 
+-- a line of code after others
+pub line_after : (levels : List (Forest Shown)) (b : ItemBody) (sources : List SourceLine) (source : SourceLine)
+    → with_items (with_items levels (source_lines b sources)) (source_line b source)
+    ≡ with_items levels (source_lines b (sources ++ source ∷ []))
+line_after levels b sources source =
+    more_items levels (source_lines b sources) (source_line b source)
+    ∙ ap (with_items levels) (ap (λ items. source_lines b sources ++ items) (sym (append-nil (source_line b source)))
+    ∙ sym (lines_append b sources (source ∷ [])))
+
 -- one line of code more
 pub more_lines : (levels before after : List (Forest Shown)) (b : ItemBody) (lines : List HeldLine)
     (sources : List SourceLine) (number : ℕ) (line : HeldLine)
     → AreHeld lines sources → slice_get lines number ≡ Some line
     → before ≡ with_items levels (source_lines b (take number sources))
     → ((source : SourceLine) → IsHeld line source → after ≡ with_items before (source_line b source))
-    → after ≡ with_items levels (source_lines b (take (suc number) sources))
-more_lines levels before after b lines sources number line held e was more =
-    let next = takes_next lines sources number line held e in
+    → after ≡ with_items levels (source_lines b (take (number + 1) sources))
+more_lines levels before after b lines sources number line are e was more =
+    let next = takes_next lines sources number line are e in
+    let one : suc number ≡ number + 1 = omega arith in
     more next.source next.is
     ∙ (ap (λ ls. with_items ls (source_line b next.source)) was
-    ∙ (more_items levels _ _
-    ∙ ap (with_items levels) (ap (λ items. source_lines b (take number sources) ++ items)
-    (sym (append-nil (source_line b next.source)))
-    ∙ (sym (lines_append b (take number sources) (next.source ∷ []))
-    ∙ ap (source_lines b) (sym next.taken)))))
+    ∙ (line_after levels b (take number sources) next.source
+    ∙ ap (λ ls. with_items levels (source_lines b ls)) (sym next.taken ∙ ap (λ n. take n sources) one)))
+
+-- ---- what a partly read tab owes
+
+width_of : (column b : ℕ) → space_width column b ≤ 4
+width_of column b =
+    on_test (λ n. n ≤ 4) (b == space) 1 _ (λ e. omega arith)
+    (λ e. on_test (λ n. n ≤ 4) (b == tab) (4 - column) 0 (λ e. omega arith) (λ e. omega arith))
+
+few_from : (n scanned column : ℕ) (bytes : List ℕ) → (space_from n scanned column bytes).after.owed ≤ 3
+few_from n scanned column [] = omega arith
+few_from n scanned column (b ∷ bytes) =
+    let width = width_of column b in
+    on_test (λ (s : Space). s.after.owed ≤ 3) ((n == 0) || (space_width column b == 0)) _ _ (λ e. omega arith)
+    (λ some. on_test (λ (s : Space). s.after.owed ≤ 3) (nat_lt n (space_width column b)) _ _
+    (λ more. let any : 1 ≤ n = grind (arith, nat_tests, some) in omega (arith, width, any))
+    (λ less. few_from (n - space_width column b) (scanned + 1) (column_after column b) bytes))
+
+pub few_owed : (columns : ℕ) (left : LineLeft) → left.owed ≤ 3 → (leading_space columns left).after.owed ≤ 3
+few_owed columns left few =
+    on_test (λ (s : Space). s.after.owed ≤ 3) (nat_le columns left.owed) _ _ (λ e. omega (arith, few))
+    (λ e. few_from (columns - left.owed) left.scanned left.column left.bytes)
+
+-- the rest of a line from a place on
+abbrev pub rest_from : Line → Position → HeldLine
+rest_from line position = record { start = position.at; stop = line.stop; next = line.next; owed = position.owed }
+
+pub rest_held : (text : List ℕ) (position : Position) (line : Line) (source : SourceLine)
+    → IsRest text position line source → IsHeld (rest_from line position) source
+rest_held text position line source is = record {
+  start = ap (λ (left : LineLeft). left.scanned) is.left;
+  owed = ap (λ (left : LineLeft). left.owed) is.left;
+  few = is.few;
+  next = is.next;
+}
+
+-- what is left of a line after some space is the line of the definition that is cut there
+pub cut_held : (text : List ℕ) (position after : Position) (line : Line) (source : SourceLine) (columns : ℕ)
+    → left_from text after line.stop ≡ (leading_space columns (left_from text position line.stop)).after
+    → IsRest text position line source → IsHeld (rest_from line after) (cut columns source)
+cut_held text position after line source columns read is =
+    let same : left_from text after line.stop ≡ (leading_space columns source.left).after =
+    read ∙ ap (λ left. (leading_space columns left).after) is.left in
+    record {
+      start = ap (λ (left : LineLeft). left.scanned) same;
+      owed = ap (λ (left : LineLeft). left.owed) same;
+      few = subst (λ n. n ≤ 3) (ap (λ (left : LineLeft). left.owed) (sym read))
+          (few_owed columns (left_from text position line.stop) is.few);
+      next = is.next;
+    }
+
+-- a line more is held
+pub held_more : (lines : List HeldLine) (sources : List SourceLine) (line : HeldLine) (source : SourceLine)
+    → AreHeld lines sources → IsHeld line source → AreHeld (lines ++ line ∷ []) (sources ++ source ∷ [])
+held_more [] [] line source are is = (is, tt)
+held_more [] (m ∷ sources) line source are is = absurd are
+held_more (l ∷ lines) [] line source are is = absurd are
+held_more (l ∷ lines) (m ∷ sources) line source are is = (are.0, held_more lines sources line source are.1 is)

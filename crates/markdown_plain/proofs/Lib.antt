@@ -1,8 +1,7 @@
 -- laws on the open blocks, and on what containers take of a line
 pub mod OpenBlocksLemmas
 pub mod LeafTreesLemmas
-pub mod LeafTreesLemmas
-mod ContainersLemmas
+pub mod ContainersLemmas
 pub mod StretchesLemmas
 -- on lines that are taken, and on when lists become loose
 pub mod ParagraphLinesLemmas

@@ -1,6 +1,6 @@
 -- Calls that fit. What a call does is stated for the case that it and all calls before it fitted: one that does not fit
 -- is counted, and makes nothing.
-use Rattle.std.specs.Prelude.{◌≡◌, ℕ, ◌≤◌, false, [], ◌∷◌, ◌++◌, List, Option, Some, None, length}
+use Rattle.std.specs.Prelude.{◌≡◌, ℕ, ◌+◌, ◌≤◌, false, [], ◌∷◌, ◌++◌, List, Option, Some, None, length}
 use Rattle.std.specs.Str.{IsCharBoundary}
 use Rattle.markdown_builder.specs.Shown.{Shown, shown_item, with_block}
 use Rattle.markdown_base.specs.declared.item.ItemBody.{ItemBody}
@@ -87,6 +87,11 @@ pub record BeginsAtContent (old new : BuilderView) : Type 0 where
 abbrev pub OpensHeading : BuilderView → BuilderView → HeadingLevel → Type 0
 OpensHeading old new level =
     (ix : Option HeadingIndex) × Opens (record old { headings = new.headings }) new (body.Heading level ix)
+
+-- what is between braces, if there are any, is between characters
+abbrev pub BracesStand : List ℕ → Option Braces → Type 0
+BracesStand text None = Unit
+BracesStand text (Some braces) = IsCharBoundary text (braces.opening + 1) × IsCharBoundary text braces.closing
 
 -- a heading of a level was opened, with the attributes between these braces, if there are any
 abbrev pub OpensHeadingOf : BuilderView → BuilderView → HeadingLevel → Option Braces → Type 0

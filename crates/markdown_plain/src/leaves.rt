@@ -1,23 +1,24 @@
 //! Leaf blocks other than paragraphs (CommonMark 4.1 to 4.6): how they are opened, and how they continue. Functions
 //! that return a `Result` fail only where memory is refused.
-ghost use Rattle.std.specs.Prelude.{◌≡◌, ◌++◌, ◌∷◌, [], true, false, ℕ, List, None, IfOk, slice_range};
+ghost use Rattle.std.specs.Prelude.{◌≡◌, ◌++◌, ◌∷◌, [], true, false, ℕ, List, Some, None, IfOk, slice_range};
 ghost use Rattle.markdown_base.specs.declared.item.ItemBody.TheVariants as body;
 ghost use Rattle.markdown_scan.specs.Entity.{entity_names};
 ghost use Rattle.markdown_scan.specs.Unescape.{unescaped};
 ghost use Rattle.markdown_lines.specs.LineBytes.{IsPartOf};
+ghost use Rattle.markdown_lines.specs.Lines.{IsNextContent};
 ghost use Rattle.markdown_lines.specs.MetadataBlocks.{closes_metadata};
 ghost use Rattle.markdown_plain.specs.declared.pass.LeafKind.TheVariants as leaf_kind;
 ghost use Rattle.markdown_base.specs.Forest.{nil};
 ghost use Rattle.markdown_builder.specs.BuilderView.{BuilderView};
 ghost use Rattle.markdown_builder.specs.Shown.{chain_of};
-ghost use Rattle.markdown_lines.specs.SourceLines.{SourceLine, cut, past_white};
+ghost use Rattle.markdown_lines.specs.SourceLines.{SourceLine, cut};
 ghost use Rattle.markdown_block_rules.specs.BlockRules.{shown_heading, shown_over};
 ghost use Rattle.markdown_items.specs.ContentItems.{content_items};
 ghost use Rattle.markdown_items.specs.LineItems.{item_extensions};
 ghost use Rattle.markdown_block_rules.specs.LineContents.{source_line, source_lines};
 ghost use Rattle.markdown_plain.specs.CodeLines.{after_line, code_after, ends_html_at, held, is_closed_at, whole_of};
 ghost use Rattle.markdown_plain.specs.Fitting.{IfFitted, GoesOn, OpensFenced, OpensHeading, OpensHtml, closed, extended, opened};
-ghost use Rattle.markdown_plain.specs.Fitting.{OpensHeadingOf, PutsBlock, stepped};
+ghost use Rattle.markdown_plain.specs.Fitting.{BracesStand, OpensHeadingOf, PutsBlock, stepped};
 ghost use Rattle.markdown_plain.specs.HeldSources.{AreHeld, IsHeld, IsRest};
 ghost use Rattle.markdown_plain.specs.LeafTrees.{HasItems, HasTrees, OpensWith};
 ghost use Rattle.markdown_plain.specs.Paragraphs.{source_of, IsPlacedTo};
@@ -87,8 +88,8 @@ pub fn open_heading(
     ensures text { IfOk result (λ _. placing.new.builder.text ≡ placing.old.builder.text) }
     ensures opens { IfOk result (λ _. IfFitted placing.old placing.new
         (OpensHeading placing.old.builder placing.new.builder level)) }
-    ensures heading { IfOk result (λ _. IfFitted placing.old placing.new
-        (OpensHeadingOf placing.old.builder placing.new.builder level braces)) }
+    ensures heading { IfOk result (λ _. BracesStand placing.old.builder.text braces
+        → IfFitted placing.old placing.new (OpensHeadingOf placing.old.builder placing.new.builder level braces)) }
 {
     let Some(braces) = braces else {
         return placing.open_block(ItemBody::Heading(level, None));
@@ -145,7 +146,8 @@ impl<'a> Pass<'a> {
             ≡ self.old.placing.builder.text) }
         ensures adds { IfOk result (λ _. IfFitted self.old.placing self.new.placing
             (IsPlacedTo self.old.placing.builder self.new.placing.builder line.next)) }
-        ensures tree { IfOk result (λ _. IfFitted self.old.placing self.new.placing
+        ensures tree { IfOk result (λ _. BracesStand self.old.placing.builder.text heading.braces
+            → IfFitted self.old.placing self.new.placing
             (HasTrees self.old.placing.builder self.new.placing.builder
             (shown_heading (source_of self.old) self.old.placing.builder.at line.next heading.level
             heading.braces
@@ -319,10 +321,10 @@ impl<'a> Pass<'a> {
         ensures tree { IfOk result (λ _. (source : SourceLine)
             → IsRest self.old.placing.builder.text position line source
             → ends_html_at self.old.placing.builder.text position line kind ≡ true
-            → IfFitted self.old.placing self.new.placing
-            (HasTrees self.old.placing.builder self.new.placing.builder
-            (shown_over (past_white source.left).scanned (after_line position.at line.next)
-            body.HtmlBlock None
+            → IfFitted self.old.placing self.new.placing ((start : ℕ)
+            × IsNextContent self.old.placing.builder.text position.at (Some start)
+            × HasTrees self.old.placing.builder self.new.placing.builder
+            (shown_over start (after_line position.at line.next) body.HtmlBlock None
             (chain_of (source_line body.Html source))))) }
         ensures kind { IfOk result (λ _. self.new.leaf ≡ leaf_kind.Html kind) }
         ensures same { self.new

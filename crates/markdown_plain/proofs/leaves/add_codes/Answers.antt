@@ -1,0 +1,43 @@
+-- Each turn adds the next line.
+use Rattle.std.proofs.Common.{◌≡◌, false, length, refl, sym, ◌∙◌, ap, take, rules}
+use Rattle.std.proofs.lemmas.Option.{slice_get-get_or}
+use Rattle.markdown_base.specs.declared.item.ItemBody.TheVariants as body
+use Rattle.markdown_block_rules.specs.LineContents.{source_lines}
+use Rattle.markdown_builder.specs.BuilderView.{with_items}
+use Rattle.markdown_items.proofs.RestOfLineLemmas.{no_items}
+use Rattle.markdown_plain.proofs.LeafTreesLemmas.{more_lines, takes_all}
+use Rattle.markdown_plain.proofs.leaves.add_codes.Goals as goal
+
+pub lines-init : goal.lines-init
+lines-init c = record {
+  text = refl;
+  goes_on = λ fitted. (fitted, refl);
+  items = λ sources are fitted. (fitted, sym (no_items c.args.placing.now.builder.levels));
+}
+
+pub lines-preserved : goal.lines-preserved
+lines-preserved c =
+    let before = c.lines.invariant in
+    record {
+      text = c.in_ok-add_code.ensures.text ∙ before.text;
+      goes_on = search rules;
+      items = λ sources are fitted.
+          let line = slice_get-get_or c.args.lines.now c.lines.line-index _ c.lines-test.true in
+          let kept = before.items sources are (c.in_ok-add_code.ensures.goes_on fitted).0 in (
+            kept.0,
+            more_lines c.args.placing.now.builder.levels c.lines.placing.builder.levels
+                c.add_code.new.placing.builder.levels (body.Text false) c.args.lines.now sources c.lines.line-index _
+                are line kept.1 (λ source is. (c.in_ok-add_code.ensures.items source is fitted).1),
+          );
+    }
+
+pub returns-clause-items : goal.returns-clause-items
+returns-clause-items c = λ sources are fitted.
+    let done = c.lines.invariant.items sources are fitted in
+    let all = takes_all c.args.lines.now sources are in
+    let number : c.lines.line-index ≡ length c.args.lines.now = search rules in (
+      done.0,
+      done.1 ∙ ap (λ n. with_items c.args.placing.now.builder.levels (source_lines (body.Text false) (take n sources)))
+          number
+          ∙ ap (λ ls. with_items c.args.placing.now.builder.levels (source_lines (body.Text false) ls)) all,
+    )

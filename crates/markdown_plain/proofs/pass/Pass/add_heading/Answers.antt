@@ -1,0 +1,45 @@
+-- The heading is opened, filled with the items of its content, and closed.
+use Rattle.std.proofs.Common.{◌≡◌, ap, ◌∙◌, refl, rules, None}
+use Rattle.markdown_block_rules.specs.BlockRules.{shown_heading}
+use Rattle.markdown_builder.specs.BuilderView.{with_items}
+use Rattle.markdown_builder.specs.Shown.{chain_of}
+use Rattle.markdown_builder.specs.TreeLevels.{with_trees}
+use Rattle.markdown_items.specs.ContentItems.{content_items}
+use Rattle.markdown_items.specs.LineItems.{item_extensions}
+use Rattle.markdown_plain.specs.Paragraphs.{source_of}
+use Rattle.markdown_plain.proofs.LeafTreesLemmas.{put_heading}
+use Rattle.markdown_plain.proofs.pass.Pass.add_heading.Goals as goal
+
+pub returns-clause-tree : goal.returns-clause-tree
+returns-clause-tree c = λ stand fitted.
+    let put = c.close.ensures.tree fitted in
+    let last = c.step_to-2.ensures.steps put.0 in
+    let filled = c.in_ok-add_items.ensures.items last.0 in
+    let goes = c.in_ok-add_items.ensures.appends last.0 in
+    let first = c.step_to.ensures.steps filled.0 in
+    let opens = c.in_ok-open_heading.ensures.heading stand first.0 in
+    let run : c.step_to.new.self.builder.run ≡ None = search rules in
+    let text : c.step_to.new.self.builder.text ≡ c.args.self.now.placing.builder.text = search rules in
+    let at : c.step_to-2.new.self.builder.at ≡ c.args.line.next = search rules in
+    let from : c.step_to.new.self.builder.at ≡ c.args.heading.from = search rules in
+    let blocks : c.step_to-2.new.self.builder.blocks ≡ c.open_heading.new.placing.builder.blocks = search rules in
+    let headings : c.step_to-2.new.self.builder.headings ≡ c.open_heading.new.placing.builder.headings = search rules in
+    let kept : c.step_to-2.new.self.builder.levels ≡ c.add_items.new.self.builder.levels = search rules in
+    let before : c.step_to.new.self.builder.levels ≡ c.open_heading.new.placing.builder.levels = search rules in
+    let items = content_items c.args.self.now.placing.builder.text (item_extensions c.args.self.now.options)
+    c.args.heading.from c.args.heading.to in
+    let levels : c.step_to-2.new.self.builder.levels ≡ with_items c.open_heading.new.placing.builder.levels items =
+    kept ∙ (filled.1 run
+    ∙ (ap (λ ls. with_items ls (content_items c.step_to.new.self.builder.text (item_extensions c.args.self.now.options)
+    c.step_to.new.self.builder.at c.args.heading.to)) before
+    ∙ (ap (λ t. with_items c.open_heading.new.placing.builder.levels (content_items t
+    (item_extensions c.args.self.now.options) c.step_to.new.self.builder.at c.args.heading.to)) text
+    ∙ ap (λ n. with_items c.open_heading.new.placing.builder.levels (content_items c.args.self.now.placing.builder.text
+    (item_extensions c.args.self.now.options) n c.args.heading.to)) from))) in (
+      opens.0,
+      λ some. put_heading (source_of c.args.self.now) c.args.self.now.placing.builder
+          c.open_heading.new.placing.builder c.step_to-2.new.self.builder c.close.new.self.builder c.args.heading.level
+          c.args.heading.braces items refl opens.1 blocks headings levels put.1 some
+          ∙ ap (λ n. with_trees c.args.self.now.placing.builder.levels (shown_heading (source_of c.args.self.now)
+          c.args.self.now.placing.builder.at n c.args.heading.level c.args.heading.braces (chain_of items))) at,
+    )

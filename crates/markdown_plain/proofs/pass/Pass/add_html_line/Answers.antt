@@ -1,0 +1,31 @@
+-- What a tab owes, and then the line, are the items of a line of HTML.
+use Rattle.std.proofs.Common.{arith}
+use Rattle.std.proofs.lemmas.Bool.Decides.{nat_tests}
+use Rattle.markdown_base.specs.declared.item.ItemBody.TheVariants as body
+use Rattle.markdown_plain.proofs.LeafTreesLemmas.{line_added, line_over, owed_added, rest_from, rest_held}
+use Rattle.markdown_plain.proofs.pass.Pass.add_html_line.Goals as goal
+
+pub returns-in_ok-add_inline-clause-items : goal.returns-in_ok-add_inline-clause-items
+returns-in_ok-add_inline-clause-items c = λ source is fitted.
+    let added = c.in_ok-add_inline.ensures.appends fitted in
+    let o = owed_added c.args.self.now.placing c.step_to.new.self c.add_owed.new.self c.args.position.at
+    c.args.position.owed
+    c.step_to.ensures.steps c.in_ok-add_owed.ensures.owed c.in_ok-add_owed.ensures.nothing added.0 in (
+      o.0,
+      line_added c.args.self.now.placing.builder.levels body.Html (rest_from c.args.line c.args.position) source
+          c.add_owed.new.self.builder c.add_inline.new.self.builder
+          (rest_held c.args.self.now.placing.builder.text c.args.position c.args.line source is) o.1
+          (grind (arith, nat_tests, c.if-position-line.true)) added.1,
+    )
+
+pub returns-else-position-line-clause-items : goal.returns-else-position-line-clause-items
+returns-else-position-line-clause-items c = λ source is fitted.
+    let o = owed_added c.args.self.now.placing c.step_to.new.self c.add_owed.new.self c.args.position.at
+    c.args.position.owed
+    c.step_to.ensures.steps c.in_ok-add_owed.ensures.owed c.in_ok-add_owed.ensures.nothing fitted in (
+      o.0,
+      line_over c.args.self.now.placing.builder.levels body.Html (rest_from c.args.line c.args.position) source
+          c.add_owed.new.self.builder
+          (rest_held c.args.self.now.placing.builder.text c.args.position c.args.line source is) o.1
+          (grind (arith, nat_tests, c.if-position-line.false)),
+    )
