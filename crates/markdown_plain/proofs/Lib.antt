@@ -6,5 +6,6 @@ pub mod StretchesLemmas
 -- on lines that are taken, and on when lists become loose
 pub mod ParagraphLinesLemmas
 pub mod ParagraphTreesLemmas
+pub mod ParagraphBracesLemmas
 pub mod ParagraphsLemmas
 pub mod ListLoosenessLemmas

@@ -41,7 +41,7 @@ use Rattle.markdown_plain.specs.ParagraphItems.{BeginsWithTask, OpenInLast, afte
 range_length : (text : List ℕ) (from stop : ℕ) → stop ≤ length text → length (slice_range text from stop) ≡ stop - from
 range_length text from stop within = omega (arith, length-take (stop - from) (drop from text), length-drop from text)
 
-range_byte : (text : List ℕ) (from stop k : ℕ) → k < stop - from
+pub range_byte : (text : List ℕ) (from stop k : ℕ) → k < stop - from
     → get_or (slice_range text from stop) k 0 ≡ get_or text (from + k) 0
 range_byte text from stop k lt = get_or-take (stop - from) (drop from text) k 0 lt ∙ get_or-drop from text k 0
 
@@ -150,7 +150,7 @@ line_and_break levels mid after s line source between is some within broken firs
 
 -- ---- task markers
 
-if_some : (test : Bool) (value : Option Bool) (done : Bool) → (if test then value else None) ≡ Some done
+pub if_some : (test : Bool) (value : Option Bool) (done : Bool) → (if test then value else None) ≡ Some done
     → (test ≡ true) × (value ≡ Some done)
 if_some true value done e = (refl, e)
 if_some false value done e = absurd (grind (arith, e))
@@ -229,7 +229,7 @@ no_longer test zero (b ∷ bytes) less stops = sym (ap (λ t. cond t (1 + prefix
 no_longer test (suc n) (b ∷ bytes) less stops =
     ap (λ k. cond (test b) (1 + k) 0) (no_longer test n bytes (omega (arith, less)) stops)
 
-byte_within : (bytes : List ℕ) (k : ℕ) → slice_index bytes k ≡ open_brace → k < length bytes
+pub byte_within : (bytes : List ℕ) (k : ℕ) → slice_index bytes k ≡ open_brace → k < length bytes
 byte_within [] k e = absurd (omega (arith, e))
 byte_within (b ∷ bytes) zero e = omega arith
 byte_within (b ∷ bytes) (suc k) e = let more = byte_within bytes k e in omega (arith, more)

@@ -5,13 +5,16 @@ use Rattle.markdown_base.specs.declared.item.ItemBody.TheVariants as body
 use Rattle.markdown_base.specs.Forest.{Forest}
 use Rattle.markdown_builder.specs.BuilderView.{with_items}
 use Rattle.markdown_builder.specs.Shown.{Shown, plain_item}
+use Rattle.markdown_base.specs.declared.options.Options.{Options}
+use Rattle.markdown_base.specs.declared.tag.HeadingLevel.{HeadingLevel}
+use Rattle.markdown_lines.specs.declared.line.Line.{Line}
 use Rattle.markdown_items.specs.LineItems.{item_extensions}
 use Rattle.markdown_lines.specs.declared.braces.Braces.{Braces}
 use Rattle.markdown_lines.specs.BlockBeginnings.{Source}
 use Rattle.markdown_lines.specs.HeadingAttributes.{open_brace}
 use Rattle.markdown_lines.specs.SourceLines.{SourceLine}
 use Rattle.markdown_lines.specs.TaskMarkers.{past_task, task_marker}
-use Rattle.markdown_block_rules.specs.BlockRules.{before_braces, items_after_task}
+use Rattle.markdown_block_rules.specs.BlockRules.{before_braces, items_after_task, last_braces}
 use Rattle.markdown_block_rules.specs.LineContents.{broken_line}
 use Rattle.markdown_plain.specs.declared.paragraph.Ends.{Ends}
 
@@ -66,3 +69,8 @@ pub record HaveEnds (lines : List SourceLine) (ends : Ends) : Type 0 where
 pub record IsLeft (s : Source) (ends : Ends) (lines : List SourceLine) (now all : List (Forest Shown)) : Type 0 where
   pub fit : HaveEnds lines ends
   pub rest : with_items now (text_items s ends.task (before_braces ends.braces lines)) ≡ all
+
+-- the braces at the end of the lines of a heading, or of a paragraph, which has none
+abbrev pub heading_braces : Options → Option (HeadingLevel × Line) → List SourceLine → Option Braces
+heading_braces options None lines = None
+heading_braces options (Some heading) lines = last_braces options lines

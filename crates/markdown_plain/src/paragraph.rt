@@ -4,7 +4,7 @@ ghost use Rattle.std.specs.Prelude.{◌≡◌, ℕ, ◌<◌, ◌≤◌, ◌++◌
 ghost use Rattle.std.specs.Prelude.{◌+◌, drop, slice_get, if◌then◌else◌};
 ghost use Rattle.markdown_base.specs.declared.item.ItemBody.TheVariants as body;
 ghost use Rattle.markdown_builder.specs.BuilderView.{Opens};
-ghost use Rattle.markdown_plain.specs.Fitting.{IfFitted, GoesOn, OpensHeading, defining};
+ghost use Rattle.markdown_plain.specs.Fitting.{BracesStand, IfFitted, GoesOn, OpensHeading, OpensHeadingOf, defining};
 ghost use Rattle.markdown_plain.specs.OpenBlocks.{room_in, without_leaf};
 ghost use Rattle.markdown_plain.specs.Paragraphs.{end_of, has_paragraph, is_item_in, lines_end, paragraph_end};
 ghost use Rattle.markdown_plain.specs.Paragraphs.{divided_of, first_task, shown_ended, source_of, task_at};
@@ -12,7 +12,7 @@ ghost use Rattle.markdown_plain.specs.Paragraphs.{EndsFrom, IsDivided};
 ghost use Rattle.markdown_plain.specs.Paragraphs.{IsPlacedTo};
 ghost use Rattle.markdown_plain.specs.HeldSources.{IsParagraph};
 ghost use Rattle.markdown_plain.specs.LeafTrees.{HasItems, HasTrees};
-ghost use Rattle.markdown_plain.specs.ParagraphItems.{after_task, line_or_nothing, task_items, text_items};
+ghost use Rattle.markdown_plain.specs.ParagraphItems.{after_task, heading_braces, line_or_nothing, task_items, text_items};
 ghost use Rattle.markdown_plain.specs.ParagraphItems.{BeginsWithTask, HaveEnds, IsLeft};
 ghost use Rattle.markdown_base.specs.Forest.{Forest};
 ghost use Rattle.markdown_builder.specs.Shown.{Shown};
@@ -306,6 +306,10 @@ fn open_text(
         (MatchOption heading
         (Opens placing.old.builder placing.new.builder body.Paragraph)
         (λ h. OpensHeading placing.old.builder placing.new.builder h.0))) }
+    ensures leaf { IfOk result (λ _. BracesStand placing.old.builder.text braces
+        → IfFitted placing.old placing.new (MatchOption heading
+        (Opens placing.old.builder placing.new.builder body.Paragraph)
+        (λ h. OpensHeadingOf placing.old.builder placing.new.builder h.0 braces))) }
 {
     match heading {
         Some((level, _)) => open_heading(alloc, placing, level, braces),
@@ -362,7 +366,14 @@ impl<'a> Pass<'a> {
     }
 
     /// Returns the braces at the end of the last line, where it is that of a heading and attributes are read.
-    fn last_braces(&self, heading: Option<(HeadingLevel, Line)>) -> Option<Braces> {
+    #[tactic(auto, using(crate::proofs::ParagraphBracesLemmas::braces_stand, crate::proofs::ParagraphBracesLemmas::last_of))]
+    fn last_braces(&self, heading: Option<(HeadingLevel, Line)>) -> Option<Braces>
+        ensures stand { BracesStand self.now.placing.builder.text result }
+        ensures value { (sources : List SourceLine) (from : ℕ)
+            → AreTextLines self.now.placing.builder.text self.now.lines.items sources
+            → from < length self.now.lines.items
+            → result ≡ heading_braces self.now.options heading (drop from sources) }
+    {
         if heading.is_none() || !attributes_read(self.options) {
             return None;
         }
