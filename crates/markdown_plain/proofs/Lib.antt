@@ -7,5 +7,6 @@ pub mod StretchesLemmas
 pub mod ParagraphLinesLemmas
 pub mod ParagraphTreesLemmas
 pub mod ParagraphBracesLemmas
+pub mod PlacedParagraphsLemmas
 pub mod ParagraphsLemmas
 pub mod ListLoosenessLemmas

@@ -2,7 +2,7 @@
 use Rattle.std.proofs.Common.{◌≡◌, ℕ, zero, suc, ◌+◌, ◌-◌, ◌<◌, ◌≤◌, Bool, true, false, List, [], ◌∷◌, ◌++◌, Option}
 use Rattle.std.proofs.Common.{Some, None, length, take, drop, slice_range, refl, sym, ap, ◌∙◌, subst, arith}
 use Rattle.std.specs.Prelude.{get_or, nat_eq, nat_lt, slice_get, slice_index, ◌==◌, if◌then◌else◌}
-use Rattle.std.specs.Option.{option_map}
+use Rattle.std.specs.Option.{is_some, option_map}
 use Rattle.std.specs.Str.{IsCharBoundary, IsUtf8}
 use Rattle.std.specs.List.{suffix_len}
 use Rattle.std.proofs.lemmas.Bool.{true≢false}
@@ -25,7 +25,7 @@ use Rattle.markdown_lines.specs.TaskMarkers.{task_marker, task_read}
 use Rattle.markdown_lines.specs.declared.braces.Braces.{Braces}
 use Rattle.markdown_lines.specs.declared.held_line.HeldLine.{HeldLine}
 use Rattle.markdown_block_rules.specs.BlockRules.{before_braces, items_after_task, last_braces, paragraph_items}
-use Rattle.markdown_plain.proofs.ParagraphLinesLemmas.{byte_within, if_some, marker_before_brace, range_byte}
+use Rattle.markdown_plain.proofs.ParagraphLinesLemmas.{byte_within, if_some, marker_before_brace, on_false, range_byte}
 use Rattle.markdown_plain.specs.Fitting.{BracesStand}
 use Rattle.markdown_plain.specs.HeldSources.{AreTextLines, IsTextLine}
 use Rattle.markdown_plain.specs.ParagraphItems.{BeginWithTask, BeginsWithTask, OpenInLast, heading_braces, text_items}
@@ -109,9 +109,10 @@ braces_stand text start stop utf8 = of_found (braces_in (slice_range text start 
         → BracesStand text (option_map (braces_from start) found)
     of_found None e = tt
     of_found (Some braces) e =
-        let are = braces_are (slice_range text start stop) braces e in
-        ((ascii_at text start stop braces.opening open_brace utf8 (omega arith) are.opens).0,
-        (ascii_at text start stop braces.closing close_brace utf8 (omega arith) are.closes).1)
+        let are = braces_are (slice_range text start stop) braces e in (
+          (ascii_at text start stop braces.opening open_brace utf8 (omega arith) are.opens).0,
+          (ascii_at text start stop braces.closing close_brace utf8 (omega arith) are.closes).1,
+        )
 
 -- ---- the last line
 
@@ -119,7 +120,7 @@ line_braces : Options → ℕ → List ℕ → Option Braces
 line_braces options start bytes =
     if attributes_read options then option_map (braces_from start) (braces_in bytes) else None
 
-pub last_of : (options : Options) (text : List ℕ) (lines : List HeldLine) (sources : List SourceLine) (from k : ℕ)
+last_of : (options : Options) (text : List ℕ) (lines : List HeldLine) (sources : List SourceLine) (from k : ℕ)
     (line : HeldLine) → AreTextLines text lines sources → from < length lines → k + 1 ≡ length lines
     → slice_get lines k ≡ Some line
     → last_braces options (drop from sources) ≡ (if attributes_read options
@@ -197,3 +198,32 @@ items_before_braces s marked (Some braces) (l ∷ []) e =
     then (if is_read ENABLE_TASKLISTS s.options then task else None) else None))
     (sym (marker_before_brace l.left.bytes k e))
 items_before_braces s marked braces (l ∷ m ∷ lines) e = refl
+
+-- there are no braces where no attributes are read
+none_last : (options : Options) (lines : List SourceLine) → attributes_read options ≡ false
+    → last_braces options lines ≡ None
+none_last options [] unread = refl
+none_last options (l ∷ []) unread =
+    on_false (attributes_read options) (option_map (braces_from l.left.scanned) (braces_in l.left.bytes)) None unread
+none_last options (l ∷ m ∷ lines) unread = none_last options (m ∷ lines) unread
+
+pub none_read : (options : Options) (heading : Option (HeadingLevel × Line)) (lines : List SourceLine)
+    → attributes_read options ≡ false → None ≡ heading_braces options heading lines
+none_read options None lines unread = refl
+none_read options (Some heading) lines unread = sym (none_last options lines unread)
+
+pub none_of_paragraph : (options : Options) (heading : Option (HeadingLevel × Line)) (lines : List SourceLine)
+    → heading ≡ None → None ≡ heading_braces options heading lines
+none_of_paragraph options heading lines e = sym (ap (λ h. heading_braces options h lines) e)
+
+-- the braces of the last line are those of the heading
+pub heading_last : (options : Options) (heading : Option (HeadingLevel × Line)) (text : List ℕ) (lines : List HeldLine)
+    (sources : List SourceLine) (from : ℕ) (line : HeldLine) → is_some heading ≡ true → attributes_read options ≡ true
+    → AreTextLines text lines sources → from < length lines → Some line ≡ slice_get lines (length lines - 1)
+    → option_map (braces_from line.start) (braces_in (slice_range text line.start line.stop))
+    ≡ heading_braces options heading (drop from sources)
+heading_last options None text lines sources from line some read are less there = absurd (true≢false (sym some))
+heading_last options (Some heading) text lines sources from line some read are less there =
+    sym (last_of options text lines sources from (length lines - 1) line are less (omega (arith, less)) (sym there)
+    ∙ ap (λ test. if test
+    then option_map (braces_from line.start) (braces_in (slice_range text line.start line.stop)) else None) read)

@@ -13,7 +13,7 @@ ghost use Rattle.markdown_plain.specs.Paragraphs.{IsPlacedTo};
 ghost use Rattle.markdown_plain.specs.HeldSources.{IsParagraph};
 ghost use Rattle.markdown_plain.specs.LeafTrees.{HasItems, HasTrees};
 ghost use Rattle.markdown_plain.specs.ParagraphItems.{after_task, heading_braces, line_or_nothing, task_items, text_items};
-ghost use Rattle.markdown_plain.specs.ParagraphItems.{BeginsWithTask, HaveEnds, IsLeft};
+ghost use Rattle.markdown_plain.specs.ParagraphItems.{AreSome, BeginsWithTask, HaveEnds, IsLeft};
 ghost use Rattle.markdown_base.specs.Forest.{Forest};
 ghost use Rattle.markdown_builder.specs.Shown.{Shown};
 ghost use Rattle.std.specs.Option.{option_map_or};
@@ -366,7 +366,7 @@ impl<'a> Pass<'a> {
     }
 
     /// Returns the braces at the end of the last line, where it is that of a heading and attributes are read.
-    #[tactic(auto, using(crate::proofs::ParagraphBracesLemmas::braces_stand, crate::proofs::ParagraphBracesLemmas::last_of))]
+    #[tactic(auto, using(crate::proofs::ParagraphBracesLemmas::braces_stand))]
     fn last_braces(&self, heading: Option<(HeadingLevel, Line)>) -> Option<Braces>
         ensures stand { BracesStand self.now.placing.builder.text result }
         ensures value { (sources : List SourceLine) (from : ℕ)
@@ -395,6 +395,15 @@ impl<'a> Pass<'a> {
             → IfFitted self.old.placing self.new.placing
             (IsPlacedTo self.old.placing.builder self.new.placing.builder
             (paragraph_end self.old.lines.items heading))) }
+        ensures tree { IfOk result (λ _. (sources : List SourceLine) (marked : ℕ) (b : Block)
+            → AreTextLines self.old.placing.builder.text self.old.lines.items sources
+            → from < length self.old.lines.items → AreSome (drop from sources)
+            → (if from == 0 then self.old.task else None)
+            ≡ first_task (source_of self.old) marked (drop from sources)
+            → b.last ≡ paragraph_end self.old.lines.items heading
+            → IfFitted self.old.placing self.new.placing
+            (HasTrees self.old.placing.builder self.new.placing.builder
+            (shown_ended (source_of self.old) marked b heading (drop from sources)))) }
         ensures same { self.new ≡ record self.old { placing = self.new.placing } }
     {
         if let Some(first) = self.lines.get(from) {
