@@ -240,3 +240,9 @@ goes_on_twice old mid new to further end first second same =
     second
     ∙ (ap (λ (b : BuilderView). record b { at = further; run = new.run; levels = new.levels; texts = new.texts }) first
     ∙ ap (λ n. record old { at = n; run = new.run; levels = new.levels; texts = new.texts }) same)
+
+pub any_default : (lines : List HeldLine) (number : ℕ) (one other : HeldLine) → number < length lines
+    → get_or lines number other ≡ get_or lines number one
+any_default [] number one other less = absurd (omega (arith, less))
+any_default (first ∷ lines) zero one other less = refl
+any_default (first ∷ lines) (suc number) one other less = any_default lines number one other (omega (arith, less))

@@ -14,7 +14,7 @@ use Rattle.markdown_block_rules.specs.BlockGrowth.{Block}
 use Rattle.markdown_block_rules.specs.BlockRules.{before_braces, last_braces, paragraph_items, shown_heading}
 use Rattle.markdown_plain.proofs.LeafTreesLemmas.{put_heading, put_opened}
 use Rattle.markdown_plain.proofs.ParagraphBracesLemmas.{heading_open, items_before_braces, not_cut}
-use Rattle.markdown_plain.specs.Fitting.{OpensHeadingOf, PutsBlock}
+use Rattle.markdown_plain.specs.Fitting.{OpensHeadingOf, PutsBlock, stepped}
 use Rattle.markdown_plain.specs.LeafTrees.{HasTrees}
 use Rattle.markdown_plain.specs.ParagraphItems.{heading_braces, text_items}
 use Rattle.markdown_plain.specs.Paragraphs.{first_task, shown_ended}
@@ -61,3 +61,26 @@ placed_tree s old begun opened filled now new marked b (Some heading) braces l l
     (items_before_braces s marked found all (heading_open s.options (Some heading) all))
     ∙ ap (λ ls. with_trees ls (shown_heading s l.left.scanned b.last level found
     (chain_of (paragraph_items s marked (before_braces found all))))) before))))
+
+-- no delimiter run is in a block that was just opened
+pub none_run : (begun opened : BuilderView) (heading : Option (HeadingLevel × Line)) (braces : Option Braces)
+    → MatchOption heading (Opens begun opened body.Paragraph) (λ h. OpensHeadingOf begun opened h.0 braces)
+    → opened.run ≡ None
+none_run begun opened None braces opens = ap (λ (v : BuilderView). v.run) opens
+none_run begun opened (Some heading) None opens = ap (λ (v : BuilderView). v.run) opens
+none_run begun opened (Some heading) (Some braces) opens = ap (λ (v : BuilderView). v.run) opens.2.2
+
+-- a builder has moved to the end of a paragraph
+pub record IsAtEnd (filled now : BuilderView) (end : ℕ) : Type 0 where
+  pub at : now.at ≡ end
+  pub open_blocks : now.blocks ≡ filled.blocks
+  pub headings : now.headings ≡ filled.headings
+  pub levels : now.levels ≡ filled.levels
+
+pub moved_to : (filled now : BuilderView) (end : ℕ) → now ≡ stepped filled end → IsAtEnd filled now end
+moved_to filled now end e = record {
+  at = ap (λ (v : BuilderView). v.at) e;
+  open_blocks = ap (λ (v : BuilderView). v.blocks) e;
+  headings = ap (λ (v : BuilderView). v.headings) e;
+  levels = ap (λ (v : BuilderView). v.levels) e;
+}
