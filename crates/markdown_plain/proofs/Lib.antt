@@ -5,6 +5,10 @@ pub mod TableRowsLemmas
 pub mod ContainersLemmas
 pub mod StretchesLemmas
 -- on lines that are taken, and on when lists become loose
+pub mod ParagraphLinesLemmas
+pub mod ParagraphTreesLemmas
+pub mod ParagraphBracesLemmas
+pub mod PlacedParagraphsLemmas
 pub mod ParagraphsLemmas
 pub mod DividedLemmas
 pub mod ListLoosenessLemmas

@@ -12,3 +12,4 @@ pub mod TakenDefinitions
 pub mod Stretches
 pub mod Containers
 pub mod NewContainers
+pub mod ParagraphItems

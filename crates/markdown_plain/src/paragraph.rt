@@ -1,17 +1,26 @@
 //! A paragraph: its lines, the breaks between them, and what else it may turn out to be (CommonMark 4.3, 4.7, 4.8).
 //! Functions that return a `Result` fail only where memory is refused.
 ghost use Rattle.std.specs.Prelude.{◌≡◌, ℕ, ◌<◌, ◌≤◌, ◌++◌, ◌∷◌, [], true, false, None, List, length, IfOk, MatchOption};
-ghost use Rattle.std.specs.Prelude.{if◌then◌else◌};
+ghost use Rattle.std.specs.Prelude.{◌+◌, ◌==◌, drop, slice_get, if◌then◌else◌};
 ghost use Rattle.markdown_base.specs.declared.item.ItemBody.TheVariants as body;
 ghost use Rattle.markdown_builder.specs.BuilderView.{Opens};
-ghost use Rattle.markdown_plain.specs.Fitting.{IfFitted, GoesOn, OpensHeading, defining};
+ghost use Rattle.markdown_plain.specs.Fitting.{BracesStand, IfFitted, GoesOn, OpensHeading, OpensHeadingOf, defining};
 ghost use Rattle.markdown_plain.specs.OpenBlocks.{room_in, without_leaf};
 ghost use Rattle.markdown_plain.specs.Paragraphs.{end_of, has_paragraph, is_item_in, lines_end, paragraph_end};
 ghost use Rattle.markdown_plain.specs.Paragraphs.{divided_of, first_task, shown_ended, source_of, task_at};
 ghost use Rattle.markdown_plain.specs.Paragraphs.{EndsFrom, IsDivided};
 ghost use Rattle.markdown_plain.specs.Paragraphs.{IsPlacedTo};
 ghost use Rattle.markdown_plain.specs.HeldSources.{IsParagraph};
-ghost use Rattle.markdown_plain.specs.LeafTrees.{HasTrees};
+ghost use Rattle.markdown_plain.specs.LeafTrees.{HasItems, HasTrees};
+ghost use Rattle.markdown_plain.specs.ParagraphItems.{after_task, heading_braces, line_or_nothing, task_items, text_items};
+ghost use Rattle.markdown_plain.specs.ParagraphItems.{AreSome, BeginsWithTask, HaveEnds, IsLeft};
+ghost use Rattle.markdown_base.specs.Forest.{Forest};
+ghost use Rattle.markdown_builder.specs.Shown.{Shown};
+ghost use Rattle.std.specs.Option.{option_map_or};
+ghost use Rattle.markdown_items.specs.LineItems.{item_extensions};
+ghost use Rattle.markdown_block_rules.specs.BlockRules.{before_braces};
+ghost use Rattle.markdown_block_rules.specs.LineContents.{lines_items};
+ghost use Rattle.markdown_plain.specs.HeldSources.{AreTextLines, IsTextLine};
 ghost use Rattle.markdown_plain.specs.TakenDefinitions.{TakesDefinitions};
 ghost use Rattle.markdown_lines.specs.DefinitionRules.{divided};
 ghost use Rattle.markdown_lines.specs.SourceLines.{SourceLine};
@@ -114,6 +123,7 @@ fn take_definitions<'a>(
 
 /// Appends a line that is not the paragraph's last, and the break after it. There is none where the line holds nothing
 /// more after a task marker.
+#[tactic(auto, using(crate::proofs::ParagraphLinesLemmas::empty_line, crate::proofs::ParagraphLinesLemmas::line_and_break))]
 fn add_broken_line(
     placing: &mut Placing<'_>,
     line: HeldLine,
@@ -122,6 +132,13 @@ fn add_broken_line(
     ensures text { IfOk result (λ _. placing.new.builder.text ≡ placing.old.builder.text) }
     ensures goes_on { IfOk result (λ _. IfFitted placing.old placing.new
         (GoesOn placing.old.builder placing.new.builder line.next)) }
+    ensures over { IfOk result (λ _. IfFitted placing.old placing.new
+        (placing.old.builder.run ≡ None → placing.new.builder.run ≡ None)) }
+    ensures items { IfOk result (λ _. (source : SourceLine)
+        → IsTextLine placing.old.builder.text line source → IfFitted placing.old placing.new
+        (placing.old.builder.run ≡ None → placing.old.builder.at ≡ line.start
+        → HasItems placing.old.builder placing.new.builder
+        (line_or_nothing (record { text = placing.old.builder.text; options = options }) source))) }
 {
     if line.start == line.stop {
         placing.step_to(line.next);
@@ -147,6 +164,11 @@ fn add_last_line(
     ensures text { IfOk result (λ _. placing.new.builder.text ≡ placing.old.builder.text) }
     ensures goes_on { IfOk result (λ _. IfFitted placing.old placing.new
         (GoesOn placing.old.builder placing.new.builder line.next)) }
+    ensures items { IfOk result (λ _. (source : SourceLine)
+        → IsTextLine placing.old.builder.text line source → IfFitted placing.old placing.new
+        (placing.old.builder.run ≡ None → placing.old.builder.at ≡ line.start
+        → HasItems placing.old.builder placing.new.builder
+        (lines_items placing.old.builder.text (item_extensions options) (source ∷ [])))) }
 {
     let content = bytes_of(placing.text(), line.start, line.stop);
     let end = line.start.saturating_add(trimmed_length(content));
@@ -174,6 +196,15 @@ fn begin_line(
     ensures goes_on { IfOk result (λ rest. IfFitted placing.old placing.new
         (GoesOn placing.old.builder placing.new.builder rest.start)) }
     ensures rest { IfOk result (λ rest. rest ≡ record line { start = rest.start }) }
+    ensures over { IfOk result (λ _. IfFitted placing.old placing.new
+        (placing.old.builder.run ≡ None → placing.new.builder.run ≡ None)) }
+    ensures items { IfOk result (λ _. (source : SourceLine)
+        → IsTextLine placing.old.builder.text line source → BeginsWithTask task source
+        → IfFitted placing.old placing.new
+        (HasItems placing.old.builder placing.new.builder (task_items task source))) }
+    ensures source { IfOk result (λ rest. (source : SourceLine)
+        → IsTextLine placing.old.builder.text line source → BeginsWithTask task source
+        → IsTextLine placing.old.builder.text rest (after_task task source)) }
 {
     placing.step_to(line.start);
     let Some(done) = task else {
@@ -188,7 +219,8 @@ fn begin_line(
 
 /// Returns a line that is cut off where braces open.
 fn cut_off(line: HeldLine, braces: Option<Braces>) -> HeldLine
-    ensures { result ≡ record line { stop = result.stop } }
+    ensures { result
+        ≡ record line { stop = option_map_or (λ braces. braces.opening) braces line.stop } }
 {
     match braces {
         Some(braces) => HeldLine {
@@ -196,6 +228,40 @@ fn cut_off(line: HeldLine, braces: Option<Braces>) -> HeldLine
             ..line
         },
         None => line,
+    }
+}
+
+/// Appends a line of the open paragraph or heading, which begins with this task marker, if any, and has these braces at
+/// its end where it is the last.
+fn add_line(
+    placing: &mut Placing<'_>,
+    lines: &[HeldLine],
+    number: usize,
+    ends: Ends,
+    options: Options,
+) -> Result<(), AllocError>
+    requires { number < length lines.now }
+    ensures text { IfOk result (λ _. placing.new.builder.text ≡ placing.old.builder.text) }
+    ensures goes_on { IfOk result (λ _. IfFitted placing.old placing.new
+        (GoesOn placing.old.builder placing.new.builder
+        (option_map_or (λ line. line.next) (slice_get lines.now number) 0))) }
+    ensures over { IfOk result (λ _. IfFitted placing.old placing.new
+        (placing.old.builder.run ≡ None → number + 1 < length lines.now
+        → placing.new.builder.run ≡ None)) }
+    ensures left { IfOk result (λ _. (sources : List SourceLine) (all : List (Forest Shown))
+        → AreTextLines placing.old.builder.text lines.now sources
+        → IsLeft (record { text = placing.old.builder.text; options = options }) ends
+        (drop number sources) placing.old.builder.levels all → IfFitted placing.old placing.new
+        (placing.old.builder.run ≡ None
+        → IsLeft (record { text = placing.old.builder.text; options = options })
+        (record ends { task = None }) (drop (number + 1) sources)
+        placing.new.builder.levels all)) }
+{
+    let line = begin_line(placing, lines[number], ends.task)?;
+    if number == lines.len() - 1 {
+        add_last_line(placing, cut_off(line, ends.braces), options)
+    } else {
+        add_broken_line(placing, line, options)
     }
 }
 
@@ -210,15 +276,16 @@ fn add_lines(
     ensures text { IfOk result (λ _. placing.new.builder.text ≡ placing.old.builder.text) }
     ensures goes_on { IfOk result (λ _. from < length lines.now → IfFitted placing.old placing.new
         (GoesOn placing.old.builder placing.new.builder (lines_end lines.now))) }
+    ensures items { IfOk result (λ _. (sources : List SourceLine)
+        → AreTextLines placing.old.builder.text lines.now sources
+        → HaveEnds (drop from sources) ends → IfFitted placing.old placing.new
+        (placing.old.builder.run ≡ None → HasItems placing.old.builder placing.new.builder
+        (text_items (record { text = placing.old.builder.text; options = options }) ends.task
+        (before_braces ends.braces (drop from sources))))) }
 {
     'lines: for number in from..lines.len() {
-        let marker = if number == from { ends.task } else { None };
-        let line = begin_line(placing, lines[number], marker)?;
-        if number == lines.len() - 1 {
-            add_last_line(placing, cut_off(line, ends.braces), options)?;
-        } else {
-            add_broken_line(placing, line, options)?;
-        }
+        let task = if number == from { ends.task } else { None };
+        add_line(placing, lines, number, Ends { task, ..ends }, options)?;
     }
     Ok(())
 }
@@ -245,6 +312,10 @@ fn open_text(
         (MatchOption heading
         (Opens placing.old.builder placing.new.builder body.Paragraph)
         (λ h. OpensHeading placing.old.builder placing.new.builder h.0))) }
+    ensures leaf { IfOk result (λ _. BracesStand placing.old.builder.text braces
+        → IfFitted placing.old placing.new (MatchOption heading
+        (Opens placing.old.builder placing.new.builder body.Paragraph)
+        (λ h. OpensHeadingOf placing.old.builder placing.new.builder h.0 braces))) }
 {
     match heading {
         Some((level, _)) => open_heading(alloc, placing, level, braces),
@@ -303,7 +374,14 @@ impl<'a> Pass<'a> {
     }
 
     /// Returns the braces at the end of the last line, where it is that of a heading and attributes are read.
-    fn last_braces(&self, heading: Option<(HeadingLevel, Line)>) -> Option<Braces> {
+    #[tactic(auto, using(crate::proofs::ParagraphBracesLemmas::braces_stand))]
+    fn last_braces(&self, heading: Option<(HeadingLevel, Line)>) -> Option<Braces>
+        ensures stand { BracesStand self.now.placing.builder.text result }
+        ensures value { (sources : List SourceLine) (from : ℕ)
+            → AreTextLines self.now.placing.builder.text self.now.lines.items sources
+            → from < length self.now.lines.items
+            → result ≡ heading_braces self.now.options heading (drop from sources) }
+    {
         if heading.is_none() || !attributes_read(self.options) {
             return None;
         }
@@ -325,6 +403,15 @@ impl<'a> Pass<'a> {
             → IfFitted self.old.placing self.new.placing
             (IsPlacedTo self.old.placing.builder self.new.placing.builder
             (paragraph_end self.old.lines.items heading))) }
+        ensures tree { IfOk result (λ _. (sources : List SourceLine) (marked : ℕ) (b : Block)
+            → AreTextLines self.old.placing.builder.text self.old.lines.items sources
+            → from < length self.old.lines.items → AreSome (drop from sources)
+            → (if from == 0 then self.old.task else None)
+            ≡ first_task (source_of self.old) marked (drop from sources)
+            → b.last ≡ paragraph_end self.old.lines.items heading
+            → IfFitted self.old.placing self.new.placing
+            (HasTrees self.old.placing.builder self.new.placing.builder
+            (shown_ended (source_of self.old) marked b heading (drop from sources)))) }
         ensures same { self.new ≡ record self.old { placing = self.new.placing } }
     {
         if let Some(first) = self.lines.get(from) {

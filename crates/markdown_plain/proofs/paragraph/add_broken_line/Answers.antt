@@ -1,0 +1,44 @@
+-- A line and the break after it are its items; there is none where nothing is left of it.
+use Rattle.std.proofs.Common.{◌≡◌, ◌∷◌, [], ◌∙◌, ap, sym, subst, rules, arith}
+use Rattle.markdown_builder.specs.BuilderView.{BuilderView, with_items}
+use Rattle.std.proofs.lemmas.Result.{IfOk-weaker}
+use Rattle.markdown_builder.specs.Shown.{plain_item}
+use Rattle.markdown_items.specs.ContentItems.{content_items}
+use Rattle.markdown_items.specs.LineItems.{item_extensions}
+use Rattle.markdown_lines.specs.BlockBeginnings.{Source}
+use Rattle.markdown_plain.proofs.ParagraphLinesLemmas.{empty_line, line_and_break}
+use Rattle.markdown_plain.proofs.paragraph.add_broken_line.Goals as goal
+
+pub returns-then-line-clause-items : goal.returns-then-line-clause-items
+returns-then-line-clause-items c = λ source is fitted.
+    let stepped = c.step_to.ensures.steps fitted in
+    let levels = c.args.placing.now.builder.levels in (
+      stepped.0,
+      λ run at. ap (λ (b : BuilderView). b.levels) stepped.1
+          ∙ empty_line levels (record { text = c.args.placing.now.builder.text; options = c.args.options }) c.args.line
+          source is c.if-line.true,
+    )
+
+pub returns-clause-items : goal.returns-clause-items
+returns-clause-items c =
+    let text = c.args.placing.now.builder.text in
+    let s : Source = record { text = text; options = c.args.options } in
+    IfOk-weaker c.add_inline.result _ _ (λ done appends source is fitted.
+    let added = appends fitted in
+    let stepped = c.step_to-2.ensures.steps added.0 in
+    let read = c.in_ok-add_items.ensures.items stepped.0 in (
+      read.0,
+      λ run at.
+          let first : c.add_items.new.self.builder.levels ≡ with_items c.args.placing.now.builder.levels (content_items
+          text (item_extensions c.args.options) c.args.line.start c.line_break-between.result.text_end) =
+          read.1 run ∙ ap (λ n. with_items c.args.placing.now.builder.levels (content_items
+          text (item_extensions c.args.options) n c.line_break-between.result.text_end)) at in
+          let second : c.add_inline.new.self.builder.levels ≡ with_items c.add_items.new.self.builder.levels
+          (plain_item c.line_break-between.result.start c.args.line.next c.line_break-between.result.body ∷ []) =
+          ap (λ (b : BuilderView). b.levels) added.1
+          ∙ ap (λ (b : BuilderView). with_items b.levels
+          (plain_item b.at c.args.line.next c.line_break-between.result.body ∷ [])) stepped.1 in
+          line_and_break c.args.placing.now.builder.levels c.add_items.new.self.builder.levels
+          c.add_inline.new.self.builder.levels s c.args.line source c.line_break-between.result is
+          (search rules) (search rules) (search rules) first second,
+    )) c.add_inline.ensures.appends

@@ -1,0 +1,93 @@
+-- A line is appended after its task marker, and what is left then are the lines behind it.
+use Rattle.std.proofs.Common.{◌≡◌, ◌∙◌, ◌∷◌, [], ◌+◌, ◌<◌, List, ap, sym, subst, rules, arith, drop, length, None}
+use Rattle.std.proofs.lemmas.Bool.Decides.{nat_tests}
+use Rattle.std.proofs.lemmas.Result.{IfOk-weaker}
+use Rattle.markdown_builder.specs.BuilderView.{BuilderView, with_items}
+use Rattle.markdown_items.specs.LineItems.{item_extensions}
+use Rattle.markdown_lines.specs.declared.held_line.HeldLine.{HeldLine}
+use Rattle.markdown_lines.specs.BlockBeginnings.{Source}
+use Rattle.markdown_lines.specs.SourceLines.{SourceLine}
+use Rattle.markdown_block_rules.specs.BlockRules.{cut_before_braces}
+use Rattle.markdown_block_rules.specs.LineContents.{lines_items}
+use Rattle.markdown_plain.proofs.ParagraphLinesLemmas.{cut_line, open_after_task}
+use Rattle.markdown_plain.proofs.ParagraphTreesLemmas.{as_many, broken_line_left, goes_on_twice, got, last_line_left}
+use Rattle.markdown_plain.proofs.ParagraphTreesLemmas.{none_behind, some_behind, takes_line}
+use Rattle.markdown_plain.specs.HeldSources.{IsTextLine}
+use Rattle.markdown_plain.specs.ParagraphItems.{IsLeft, after_task, line_or_nothing}
+use Rattle.markdown_plain.proofs.paragraph.add_line.Goals as goal
+
+pub returns-then-number-lines-clause-left : goal.returns-then-number-lines-clause-left
+returns-then-number-lines-clause-left c =
+    IfOk-weaker c.add_last_line.result _ _ (λ done items sources all are left fitted.
+    let text = c.args.placing.now.builder.text in
+    let s : Source = record { text = text; options = c.args.options } in
+    let levels = c.args.placing.now.builder.levels in
+    let ends = c.args.ends in
+    let same = c.in_ok-line.ensures.text in
+    let t = takes_line text c.args.lines.now sources c.args.number _ are c.requires in
+    let none = none_behind sources (c.args.number + 1)
+    (omega (arith, as_many text c.args.lines.now sources are, c.if-number-lines.true)) in
+    let alone : IsLeft s ends (t.source ∷ []) levels all =
+    subst (λ (ls : List SourceLine). IsLeft s ends (t.source ∷ ls) levels all) none
+    (subst (λ (ls : List SourceLine). IsLeft s ends ls levels all) t.left left) in
+    let rest = c.in_ok-line.ensures.source t.source t.is alone.fit.task in
+    let content = cut_before_braces ends.braces (after_task ends.task t.source) in
+    let cut : IsTextLine text c.cut_off.result content = subst (λ (l : HeldLine). IsTextLine text l content)
+    (sym c.cut_off.ensures) (cut_line text c.in_ok-line.line (after_task ends.task t.source) ends.braces rest
+    (open_after_task ends.task ends.braces t.source alone.fit.task alone.fit.braces)) in
+    let added = items content (subst (λ tx. IsTextLine tx c.cut_off.result content) (sym same) cut) fitted in
+    let begun = c.in_ok-line.ensures.items t.source t.is alone.fit.task added.0 in (
+      begun.0,
+      λ run.
+          let at = ap (λ (b : BuilderView). b.at) (c.in_ok-line.ensures.goes_on added.0).1
+          ∙ sym (ap (λ (l : HeldLine). l.start) c.cut_off.ensures) in
+          let last = added.1 ((c.in_ok-line.ensures.over added.0).1 run) at
+          ∙ ap (λ tx. with_items c.begin_line.new.placing.builder.levels
+          (lines_items tx (item_extensions c.args.options) (content ∷ []))) same in
+          subst (λ ls. IsLeft s (record ends { task = None }) ls c.add_last_line.new.placing.builder.levels all)
+          (sym none) (last_line_left s ends.task ends.braces t.source levels c.begin_line.new.placing.builder.levels
+          c.add_last_line.new.placing.builder.levels all alone begun.1 last),
+    )) c.add_last_line.ensures.items
+
+pub returns-else-number-lines-clause-goes_on : goal.returns-else-number-lines-clause-goes_on
+returns-else-number-lines-clause-goes_on c =
+    IfOk-weaker c.add_broken_line.result _ _ (λ done on fitted.
+    let added = on fitted in
+    let begun = c.in_ok-line.ensures.goes_on added.0 in
+    let next = ap (λ (l : HeldLine). l.next) c.in_ok-line.ensures.rest
+    ∙ sym (got c.args.lines.now c.args.number _ c.requires) in (
+      begun.0,
+      goes_on_twice c.args.placing.now.builder c.begin_line.new.placing.builder
+          c.add_broken_line.new.placing.builder _ c.in_ok-line.line.next _ begun.1 added.1 next,
+    )) c.add_broken_line.ensures.goes_on
+
+pub returns-else-number-lines-clause-left : goal.returns-else-number-lines-clause-left
+returns-else-number-lines-clause-left c =
+    IfOk-weaker c.add_broken_line.result _ _ (λ done items sources all are left fitted.
+    let text = c.args.placing.now.builder.text in
+    let s : Source = record { text = text; options = c.args.options } in
+    let levels = c.args.placing.now.builder.levels in
+    let ends = c.args.ends in
+    let same = c.in_ok-line.ensures.text in
+    let t = takes_line text c.args.lines.now sources c.args.number _ are c.requires in
+    let other = c.if-number-lines.false in
+    let less : c.args.number + 1 < length sources =
+    grind (arith, nat_tests, as_many text c.args.lines.now sources are, other, c.requires) in
+    let behind = some_behind sources (c.args.number + 1) less in
+    let whole : IsLeft s ends (t.source ∷ behind.first ∷ behind.more) levels all =
+    subst (λ (ls : List SourceLine). IsLeft s ends (t.source ∷ ls) levels all) behind.are
+    (subst (λ (ls : List SourceLine). IsLeft s ends ls levels all) t.left left) in
+    let content = after_task ends.task t.source in
+    let rest = c.in_ok-line.ensures.source t.source t.is whole.fit.task in
+    let added = items content (subst (λ tx. IsTextLine tx c.in_ok-line.line content) (sym same) rest) fitted in
+    let begun = c.in_ok-line.ensures.items t.source t.is whole.fit.task added.0 in (
+      begun.0,
+      λ run.
+          let at = ap (λ (b : BuilderView). b.at) (c.in_ok-line.ensures.goes_on added.0).1 in
+          let line = added.1 ((c.in_ok-line.ensures.over added.0).1 run) at
+          ∙ ap (λ tx. with_items c.begin_line.new.placing.builder.levels
+          (line_or_nothing (record { text = tx; options = c.args.options }) content)) same in
+          subst (λ ls. IsLeft s (record ends { task = None }) ls c.add_broken_line.new.placing.builder.levels all)
+          (sym behind.are) (broken_line_left s ends.task ends.braces t.source behind.first behind.more levels
+          c.begin_line.new.placing.builder.levels c.add_broken_line.new.placing.builder.levels all whole begun.1 line),
+    )) c.add_broken_line.ensures.items

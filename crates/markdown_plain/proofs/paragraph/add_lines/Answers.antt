@@ -1,0 +1,66 @@
+-- A turn appends the next line, and what is left then are the lines behind it.
+use Rattle.std.proofs.Common.{◌≡◌, ◌∙◌, ◌+◌, ap, sym, subst, rules, arith, None, Option, Bool, false, drop}
+use Rattle.std.specs.Prelude.{◌==◌, if◌then◌else◌}
+use Rattle.std.proofs.lemmas.Bool.Decides.{nat_tests}
+use Rattle.markdown_builder.specs.BuilderView.{BuilderView, with_items}
+use Rattle.markdown_items.proofs.RestOfLineLemmas.{no_items}
+use Rattle.markdown_lines.specs.BlockBeginnings.{Source}
+use Rattle.markdown_lines.specs.SourceLines.{SourceLine}
+use Rattle.markdown_plain.proofs.ParagraphLinesLemmas.{on_false}
+use Rattle.markdown_plain.proofs.ParagraphTreesLemmas.{as_many, left_of_same, none_behind, nothing_left}
+use Rattle.markdown_plain.specs.HeldSources.{AreTextLines}
+use Rattle.markdown_plain.proofs.paragraph.add_lines.Goals.{then-number-from, else-number-from}
+use Rattle.markdown_plain.proofs.paragraph.add_lines.Goals as goal
+
+task_is : (c : goal.In_ok-add_line)
+    → c.if-number-from.task ≡ (if c.lines.number == c.args.from then c.args.ends.task else None)
+task_is c =
+    elim c.if-number-from.branch [
+      | then-number-from w ↦ grind (arith, nat_tests, w.task-is, w.if-number-from.true)
+      | else-number-from w ↦ let other = w.if-number-from.false in grind (arith, nat_tests, w.task-is, other)
+    ]
+
+pub lines-preserved : goal.lines-preserved
+lines-preserved c =
+    record {
+      text = search rules;
+      none = search rules;
+      goes_on = search rules;
+      over = search rules;
+      left = λ sources are fit fitted.
+          let text = c.args.placing.now.builder.text in
+          let same = c.lines.invariant.text in
+          let begun = (c.in_ok-add_line.ensures.goes_on fitted).0 in
+          let before = c.lines.invariant.left sources are fit begun in
+          let ends = c.args.ends in
+          let low = c.lines.auto.number in
+          let past : (c.lines.number + 1 == c.args.from) ≡ false = grind (arith, nat_tests, low) in (
+            before.0,
+            λ run.
+                let here = left_of_same text c.lines.placing.builder.text c.args.options _ c.if-number-from.task
+                ends.braces (drop c.lines.number sources) c.lines.placing.builder.levels _ (sym same) (sym (task_is c))
+                (before.1 run) in
+                let added = c.in_ok-add_line.ensures.left sources _ (subst (λ t. AreTextLines t c.args.lines.now sources)
+                (sym same) are) here fitted in
+                left_of_same c.lines.placing.builder.text text c.args.options None _ ends.braces
+                (drop (c.lines.number + 1) sources) c.add_line.new.placing.builder.levels _ same
+                (sym (on_false (c.lines.number + 1 == c.args.from) ends.task None past))
+                (added.1 ((c.lines.invariant.over begun).1 run c.lines-test.true)),
+          );
+    }
+
+pub returns-clause-items : goal.returns-clause-items
+returns-clause-items c = λ sources are fit fitted.
+    let left = c.lines.invariant.left sources are fit fitted in (
+      left.0,
+      λ run.
+          let none = none_behind sources c.lines.number (omega (
+            arith,
+            as_many c.args.placing.now.builder.text
+                c.args.lines.now sources are,
+            c.lines-test.false,
+          )) in
+          nothing_left (record { text = c.args.placing.now.builder.text; options = c.args.options })
+          (record c.args.ends { task = if c.lines.number == c.args.from then c.args.ends.task else None })
+          (drop c.lines.number sources) c.lines.placing.builder.levels _ none (left.1 run),
+    )

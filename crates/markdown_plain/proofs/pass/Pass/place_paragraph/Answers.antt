@@ -1,0 +1,152 @@
+-- The paragraph is opened where its first line begins, filled with its lines, and closed where it ends.
+use Rattle.std.proofs.Common.{◌≡◌, ◌∙◌, ◌∷◌, ◌+◌, ◌<◌, ℕ, ap, sym, subst, rules, arith, None, Some, List, length, drop, refl}
+use Rattle.std.proofs.Common.{MatchOption}
+use Rattle.std.specs.Prelude.{get_or, nat_lt, ◌==◌, if◌then◌else◌}
+use Rattle.std.specs.Option.{IfSome, is_some}
+use Rattle.std.proofs.lemmas.Bool.Decides.{nat_tests}
+use Rattle.markdown_base.specs.declared.item.ItemBody.TheVariants as body
+use Rattle.markdown_builder.specs.BuilderView.{BuilderView, Opens, with_items}
+use Rattle.markdown_lines.specs.SourceLines.{SourceLine}
+use Rattle.markdown_lines.specs.declared.held_line.HeldLine.{HeldLine}
+use Rattle.markdown_block_rules.specs.BlockRules.{before_braces}
+use Rattle.markdown_plain.proofs.ParagraphBracesLemmas.{begin_first, heading_open}
+use Rattle.markdown_plain.proofs.ParagraphTreesLemmas.{any_default, takes_line}
+use Rattle.markdown_plain.proofs.PlacedParagraphsLemmas.{IsAtEnd, moved_to, none_run, placed_tree}
+use Rattle.markdown_plain.specs.Fitting.{AllFitted, BracesStand, OpensHeadingOf, stepped}
+use Rattle.markdown_plain.specs.HeldSources.{AreTextLines}
+use Rattle.markdown_plain.specs.ParagraphItems.{BeginWithTask, HaveEnds, OpenInLast, heading_braces, text_items}
+use Rattle.markdown_plain.specs.Paragraphs.{first_task, lines_end, paragraph_end, shown_ended, source_of}
+use Rattle.markdown_plain.specs.LeafTrees.{HasTrees}
+use Rattle.markdown_plain.specs.declared.pass.Pass.{Pass}
+use Rattle.markdown_plain.specs.declared.placing.Placing.{Placing}
+use Rattle.markdown_plain.proofs.pass.Pass.place_paragraph.Goals.{in-Some, in_default, then-from-eq0, else-from-eq0}
+use Rattle.markdown_plain.proofs.pass.Pass.place_paragraph.Goals.{in-Some-heading, in_default-heading}
+use Rattle.markdown_plain.proofs.pass.Pass.place_paragraph.Goals as goal
+
+same : (c : goal.After-close) → c.match-get.self ≡ record c.args.self.now { placing = c.match-get.self.placing }
+same c =
+    elim c.match-get.branch [
+      in-Some w ↦ w.self-is ∙ ap (λ (p : Pass). record c.args.self.now { placing = p.placing }) (sym w.self-is)
+      | in_default w ↦ w.self-is ∙ ap (λ (p : Pass). record c.args.self.now { placing = p.placing }) (sym w.self-is)
+    ]
+
+begins : (c : goal.After-close) (source : SourceLine)
+    → ((other : HeldLine) → (get_or c.args.self.now.lines.items c.args.from other).start ≡ source.left.scanned)
+    → c.args.from < length c.args.self.now.lines.items → AllFitted c.match-get.self.placing
+    → AllFitted c.args.self.now.placing
+    × (c.match-get.self.placing.builder ≡ stepped c.args.self.now.placing.builder source.left.scanned)
+begins c source start less fitted =
+    elim c.match-get.branch [
+      in-Some w ↦
+        let steps = w.step_to.ensures.steps (subst (λ (p : Pass). AllFitted p.placing) w.self-is fitted) in
+        let first = subst (λ r. IfSome r (λ x. x.now ≡ get_or c.deref.result.now c.args.from x.now)) w.in-Some.is
+        c.get.ensures.lookup.1 in
+        let held = first ∙ ap (λ ls. get_or ls c.args.from w.in-Some.first.now) c.deref.ensures.value in (
+          steps.0,
+          ap (λ (p : Pass). p.placing.builder) w.self-is
+              ∙ (steps.1 ∙ ap (stepped c.args.self.now.placing.builder)
+              (ap (λ (l : HeldLine). l.start) held ∙ start w.in-Some.first.now)),
+        )
+      | in_default w ↦ absurd (search rules)
+    ]
+
+task_is : (c : goal.After-close)
+    → c.if-from-eq0.ends ≡ (if c.args.from == 0 then c.args.self.now.task else None)
+task_is c =
+    let task = ap (λ (p : Pass). p.task) (same c) in
+    elim c.if-from-eq0.branch [
+      then-from-eq0 w ↦ grind (arith, nat_tests, w.ends-is, w.if-from-eq0.true, task)
+      | else-from-eq0 w ↦ let other = w.if-from-eq0.false in grind (arith, nat_tests, w.ends-is, other)
+    ]
+
+lines_are : (c : goal.After-close) → c.deref-2.result.now ≡ c.args.self.now.lines.items
+lines_are c = c.deref-2.ensures.value ∙ ap (λ (p : Pass). p.lines.items) (same c)
+
+ends : (c : goal.After-close) → c.args.from < length c.args.self.now.lines.items
+    → AllFitted c.match-heading.self.placing
+    → AllFitted c.add_lines.new.placing × IsAtEnd c.add_lines.new.placing.builder c.match-heading.self.placing.builder
+    (paragraph_end c.args.self.now.lines.items c.args.heading)
+ends c less fitted =
+    elim c.match-heading.branch [
+      in-Some-heading w ↦
+        let steps = w.step_to-in-Some-heading.ensures.steps (subst (λ (p : Pass). AllFitted p.placing) w.self-is fitted)
+        in (
+          steps.0,
+          moved_to c.add_lines.new.placing.builder c.match-heading.self.placing.builder _
+              (ap (λ (p : Pass). p.placing.builder) w.self-is
+              ∙ (steps.1 ∙ ap (λ heading. stepped c.add_lines.new.placing.builder
+              (paragraph_end c.args.self.now.lines.items heading)) (sym w.in-Some-heading.is))),
+        )
+      | in_default-heading w ↦
+        let filled = subst (λ (p : Pass). AllFitted p.placing) w.self-is fitted in
+        let goes = c.in_ok-add_lines.ensures.goes_on
+        (subst (λ (ls : List HeldLine). c.args.from < length ls) (sym (lines_are c)) less) filled in
+        let at = ap (λ (v : BuilderView). v.at) goes.1
+        ∙ (ap lines_end (lines_are c) ∙ sym (ap (paragraph_end c.args.self.now.lines.items) w.in_default-heading.is)) in (
+          filled,
+          moved_to c.add_lines.new.placing.builder c.match-heading.self.placing.builder _
+              (ap (λ (p : Pass). p.placing.builder) w.self-is
+              ∙ ap (λ n. stepped c.add_lines.new.placing.builder n) at),
+        )
+    ]
+
+pub returns-clause-tree : goal.returns-clause-tree
+returns-clause-tree c = λ sources marked b are less some first end fitted.
+    let pass = c.args.self.now in
+    let text = pass.placing.builder.text in
+    let put = c.close.ensures.tree fitted in
+    let over = ends c less put.0 in
+    let lines = drop c.args.from sources in
+    let pass_same = same c in
+    let text_same : c.match-get.self.placing.builder.text ≡ text = search rules in
+    let open_same : c.open_text.new.placing.builder.text ≡ text = c.in_ok-open_text.ensures.text ∙ text_same in
+    let options_same : c.match-get.self.options ≡ pass.options = ap (λ (p : Pass). p.options) pass_same in
+    let braces_are : c.last_braces.result ≡ heading_braces pass.options c.args.heading lines =
+    c.last_braces.ensures.value sources c.args.from
+    (subst (λ t. AreTextLines t c.match-get.self.lines.items sources) (sym text_same)
+    (subst (λ (ls : List HeldLine). AreTextLines text ls sources) (sym (ap (λ (p : Pass). p.lines.items) pass_same)) are))
+    (subst (λ (ls : List HeldLine). c.args.from < length ls) (sym (ap (λ (p : Pass). p.lines.items) pass_same)) less)
+    ∙ ap (λ o. heading_braces o c.args.heading lines) options_same in
+    let task = task_is c ∙ first in
+    let fit : HaveEnds lines (record { task = c.if-from-eq0.ends; braces = c.last_braces.result }) = record {
+      some = some;
+      task = begin_first (source_of pass) marked lines c.if-from-eq0.ends task;
+      braces = subst (λ br. OpenInLast br lines) (sym braces_are) (heading_open pass.options c.args.heading lines);
+    } in
+    let filled = c.in_ok-add_lines.ensures.items sources
+    (subst (λ t. AreTextLines t c.deref-2.result.now sources) (sym open_same)
+    (subst (λ (ls : List HeldLine). AreTextLines text ls sources) (sym (lines_are c)) are)) fit over.0 in
+    let opens = c.in_ok-open_text.ensures.leaf c.last_braces.ensures.stand filled.0 in
+    let nowhere : HeldLine = record { start = 0; stop = 0; next = 0; owed = 0 } in
+    let t = takes_line text pass.lines.items sources c.args.from nowhere are less in
+    let starts : (other : HeldLine) → (get_or pass.lines.items c.args.from other).start ≡ t.source.left.scanned =
+    λ other. ap (λ (l : HeldLine). l.start) (any_default pass.lines.items c.args.from nowhere other less) ∙ t.is.start in
+    let begun = begins c t.source starts less opens.0 in
+    let run = none_run c.match-get.self.placing.builder c.open_text.new.placing.builder c.args.heading
+    c.last_braces.result opens.1 in
+    let goes = (c.in_ok-add_lines.ensures.goes_on
+    (subst (λ (ls : List HeldLine). c.args.from < length ls) (sym (lines_are c)) less) over.0).1 in
+    let levels = c.open_text.new.placing.builder.levels in
+    let braces = c.last_braces.result in
+    let items : c.add_lines.new.placing.builder.levels ≡ with_items levels (text_items (source_of pass)
+    (first_task (source_of pass) marked (t.source ∷ drop (c.args.from + 1) sources))
+    (before_braces braces (t.source ∷ drop (c.args.from + 1) sources))) =
+    filled.1 run
+    ∙ (ap (λ tx. with_items levels (text_items (record { text = tx; options = c.match-get.self.options })
+    c.if-from-eq0.ends (before_braces braces lines))) open_same
+    ∙ (ap (λ o. with_items levels (text_items (record { text = text; options = o })
+    c.if-from-eq0.ends (before_braces braces lines))) options_same
+    ∙ (ap (λ k. with_items levels (text_items (source_of pass) k (before_braces braces lines))) task
+    ∙ ap (λ (ls : List SourceLine). with_items levels (text_items (source_of pass)
+    (first_task (source_of pass) marked ls) (before_braces braces ls))) t.left))) in (
+      begun.0,
+      subst (λ (ls : List SourceLine). HasTrees pass.placing.builder c.close.new.self.builder
+      (shown_ended (source_of pass) marked b c.args.heading ls)) (sym t.left)
+      (placed_tree (source_of pass) pass.placing.builder c.match-get.self.placing.builder
+      c.open_text.new.placing.builder c.add_lines.new.placing.builder c.match-heading.self.placing.builder
+      c.close.new.self.builder marked b c.args.heading braces t.source (drop (c.args.from + 1) sources)
+      (sym text_same) (ap (λ (v : BuilderView). v.levels) begun.1) (ap (λ (v : BuilderView). v.at) begun.1)
+      (braces_are ∙ ap (heading_braces pass.options c.args.heading) t.left) opens.1 items
+      (over.1.open_blocks ∙ ap (λ (v : BuilderView). v.blocks) goes)
+      (over.1.headings ∙ ap (λ (v : BuilderView). v.headings) goes) over.1.levels (over.1.at ∙ sym end) put.1),
+    )
