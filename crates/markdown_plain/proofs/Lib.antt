@@ -8,5 +8,6 @@ pub mod ParagraphLinesLemmas
 pub mod ParagraphTreesLemmas
 pub mod ParagraphBracesLemmas
 pub mod PlacedParagraphsLemmas
+pub mod EndedParagraphsLemmas
 pub mod ParagraphsLemmas
 pub mod ListLoosenessLemmas
