@@ -9,6 +9,7 @@ pub mod ParagraphLinesLemmas
 pub mod ParagraphTreesLemmas
 pub mod ParagraphBracesLemmas
 pub mod PlacedParagraphsLemmas
+pub mod EndedParagraphsLemmas
 pub mod ParagraphsLemmas
 pub mod DividedLemmas
 pub mod ListLoosenessLemmas
