@@ -49,8 +49,7 @@ pub cell_put : (old opened filled new : BuilderView) → opened.levels ≡ old.l
 cell_put old opened filled new begun adds puts =
     let a = shown_item (parts_of filled)
     (record { start = puts.block.start; end = filled.at; body = puts.block.body }) in
-    let inside = chain_of adds.0 in
-    (
+    let inside = chain_of adds.0 in (
       a,
       settled_below a inside,
       λ some. puts.levels ∙ (ap (λ (ls : List (Forest Shown)). with_block ls a)
@@ -76,8 +75,7 @@ more_cells outer count old new has puts =
     let some : old.levels ≡ [] → ⊥ = λ e.
     let none : length (outer ++ has.0 ∷ []) ≡ 0 = ap length (sym has.1 ∙ e) in
     let one = length-append outer (has.0 ∷ []) in
-    omega (arith, none, one) in
-    (
+    omega (arith, none, one) in (
       followed_by has.0 (node puts.0 puts.1 nil),
       puts.2 some ∙ (ap (λ ls. with_trees ls (node puts.0 puts.1 nil)) has.1 ∙ trees_last outer has.0 _),
       more_roots has.0 puts.0 puts.1 ∙ ap (λ n. n + 1) has.2,

@@ -282,12 +282,7 @@ impl<'a> Pass<'a> {
         self.tables.columns = alignments.len();
         self.placing.step_to(head.start);
         self.placing.open_table(alignments)?;
-        place_row(
-            &mut self.placing,
-            ItemBody::TableHead,
-            head,
-            self.options,
-        )
+        place_row(&mut self.placing, ItemBody::TableHead, head, self.options)
     }
 
     /// Adds a row to the open table, if a line of the text whose lines are `ahead` is one, and returns whether it is. Its

@@ -12,12 +12,12 @@ cells-preserved c = record {
   text = search rules;
   row = search rules;
   cells = elim c.match-next_cell.branch [
-      in-Some+in_ok-place_cell-in-Some w ↦ cell_counted c.args.placing.now.builder.levels c.cells._count
-          c.args.placing.now c.cells.placing w.place_cell.new.placing c.match-next_cell.placing w.placing-is
-          c.cells.invariant.cells w.in_ok-place_cell-in-Some.ensures.tree
-      | in-None+in_ok-place_empty_cell-in-None w ↦ cell_counted c.args.placing.now.builder.levels c.cells._count
-          c.args.placing.now c.cells.placing w.place_empty_cell.new.placing c.match-next_cell.placing w.placing-is
-          c.cells.invariant.cells w.in_ok-place_empty_cell-in-None.ensures.tree
+    | in-Some+in_ok-place_cell-in-Some w ↦ cell_counted c.args.placing.now.builder.levels c.cells._count
+        c.args.placing.now c.cells.placing w.place_cell.new.placing c.match-next_cell.placing w.placing-is
+        c.cells.invariant.cells w.in_ok-place_cell-in-Some.ensures.tree
+    | in-None+in_ok-place_empty_cell-in-None w ↦ cell_counted c.args.placing.now.builder.levels c.cells._count
+        c.args.placing.now c.cells.placing w.place_empty_cell.new.placing c.match-next_cell.placing w.placing-is
+        c.cells.invariant.cells w.in_ok-place_empty_cell-in-None.ensures.tree
   ];
 }
 
