@@ -230,7 +230,8 @@ last_led y nodes n spine None =
 pub appended_then_written : (tree : Arena Item) (x y : Item)
     → with_item (appended tree x) (length tree.nodes) y ≡ appended tree y
 appended_then_written tree x y =
-    ap (λ (ns : List (Node Item)). record (appended tree y) { nodes = ns }) (last_led y tree.nodes _ tree.spine tree.cursor)
+    ap (λ (ns : List (Node Item)). record (appended tree y) { nodes = ns })
+    (last_led y tree.nodes _ tree.spine tree.cursor)
 
 -- its number is that of a node
 pub appended_number : (tree : Arena Item) (x : Item) → length tree.nodes < length (appended tree x).nodes

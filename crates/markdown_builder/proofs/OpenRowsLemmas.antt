@@ -18,7 +18,8 @@ use Rattle.markdown_builder.specs.OpenRows.{KeepOpenRows, KeepsRowsIn}
 use Rattle.markdown_builder.specs.Shown.{Parts, Shown, alignments_shown, chain_of, run_items, settled_below, shown_item}
 use Rattle.markdown_builder.specs.Shown.{shown_levels, shown_trees, tight_shown, unnumbered, with_block}
 use Rattle.markdown_builder.specs.Tightness.{is_tight_list}
-use Rattle.markdown_builder.specs.TreeLevels.{followed_by, items_changed, levels_of, roots_changed, tight_body, with_trees}
+use Rattle.markdown_builder.specs.TreeLevels.{followed_by, items_changed, levels_of, roots_changed, tight_body}
+use Rattle.markdown_builder.specs.TreeLevels.{with_trees}
 use Rattle.markdown_builder.specs.TreeSteps.{byte_text, texts_appended}
 use Rattle.markdown_builder.proofs.CallLemmas.{IsReplaced, ends_with}
 use Rattle.markdown_builder.proofs.LevelStepLemmas.{byte_texts}

@@ -29,7 +29,8 @@ fn empty_paragraph(at: usize) -> Item
 fn go_into(tree: &mut Tree<Item>, item: Item) -> Result<(), AllocError>
     ensures entered { IfOk result (λ _. tree.new ≡ entered tree.old item) }
     ensures refused { OnErr result ((tree.new ≡ tree.old) ⊎ (tree.new
-        ≡ appended tree.old (record { start = item.start; end = item.start; body = block.Paragraph }))) }
+        ≡ appended tree.old
+        (record { start = item.start; end = item.start; body = block.Paragraph }))) }
 {
     let number = tree.append(item)?;
     match tree.push() {

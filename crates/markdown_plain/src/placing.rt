@@ -479,7 +479,8 @@ impl<'a> Placing<'a> {
         ensures closes { IfFitted self.old self.new
             (self.new.builder ≡ closed self.old.builder self.new.builder.levels) }
         ensures tree { IfFitted self.old self.new (PutsBlock self.old.builder self.new.builder) }
-        ensures fits { (self.old.builder.blocks ≡ [] → ⊥) → is_in_row self.old.builder.blocks ≡ false
+        ensures fits { (self.old.builder.blocks ≡ [] → ⊥)
+            → is_in_row self.old.builder.blocks ≡ false
             → self.new.misfits ≡ self.old.misfits }
     {
         if self.builder.is_in_row() {

@@ -12,7 +12,8 @@ invariant_of-self c =
     let parts = stored_parts c.self.inside.cows.items c.self.inside.headings.items c.self.inside.alignments.items in
     let now = record c.in-Some.open.now { start = c.args.start } in
     let last = c.in-Some.ensures.value ∙ ap innermost_block c.deref.ensures.value in
-    let levels = rewritten_levels c.in-Some.open.now now c.rewrite.new.tree c.self.invariant.0 last c.rewrite.ensures in (
+    let levels = rewritten_levels c.in-Some.open.now now c.rewrite.new.tree c.self.invariant.0 last
+    c.rewrite.ensures in (
       begin_later_keeps (standpoint c.args.self.now) c.in-Some.open.now c.args.start c.replace_last.new.blocks.items
           c.rewrite.new.tree c.self.invariant.0 (ap standpoint c.self.view_is)
           c.requires.low c.requires.boundary c.requires.white last c.replace_last.ensures c.rewrite.ensures,

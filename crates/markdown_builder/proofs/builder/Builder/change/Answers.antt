@@ -12,13 +12,15 @@ invariant_of-self c =
     let parts = stored_parts c.self.inside.cows.items c.self.inside.headings.items c.self.inside.alignments.items in
     let now = record c.in-Some.open.now { body = c.args.body } in
     let last = c.in-Some.ensures.value ∙ ap innermost_block c.deref.ensures.value in
-    let levels = rewritten_levels c.in-Some.open.now now c.rewrite.new.tree c.self.invariant.0 last c.rewrite.ensures in (
+    let levels = rewritten_levels c.in-Some.open.now now c.rewrite.new.tree c.self.invariant.0 last
+    c.rewrite.ensures in (
       change_keeps (standpoint c.args.self.now) c.in-Some.open.now c.args.body c.replace_last.new.blocks.items
           c.rewrite.new.tree c.self.invariant.0 (ap standpoint c.self.view_is)
           c.requires.block c.requires.same last c.replace_last.ensures c.rewrite.ensures,
       rw levels (replaced_rows parts.alignments c.in-Some.open.now now c.self.inside.blocks.items
           c.replace_last.new.blocks.items _ last c.replace_last.ensures
-          (λ trees k. in_no_table parts.alignments c.args.body trees (plain_no_table c.args.body c.requires.block)) c.self.invariant.1),
+          (λ trees k. in_no_table parts.alignments c.args.body trees (plain_no_table c.args.body c.requires.block))
+          c.self.invariant.1),
     )
 
 pub returns-in-Some-clause-same : goal.returns-in-Some-clause-same

@@ -37,7 +37,8 @@ pub returns-clause-rows : goal.returns-clause-rows
 returns-clause-rows c =
     let none = finish_spine (standpoint c.args.self) c.self.invariant.0 (ap standpoint c.self.view_is)
     c.requires.closed in
-    finished_rows _ c.self.inside.blocks.items _ _ (ap (λ (v : BuilderView). v.blocks) c.self.view_is ∙ c.requires.closed)
+    finished_rows _ c.self.inside.blocks.items _ _
+    (ap (λ (v : BuilderView). v.blocks) c.self.view_is ∙ c.requires.closed)
     (rw none refl) c.self.invariant.1
 
 pub returns-clause-tree : goal.returns-clause-tree

@@ -19,7 +19,8 @@ invariant_of-self-2 c =
       rw c.in_ok-append.ensures.made
           (inline_keeps (standpoint c.args.self.now) c.args.end c.args.body c.self.invariant.0
           (ap standpoint c.self.view_is) c.requires.settled c.requires.inside c.requires.low c.requires.boundary),
-      item_rows parts.alignments c.self.inside.blocks.items _ _ _ levels (settled_no_row c.args.body c.requires.settled) c.self.invariant.1,
+      item_rows parts.alignments c.self.inside.blocks.items _ _ _ levels
+          (settled_no_row c.args.body c.requires.settled) c.self.invariant.1,
     )
 
 pub returns : goal.returns

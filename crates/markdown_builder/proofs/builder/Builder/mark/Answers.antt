@@ -21,7 +21,8 @@ invariant_of-self-2 c =
       rw c.in_ok-append.ensures.made
           (mark_keeps (standpoint c.args.self.now) c.args.body c.self.invariant.0 (ap standpoint c.self.view_is)
           c.requires.inside c.requires.more c.requires.byte),
-      item_rows parts.alignments c.self.inside.blocks.items _ _ _ levels (mark_no_row c.args.body _ c.requires.byte) c.self.invariant.1,
+      item_rows parts.alignments c.self.inside.blocks.items _ _ _ levels
+          (mark_no_row c.args.body _ c.requires.byte) c.self.invariant.1,
     )
 
 pub returns : goal.returns

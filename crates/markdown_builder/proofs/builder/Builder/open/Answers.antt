@@ -15,8 +15,8 @@ pub invariant_of-self : goal.invariant_of-self
 invariant_of-self c =
     let parts = stored_parts c.self.inside.cows.items c.self.inside.headings.items c.self.inside.alignments.items in (
       rw c.in_err-enter.ensures.stays
-          (refused_keeps (standpoint c.args.self.now) _ c.enter.new.tree c.self.invariant.0 (ap standpoint c.self.view_is)
-          c.requires.outside (same_parts _) c.in_err-enter.ensures.refused),
+          (refused_keeps (standpoint c.args.self.now) _ c.enter.new.tree c.self.invariant.0
+          (ap standpoint c.self.view_is) c.requires.outside (same_parts _) c.in_err-enter.ensures.refused),
       rw c.in_err-enter.ensures.stays
           (refused_rows parts c.self.inside.blocks.items c.self.inside.tree c.enter.new.tree c.self.inside.at _ refl
           c.self.invariant.0.laid c.in_err-enter.ensures.refused c.self.invariant.1),
@@ -28,8 +28,8 @@ invariant_of-self-2 c =
     let levels = opened_shown parts parts c.self.inside.tree c.enter.new.tree refl
     (ap levels_of c.in_ok-enter.ensures.entered ∙ enter_levels c.self.inside.tree _ c.self.invariant.0.laid) in (
       rw (c.in_ok-enter.ensures.entered, c.in_ok-enter.ensures.opened, c.is_leaf-self-inside.ensures)
-          (open_keeps (standpoint c.args.self.now) c.args.body c.self.invariant.0 (ap standpoint c.self.view_is)
-          c.requires.block c.requires.outside),
+          (open_keeps (standpoint c.args.self.now) c.args.body c.self.invariant.0
+          (ap standpoint c.self.view_is) c.requires.block c.requires.outside),
       rw c.in_ok-enter.ensures.opened
           (block_rows parts.alignments c.self.inside.blocks.items _ _ _ levels
           (in_no_table parts.alignments c.args.body nil (plain_no_table c.args.body c.requires.block))

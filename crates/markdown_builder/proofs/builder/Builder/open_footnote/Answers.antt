@@ -27,8 +27,9 @@ invariant_of-self-in_err-enter c =
     (stored_named c.self.inside.text.now c.self.inside.cows.items c.self.inside.headings.items
     c.self.inside.alignments.items c.self.inside.tree c.self.invariant.0.stands.nodes) in (
       rw c.in_err-enter.ensures.stays
-          (refused_keeps (standpoint c.args.self.now) _ c.enter.new.tree c.self.invariant.0 (ap standpoint c.self.view_is)
-          c.requires (one_more_text _ _ (c.in_ok-ix.ensures.more, refl, refl)) c.in_err-enter.ensures.refused),
+          (refused_keeps (standpoint c.args.self.now) _ c.enter.new.tree c.self.invariant.0
+          (ap standpoint c.self.view_is) c.requires (one_more_text _ _ (c.in_ok-ix.ensures.more, refl, refl))
+          c.in_err-enter.ensures.refused),
       rw (c.in_err-enter.ensures.stays, texts)
           (refused_rows more c.self.inside.blocks.items c.self.inside.tree c.enter.new.tree c.self.inside.at _ same
           c.self.invariant.0.laid c.in_err-enter.ensures.refused c.self.invariant.1),

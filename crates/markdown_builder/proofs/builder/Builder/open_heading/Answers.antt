@@ -33,8 +33,8 @@ invariant_of-self-in_err-enter c =
     c.in_ok-push.ensures.items
     ∙ length-append c.self.inside.headings.items _ in (
       rw c.in_err-enter.ensures.stays
-          (refused_keeps (standpoint c.args.self.now) _ c.enter.new.tree c.self.invariant.0 (ap standpoint c.self.view_is)
-          c.requires
+          (refused_keeps (standpoint c.args.self.now) _ c.enter.new.tree c.self.invariant.0
+          (ap standpoint c.self.view_is) c.requires
           (record { texts = omega arith; alignments = omega arith; attributes = omega (arith, longer) })
           c.in_err-enter.ensures.refused),
       rw (c.in_err-enter.ensures.stays, headings)

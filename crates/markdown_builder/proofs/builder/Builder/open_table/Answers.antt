@@ -37,8 +37,8 @@ invariant_of-self-in_err-enter c =
     let kept = more_listed_rows parts.alignments (table ∷ []) body.Root c.self.inside.blocks.items _
     c.self.invariant.1 in (
       rw c.in_err-enter.ensures.stays
-          (refused_keeps (standpoint c.args.self.now) _ c.enter.new.tree c.self.invariant.0 (ap standpoint c.self.view_is)
-          c.requires
+          (refused_keeps (standpoint c.args.self.now) _ c.enter.new.tree c.self.invariant.0
+          (ap standpoint c.self.view_is) c.requires
           (record { texts = omega arith; alignments = omega (arith, longer); attributes = omega arith })
           c.in_err-enter.ensures.refused),
       rw (c.in_err-enter.ensures.stays, alignments)
@@ -67,13 +67,14 @@ invariant_of-self-2 c =
     let last : ix.0 ≡ length c.self.inside.alignments.items = omega
     (arith, c.len.ensures, c.self.inside.alignments.ok.0) in
     let found : slice_get (parts.alignments ++ table ∷ []) ix.0 ≡ Some table =
-    ap (λ n. slice_get (parts.alignments ++ table ∷ []) n) (last ∙ sym (length-map c.self.inside.alignments.items items))
+    ap (λ n. slice_get (parts.alignments ++ table ∷ []) n)
+    (last ∙ sym (length-map c.self.inside.alignments.items items))
     ∙ get_last parts.alignments table in
     let levels = opened_shown parts more c.self.inside.tree c.enter.new.tree same
     (ap levels_of c.in_ok-enter.ensures.entered ∙ enter_levels c.self.inside.tree _ c.self.invariant.0.laid) in (
       rw (c.in_ok-enter.ensures.entered, c.in_ok-enter.ensures.opened)
-          (placed_keeps (standpoint c.args.self.now) _ (body.Table ix) c.self.invariant.0 (ap standpoint c.self.view_is)
-          c.requires (table_placed _ _ ix last longer refl refl)
+          (placed_keeps (standpoint c.args.self.now) _ (body.Table ix) c.self.invariant.0
+          (ap standpoint c.self.view_is) c.requires (table_placed _ _ ix last longer refl refl)
           refl),
       rw (c.in_ok-enter.ensures.opened, alignments)
           (block_rows more.alignments c.self.inside.blocks.items _ _ _ levels (table, found, tt) kept),
