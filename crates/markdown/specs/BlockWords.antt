@@ -7,6 +7,8 @@ pub use Rattle.markdown_blocks.specs.declared.blocks.Blocks.{Blocks}
 pub use Rattle.markdown_base.specs.WellFormed.{IsWellFormed, KeepsRules, AllKeepRules, PartCounts, counts_of}
 pub use Rattle.markdown_base.specs.Coverage.{Covers, is_covered, is_in_block, is_inside}
 pub use Rattle.markdown_builder.specs.HeadingsHoldInline.{HeadingsHoldInline, is_heading_block}
+pub use Rattle.markdown_builder.specs.EvenRows.{HasEvenRows, KeepsRows, EachRowContains, is_table, is_table_row}
+pub use Rattle.markdown_builder.specs.Shown.{Shown, shown_result}
 -- a tree, as nodes by number and as a forest of items
 pub use Rattle.markdown_base.specs.Arena.{Arena, items_of, child_of, sibling_of}
 pub use Rattle.markdown_base.specs.ArenaChanges.{innermost, single, changed_at, follower, led_to, appended}

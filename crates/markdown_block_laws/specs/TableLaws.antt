@@ -1,21 +1,17 @@
 -- Tables contain a head and rows, which have as many cells as their table has columns, and few of these are added to a
 -- text.
-use Rattle.std.specs.Prelude.{◌≡◌, ◌≤◌, ℕ, ◌-◌, Bool, true, false, ◌∷◌, length, max, ⊤}
+use Rattle.std.specs.Prelude.{◌≡◌, ◌≤◌, ℕ, ◌-◌, true, ◌∷◌, length, max, ⊤}
 use Rattle.std.specs.List.{sum_by}
 use Rattle.markdown_base.specs.Forest.{Forest, Throughout, nil, node, preorder, roots}
-use Rattle.markdown_base.specs.declared.item.ItemBody.{ItemBody}
 use Rattle.markdown_base.specs.declared.item.ItemBody.TheVariants as body
 use Rattle.markdown_lines.specs.BlockBeginnings.{Source}
 use Rattle.markdown_lines.specs.SourceLines.{SourceLine}
 use Rattle.markdown_block_rules.specs.BlockGrowth as was
 use Rattle.markdown_block_rules.specs.BlockGrowth.{Block, Kind, blocks_of}
 use Rattle.markdown_block_rules.specs.BlockRules.{block_tree}
+use Rattle.markdown_builder.specs.EvenRows.{is_table}
 use Rattle.markdown_builder.specs.Shown.{Shown}
 use Rattle.markdown_block_rules.specs.TableLines.{cells_of}
-
-abbrev pub is_table : ItemBody → Bool
-is_table (body.Table alignments) = true
-is_table other = false
 
 -- each item of a forest directly contains this many
 abbrev pub EachContains : {A : Type 0} → ℕ → Forest A → Type 0

@@ -7,7 +7,9 @@ use Rattle.markdown_base.specs.Arena.{Arena}
 use Rattle.markdown_base.specs.BlockTree.{tree_of}
 use Rattle.markdown_base.specs.Coverage.{Covers}
 use Rattle.markdown_base.specs.WellFormed.{IsWellFormed}
+use Rattle.markdown_builder.specs.EvenRows.{HasEvenRows}
 use Rattle.markdown_builder.specs.HeadingsHoldInline.{HeadingsHoldInline}
+use Rattle.markdown_builder.specs.Shown.{shown_result}
 use Rattle.markdown_blocks.specs.declared.blocks.Blocks.{Blocks}
 
 -- the text
@@ -31,7 +33,8 @@ abbrev pub block_parts : Blocks → BlockParts
 block_parts b = b.parts
 
 -- b has this text and these options, is of the extended entry or of the present one, and is a well-formed block result
--- that covers the text and whose headings hold inline items alone
+-- that covers the text, whose headings hold inline items alone, and whose tables have rows with as many cells as the
+-- table has alignments
 pub record IsOfEntry (extended : Bool) (text : List ℕ) (options : Options) (b : Blocks) : Type 0 where
   pub holds_text : text_of_blocks b ≡ text
   pub holds_options : block_options b ≡ options
@@ -39,6 +42,7 @@ pub record IsOfEntry (extended : Bool) (text : List ℕ) (options : Options) (b 
   pub well_formed : IsWellFormed (text_of_blocks b) (block_tree b).nodes (block_parts b)
   pub covers : Covers (text_of_blocks b) (block_tree b).nodes (block_parts b)
   pub headings_hold_inline : HeadingsHoldInline (tree_of (block_tree b).nodes)
+  pub has_even_rows : HasEvenRows (shown_result (block_tree b).nodes (block_parts b))
 
 -- the same of the present entry, and of the extended one
 abbrev pub IsOfText : (text : List ℕ) → Options → Blocks → Type 0

@@ -143,8 +143,8 @@ impl<'a> Blocks<'a> {
         (self.text, self.options, self.tree, self.parts)
     }
 
-    /// Returns the block result of a text, which is well formed, covers the text and has inline items alone in its
-    /// headings.
+    /// Returns the block result of a text, which is well formed, covers the text, has inline items alone in its headings,
+    /// and as many cells in the rows of a table as the table has alignments.
     ///
     /// # Errors
     ///

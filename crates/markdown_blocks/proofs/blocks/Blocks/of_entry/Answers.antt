@@ -10,4 +10,5 @@ returns c = record {
   well_formed = c.in_ok-tree.ensures.formed;
   covers = c.in_ok-tree.ensures.covered;
   headings_hold_inline = c.in_ok-tree.ensures.headings;
+  has_even_rows = c.in_ok-tree.ensures.rows;
 }

@@ -26,7 +26,7 @@ use Rattle.markdown_plain.proofs.pass.Pass.place_paragraph.Goals as goal
 same : (c : goal.After-close) → c.match-get.self ≡ record c.args.self.now { placing = c.match-get.self.placing }
 same c =
     elim c.match-get.branch [
-      in-Some w ↦ w.self-is ∙ ap (λ (p : Pass). record c.args.self.now { placing = p.placing }) (sym w.self-is)
+      | in-Some w ↦ w.self-is ∙ ap (λ (p : Pass). record c.args.self.now { placing = p.placing }) (sym w.self-is)
       | in_default w ↦ w.self-is ∙ ap (λ (p : Pass). record c.args.self.now { placing = p.placing }) (sym w.self-is)
     ]
 
@@ -37,16 +37,16 @@ begins : (c : goal.After-close) (source : SourceLine)
     × (c.match-get.self.placing.builder ≡ stepped c.args.self.now.placing.builder source.left.scanned)
 begins c source start less fitted =
     elim c.match-get.branch [
-      in-Some w ↦
-        let steps = w.step_to.ensures.steps (subst (λ (p : Pass). AllFitted p.placing) w.self-is fitted) in
-        let first = subst (λ r. IfSome r (λ x. x.now ≡ get_or c.deref.result.now c.args.from x.now)) w.in-Some.is
-        c.get.ensures.lookup.1 in
-        let held = first ∙ ap (λ ls. get_or ls c.args.from w.in-Some.first.now) c.deref.ensures.value in (
-          steps.0,
-          ap (λ (p : Pass). p.placing.builder) w.self-is
-              ∙ (steps.1 ∙ ap (stepped c.args.self.now.placing.builder)
-              (ap (λ (l : HeldLine). l.start) held ∙ start w.in-Some.first.now)),
-        )
+      | in-Some w ↦
+          let steps = w.step_to.ensures.steps (subst (λ (p : Pass). AllFitted p.placing) w.self-is fitted) in
+          let first = subst (λ r. IfSome r (λ x. x.now ≡ get_or c.deref.result.now c.args.from x.now)) w.in-Some.is
+          c.get.ensures.lookup.1 in
+          let held = first ∙ ap (λ ls. get_or ls c.args.from w.in-Some.first.now) c.deref.ensures.value in (
+            steps.0,
+            ap (λ (p : Pass). p.placing.builder) w.self-is
+                ∙ (steps.1 ∙ ap (stepped c.args.self.now.placing.builder)
+                (ap (λ (l : HeldLine). l.start) held ∙ start w.in-Some.first.now)),
+          )
       | in_default w ↦ absurd (search rules)
     ]
 
@@ -55,7 +55,7 @@ task_is : (c : goal.After-close)
 task_is c =
     let task = ap (λ (p : Pass). p.task) (same c) in
     elim c.if-from-eq0.branch [
-      then-from-eq0 w ↦ grind (arith, nat_tests, w.ends-is, w.if-from-eq0.true, task)
+      | then-from-eq0 w ↦ grind (arith, nat_tests, w.ends-is, w.if-from-eq0.true, task)
       | else-from-eq0 w ↦ let other = w.if-from-eq0.false in grind (arith, nat_tests, w.ends-is, other)
     ]
 
@@ -68,26 +68,26 @@ ends : (c : goal.After-close) → c.args.from < length c.args.self.now.lines.ite
     (paragraph_end c.args.self.now.lines.items c.args.heading)
 ends c less fitted =
     elim c.match-heading.branch [
-      in-Some-heading w ↦
-        let steps = w.step_to-in-Some-heading.ensures.steps (subst (λ (p : Pass). AllFitted p.placing) w.self-is fitted)
-        in (
-          steps.0,
-          moved_to c.add_lines.new.placing.builder c.match-heading.self.placing.builder _
-              (ap (λ (p : Pass). p.placing.builder) w.self-is
-              ∙ (steps.1 ∙ ap (λ heading. stepped c.add_lines.new.placing.builder
-              (paragraph_end c.args.self.now.lines.items heading)) (sym w.in-Some-heading.is))),
-        )
+      | in-Some-heading w ↦
+          let steps = w.step_to-in-Some-heading.ensures.steps (subst (λ (p : Pass). AllFitted p.placing) w.self-is fitted)
+          in (
+            steps.0,
+            moved_to c.add_lines.new.placing.builder c.match-heading.self.placing.builder _
+                (ap (λ (p : Pass). p.placing.builder) w.self-is
+                ∙ (steps.1 ∙ ap (λ heading. stepped c.add_lines.new.placing.builder
+                (paragraph_end c.args.self.now.lines.items heading)) (sym w.in-Some-heading.is))),
+          )
       | in_default-heading w ↦
-        let filled = subst (λ (p : Pass). AllFitted p.placing) w.self-is fitted in
-        let goes = c.in_ok-add_lines.ensures.goes_on
-        (subst (λ (ls : List HeldLine). c.args.from < length ls) (sym (lines_are c)) less) filled in
-        let at = ap (λ (v : BuilderView). v.at) goes.1
-        ∙ (ap lines_end (lines_are c) ∙ sym (ap (paragraph_end c.args.self.now.lines.items) w.in_default-heading.is)) in (
-          filled,
-          moved_to c.add_lines.new.placing.builder c.match-heading.self.placing.builder _
-              (ap (λ (p : Pass). p.placing.builder) w.self-is
-              ∙ ap (λ n. stepped c.add_lines.new.placing.builder n) at),
-        )
+          let filled = subst (λ (p : Pass). AllFitted p.placing) w.self-is fitted in
+          let goes = c.in_ok-add_lines.ensures.goes_on
+          (subst (λ (ls : List HeldLine). c.args.from < length ls) (sym (lines_are c)) less) filled in
+          let at = ap (λ (v : BuilderView). v.at) goes.1
+          ∙ (ap lines_end (lines_are c) ∙ sym (ap (paragraph_end c.args.self.now.lines.items) w.in_default-heading.is)) in (
+            filled,
+            moved_to c.add_lines.new.placing.builder c.match-heading.self.placing.builder _
+                (ap (λ (p : Pass). p.placing.builder) w.self-is
+                ∙ ap (λ n. stepped c.add_lines.new.placing.builder n) at),
+          )
     ]
 
 pub returns-clause-tree : goal.returns-clause-tree
@@ -141,12 +141,12 @@ returns-clause-tree c = λ sources marked b are less some first end fitted.
     (first_task (source_of pass) marked ls) (before_braces braces ls))) t.left))) in (
       begun.0,
       subst (λ (ls : List SourceLine). HasTrees pass.placing.builder c.close.new.self.builder
-      (shown_ended (source_of pass) marked b c.args.heading ls)) (sym t.left)
-      (placed_tree (source_of pass) pass.placing.builder c.match-get.self.placing.builder
-      c.open_text.new.placing.builder c.add_lines.new.placing.builder c.match-heading.self.placing.builder
-      c.close.new.self.builder marked b c.args.heading braces t.source (drop (c.args.from + 1) sources)
-      (sym text_same) (ap (λ (v : BuilderView). v.levels) begun.1) (ap (λ (v : BuilderView). v.at) begun.1)
-      (braces_are ∙ ap (heading_braces pass.options c.args.heading) t.left) opens.1 items
-      (over.1.open_blocks ∙ ap (λ (v : BuilderView). v.blocks) goes)
-      (over.1.headings ∙ ap (λ (v : BuilderView). v.headings) goes) over.1.levels (over.1.at ∙ sym end) put.1),
+          (shown_ended (source_of pass) marked b c.args.heading ls)) (sym t.left)
+          (placed_tree (source_of pass) pass.placing.builder c.match-get.self.placing.builder
+          c.open_text.new.placing.builder c.add_lines.new.placing.builder c.match-heading.self.placing.builder
+          c.close.new.self.builder marked b c.args.heading braces t.source (drop (c.args.from + 1) sources)
+          (sym text_same) (ap (λ (v : BuilderView). v.levels) begun.1) (ap (λ (v : BuilderView). v.at) begun.1)
+          (braces_are ∙ ap (heading_braces pass.options c.args.heading) t.left) opens.1 items
+          (over.1.open_blocks ∙ ap (λ (v : BuilderView). v.blocks) goes)
+          (over.1.headings ∙ ap (λ (v : BuilderView). v.headings) goes) over.1.levels (over.1.at ∙ sym end) put.1),
     )
