@@ -35,6 +35,7 @@ pub enum Visit {
 }
 
 /// Returns how a walk moves at an item with this body.
+#[inline(always)]
 pub fn visit_of(body: ItemBody) -> Visit
     ensures { visit_at body ≡ result }
 {
@@ -90,6 +91,7 @@ pub fn visit_of(body: ItemBody) -> Visit
 }
 
 /// Returns the event of an item that is one event. The text that the item refers to, if any, is taken out of its table.
+#[inline(always)]
 pub fn leaf_event<'a>(text: &'a str, tables: &mut Allocations<'a>, item: Item) -> Event<'a>
     requires can { CanBegin text.now (tables_of tables.old) item }
     requires leaf { visit_at item.body ≡ Visit.Leaf }
@@ -241,6 +243,7 @@ fn image_tag<'a>(tables: &mut Allocations<'a>, ix: LinkIndex) -> Tag<'a>
 }
 
 /// Returns the End of an item, by its body; None where the item gives none.
+#[inline(always)]
 pub fn close_item(body: ItemBody) -> Option<TagEnd>
     ensures { ClosesTo body result }
 {

@@ -28,6 +28,7 @@ pub enum Step {
 }
 
 /// Moves out of the node that was entered last, to its next sibling.
+#[inline(always)]
 pub fn step_out(tree: &mut Tree<Item>) -> Step
     requires { tree.old.cursor ≡ None }
     ensures { (source : List ℕ) (held : Allocated) → TreeStands source (tables_of held) tree.old
@@ -47,6 +48,7 @@ pub fn step_out(tree: &mut Tree<Item>) -> Step
 }
 
 /// Takes a step at the node at the cursor. Returns an error where memory is refused; the tree is then unchanged.
+#[inline(always)]
 pub fn step_at(tree: &mut Tree<Item>, ix: usize) -> Result<Step, AllocError>
     requires within { ix < length tree.old.nodes }
     requires at_ix { tree.old.cursor ≡ Some ix }
@@ -73,6 +75,7 @@ pub fn step_at(tree: &mut Tree<Item>, ix: usize) -> Result<Step, AllocError>
 }
 
 /// Takes one step of the walk over a tree. Returns an error where memory is refused; the tree is then unchanged.
+#[inline(always)]
 pub fn take_step(tree: &mut Tree<Item>) -> Result<Step, AllocError>
     ensures { (source : List ℕ) (held : Allocated) → TreeStands source (tables_of held) tree.old
         → MatchResult result (StepGives source tree.old tree.new held) (λ _.

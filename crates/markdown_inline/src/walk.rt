@@ -82,6 +82,7 @@ impl<'input, F: BrokenLinkCallback<'input>> Parser<'input, F> {
     ghost use Rattle.markdown_inline.specs.declared.bodies.Visit.TheVariants as visit;
 
     /// Takes one step of the walk. Returns None where the walk goes on without an event.
+    #[inline(always)]
     fn advance_once(&mut self) -> Option<Stop>
         requires { IfSome (parser_callback self.old) F.can_ask }
         ensures askable { IfSome (parser_callback self.new) F.can_ask }
@@ -109,6 +110,7 @@ impl<'input, F: BrokenLinkCallback<'input>> Parser<'input, F> {
     }
 
     /// Walks up to the next event or to the end, and returns where the walk stopped.
+    #[inline(always)]
     fn advance(&mut self) -> Stop
         requires { IfSome (parser_callback self.old) F.can_ask }
         ensures stops { Stops F.answers self.old self.new result }
@@ -123,6 +125,7 @@ impl<'input, F: BrokenLinkCallback<'input>> Parser<'input, F> {
 
     /// Returns the Start of an item that the walk has entered. Returns an error where memory is refused; the walk is
     /// then over.
+    #[inline(always)]
     fn start(&mut self, item: Item) -> Result<Event<'input>, Fault>
         requires begins { IsToBegin self.old item visit.Start }
         ensures callback { parser_callback self.new ≡ parser_callback self.old }
@@ -235,6 +238,8 @@ impl<'input, F: BrokenLinkCallback<'input>> Iterator for Parser<'input, F> {
     }
 
     /// Returns the next event, or None at the end. Returns an error where memory is refused, and from then on None.
+    // inlined, with what it calls, into each place that takes an event: else events are stored to be taken apart again
+    #[inline(always)]
     fn next(&mut self) -> Option<Result<Event<'input>, Fault>> {
         match self.advance() {
             Stop::Over => None,
