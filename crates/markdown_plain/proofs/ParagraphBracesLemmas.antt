@@ -89,7 +89,8 @@ braces_are bytes braces e =
 
 -- ---- characters around braces
 
-ascii_at : (text : List ℕ) (start stop k byte : ℕ) → IsUtf8 text → byte < 128 → IsByte (slice_range text start stop) k byte
+ascii_at : (text : List ℕ) (start stop k byte : ℕ) → IsUtf8 text → byte < 128
+    → IsByte (slice_range text start stop) k byte
     → IsCharBoundary text (start + k + 1) × IsCharBoundary text (start + k)
 ascii_at text start stop k byte utf8 low is =
     let less = is.less in
@@ -98,8 +99,11 @@ ascii_at text start stop k byte utf8 low is =
     let inside : k < stop - start = omega (arith, less, most) in
     let here : start + k < length text = omega (arith, less, most, whole) in
     let same = sym (range_byte text start stop k inside) ∙ is.is in
-    let small : get_or text (start + k) 0 < 128 = omega (arith, same, low) in
-    (IsCharBoundary-after_ascii text (start + k) utf8 here small, IsCharBoundary-before_ascii text (start + k) here small)
+    let small : get_or text (start + k) 0 < 128 = omega (arith, same, low) in (
+      IsCharBoundary-after_ascii text (start + k) utf8 here small,
+      IsCharBoundary-before_ascii text
+          (start + k) here small,
+    )
 
 pub braces_stand : (text : List ℕ) (start stop : ℕ) → IsUtf8 text
     → BracesStand text (option_map (braces_from start) (braces_in (slice_range text start stop)))
@@ -142,7 +146,8 @@ last_of options text (first ∷ second ∷ lines) (source ∷ other ∷ sources)
 last_of options text (first ∷ second ∷ lines) (source ∷ other ∷ sources) zero (suc k) line are less size e =
     last_of options text (second ∷ lines) (other ∷ sources) zero k line are.1 (omega arith) (omega (arith, size)) e
 last_of options text (first ∷ second ∷ lines) (source ∷ other ∷ sources) (suc from) (suc k) line are less size e =
-    last_of options text (second ∷ lines) (other ∷ sources) from k line are.1 (omega (arith, less)) (omega (arith, size)) e
+    last_of options text (second ∷ lines) (other ∷ sources) from k line are.1 (omega (arith, less))
+    (omega (arith, size)) e
 
 -- ---- what is at the ends of the lines
 
@@ -163,7 +168,8 @@ open_more (Some braces) l m lines e = e
 last_open : (options : Options) (lines : List SourceLine) → OpenInLast (last_braces options lines) lines
 last_open options [] = tt
 last_open options (l ∷ []) = line_open (attributes_read options) l (braces_in l.left.bytes) refl
-last_open options (l ∷ m ∷ lines) = open_more (last_braces options (m ∷ lines)) l m lines (last_open options (m ∷ lines))
+last_open options (l ∷ m ∷ lines) = open_more (last_braces options (m ∷ lines)) l m lines
+    (last_open options (m ∷ lines))
 
 pub heading_open : (options : Options) (heading : Option (HeadingLevel × Line)) (lines : List SourceLine)
     → OpenInLast (heading_braces options heading lines) lines

@@ -38,7 +38,8 @@ use Rattle.markdown_plain.specs.ParagraphItems.{BeginsWithTask, OpenInLast, afte
 
 -- ---- breaks
 
-pub range_length : (text : List ℕ) (from stop : ℕ) → stop ≤ length text → length (slice_range text from stop) ≡ stop - from
+pub range_length : (text : List ℕ) (from stop : ℕ) → stop ≤ length text
+    → length (slice_range text from stop) ≡ stop - from
 range_length text from stop within = omega (arith, length-take (stop - from) (drop from text), length-drop from text)
 
 pub range_byte : (text : List ℕ) (from stop k : ℕ) → k < stop - from

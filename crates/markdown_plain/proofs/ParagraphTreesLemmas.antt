@@ -138,7 +138,8 @@ open_later None l m lines e = tt
 open_later (Some braces) l m lines e = e
 
 pub broken_line_left : (s : Source) (task : Option Bool) (braces : Option Braces) (l m : SourceLine)
-    (lines : List SourceLine) (now mid after all : List (Forest Shown)) → IsLeft s (record { task = task; braces = braces }) (l ∷ m ∷ lines) now all
+    (lines : List SourceLine) (now mid after all : List (Forest Shown))
+    → IsLeft s (record { task = task; braces = braces }) (l ∷ m ∷ lines) now all
     → mid ≡ with_items now (task_items task l)
     → after ≡ with_items mid (line_or_nothing s (after_task task l))
     → IsLeft s (record { task = None; braces = braces }) (m ∷ lines) after all
@@ -171,7 +172,8 @@ pub record TakesLine (text : List ℕ) (sources : List SourceLine) (number : ℕ
   pub left : drop number sources ≡ source ∷ drop (number + 1) sources
 
 pub takes_line : (text : List ℕ) (lines : List HeldLine) (sources : List SourceLine) (number : ℕ) (other : HeldLine)
-    → AreTextLines text lines sources → number < length lines → TakesLine text sources number (get_or lines number other)
+    → AreTextLines text lines sources → number < length lines
+    → TakesLine text sources number (get_or lines number other)
 takes_line text [] sources number other are less = absurd (omega (arith, less))
 takes_line text (first ∷ lines) [] number other are less = absurd are
 takes_line text (first ∷ lines) (source ∷ sources) zero other are less =
@@ -229,7 +231,8 @@ pub left_of_same : (text other : List ℕ) (options : Options) (task now_task : 
     → IsLeft (record { text = text; options = options }) (record { task = task; braces = braces }) lines now all
     → IsLeft (record { text = other; options = options }) (record { task = now_task; braces = braces }) lines now all
 left_of_same text other options task now_task braces lines now all same same_task left =
-    subst (λ t. IsLeft (record { text = other; options = options }) (record { task = t; braces = braces }) lines now all)
+    subst (λ t. IsLeft (record { text = other; options = options })
+    (record { task = t; braces = braces }) lines now all)
     same_task (subst (λ t. IsLeft (record { text = t; options = options }) (record { task = task; braces = braces })
     lines now all) same left)
 

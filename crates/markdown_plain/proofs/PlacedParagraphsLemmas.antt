@@ -39,11 +39,13 @@ placed_tree s old begun opened filled now new marked b None braces l lines text 
     put_opened begun.levels now new begun.blocks (record { start = begun.at; body = body.Paragraph }) items a
     (blocks ∙ ap (λ (v : BuilderView). v.blocks) opens)
     (kept ∙ (fills ∙ ap (λ (v : BuilderView). with_items v.levels items) opens))
-    (ap (λ n. plain_item n now.at body.Paragraph) at ∙ ap (λ n. plain_item l.left.scanned n body.Paragraph) end) refl put
+    (ap (λ n. plain_item n now.at body.Paragraph) at
+    ∙ ap (λ n. plain_item l.left.scanned n body.Paragraph) end) refl put
     (λ e. some (sym before ∙ e))
     ∙ (ap (λ ls. with_trees ls (node a (chain_of items) nil)) before
     ∙ ap (λ is. with_trees old.levels (node a (chain_of is) nil)) same)
-placed_tree s old begun opened filled now new marked b (Some heading) braces l lines text before at is opens fills blocks
+placed_tree s old begun opened filled now new marked b
+    (Some heading) braces l lines text before at is opens fills blocks
     headings kept end put some =
     let all = l ∷ lines in
     let level = heading.0 in

@@ -40,7 +40,8 @@ lines-preserved c =
                 let here = left_of_same text c.lines.placing.builder.text c.args.options _ c.if-number-from.task
                 ends.braces (drop c.lines.number sources) c.lines.placing.builder.levels _ (sym same) (sym (task_is c))
                 (before.1 run) in
-                let added = c.in_ok-add_line.ensures.left sources _ (subst (λ t. AreTextLines t c.args.lines.now sources)
+                let added = c.in_ok-add_line.ensures.left sources _
+                (subst (λ t. AreTextLines t c.args.lines.now sources)
                 (sym same) are) here fitted in
                 left_of_same c.lines.placing.builder.text text c.args.options None _ ends.braces
                 (drop (c.lines.number + 1) sources) c.add_line.new.placing.builder.levels _ same

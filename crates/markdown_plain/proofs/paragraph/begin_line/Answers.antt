@@ -46,8 +46,10 @@ pub returns-clause-source : goal.returns-clause-source
 returns-clause-source c = λ source is task.
     let marker = subst (λ t. BeginsWithTask t source) c.in-Some.is task in
     let inside = (marked_line c.args.placing.now.builder.text c.args.line source c.in-Some.done is marker).1 in
-    let start : c.saturating_add-start.result ≡ c.args.line.start + task_length (slice_range c.args.placing.now.builder.text
+    let start : c.saturating_add-start.result ≡ c.args.line.start + task_length
+    (slice_range c.args.placing.now.builder.text
     c.args.line.start c.args.line.stop) = search rules in
-    subst (λ t. IsTextLine c.args.placing.now.builder.text (record c.args.line { start = c.saturating_add-start.result })
+    subst (λ t. IsTextLine c.args.placing.now.builder.text
+    (record c.args.line { start = c.saturating_add-start.result })
     (after_task t source)) (sym c.in-Some.is) (line_past_task c.args.placing.now.builder.text c.args.line source
     c.in-Some.done _ is marker start)

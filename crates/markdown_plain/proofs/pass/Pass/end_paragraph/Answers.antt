@@ -50,12 +50,14 @@ returns-clause-tree c = λ sources marked b is task from end fitted.
             λ some. ap (λ (p : Pass). p.placing.builder.levels) w.self-is
                 ∙ (subst (λ ls. (ls ≡ [] → ⊥) → new.builder.levels
                 ≡ with_trees ls (shown_ended s marked b c.args.heading (drop taken sources))) (levels f) tree.1 some
-                ∙ ap (λ ls. with_trees pass.placing.builder.levels (shown_ended s marked b c.args.heading ls)) (behind f)),
+                ∙ ap (λ ls. with_trees pass.placing.builder.levels (shown_ended s marked b c.args.heading ls))
+                (behind f)),
           )
       | else-left w ↦
           let fits = subst (λ (p : Pass). AllFitted p.placing) w.self-is fitted in
           let most : length lines ≤ taken = search rules in
-          let none = sym (behind fits) ∙ none_behind sources taken (omega (arith, most, as_many text lines sources is.are)) in (
+          let none = sym (behind fits) ∙ none_behind sources taken
+          (omega (arith, most, as_many text lines sources is.are)) in (
             (divides fits).0,
             λ some. ap (λ (p : Pass). p.placing.builder.levels) w.self-is
                 ∙ (levels fits ∙ nothing_shown s marked b c.args.heading _ pass.placing.builder.levels none),

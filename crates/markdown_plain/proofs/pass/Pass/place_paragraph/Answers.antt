@@ -1,5 +1,6 @@
 -- The paragraph is opened where its first line begins, filled with its lines, and closed where it ends.
-use Rattle.std.proofs.Common.{◌≡◌, ◌∙◌, ◌∷◌, ◌+◌, ◌<◌, ℕ, ap, sym, subst, rules, arith, None, Some, List, length, drop, refl}
+use Rattle.std.proofs.Common.{◌≡◌, ◌∙◌, ◌∷◌, ◌+◌, ◌<◌, ℕ, ap, sym, subst, rules, arith, None, Some, List, length}
+use Rattle.std.proofs.Common.{drop, refl}
 use Rattle.std.proofs.Common.{MatchOption}
 use Rattle.std.specs.Prelude.{get_or, nat_lt, ◌==◌, if◌then◌else◌}
 use Rattle.std.specs.Option.{IfSome, is_some}
@@ -69,7 +70,8 @@ ends : (c : goal.After-close) → c.args.from < length c.args.self.now.lines.ite
 ends c less fitted =
     elim c.match-heading.branch [
       | in-Some-heading w ↦
-          let steps = w.step_to-in-Some-heading.ensures.steps (subst (λ (p : Pass). AllFitted p.placing) w.self-is fitted)
+          let steps = w.step_to-in-Some-heading.ensures.steps
+          (subst (λ (p : Pass). AllFitted p.placing) w.self-is fitted)
           in (
             steps.0,
             moved_to c.add_lines.new.placing.builder c.match-heading.self.placing.builder _
@@ -82,7 +84,8 @@ ends c less fitted =
           let goes = c.in_ok-add_lines.ensures.goes_on
           (subst (λ (ls : List HeldLine). c.args.from < length ls) (sym (lines_are c)) less) filled in
           let at = ap (λ (v : BuilderView). v.at) goes.1
-          ∙ (ap lines_end (lines_are c) ∙ sym (ap (paragraph_end c.args.self.now.lines.items) w.in_default-heading.is)) in (
+          ∙ (ap lines_end (lines_are c)
+          ∙ sym (ap (paragraph_end c.args.self.now.lines.items) w.in_default-heading.is)) in (
             filled,
             moved_to c.add_lines.new.placing.builder c.match-heading.self.placing.builder _
                 (ap (λ (p : Pass). p.placing.builder) w.self-is
@@ -104,7 +107,8 @@ returns-clause-tree c = λ sources marked b are less some first end fitted.
     let braces_are : c.last_braces.result ≡ heading_braces pass.options c.args.heading lines =
     c.last_braces.ensures.value sources c.args.from
     (subst (λ t. AreTextLines t c.match-get.self.lines.items sources) (sym text_same)
-    (subst (λ (ls : List HeldLine). AreTextLines text ls sources) (sym (ap (λ (p : Pass). p.lines.items) pass_same)) are))
+    (subst (λ (ls : List HeldLine). AreTextLines text ls sources)
+    (sym (ap (λ (p : Pass). p.lines.items) pass_same)) are))
     (subst (λ (ls : List HeldLine). c.args.from < length ls) (sym (ap (λ (p : Pass). p.lines.items) pass_same)) less)
     ∙ ap (λ o. heading_braces o c.args.heading lines) options_same in
     let task = task_is c ∙ first in
@@ -120,7 +124,8 @@ returns-clause-tree c = λ sources marked b are less some first end fitted.
     let nowhere : HeldLine = record { start = 0; stop = 0; next = 0; owed = 0 } in
     let t = takes_line text pass.lines.items sources c.args.from nowhere are less in
     let starts : (other : HeldLine) → (get_or pass.lines.items c.args.from other).start ≡ t.source.left.scanned =
-    λ other. ap (λ (l : HeldLine). l.start) (any_default pass.lines.items c.args.from nowhere other less) ∙ t.is.start in
+    λ other. ap (λ (l : HeldLine). l.start) (any_default pass.lines.items c.args.from nowhere other less)
+    ∙ t.is.start in
     let begun = begins c t.source starts less opens.0 in
     let run = none_run c.match-get.self.placing.builder c.open_text.new.placing.builder c.args.heading
     c.last_braces.result opens.1 in
