@@ -62,7 +62,9 @@ fn place(
     builder.skip(start);
     items(builder, alloc, end, options)?;
     builder.skip(builder.text().as_bytes().len());
-    builder.close();
+    if !builder.is_in_row() {
+        builder.close();
+    }
     Ok(())
 }
 
@@ -411,7 +413,9 @@ fn place_cut(builder: &mut Builder<'_>, alloc: Global, cut: usize) -> Result<(),
         builder.text().as_bytes().len(),
         Options::ENABLE_GFM,
     )?;
-    builder.close();
+    if !builder.is_in_row() {
+        builder.close();
+    }
     Ok(())
 }
 
