@@ -1,7 +1,7 @@
 -- The braces at the end of a heading's lines, and the task marker before the first.
-use Rattle.std.proofs.Common.{◌≡◌, ℕ, zero, suc, ◌+◌, ◌-◌, ◌<◌, ◌≤◌, Bool, true, false, List, [], ◌∷◌, ◌++◌, Option}
+use Rattle.std.proofs.Common.{◌≡◌, ℕ, zero, suc, ◌+◌, ◌-◌, ◌<◌, Bool, true, false, List, [], ◌∷◌, Option}
 use Rattle.std.proofs.Common.{Some, None, length, take, drop, slice_range, refl, sym, ap, ◌∙◌, subst, arith}
-use Rattle.std.specs.Prelude.{get_or, nat_eq, nat_lt, slice_get, slice_index, ◌==◌, if◌then◌else◌}
+use Rattle.std.specs.Prelude.{get_or, slice_get, slice_index, ◌==◌, if◌then◌else◌}
 use Rattle.std.specs.Option.{is_some, option_map}
 use Rattle.std.specs.Str.{IsCharBoundary, IsUtf8}
 use Rattle.std.specs.List.{suffix_len}
@@ -18,17 +18,16 @@ use Rattle.markdown_lines.specs.declared.line.Line.{Line}
 use Rattle.markdown_lines.specs.BlockBeginnings.{Source}
 use Rattle.markdown_lines.specs.HeadingAttributes.{attributes_read, braces_from, braces_in, braces_to, close_brace}
 use Rattle.markdown_lines.specs.HeadingAttributes.{is_enclosed, open_brace}
-use Rattle.markdown_lines.specs.LineBytes.{without_end}
 use Rattle.markdown_lines.specs.Lines.{is_space_or_tab}
 use Rattle.markdown_lines.specs.SourceLines.{SourceLine}
 use Rattle.markdown_lines.specs.TaskMarkers.{task_marker, task_read}
 use Rattle.markdown_lines.specs.declared.braces.Braces.{Braces}
 use Rattle.markdown_lines.specs.declared.held_line.HeldLine.{HeldLine}
 use Rattle.markdown_block_rules.specs.BlockRules.{before_braces, items_after_task, last_braces, paragraph_items}
-use Rattle.markdown_plain.proofs.ParagraphLinesLemmas.{byte_within, if_some, marker_before_brace, on_false, range_byte}
+use Rattle.markdown_plain.proofs.ParagraphLinesLemmas.{if_some, marker_before_brace, on_false, range_byte}
 use Rattle.markdown_plain.specs.Fitting.{BracesStand}
 use Rattle.markdown_plain.specs.HeldSources.{AreTextLines, IsTextLine}
-use Rattle.markdown_plain.specs.ParagraphItems.{BeginWithTask, BeginsWithTask, OpenInLast, heading_braces, text_items}
+use Rattle.markdown_plain.specs.ParagraphItems.{BeginWithTask, OpenInLast, heading_braces, text_items}
 use Rattle.markdown_plain.specs.Paragraphs.{first_task}
 
 -- ---- where braces are

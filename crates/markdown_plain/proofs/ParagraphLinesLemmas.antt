@@ -1,22 +1,21 @@
 -- Lines of a paragraph: the breaks after them, the task marker before the first, and the braces at the end of the last.
 use Rattle.std.proofs.Common.{◌≡◌, ℕ, zero, suc, ◌+◌, ◌-◌, ◌<◌, ◌≤◌, Bool, true, false, List, [], ◌∷◌, ◌++◌, Option}
 use Rattle.std.proofs.Common.{Some, None, length, take, drop, slice_range, refl, sym, ap, ◌∙◌, subst, arith}
-use Rattle.std.proofs.Common.{length-drop, length-take-le, ◌⊎◌}
-use Rattle.std.specs.Prelude.{slice_index, slice_get, get_or, cond, nat_lt, nat_eq, ◌==◌, ◌&&◌, if◌then◌else◌}
+use Rattle.std.proofs.Common.{length-drop}
+use Rattle.std.specs.Prelude.{slice_index, get_or, cond, nat_lt, ◌==◌, ◌&&◌, if◌then◌else◌}
 use Rattle.std.specs.Option.{option_map_or}
 use Rattle.std.specs.List.{prefix_len, suffix_len}
 use Rattle.std.proofs.lemmas.Bool.{and_parts, true≢false}
 use Rattle.std.proofs.lemmas.Bool.Decides.{nat_tests}
 use Rattle.std.proofs.lemmas.List.{drop-drop, drop-take, get_or-drop, get_or-take, length-take, take-take}
 use Rattle.std.proofs.lemmas.List.Sums.{prefix_len-le-length, suffix_len_is}
-use Rattle.std.proofs.lemmas.Option.{same_Some}
 use Rattle.markdown_base.specs.Bytes.{backslash, close_bracket, open_bracket, space}
 use Rattle.markdown_builder.specs.BuilderView.{with_items}
 use Rattle.markdown_builder.specs.Shown.{Shown, plain_item}
 use Rattle.markdown_base.specs.Forest.{Forest}
 use Rattle.markdown_items.proofs.ContentItemsLemmas.{no_byte}
 use Rattle.markdown_items.proofs.RestOfLineLemmas.{more_items, no_items}
-use Rattle.markdown_items.specs.ContentItems.{content_items, text_between}
+use Rattle.markdown_items.specs.ContentItems.{content_items}
 use Rattle.markdown_items.specs.LineItems.{item_extensions}
 use Rattle.markdown_items.specs.declared.extensions.Extensions.{Extensions}
 use Rattle.markdown_items.specs.declared.found.Line.{Line}
@@ -26,13 +25,13 @@ use Rattle.markdown_lines.specs.HeadingAttributes.{open_brace}
 use Rattle.markdown_lines.specs.LineBreaks.{IsLineBreak, break_after}
 use Rattle.markdown_lines.specs.LineBytes.{without_end}
 use Rattle.markdown_lines.specs.Lines.{IsRunBefore, is_space_or_tab}
-use Rattle.markdown_lines.specs.SourceLines.{SourceLine, without_empty}
+use Rattle.markdown_lines.specs.SourceLines.{SourceLine}
 use Rattle.markdown_lines.specs.TaskMarkers.{is_task_done, is_task_space, past_task, task_length, task_marker}
 use Rattle.markdown_lines.specs.declared.braces.Braces.{Braces}
 use Rattle.markdown_lines.specs.declared.held_line.HeldLine.{HeldLine}
 use Rattle.markdown_lines.specs.declared.line_break.LineBreak.{LineBreak}
 use Rattle.markdown_block_rules.specs.BlockRules.{cut_before_braces}
-use Rattle.markdown_block_rules.specs.LineContents.{break_between, broken_line, lines_items}
+use Rattle.markdown_block_rules.specs.LineContents.{break_between, broken_line}
 use Rattle.markdown_plain.specs.HeldSources.{IsTextLine}
 use Rattle.markdown_plain.specs.ParagraphItems.{BeginsWithTask, OpenInLast, after_task, line_or_nothing}
 

@@ -1,7 +1,7 @@
 -- The items of a paragraph's lines, one line after the other.
 use Rattle.std.proofs.Common.{◌≡◌, ℕ, zero, suc, ◌+◌, ◌-◌, ◌<◌, ◌≤◌, Bool, true, false, List, [], ◌∷◌, ◌++◌, Option}
-use Rattle.std.proofs.Common.{Some, None, length, take, drop, refl, sym, ap, ◌∙◌, subst, arith, append_assoc}
-use Rattle.std.specs.Prelude.{get_or, nat_eq, nat_lt, slice_get, ◌==◌, if◌then◌else◌}
+use Rattle.std.proofs.Common.{Some, None, length, drop, refl, sym, ap, ◌∙◌, subst, arith, append_assoc}
+use Rattle.std.specs.Prelude.{get_or, slice_get, ◌==◌, if◌then◌else◌}
 use Rattle.std.proofs.lemmas.Bool.Decides.{nat_tests}
 use Rattle.std.proofs.lemmas.List.{length-take}
 use Rattle.std.specs.List.{suffix_len}
@@ -20,13 +20,13 @@ use Rattle.markdown_lines.specs.SourceLines.{SourceLine, without_empty}
 use Rattle.markdown_lines.specs.TaskMarkers.{past_task}
 use Rattle.markdown_lines.specs.declared.braces.Braces.{Braces}
 use Rattle.markdown_lines.specs.declared.held_line.HeldLine.{HeldLine}
-use Rattle.markdown_block_rules.specs.BlockRules.{before_braces, cut_before_braces, items_after_task}
+use Rattle.markdown_block_rules.specs.BlockRules.{before_braces, cut_before_braces}
 use Rattle.markdown_block_rules.specs.LineContents.{lines_items}
 use Rattle.markdown_plain.proofs.ParagraphLinesLemmas.{cut_after_task, no_content, none_left, on_false, some_left}
 use Rattle.markdown_base.specs.declared.options.Options.{Options}
 use Rattle.markdown_plain.specs.Fitting.{GoesOn}
 use Rattle.markdown_plain.specs.HeldSources.{AreTextLines, IsTextLine}
-use Rattle.markdown_plain.specs.ParagraphItems.{AreSome, BeginWithTask, BeginsWithTask, HaveEnds, IsLeft, OpenInLast}
+use Rattle.markdown_plain.specs.ParagraphItems.{IsLeft, OpenInLast}
 use Rattle.markdown_plain.specs.ParagraphItems.{after_task, line_or_nothing, task_items, text_items}
 use Rattle.markdown_plain.specs.declared.paragraph.Ends.{Ends}
 

@@ -1,10 +1,10 @@
 -- A paragraph, or a heading that it turned out to be, that was opened, filled and closed.
-use Rattle.std.proofs.Common.{◌≡◌, ℕ, ◌<◌, List, [], ◌∷◌, Option, Some, None, MatchOption, refl, sym, ap, ◌∙◌}
-use Rattle.markdown_base.specs.Forest.{Forest, nil, node}
+use Rattle.std.proofs.Common.{◌≡◌, ℕ, List, ◌∷◌, Option, Some, None, MatchOption, refl, sym, ap, ◌∙◌}
+use Rattle.markdown_base.specs.Forest.{nil, node}
 use Rattle.markdown_base.specs.declared.item.ItemBody.TheVariants as body
 use Rattle.markdown_base.specs.declared.tag.HeadingLevel.{HeadingLevel}
 use Rattle.markdown_builder.specs.BuilderView.{BuilderView, Opens, with_items}
-use Rattle.markdown_builder.specs.Shown.{Shown, chain_of, plain_item}
+use Rattle.markdown_builder.specs.Shown.{chain_of, plain_item}
 use Rattle.markdown_builder.specs.TreeLevels.{with_trees}
 use Rattle.markdown_lines.specs.declared.braces.Braces.{Braces}
 use Rattle.markdown_lines.specs.declared.line.Line.{Line}

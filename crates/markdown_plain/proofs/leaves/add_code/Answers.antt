@@ -1,5 +1,5 @@
 -- What a tab owes, and then the line, are the items of a line of code.
-use Rattle.std.proofs.Common.{◌≡◌, ◌<◌, ◌≤◌, arith, false}
+use Rattle.std.proofs.Common.{arith, false}
 use Rattle.std.proofs.lemmas.Bool.Decides.{nat_tests}
 use Rattle.std.proofs.lemmas.Result.{IfOk-weaker}
 use Rattle.markdown_base.specs.declared.item.ItemBody.TheVariants as body

@@ -1,5 +1,5 @@
 -- The attributes are those of the words between the braces.
-use Rattle.std.proofs.Common.{◌≡◌, ◌+◌, sym, subst}
+use Rattle.std.proofs.Common.{◌+◌, sym, subst}
 use Rattle.std.specs.Str.{IsCharBoundary}
 use Rattle.std.proofs.lemmas.Result.{IfOk-weaker}
 use Rattle.markdown_base.specs.HeadingWords.{words_of}

@@ -1,11 +1,7 @@
 -- A turn appends the next line, and what is left then are the lines behind it.
-use Rattle.std.proofs.Common.{◌≡◌, ◌∙◌, ◌+◌, ap, sym, subst, rules, arith, None, Option, Bool, false, drop}
+use Rattle.std.proofs.Common.{◌≡◌, ◌+◌, sym, subst, rules, arith, None, false, drop}
 use Rattle.std.specs.Prelude.{◌==◌, if◌then◌else◌}
 use Rattle.std.proofs.lemmas.Bool.Decides.{nat_tests}
-use Rattle.markdown_builder.specs.BuilderView.{BuilderView, with_items}
-use Rattle.markdown_items.proofs.RestOfLineLemmas.{no_items}
-use Rattle.markdown_lines.specs.BlockBeginnings.{Source}
-use Rattle.markdown_lines.specs.SourceLines.{SourceLine}
 use Rattle.markdown_plain.proofs.ParagraphLinesLemmas.{on_false}
 use Rattle.markdown_plain.proofs.ParagraphTreesLemmas.{as_many, left_of_same, none_behind, nothing_left}
 use Rattle.markdown_plain.specs.HeldSources.{AreTextLines}

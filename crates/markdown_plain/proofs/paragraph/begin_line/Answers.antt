@@ -1,5 +1,5 @@
 -- A task marker lies within its line, and the line is read on after it.
-use Rattle.std.proofs.Common.{◌≡◌, ◌∷◌, [], ◌+◌, slice_range, ◌∙◌, ap, sym, subst, rules, arith}
+use Rattle.std.proofs.Common.{◌≡◌, ◌∷◌, [], ◌+◌, slice_range, ◌∙◌, ap, sym, subst, rules}
 use Rattle.markdown_builder.specs.BuilderView.{BuilderView, with_items}
 use Rattle.markdown_base.specs.declared.item.ItemBody.TheVariants as body
 use Rattle.markdown_builder.specs.Shown.{plain_item}

@@ -1,5 +1,5 @@
 -- A heading is opened with the attributes between the braces.
-use Rattle.std.proofs.Common.{◌≡◌, ◌∙◌, ap, sym, subst, rules, MatchOption}
+use Rattle.std.proofs.Common.{sym, subst, MatchOption}
 use Rattle.std.proofs.lemmas.Result.{IfOk-weaker}
 use Rattle.markdown_base.specs.declared.item.ItemBody.TheVariants as body
 use Rattle.markdown_builder.specs.BuilderView.{Opens}

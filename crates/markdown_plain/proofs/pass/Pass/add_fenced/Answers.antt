@@ -1,9 +1,9 @@
 -- The line is the line of the definition without the fence's indentation.
-use Rattle.std.proofs.Common.{◌≡◌, sym, subst, rules}
+use Rattle.std.proofs.Common.{sym, subst, rules}
 use Rattle.std.proofs.lemmas.Result.{IfOk-weaker}
-use Rattle.markdown_lines.specs.SourceLines.{SourceLine, cut}
+use Rattle.markdown_lines.specs.SourceLines.{cut}
 use Rattle.markdown_plain.specs.HeldSources.{IsHeld}
-use Rattle.markdown_plain.proofs.LeafTreesLemmas.{cut_held, rest_from}
+use Rattle.markdown_plain.proofs.LeafTreesLemmas.{cut_held}
 use Rattle.markdown_plain.proofs.pass.Pass.add_fenced.Goals as goal
 
 pub returns-clause-items : goal.returns-clause-items

@@ -1,6 +1,6 @@
 -- The line that is held is the line of the definition without four columns of space.
-use Rattle.std.proofs.Common.{◌≡◌, List, [], ◌∷◌, ◌++◌, sym, subst, rules}
-use Rattle.markdown_lines.specs.SourceLines.{SourceLine, cut}
+use Rattle.std.proofs.Common.{◌≡◌, [], ◌∷◌, ◌++◌, sym, subst, rules}
+use Rattle.markdown_lines.specs.SourceLines.{cut}
 use Rattle.markdown_plain.specs.HeldSources.{AreHeld}
 use Rattle.markdown_plain.proofs.LeafTreesLemmas.{cut_held, held_more, rest_from}
 use Rattle.markdown_plain.proofs.pass.Pass.hold_blank.Goals as goal

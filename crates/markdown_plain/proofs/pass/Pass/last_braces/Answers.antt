@@ -1,5 +1,5 @@
 -- The braces are those of the last line of the definition.
-use Rattle.std.proofs.Common.{◌≡◌, ◌∙◌, ap, sym, subst, rules, None, Some, List, ◌-◌, length, slice_range}
+use Rattle.std.proofs.Common.{◌≡◌, ◌∙◌, ap, sym, subst, rules, Some, List, ◌-◌, length, slice_range}
 use Rattle.std.specs.Prelude.{slice_get}
 use Rattle.std.specs.Option.{option_map}
 use Rattle.markdown_lines.specs.HeadingAttributes.{braces_from, braces_in}

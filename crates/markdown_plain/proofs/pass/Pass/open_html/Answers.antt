@@ -1,5 +1,5 @@
 -- The block is opened, filled with its line, moved to its first content byte, and closed.
-use Rattle.std.proofs.Common.{◌≡◌, true, Some, None, ap, ◌∙◌, subst, rules}
+use Rattle.std.proofs.Common.{◌≡◌, true, Some, None, subst, rules}
 use Rattle.markdown_base.specs.declared.item.ItemBody.TheVariants as body
 use Rattle.markdown_block_rules.specs.BlockRules.{shown_over}
 use Rattle.markdown_block_rules.specs.LineContents.{source_line}

@@ -1,25 +1,22 @@
 -- The paragraph is opened where its first line begins, filled with its lines, and closed where it ends.
-use Rattle.std.proofs.Common.{◌≡◌, ◌∙◌, ◌∷◌, ◌+◌, ◌<◌, ℕ, ap, sym, subst, rules, arith, None, Some, List, length}
-use Rattle.std.proofs.Common.{drop, refl}
-use Rattle.std.proofs.Common.{MatchOption}
-use Rattle.std.specs.Prelude.{get_or, nat_lt, ◌==◌, if◌then◌else◌}
-use Rattle.std.specs.Option.{IfSome, is_some}
+use Rattle.std.proofs.Common.{◌≡◌, ◌∙◌, ◌∷◌, ◌+◌, ◌<◌, ap, sym, subst, rules, arith, None, List, length}
+use Rattle.std.proofs.Common.{drop}
+use Rattle.std.specs.Prelude.{get_or, ◌==◌, if◌then◌else◌}
+use Rattle.std.specs.Option.{IfSome}
 use Rattle.std.proofs.lemmas.Bool.Decides.{nat_tests}
-use Rattle.markdown_base.specs.declared.item.ItemBody.TheVariants as body
-use Rattle.markdown_builder.specs.BuilderView.{BuilderView, Opens, with_items}
+use Rattle.markdown_builder.specs.BuilderView.{BuilderView, with_items}
 use Rattle.markdown_lines.specs.SourceLines.{SourceLine}
 use Rattle.markdown_lines.specs.declared.held_line.HeldLine.{HeldLine}
 use Rattle.markdown_block_rules.specs.BlockRules.{before_braces}
 use Rattle.markdown_plain.proofs.ParagraphBracesLemmas.{begin_first, heading_open}
 use Rattle.markdown_plain.proofs.ParagraphTreesLemmas.{any_default, takes_line}
 use Rattle.markdown_plain.proofs.PlacedParagraphsLemmas.{IsAtEnd, moved_to, none_run, placed_tree}
-use Rattle.markdown_plain.specs.Fitting.{AllFitted, BracesStand, OpensHeadingOf, stepped}
+use Rattle.markdown_plain.specs.Fitting.{AllFitted, stepped}
 use Rattle.markdown_plain.specs.HeldSources.{AreTextLines}
-use Rattle.markdown_plain.specs.ParagraphItems.{BeginWithTask, HaveEnds, OpenInLast, heading_braces, text_items}
+use Rattle.markdown_plain.specs.ParagraphItems.{HaveEnds, OpenInLast, heading_braces, text_items}
 use Rattle.markdown_plain.specs.Paragraphs.{first_task, lines_end, paragraph_end, shown_ended, source_of}
 use Rattle.markdown_plain.specs.LeafTrees.{HasTrees}
 use Rattle.markdown_plain.specs.declared.pass.Pass.{Pass}
-use Rattle.markdown_plain.specs.declared.placing.Placing.{Placing}
 use Rattle.markdown_plain.proofs.pass.Pass.place_paragraph.Goals.{in-Some, in_default, then-from-eq0, else-from-eq0}
 use Rattle.markdown_plain.proofs.pass.Pass.place_paragraph.Goals.{in-Some-heading, in_default-heading}
 use Rattle.markdown_plain.proofs.pass.Pass.place_paragraph.Goals as goal
