@@ -12,6 +12,7 @@ use Rattle.markdown_items.specs.Dashes.{dashes_for, dashes_in_utf8, ellipsis}
 use Rattle.markdown_items.specs.declared.found.Found.{Found}
 use Rattle.markdown_items.specs.declared.found.Found.TheVariants as found
 use Rattle.markdown_items.specs.declared.found.Line.{Line}
+use Rattle.markdown_items.specs.Found.{found_at}
 use Rattle.markdown_items.specs.FoundItems.{found_items}
 use Rattle.markdown_items.specs.FoundView.{found_view}
 use Rattle.markdown_items.specs.LineItems.{is_special}
@@ -109,3 +110,11 @@ view_after view line at found.Ellipsis = record view {
   texts = view.texts ++ encode_utf8 ellipsis ∷ [];
   levels = levels_after view line at found.Ellipsis;
 }
+
+-- what begins at a byte offset is appended, after the text before it, and reading goes on after it
+pub record AppendsFound (old : BuilderView) (line : Line) (at : ℕ) (new : BuilderView) (next : ℕ) : Type 0 where
+  pub found : Found
+  pub value : found_view found ≡ found_at line old.text at
+  pub fits : FoundFits old.text line.end at found
+  pub after : new ≡ view_after old line at found
+  pub further : next ≡ next_after at found

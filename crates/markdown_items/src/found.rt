@@ -2,7 +2,6 @@
 ghost use Rattle.std.specs.Prelude.{◌≡◌, ◌<◌, ◌^◌, true, slice_index};
 ghost use Rattle.markdown_base.specs.WellFormed.{is_delimiter};
 ghost use Rattle.markdown_items.specs.Found.{escape_at, entity_at, image_at, run_at, mark_at, hyphens_at, dots_at};
-ghost use Rattle.markdown_items.specs.Found.{found_at};
 ghost use Rattle.markdown_items.specs.FoundFits.{IsAtSpecial, FoundFits, next_after};
 ghost use Rattle.markdown_items.specs.FoundView.{found_view};
 
@@ -70,7 +69,7 @@ impl Found {
 
 /// Returns what begins at a backslash.
 #[tactic(auto, unfolding(crate::specs::Found::escape_at))]
-fn find_escape(text: &str, line: Line, at: usize) -> Found
+pub fn find_escape(text: &str, line: Line, at: usize) -> Found
     requires { IsAtSpecial text.now line at }
     ensures value { found_view result ≡ escape_at text.now line.end at }
     ensures fits { FoundFits text.now line.end at result }
@@ -87,7 +86,7 @@ fn find_escape(text: &str, line: Line, at: usize) -> Found
 
 /// Returns what begins at a `&`.
 #[tactic(auto, unfolding(crate::specs::Found::entity_at))]
-fn find_entity(text: &str, line: Line, at: usize) -> Found
+pub fn find_entity(text: &str, line: Line, at: usize) -> Found
     requires { IsAtSpecial text.now line at }
     ensures value { found_view result ≡ entity_at line.extensions.names text.now line.end at }
     ensures fits { FoundFits text.now line.end at result }
@@ -103,7 +102,7 @@ fn find_entity(text: &str, line: Line, at: usize) -> Found
 
 /// Returns what begins at a `!`.
 #[tactic(auto, unfolding(crate::specs::Found::image_at))]
-fn find_image(text: &str, line: Line, at: usize) -> Found
+pub fn find_image(text: &str, line: Line, at: usize) -> Found
     requires here { IsAtSpecial text.now line at }
     requires byte { slice_index text.now at ≡ 33 }
     ensures value { found_view result ≡ image_at text.now line.end at }
@@ -118,7 +117,7 @@ fn find_image(text: &str, line: Line, at: usize) -> Found
 
 /// Returns what the run at `at` is: a delimiter run, or text.
 #[tactic(auto, using(crate::proofs::ItemLemmas::past_run), unfolding(crate::specs::Found::run_at))]
-fn find_run(text: &str, line: Line, at: usize) -> Found
+pub fn find_run(text: &str, line: Line, at: usize) -> Found
     requires here { IsAtSpecial text.now line at }
     requires byte { is_delimiter (slice_index text.now at) ≡ true }
     ensures value { found_view result ≡ run_at line text.now at }
@@ -136,24 +135,29 @@ fn find_run(text: &str, line: Line, at: usize) -> Found
 
 /// Returns what begins at a `$` or a quotation mark.
 #[tactic(auto, using(crate::proofs::ItemLemmas::past_special), unfolding(crate::specs::Found::mark_at))]
-fn find_mark(text: &str, line: Line, at: usize) -> Found
+pub fn find_mark(text: &str, line: Line, at: usize) -> Found
     requires { IsAtSpecial text.now line at }
     ensures value { found_view result ≡ mark_at line text.now at }
     ensures fits { FoundFits text.now line.end at result }
 {
     let byte = text.as_bytes()[at];
+    match byte {
+        b'$' if line.extensions.math => {}
+        b'\'' | b'"' if line.extensions.quotes => {}
+        _ => return Found::Text(at + 1),
+    }
     let before = character_before(text, line.start, at);
     let after = character_after(text, at + 1);
-    match byte {
-        b'$' if line.extensions.math => Found::Mark(math_mark(before, after)),
-        b'\'' | b'"' if line.extensions.quotes => Found::Mark(quote_mark(byte, before, after)),
-        _ => Found::Text(at + 1),
+    if byte == b'$' {
+        Found::Mark(math_mark(before, after))
+    } else {
+        Found::Mark(quote_mark(byte, before, after))
     }
 }
 
 /// Returns what the hyphens at `at` are: dashes, or text if there is one.
 #[tactic(auto, using(crate::proofs::ItemLemmas::past_run), unfolding(crate::specs::Found::hyphens_at))]
-fn find_dashes(text: &str, line: Line, at: usize) -> Found
+pub fn find_dashes(text: &str, line: Line, at: usize) -> Found
     requires { IsAtSpecial text.now line at }
     ensures value { found_view result ≡ hyphens_at text.now line.end at }
     ensures fits { FoundFits text.now line.end at result }
@@ -168,7 +172,7 @@ fn find_dashes(text: &str, line: Line, at: usize) -> Found
 
 /// Returns what the dots at `at` are: an ellipsis, or text if there are fewer than three.
 #[tactic(auto, unfolding(crate::specs::Found::dots_at))]
-fn find_ellipsis(text: &str, line: Line, at: usize) -> Found
+pub fn find_ellipsis(text: &str, line: Line, at: usize) -> Found
     requires { IsAtSpecial text.now line at }
     ensures value { found_view result ≡ dots_at text.now line.end at }
     ensures fits { FoundFits text.now line.end at result }
@@ -177,28 +181,5 @@ fn find_ellipsis(text: &str, line: Line, at: usize) -> Found
         Found::Ellipsis
     } else {
         Found::Text(at + 1)
-    }
-}
-
-/// Returns what begins at a special byte.
-#[tactic(auto, unfolding(crate::specs::Found::found_at))]
-pub fn find(text: &str, line: Line, at: usize) -> Found
-    requires { IsAtSpecial text.now line at }
-    ensures value { found_view result ≡ found_at line text.now at }
-    ensures fits { FoundFits text.now line.end at result }
-{
-    match text.as_bytes()[at] {
-        b'\\' => find_escape(text, line, at),
-        b'`' => Found::Backticks(run_end(text, at, line.end)),
-        b'&' => find_entity(text, line, at),
-        b'!' => find_image(text, line, at),
-        b'<' => Found::Mark(ItemBody::MaybeHtml),
-        b'[' => Found::Mark(ItemBody::MaybeLinkOpen),
-        b']' => Found::Mark(ItemBody::MaybeLinkClose(true)),
-        // the characters of `is_delimiter`, as `value` requires; written out, they are in the same jump as the other bytes
-        b'*' | b'_' | b'~' | b'^' => find_run(text, line, at),
-        b'-' => find_dashes(text, line, at),
-        b'.' => find_ellipsis(text, line, at),
-        _ => find_mark(text, line, at),
     }
 }

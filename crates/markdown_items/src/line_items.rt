@@ -7,12 +7,18 @@ ghost use Rattle.markdown_builder.specs.BuilderView.{with_items};
 ghost use Rattle.markdown_builder.specs.Shown.{synthesized_item};
 ghost use Rattle.markdown_items.specs.ContentItems.{AddsItems, content_items, text_between};
 ghost use Rattle.markdown_items.specs.LineItems.{is_after_backslash, item_extensions};
-ghost use Rattle.markdown_items.specs.FoundFits.{IsAtSpecial, FoundFits, run_after_text, view_after};
+ghost use Rattle.markdown_items.specs.Found.{found_at};
+ghost use Rattle.markdown_items.specs.FoundView.{found_view};
+ghost use Rattle.markdown_items.specs.FoundFits.{IsAtSpecial, FoundFits, AppendsFound, run_after_text, view_after};
 
 use crate::dashes::dashes_for;
+use crate::delimiter_run::run_end;
 use crate::extensions::Extensions;
 use crate::flanking::Flags;
-use crate::found::{Found, Line, find};
+use crate::found::{
+    Found, Line, find_dashes, find_ellipsis, find_entity, find_escape, find_image, find_mark,
+    find_run,
+};
 use crate::special::first_special;
 use markdown_base::cow_str::CowStr;
 use markdown_base::item::ItemBody;
@@ -137,6 +143,8 @@ fn append_ellipsis(builder: &mut Builder<'_>, stop: usize) -> Result<(), AllocEr
 }
 
 /// Appends the text before `at`, and the item that was found there, if any.
+// inlined, as is what follows: for each byte only a few kinds can have been found, and the others are not asked for
+#[inline(always)]
 #[tactic(auto, using(crate::proofs::RestOfLineLemmas::more_items))]
 fn append_found(
     builder: &mut Builder<'_>,
@@ -176,6 +184,66 @@ fn append_found(
     }
 }
 
+/// Appends what begins at `at`, after the text before it, and returns the byte offset at which to continue.
+#[inline(always)]
+#[tactic(auto, using(crate::proofs::ItemLemmas::goes_on))]
+fn take_found(
+    builder: &mut Builder<'_>,
+    alloc: Global,
+    line: Line,
+    at: usize,
+    found: Found,
+) -> Result<usize, AllocError>
+    requires here { IsAtSpecial builder.old.text line at }
+    requires inside { builder.old.leaf ≡ true }
+    requires placed { builder.old.at ≤ at }
+    requires value { found_view found ≡ found_at line builder.old.text at }
+    requires fits { FoundFits builder.old.text line.end at found }
+    ensures { IfOk result (λ next. AppendsFound builder.old line at builder.new next) }
+{
+    let next = found.next(at);
+    append_found(builder, alloc, line, at, found)?;
+    Ok(next)
+}
+
+/// Appends what begins at a special byte, after the text before it, and returns the byte offset at which to continue.
+// the marks share one call, so that `Builder::mark` is called in one place, and inlined there
+#[inline(always)]
+#[tactic(auto, unfolding(crate::specs::Found::found_at))]
+fn append_special(
+    builder: &mut Builder<'_>,
+    alloc: Global,
+    line: Line,
+    at: usize,
+) -> Result<usize, AllocError>
+    requires here { IsAtSpecial builder.old.text line at }
+    requires inside { builder.old.leaf ≡ true }
+    requires placed { builder.old.at ≤ at }
+    ensures { IfOk result (λ next. AppendsFound builder.old line at builder.new next) }
+{
+    let text = builder.text();
+    let found = match text.as_bytes()[at] {
+        b'\\' => return take_found(builder, alloc, line, at, find_escape(text, line, at)),
+        b'`' => {
+            let stop = run_end(text, at, line.end);
+            return take_found(builder, alloc, line, at, Found::Backticks(stop));
+        }
+        b'&' => return take_found(builder, alloc, line, at, find_entity(text, line, at)),
+        b'!' => return take_found(builder, alloc, line, at, find_image(text, line, at)),
+        // the characters of `is_delimiter`; written out, they are in the same jump as the other bytes
+        b'*' | b'_' | b'~' | b'^' => {
+            return take_found(builder, alloc, line, at, find_run(text, line, at));
+        }
+        b'-' => return take_found(builder, alloc, line, at, find_dashes(text, line, at)),
+        b'.' => return take_found(builder, alloc, line, at, find_ellipsis(text, line, at)),
+        b'<' => Found::Mark(ItemBody::MaybeHtml),
+        b'[' => Found::Mark(ItemBody::MaybeLinkOpen),
+        b']' => Found::Mark(ItemBody::MaybeLinkClose(true)),
+        _ => find_mark(text, line, at),
+    };
+    take_found(builder, alloc, line, at, found)
+}
+
 /// Appends the inline items of one line's content, from the builder's position up to `end`.
 ///
 /// Items are delimiter runs with their flags (CommonMark 6.2), quotation marks with smart punctuation enabled, `$` with
@@ -212,14 +280,12 @@ pub fn items(
         end,
         extensions: Extensions::of(options),
     };
-    let text = builder.text();
-    let bytes = text.as_bytes();
+    let bytes = builder.text().as_bytes();
     let dashes = line.extensions.dashes;
     let mut at = first_special(bytes, line.start, end, dashes);
     'line: while at < end {
-        let found = find(text, line, at);
-        append_found(builder, alloc, line, at, found)?;
-        at = first_special(bytes, found.next(at), end, dashes);
+        let next = append_special(builder, alloc, line, at)?;
+        at = first_special(bytes, next, end, dashes);
     }
     append_text(builder, line, end)?;
     Ok(())

@@ -6,9 +6,7 @@ use Rattle.markdown_builder.specs.BuilderView.{BuilderView, with_items}
 use Rattle.markdown_builder.specs.Shown.{Shown}
 use Rattle.markdown_items.specs.declared.found.Line.{Line}
 use Rattle.markdown_items.specs.ContentItems.{AddsItems, content_items}
-use Rattle.markdown_items.specs.Found.{found_at}
-use Rattle.markdown_items.specs.FoundFits.{FoundFits, next_after, view_after}
-use Rattle.markdown_items.specs.FoundView.{found_view}
+use Rattle.markdown_items.specs.FoundFits.{AppendsFound, next_after, view_after}
 use Rattle.markdown_items.specs.LineItems.{is_special, IsFirstSpecial}
 use Rattle.markdown_items.specs.RestOfLine.{AwaitsRest}
 use Rattle.markdown_items.proofs.RestOfLineLemmas.{past_plain, at_start, at_end, at_found, placed_after, begun_after}
@@ -20,7 +18,7 @@ line-init c =
     let view : BuilderView = c.args.builder.now in
     let extensions = c.of.result in
     let at = c.first_special-at.result in
-    let bytes = c.as_bytes-bytes.ensures.value ∙ c.text-text.ensures in
+    let bytes = c.as_bytes-bytes.ensures.value ∙ c.text.ensures in
     let first : IsFirstSpecial extensions.dashes view.text view.at c.args.end at =
     subst (λ (t : List ℕ). IsFirstSpecial extensions.dashes t view.at c.args.end at) bytes
     (subst (λ n. IsFirstSpecial extensions.dashes c.as_bytes-bytes.result.now n c.args.end at) c.at.ensures.value
@@ -46,23 +44,21 @@ line-preserved c =
     let all : List (Forest Shown) =
     with_items old.levels (content_items old.text c.of.result old.at c.args.end) in
     let at = c.line.at in
-    let found = c.find-found.result in
-    let new : BuilderView = c.append_found.new.builder in
+    let new : BuilderView = c.append_special.new.builder in
+    let appends : AppendsFound view line at new c.in_ok-next.next = c.in_ok-next.ensures in
+    let found = appends.found in
     let next = next_after at found in
     let then = c.first_special-at-in-line.result in
     let less = c.line-test.true in
     let placed = c.line.invariant.placed in
-    let same_text : c.text-text.result.now ≡ view.text =
-    c.text-text.ensures ∙ sym (ap (λ (v : BuilderView). v.text) c.line.invariant.same) in
-    let same_bytes : c.as_bytes-bytes.result.now ≡ view.text = c.as_bytes-bytes.ensures.value ∙ same_text in
-    let fits : FoundFits view.text line.end at found =
-    subst (λ (t : List ℕ). FoundFits t line.end at found) same_text c.find-found.ensures.fits in
-    let value : found_view found ≡ found_at line view.text at =
-    c.find-found.ensures.value ∙ ap (λ (t : List ℕ). found_at line t at) same_text in
+    let same_bytes : c.as_bytes-bytes.result.now ≡ view.text =
+    c.as_bytes-bytes.ensures.value
+    ∙ (c.text.ensures ∙ sym (ap (λ (v : BuilderView). v.text) c.line.invariant.same)) in
+    let fits = appends.fits in
+    let after = appends.after in
     let special : is_special line.extensions.dashes (slice_index view.text at) ≡ true =
     subst (λ (t : List ℕ). is_special line.extensions.dashes (slice_index t at) ≡ true) same_bytes
     (c.line.invariant.special less) in
-    let after : new ≡ view_after view line at found = c.in_ok-append_found.ensures in
     let ahead : new.at ≤ next =
     subst (λ (v : BuilderView). v.at ≤ next) (sym after) (placed_after line view at found placed less fits) in
     let further : view.at ≤ new.at =
@@ -79,13 +75,14 @@ line-preserved c =
       rest = λ none.
           let awaits : AwaitsRest line all new next =
           subst (λ (v : BuilderView). AwaitsRest line all v next) (sym after)
-          (at_found line all view at found placed less special fits value (c.line.invariant.rest none)) in
+          (at_found line all view at found placed less special fits appends.value
+          (c.line.invariant.rest none)) in
           let text : c.as_bytes-bytes.result.now ≡ new.text =
           same_bytes ∙ sym (ap (λ (v : BuilderView). v.text) after ∙ text_after line view at found) in
           let first : IsFirstSpecial line.extensions.dashes new.text next line.end then =
           subst (λ (t : List ℕ). IsFirstSpecial line.extensions.dashes t next line.end then) text
-          (subst (λ n. IsFirstSpecial line.extensions.dashes c.as_bytes-bytes.result.now n line.end then) c.next.ensures
-          c.first_special-at-in-line.ensures) in
+          (subst (λ n. IsFirstSpecial line.extensions.dashes c.as_bytes-bytes.result.now n line.end then)
+          appends.further c.first_special-at-in-line.ensures) in
           past_plain line all new next then ahead first awaits;
     }
 
