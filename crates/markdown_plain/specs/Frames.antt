@@ -44,6 +44,20 @@ is_quote was.quote_container = true
 is_quote (was.alert_container kind) = true
 is_quote other = false
 
+-- the kind is that of a container
+abbrev pub IsContainer : Kind → Type 0
+IsContainer was.quote_container = Unit
+IsContainer (was.alert_container kind) = Unit
+IsContainer (was.list_container marker) = Unit
+IsContainer (was.item_container indent) = Unit
+IsContainer (was.footnote_container label) = Unit
+IsContainer other = ⊥
+
+-- open blocks are containers
+abbrev pub AreContainers : List Frame → Type 0
+AreContainers [] = Unit
+AreContainers (f ∷ frames) = IsContainer f.block.kind × AreContainers frames
+
 -- directly in a list there are items, and nowhere else
 abbrev pub AreNested : List Frame → Type 0
 AreNested [] = Unit
