@@ -10,13 +10,13 @@ use Rattle.std.specs.Prelude.{unwrap_or, if◌then◌else◌, slice_index}
 use Rattle.std.specs.List.{prefix_len, list_all}
 use Rattle.std.specs.Option.{option_and_then, option_map, option_or}
 use Rattle.markdown_base.specs.Bytes.{hyphen, plus_sign}
-use Rattle.markdown_base.specs.Forest.{Forest}
+use Rattle.markdown_base.specs.Forest.{Forest, nil}
 use Rattle.markdown_base.specs.declared.options.Options.{Options}
 use Rattle.markdown_base.specs.declared.tag.MetadataBlockKind.{MetadataBlockKind}
 use Rattle.markdown_base.specs.declared.tag.MetadataBlockKind.TheVariants as metadata
 use Rattle.markdown_scan.specs.Beginnings.{begins_with}
-use Rattle.markdown_scan.specs.LineStart.{LineLeft, Space, column_after, leading_space, no_space, space_from, space_width}
-use Rattle.markdown_scan.specs.LineStart.{wider}
+use Rattle.markdown_scan.specs.LineStart.{LineLeft, Space, column_after, leading_space, no_space, space_from}
+use Rattle.markdown_scan.specs.LineStart.{space_width, wider}
 use Rattle.markdown_lines.specs.declared.block_start.Before.{Before}
 use Rattle.markdown_lines.specs.declared.block_start.Before.TheVariants as paragraph
 use Rattle.markdown_lines.specs.declared.html_kind.HtmlKind.{HtmlKind}
@@ -34,12 +34,12 @@ use Rattle.markdown_lines.specs.MetadataBlocks.{are_of_metadata, is_three_of, li
 use Rattle.markdown_lines.specs.MetadataBlocks.{metadata_option, opened_before}
 use Rattle.markdown_lines.specs.ExtendedOnly.{is_read}
 use Rattle.markdown_lines.specs.Positions.{left_from}
-use Rattle.markdown_lines.specs.SourceLines.{SourceLine, rest_inside}
+use Rattle.markdown_lines.specs.SourceLines.{SourceLine, is_blank_rest, rest_inside}
 use Rattle.markdown_lines.specs.ThematicBreaks.{is_thematic_break}
 use Rattle.markdown_lines.proofs.BlockStartsLemmas.{after_less_than, after_mark, is_mark, slice_same}
 use Rattle.markdown_lines.proofs.PositionsLemmas.{rest_of_part}
 use Rattle.markdown_block_rules.specs.BlockGrowth.{Block, another_item, begun_by, begun_in, inside_of, is_text}
-use Rattle.markdown_block_rules.specs.BlockGrowth.{new_blocks}
+use Rattle.markdown_block_rules.specs.BlockGrowth.{blank_line, line_block, new_block, new_blocks, next_item}
 use Rattle.markdown_block_rules.proofs.BlockBeginningsLemmas.{HoldsLess, begins_less, begun_same, either}
 
 -- ---- what is left of a line, in its text
@@ -288,3 +288,17 @@ begun_once s l =
         → begun_in (length l.left.bytes) s (rest_inside rest l) ≡ begun_by s (rest_inside rest l)
         → inside_of (begun_in (length l.left.bytes) s) l rest ≡ inside_of (begun_by s) l rest
     inside_same rest same = rw same refl
+
+-- a line that is not blank is what it begins
+pub block_begun : (s : Source) (l : SourceLine) → is_blank_rest l ≡ false
+    → line_block s l ≡ new_blocks (inside_of (begun_by s) l) l (begins s paragraph.NoParagraph l)
+block_begun s l filled =
+    ap (λ blank. if blank then new_block l.left.scanned l blank_line nil else begun_by s l) filled ∙ begun_once s l
+
+-- and is in a list the item that it begins
+pub item_begun : (s : Source) (l : SourceLine) (marker : ListMarker) → IsLeftOf s.text l.left
+    → is_blank_rest l ≡ false
+    → next_item s l marker ≡ another_item s l marker (begins s paragraph.NoParagraph l)
+item_begun s l marker own filled =
+    ap (λ blank. if blank then Some (line_block s l) else another_item s l marker (begins s paragraph.Lazy l)) filled
+    ∙ item_same s l marker own

@@ -126,7 +126,7 @@ mapped_twice f g None = refl
 mapped_twice f g (Some x) = refl
 
 -- the blocks before a block are unchanged where it goes on
-goes_on_last : (s : Source) (before : Forest Block) (b : Block) (below : Forest Block) (l : SourceLine)
+pub goes_on_last : (s : Source) (before : Forest Block) (b : Block) (below : Forest Block) (l : SourceLine)
     → goes_on s (followed_by before (node b below nil)) l
     ≡ option_map (followed_by before) (goes_on s (node b below nil) l)
 unfolding goes_on
@@ -136,7 +136,7 @@ goes_on_last s (node c inside after) b below l =
     (mapped_twice (λ f. node c inside f) (followed_by after) (goes_on s (node b below nil) l))
 
 -- and where it does so lazily
-with_lazy_last : (before : Forest Block) (b : Block) (below : Forest Block) (l : SourceLine)
+pub with_lazy_last : (before : Forest Block) (b : Block) (below : Forest Block) (l : SourceLine)
     → with_lazy l (followed_by before (node b below nil))
     ≡ option_map (followed_by before) (with_lazy l (node b below nil))
 unfolding with_lazy
@@ -292,7 +292,7 @@ AllGoOn s (f ∷ frames) inside l rest =
     × AllGoOn s frames inside m rest
 
 -- containers are touched alike by what is left of a line
-touched_alike : (l m : SourceLine) (frames : List Frame) → m.next ≡ l.next
+pub touched_alike : (l m : SourceLine) (frames : List Frame) → m.next ≡ l.next
     → map (touched m) frames ≡ map (touched l) frames
 touched_alike l m frames next =
     ap (λ n. map (λ (f : Frame). record f { block = record f.block { last = n } }) frames) next
@@ -332,8 +332,8 @@ goes_inside s inside l rest f (g ∷ frames) are nested plain (m, takes, more) =
         (touched_alike l m (g ∷ frames) (rest_next s (is_nil below) l m f.block.kind takes)))
 
 -- where the innermost is no list, what is in it goes on with what is left of the line
-pub line_inside : (s : Source) (inside : Forest Block) (l rest : SourceLine) (frames : List Frame) → AreContainers frames
-    → AreNested frames → innermost_is is_list frames ≡ false → AllGoOn s frames inside l rest
+pub line_inside : (s : Source) (inside : Forest Block) (l rest : SourceLine) (frames : List Frame)
+    → AreContainers frames → AreNested frames → innermost_is is_list frames ≡ false → AllGoOn s frames inside l rest
     → with_line s (rebuilt frames inside) l ≡ rebuilt (map (touched l) frames) (with_line s inside rest)
 line_inside s inside l rest [] are nested plain same = ap (with_line s inside) same
 line_inside s inside l rest (f ∷ frames) are nested plain all =

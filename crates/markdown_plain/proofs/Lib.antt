@@ -17,3 +17,4 @@ pub mod ListLoosenessLemmas
 pub mod FramesLemmas
 pub mod ReachedLemmas
 pub mod BegunLemmas
+pub mod LastBlocksLemmas

@@ -217,7 +217,8 @@ module _ (s : Source) (frames : List Frame) (inside : Forest Block) (l : SourceL
           let r = reached s frames inside l in
           let below = rebuilt r.inner inside in
           let parts = sym (reached_parts s frames inside l) in
-          let containers = subst AreContainers ends (outer_containers r.outer r.inner (subst AreContainers parts are)) in
+          let reached_all = outer_containers r.outer r.inner (subst AreContainers parts are) in
+          let containers = subst AreContainers ends reached_all in
           let levels = subst AreNested ends (outer_nested r.outer r.inner (subst AreNested parts nested)) in
           let all = subst (λ (fs : List Frame). AllGoOn s fs below l r.rest) ends (all_reached s frames inside l) in
           ap (λ blocks. with_line s blocks l)
@@ -226,7 +227,8 @@ module _ (s : Source) (frames : List Frame) (inside : Forest Block) (l : SourceL
           ∙ (line_inside s (forgotten f below) l r.rest outer (outer_containers outer (f ∷ []) containers)
           (outer_nested outer (f ∷ []) levels) (around_list outer f marker list levels)
           (around_all s below l r.rest outer f (ap is_list list) all)
-          ∙ ap (λ o. rebuilt (map (touched l) outer) (unwrap_or o (followed_by (forgotten f below) (line_block s r.rest))))
+          ∙ ap (λ o. rebuilt (map (touched l) outer)
+          (unwrap_or o (followed_by (forgotten f below) (line_block s r.rest))))
           (list_goes_on s f below r.rest marker list ∙ ap (option_map (forgotten (touched r.rest f))) goes))
 
       list_grown : (grown : Forest Block)
@@ -287,7 +289,8 @@ module _ (s : Source) (frames : List Frame) (inside : Forest Block) (l : SourceL
       decided : (list : Bool) → innermost_is is_list r.outer ≡ list
           → with_line s (rebuilt frames inside) l ≡ rebuilt (map (touched l) r.outer) grown
       decided true is =
-          let list = innermost_apart is_list r.outer is in in_marked list (marker_of_list list.last.block.kind list.passes)
+          let list = innermost_apart is_list r.outer is in
+          in_marked list (marker_of_list list.last.block.kind list.passes)
       decided false plain =
           outer_go_on plain
           ∙ ap (λ o. rebuilt (map (touched l) r.outer) (unwrap_or o (followed_by below (line_block s r.rest)))) goes

@@ -8,7 +8,8 @@ use Rattle.markdown_lines.specs.BlockBeginnings.{Source}
 use Rattle.markdown_lines.specs.SourceLines.{SourceLine, is_blank_rest, rest_inside}
 use Rattle.markdown_builder.specs.TreeLevels.{followed_by}
 use Rattle.markdown_block_rules.specs.BlockGrowth as was
-use Rattle.markdown_block_rules.specs.BlockGrowth.{Block, Kind, is_nil, past_footnote, past_indentation, past_quote}
+use Rattle.markdown_block_rules.specs.BlockGrowth.{Block, Kind, goes_on, is_nil, past_footnote, past_indentation}
+use Rattle.markdown_block_rules.specs.BlockGrowth.{past_quote, with_lazy}
 
 -- an open container, and the blocks before it
 pub record Frame : Type 0 where
@@ -68,8 +69,8 @@ AreNested (f ∷ g ∷ frames) = (is_list f.block.kind ≡ is_item g.block.kind)
 abbrev pub innermost_is : (Kind → Bool) → List Frame → Bool
 innermost_is test frames = option_map_or (λ f. test f.block.kind) (slice_get frames (length frames - 1)) false
 
--- the number of the open containers that a block that is no item may begin in: the outermost `depth`, without the innermost
--- of them where that is a list
+-- the number of the open containers that a block that is no item may begin in: the outermost `depth`, without the
+-- innermost of them where that is a list
 abbrev pub room_depth : ℕ → List Frame → ℕ
 room_depth depth frames = if innermost_is is_list (take depth frames) then depth - 1 else depth
 
@@ -83,6 +84,10 @@ inside_container s l empty (was.footnote_container label) =
 inside_container s l empty was.quote_container = option_map (λ rest. rest_inside rest l) (past_quote l.left)
 inside_container s l empty (was.alert_container kind) = option_map (λ rest. rest_inside rest l) (past_quote l.left)
 inside_container s l empty other = Some l
+
+-- Blocks go on in no line, lazily neither: the last one, if there is one, is a leaf that has ended.
+abbrev pub AreOver : Source → Forest Block → Type 0
+AreOver s blocks = (l : SourceLine) → (goes_on s blocks l ≡ None) × (with_lazy l blocks ≡ None)
 
 -- how far open containers go on in a line: those that do, the others, and what is left of the line inside the former
 pub record Reached : Type 0 where
