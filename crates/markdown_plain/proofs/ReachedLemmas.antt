@@ -1,8 +1,8 @@
 -- What a line makes of blocks by how far it reaches: the open containers that go on in it stand around what it makes of
 -- the others, which are closed or go on lazily, of the items of a list, or of the blocks that are in no open container.
 use Rattle.std.proofs.Common.{◌≡◌, Bool, true, false, not, ◌&&◌, List, [], ◌∷◌, ◌++◌, Option, Some, None}
-use Rattle.std.proofs.Common.{map, refl, sym, ap, ◌∙◌, subst, append-nil}
-use Rattle.std.proofs.lemmas.List.{map_push}
+use Rattle.std.proofs.Common.{length, map, take, drop, refl, sym, ap, ◌∙◌, subst, append-nil}
+use Rattle.std.proofs.lemmas.List.{drop_at, map_push, take_at}
 use Rattle.std.specs.Prelude.{unwrap_or, if◌then◌else◌}
 use Rattle.std.specs.Option.{option_map, option_or}
 use Rattle.markdown_base.specs.Forest.{Forest}
@@ -39,6 +39,19 @@ reached_parts s (f ∷ frames) inside l =
         ++ (reached_past f frames l (reached s frames inside) rest).inner ≡ f ∷ frames
     past None parts = refl
     past (Some m) parts = ap (λ (fs : List Frame). f ∷ fs) (parts m)
+
+-- those are the outermost, by their number
+pub outer_taken : (s : Source) (frames : List Frame) (inside : Forest Block) (l : SourceLine)
+    → take (length (reached s frames inside l).outer) frames ≡ (reached s frames inside l).outer
+outer_taken s frames inside l =
+    let r = reached s frames inside l in
+    ap (take (length r.outer)) (sym (reached_parts s frames inside l)) ∙ take_at r.outer r.inner (length r.outer) refl
+
+pub inner_left : (s : Source) (frames : List Frame) (inside : Forest Block) (l : SourceLine)
+    → drop (length (reached s frames inside l).outer) frames ≡ (reached s frames inside l).inner
+inner_left s frames inside l =
+    let r = reached s frames inside l in
+    ap (drop (length r.outer)) (sym (reached_parts s frames inside l)) ∙ drop_at r.outer r.inner (length r.outer) refl
 
 -- they hold the same blocks
 pub reached_same : (s : Source) (frames : List Frame) (inside : Forest Block) (l : SourceLine)
