@@ -13,3 +13,8 @@ pub mod EndedParagraphsLemmas
 pub mod ParagraphsLemmas
 pub mod DividedLemmas
 pub mod ListLoosenessLemmas
+-- on what a line makes of blocks, some of which are open
+pub mod FramesLemmas
+pub mod ReachedLemmas
+pub mod BegunLemmas
+pub mod LastBlocksLemmas

@@ -1,0 +1,341 @@
+-- What a line makes of blocks of which some containers on the right edge are open: the outer ones go on in it, and what
+-- is left of it inside them goes on with the blocks in the innermost of these, begins an item, or begins other blocks.
+use Rattle.std.proofs.Common.{◌≡◌, ℕ, zero, suc, Bool, true, false, ◌&&◌, List, [], ◌∷◌, ◌++◌, Option, Some, None}
+use Rattle.std.proofs.Common.{length, map, take, drop, refl, sym, ap, ◌∙◌, subst, arith}
+use Rattle.std.proofs.lemmas.Bool.{true≢false}
+use Rattle.std.proofs.lemmas.Option.{none-some, same_Some}
+use Rattle.std.specs.Prelude.{unwrap_or, if◌then◌else◌, slice_get, ◌-◌}
+use Rattle.std.specs.Option.{option_map, option_map_or}
+use Rattle.markdown_base.specs.Forest.{Forest, nil, node}
+use Rattle.markdown_lines.specs.declared.list_marker.ListMarker.{ListMarker}
+use Rattle.markdown_lines.specs.BlockBeginnings.{Source}
+use Rattle.markdown_scan.specs.LineStart.{LineLeft}
+use Rattle.markdown_lines.specs.SourceLines.{SourceLine, is_blank_rest, rest_inside}
+use Rattle.markdown_builder.specs.TreeLevels.{followed_by}
+use Rattle.markdown_block_rules.specs.BlockGrowth as was
+use Rattle.markdown_block_rules.specs.BlockGrowth.{Block, Kind, block_with, container_with, goes_on, is_nil, lazily}
+use Rattle.markdown_block_rules.specs.BlockGrowth.{line_block, next_item, past_footnote, past_indentation}
+use Rattle.markdown_block_rules.specs.BlockGrowth.{past_quote, with_lazy, with_line, with_rest}
+use Rattle.markdown_plain.specs.Frames.{AreContainers, AreNested, Frame, IsContainer, forgotten}
+use Rattle.markdown_plain.specs.Frames.{innermost_is, inside_container, is_item, is_list, rebuilt}
+use Rattle.markdown_plain.specs.Frames.{touched}
+
+-- ---- frames
+
+-- open containers in others
+pub rebuilt_in : (outer inner : List Frame) (inside : Forest Block)
+    → rebuilt (outer ++ inner) inside ≡ rebuilt outer (rebuilt inner inside)
+rebuilt_in [] inner inside = refl
+rebuilt_in (f ∷ outer) inner inside =
+    ap (λ (r : Forest Block). followed_by f.before (node f.block r nil)) (rebuilt_in outer inner inside)
+
+-- the innermost open container is closed
+pub rebuilt_more : (frames : List Frame) (f : Frame) (inside : Forest Block)
+    → rebuilt (frames ++ f ∷ []) inside ≡ rebuilt frames (forgotten f inside)
+rebuilt_more frames f inside = rebuilt_in frames (f ∷ []) inside
+
+-- all but the outermost `n` are closed
+pub rebuilt_split : (n : ℕ) (frames : List Frame) (inside : Forest Block)
+    → rebuilt frames inside ≡ rebuilt (take n frames) (rebuilt (drop n frames) inside)
+rebuilt_split zero frames inside = refl
+rebuilt_split (suc n) [] inside = refl
+rebuilt_split (suc n) (f ∷ frames) inside =
+    ap (λ (r : Forest Block). followed_by f.before (node f.block r nil)) (rebuilt_split n frames inside)
+
+-- the innermost of some open containers is that of the inner ones
+pub innermost_inner : (test : Kind → Bool) (f g : Frame) (frames : List Frame)
+    → innermost_is test (f ∷ g ∷ frames) ≡ innermost_is test (g ∷ frames)
+innermost_inner test f g frames =
+    let all : suc (suc (length frames)) - 1 ≡ suc (length frames) = omega arith in
+    let inner : length frames ≡ suc (length frames) - 1 = omega arith in
+    ap (λ n. option_map_or (λ (h : Frame). test h.block.kind) (slice_get (f ∷ g ∷ frames) n) false) all
+    ∙ ap (λ n. option_map_or (λ (h : Frame). test h.block.kind) (slice_get (g ∷ frames) n) false) inner
+
+-- and the last of them
+pub innermost_last : (test : Kind → Bool) (outer : List Frame) (f : Frame)
+    → innermost_is test (outer ++ f ∷ []) ≡ test f.block.kind
+innermost_last test [] f = refl
+innermost_last test (g ∷ []) f = innermost_inner test g f []
+innermost_last test (g ∷ h ∷ outer) f =
+    innermost_inner test g h (outer ++ f ∷ []) ∙ innermost_last test (h ∷ outer) f
+
+-- open containers of which the innermost passes a test of its kind
+pub record Innermost (test : Kind → Bool) (frames : List Frame) : Type 0 where
+  pub outer : List Frame
+  pub last : Frame
+  pub are : frames ≡ outer ++ last ∷ []
+  pub passes : test last.block.kind ≡ true
+
+pub innermost_apart : (test : Kind → Bool) (frames : List Frame) → innermost_is test frames ≡ true
+    → Innermost test frames
+innermost_apart test [] passes = absurd (true≢false (sym passes))
+innermost_apart test (f ∷ []) passes = record { outer = []; last = f; are = refl; passes = passes }
+innermost_apart test (f ∷ g ∷ frames) passes =
+    let inner = innermost_apart test (g ∷ frames) (sym (innermost_inner test f g frames) ∙ passes) in
+    record {
+      outer = f ∷ inner.outer;
+      last = inner.last;
+      are = ap (λ (fs : List Frame). f ∷ fs) inner.are;
+      passes = inner.passes;
+    }
+
+-- the marker of a list
+pub record HasMarker (kind : Kind) : Type 0 where
+  pub marker : ListMarker
+  pub is : kind ≡ was.list_container marker
+
+pub marker_of_list : (kind : Kind) → is_list kind ≡ true → HasMarker kind
+marker_of_list (was.list_container marker) list = record { marker = marker; is = refl }
+marker_of_list other list = absurd (true≢false (sym list))
+
+pub outer_containers : (outer inner : List Frame) → AreContainers (outer ++ inner) → AreContainers outer
+outer_containers [] inner are = tt
+outer_containers (f ∷ outer) inner are = (are.0, outer_containers outer inner are.1)
+
+pub inner_containers : (outer inner : List Frame) → AreContainers (outer ++ inner) → AreContainers inner
+inner_containers [] inner are = are
+inner_containers (f ∷ outer) inner are = inner_containers outer inner are.1
+
+pub outer_nested : (outer inner : List Frame) → AreNested (outer ++ inner) → AreNested outer
+outer_nested [] inner nested = tt
+outer_nested (f ∷ []) inner nested = tt
+outer_nested (f ∷ g ∷ outer) inner nested = (nested.0, outer_nested (g ∷ outer) inner nested.1)
+
+-- a list is in no list
+pub around_list : (outer : List Frame) (f : Frame) (marker : ListMarker) → f.block.kind ≡ was.list_container marker
+    → AreNested (outer ++ f ∷ []) → innermost_is is_list outer ≡ false
+around_list [] f marker is nested = refl
+around_list (g ∷ []) f marker is nested = nested.0 ∙ ap is_item is
+around_list (g ∷ h ∷ outer) f marker is nested =
+    innermost_inner is_list g h outer ∙ around_list (h ∷ outer) f marker is nested.1
+
+-- ---- the last block
+
+ends_in_block : (before : Forest Block) (b : Block) (below : Forest Block)
+    → is_nil (followed_by before (node b below nil)) ≡ false
+ends_in_block nil b below = refl
+ends_in_block (node c inside after) b below = refl
+
+mapped_same : {A : Type 0} (o : Option A) → option_map (λ (x : A). x) o ≡ o
+mapped_same None = refl
+mapped_same (Some x) = refl
+
+mapped_twice : {A B C : Type 0} (f : B → C) (g : A → B) (o : Option A)
+    → option_map f (option_map g o) ≡ option_map (λ x. f (g x)) o
+mapped_twice f g None = refl
+mapped_twice f g (Some x) = refl
+
+-- the blocks before a block are unchanged where it goes on
+pub goes_on_last : (s : Source) (before : Forest Block) (b : Block) (below : Forest Block) (l : SourceLine)
+    → goes_on s (followed_by before (node b below nil)) l
+    ≡ option_map (followed_by before) (goes_on s (node b below nil) l)
+unfolding goes_on
+goes_on_last s nil b below l = sym (mapped_same (block_with s l b below (goes_on s below)))
+goes_on_last s (node c inside after) b below l =
+    rw (ends_in_block after b below, goes_on_last s after b below l)
+    (mapped_twice (λ f. node c inside f) (followed_by after) (goes_on s (node b below nil) l))
+
+-- and where it does so lazily
+pub with_lazy_last : (before : Forest Block) (b : Block) (below : Forest Block) (l : SourceLine)
+    → with_lazy l (followed_by before (node b below nil))
+    ≡ option_map (followed_by before) (with_lazy l (node b below nil))
+unfolding with_lazy
+with_lazy_last nil b below l = sym (mapped_same (with_lazy l (node b below nil)))
+with_lazy_last (node c inside after) b below l =
+    rw (ends_in_block after b below, with_lazy_last after b below l)
+    (mapped_twice (λ f. node c inside f) (followed_by after) (with_lazy l (node b below nil)))
+
+-- a container goes on as what a line makes of what is in it
+block_goes_on : (s : Source) (below : Forest Block) (l : SourceLine) (start first last : ℕ) (kind : Kind)
+    → IsContainer kind
+    → goes_on s (node (record { start = start; first = first; last = last; kind = kind }) below nil) l
+    ≡ option_map (λ r. node (record { start = start; first = first; last = l.next; kind = kind }) r nil)
+    (container_with s l below (goes_on s below) kind)
+unfolding goes_on
+block_goes_on s below l start first last was.quote_container is = refl
+block_goes_on s below l start first last (was.alert_container kind) is = refl
+block_goes_on s below l start first last (was.list_container marker) is = refl
+block_goes_on s below l start first last (was.item_container indent) is = refl
+block_goes_on s below l start first last (was.footnote_container label) is = refl
+block_goes_on s below l start first last other is = absurd is
+
+pub container_goes_on : (s : Source) (f : Frame) (below : Forest Block) (l : SourceLine) → IsContainer f.block.kind
+    → goes_on s (forgotten f below) l
+    ≡ option_map (forgotten (touched l f)) (container_with s l below (goes_on s below) f.block.kind)
+container_goes_on s f below l is =
+    goes_on_last s f.before f.block below l
+    ∙ (ap (option_map (followed_by f.before))
+    (block_goes_on s below l f.block.start f.block.first f.block.last f.block.kind is)
+    ∙ mapped_twice (followed_by f.before) (λ (r : Forest Block). node (touched l f).block r nil)
+    (container_with s l below (goes_on s below) f.block.kind))
+
+-- a container that ends with a paragraph goes on lazily as what is in it does
+block_goes_lazily : (below : Forest Block) (l : SourceLine) (start first last : ℕ) (kind : Kind) → IsContainer kind
+    → with_lazy l (node (record { start = start; first = first; last = last; kind = kind }) below nil)
+    ≡ option_map (λ r. node (record { start = start; first = first; last = l.next; kind = kind }) r nil)
+    (with_lazy l below)
+unfolding with_lazy
+block_goes_lazily below l start first last was.quote_container is = refl
+block_goes_lazily below l start first last (was.alert_container kind) is = refl
+block_goes_lazily below l start first last (was.list_container marker) is = refl
+block_goes_lazily below l start first last (was.item_container indent) is = refl
+block_goes_lazily below l start first last (was.footnote_container label) is = refl
+block_goes_lazily below l start first last other is = absurd is
+
+pub container_goes_lazily : (f : Frame) (below : Forest Block) (l : SourceLine) → IsContainer f.block.kind
+    → with_lazy l (forgotten f below) ≡ option_map (forgotten (touched l f)) (with_lazy l below)
+container_goes_lazily f below l is =
+    with_lazy_last f.before f.block below l
+    ∙ (ap (option_map (followed_by f.before))
+    (block_goes_lazily below l f.block.start f.block.first f.block.last f.block.kind is)
+    ∙ mapped_twice (followed_by f.before) (λ (r : Forest Block). node (touched l f).block r nil) (with_lazy l below))
+
+-- ---- one container
+
+-- where it takes its part of a line
+rest_taken : (s : Source) (below : Forest Block) (l rest : SourceLine) (left : Option LineLeft)
+    → option_map (λ left. rest_inside left l) left ≡ Some rest
+    → with_rest s l below (goes_on s below) left ≡ Some (with_line s below rest)
+rest_taken s below l rest None takes = absurd (none-some rest takes)
+rest_taken s below l rest (Some left) takes =
+    ap (λ r. Some (with_line s below r)) (same_Some (rest_inside left l) rest takes)
+
+-- and where it takes nothing of it
+rest_missing : (s : Source) (below : Forest Block) (l : SourceLine) (left : Option LineLeft)
+    → option_map (λ left. rest_inside left l) left ≡ None
+    → with_rest s l below (goes_on s below) left ≡ lazily s l below
+rest_missing s below l None takes = refl
+rest_missing s below l (Some left) takes = absurd (none-some (rest_inside left l) (sym takes))
+
+-- a container other than a list that takes its part of a line goes on, with what is left of the line in it
+takes_rest : (s : Source) (below : Forest Block) (l rest : SourceLine) (kind : Kind) → IsContainer kind
+    → is_list kind ≡ false → inside_container s l (is_nil below) kind ≡ Some rest
+    → container_with s l below (goes_on s below) kind ≡ Some (with_line s below rest)
+takes_rest s below l rest was.quote_container is plain takes =
+    rest_taken s below l rest (past_quote l.left) takes
+takes_rest s below l rest (was.alert_container kind) is plain takes =
+    rest_taken s below l rest (past_quote l.left) takes
+takes_rest s below l rest (was.list_container marker) is plain takes = absurd (true≢false plain)
+takes_rest s below l rest (was.item_container indent) is plain takes =
+    decided (is_blank_rest l && is_nil below) takes
+  where
+    decided : (ends : Bool)
+        → (if ends then None else option_map (λ left. rest_inside left l) (past_indentation indent l)) ≡ Some rest
+        → (if ends then None else with_rest s l below (goes_on s below) (past_indentation indent l))
+        ≡ Some (with_line s below rest)
+    decided true takes = absurd (none-some rest takes)
+    decided false takes = rest_taken s below l rest (past_indentation indent l) takes
+takes_rest s below l rest (was.footnote_container label) is plain takes =
+    rest_taken s below l rest (past_footnote s l) takes
+takes_rest s below l rest other is plain takes = absurd is
+
+-- a container that does not goes on lazily at most
+pub takes_nothing : (s : Source) (below : Forest Block) (l : SourceLine) (kind : Kind) → IsContainer kind
+    → inside_container s l (is_nil below) kind ≡ None
+    → container_with s l below (goes_on s below) kind ≡ lazily s l below
+takes_nothing s below l was.quote_container is takes = rest_missing s below l (past_quote l.left) takes
+takes_nothing s below l (was.alert_container kind) is takes = rest_missing s below l (past_quote l.left) takes
+takes_nothing s below l (was.list_container marker) is takes = absurd (none-some l (sym takes))
+takes_nothing s below l (was.item_container indent) is takes =
+    decided (is_blank_rest l) (is_nil below) refl takes
+  where
+    decided : (blank empty : Bool) → is_blank_rest l ≡ blank
+        → (if blank && empty then None else option_map (λ left. rest_inside left l) (past_indentation indent l))
+        ≡ None
+        → (if blank && empty then None else with_rest s l below (goes_on s below) (past_indentation indent l))
+        ≡ lazily s l below
+    decided true true is takes = rw is refl
+    decided true false is takes = rest_missing s below l (past_indentation indent l) takes
+    decided false empty is takes = rest_missing s below l (past_indentation indent l) takes
+takes_nothing s below l (was.footnote_container label) is takes = rest_missing s below l (past_footnote s l) takes
+takes_nothing s below l other is takes = absurd is
+
+-- a list takes nothing of a line
+pub list_takes : (s : Source) (empty : Bool) (l rest : SourceLine) (kind : Kind) → is_list kind ≡ true
+    → inside_container s l empty kind ≡ Some rest → l ≡ rest
+list_takes s empty l rest (was.list_container marker) list takes = same_Some l rest takes
+list_takes s empty l rest other list takes = absurd (true≢false (sym list))
+
+-- a list goes on as its last item does
+list_grows : (s : Source) (below grown : Forest Block) (l : SourceLine) (kind : Kind) → is_list kind ≡ true
+    → goes_on s below l ≡ Some grown → container_with s l below (goes_on s below) kind ≡ Some grown
+list_grows s below grown l (was.list_container marker) list goes = rw goes refl
+list_grows s below grown l other list goes = absurd (true≢false (sym list))
+
+-- what is left of a line in a container ends where the line does
+left_next : (l rest : SourceLine) (left : Option LineLeft) → option_map (λ left. rest_inside left l) left ≡ Some rest
+    → rest.next ≡ l.next
+left_next l rest None takes = absurd (none-some rest takes)
+left_next l rest (Some left) takes = ap (λ (r : SourceLine). r.next) (sym (same_Some (rest_inside left l) rest takes))
+
+pub rest_next : (s : Source) (empty : Bool) (l rest : SourceLine) (kind : Kind)
+    → inside_container s l empty kind ≡ Some rest → rest.next ≡ l.next
+rest_next s empty l rest was.quote_container takes = left_next l rest (past_quote l.left) takes
+rest_next s empty l rest (was.alert_container kind) takes = left_next l rest (past_quote l.left) takes
+rest_next s empty l rest (was.footnote_container label) takes = left_next l rest (past_footnote s l) takes
+rest_next s empty l rest (was.item_container indent) takes = decided (is_blank_rest l && empty) takes
+  where
+    decided : (ends : Bool)
+        → (if ends then None else option_map (λ left. rest_inside left l) (past_indentation indent l)) ≡ Some rest
+        → rest.next ≡ l.next
+    decided true takes = absurd (none-some rest takes)
+    decided false takes = left_next l rest (past_indentation indent l) takes
+rest_next s empty l rest other takes = ap (λ (r : SourceLine). r.next) (sym (same_Some l rest takes))
+
+-- ---- the containers that go on
+
+-- open containers all go on in a line, of which this is left in the innermost, which holds these blocks
+abbrev pub AllGoOn : Source → List Frame → Forest Block → SourceLine → SourceLine → Type 0
+AllGoOn s [] inside l rest = l ≡ rest
+AllGoOn s (f ∷ frames) inside l rest =
+    (m : SourceLine) × (inside_container s l (is_nil (rebuilt frames inside)) f.block.kind ≡ Some m)
+    × AllGoOn s frames inside m rest
+
+-- containers are touched alike by what is left of a line
+pub touched_alike : (l m : SourceLine) (frames : List Frame) → m.next ≡ l.next
+    → map (touched m) frames ≡ map (touched l) frames
+touched_alike l m frames next =
+    ap (λ n. map (λ (f : Frame). record f { block = record f.block { last = n } }) frames) next
+
+goes_inside : (s : Source) (inside : Forest Block) (l rest : SourceLine) (f : Frame) (frames : List Frame)
+    → AreContainers (f ∷ frames) → AreNested (f ∷ frames) → innermost_is is_list (f ∷ frames) ≡ false
+    → AllGoOn s (f ∷ frames) inside l rest
+    → goes_on s (rebuilt (f ∷ frames) inside) l
+    ≡ Some (rebuilt (map (touched l) (f ∷ frames)) (with_line s inside rest))
+goes_inside s inside l rest f [] are nested plain (m, takes, same) =
+    container_goes_on s f inside l are.0
+    ∙ (ap (option_map (forgotten (touched l f))) (takes_rest s inside l m f.block.kind are.0 plain takes)
+    ∙ ap (λ r. Some (forgotten (touched l f) (with_line s inside r))) same)
+goes_inside s inside l rest f (g ∷ frames) are nested plain (m, takes, more) =
+    container_goes_on s f (rebuilt (g ∷ frames) inside) l are.0
+    ∙ ap (option_map (forgotten (touched l f))) (decided (is_list f.block.kind) refl
+    (λ n all. goes_inside s inside n rest g frames are.1 nested.1 (sym (innermost_inner is_list f g frames) ∙ plain)
+    all))
+  where
+    below : Forest Block
+    below = rebuilt (g ∷ frames) inside
+
+    grown : SourceLine → Forest Block
+    grown n = rebuilt (map (touched n) (g ∷ frames)) (with_line s inside rest)
+
+    decided : (list : Bool) → is_list f.block.kind ≡ list
+        → ((n : SourceLine) → AllGoOn s (g ∷ frames) inside n rest → goes_on s below n ≡ Some (grown n))
+        → container_with s l below (goes_on s below) f.block.kind ≡ Some (grown l)
+    decided true list inner =
+        let same = list_takes s (is_nil below) l m f.block.kind list takes in
+        list_grows s below (grown l) l f.block.kind list
+        (inner l (subst (λ n. AllGoOn s (g ∷ frames) inside n rest) (sym same) more))
+    decided false list inner =
+        takes_rest s below l m f.block.kind are.0 list takes
+        ∙ (ap (λ o. Some (unwrap_or o (followed_by below (line_block s m)))) (inner m more)
+        ∙ ap (λ (fs : List Frame). Some (rebuilt fs (with_line s inside rest)))
+        (touched_alike l m (g ∷ frames) (rest_next s (is_nil below) l m f.block.kind takes)))
+
+-- where the innermost is no list, what is in it goes on with what is left of the line
+pub line_inside : (s : Source) (inside : Forest Block) (l rest : SourceLine) (frames : List Frame)
+    → AreContainers frames → AreNested frames → innermost_is is_list frames ≡ false → AllGoOn s frames inside l rest
+    → with_line s (rebuilt frames inside) l ≡ rebuilt (map (touched l) frames) (with_line s inside rest)
+line_inside s inside l rest [] are nested plain same = ap (with_line s inside) same
+line_inside s inside l rest (f ∷ frames) are nested plain all =
+    ap (λ o. unwrap_or o (followed_by (rebuilt (f ∷ frames) inside) (line_block s l)))
+    (goes_inside s inside l rest f frames are nested plain all)

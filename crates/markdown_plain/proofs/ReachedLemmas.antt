@@ -1,0 +1,323 @@
+-- What a line makes of blocks by how far it reaches: the open containers that go on in it stand around what it makes of
+-- the others, which are closed or go on lazily, of the items of a list, or of the blocks that are in no open container.
+use Rattle.std.proofs.Common.{◌≡◌, Bool, true, false, not, ◌&&◌, List, [], ◌∷◌, ◌++◌, Option, Some, None}
+use Rattle.std.proofs.Common.{length, map, take, drop, refl, sym, ap, ◌∙◌, subst, append-nil}
+use Rattle.std.proofs.lemmas.List.{drop_at, map_push, take_at}
+use Rattle.std.specs.Prelude.{unwrap_or, if◌then◌else◌}
+use Rattle.std.specs.Option.{option_map, option_or}
+use Rattle.markdown_base.specs.Forest.{Forest}
+use Rattle.markdown_lines.specs.declared.block_start.Before.TheVariants as paragraph
+use Rattle.markdown_lines.specs.declared.list_marker.ListMarker.{ListMarker}
+use Rattle.markdown_lines.specs.BlockBeginnings.{Source, begins}
+use Rattle.markdown_lines.specs.SourceLines.{SourceLine, is_blank_rest}
+use Rattle.markdown_builder.specs.TreeLevels.{followed_by}
+use Rattle.markdown_block_rules.specs.BlockGrowth as was
+use Rattle.markdown_block_rules.specs.BlockGrowth.{Block, container_with, goes_on, is_nil, is_text, lazily, line_block}
+use Rattle.markdown_block_rules.specs.BlockGrowth.{next_item, with_lazy, with_line}
+use Rattle.markdown_plain.specs.Frames.{AreContainers, AreNested, Frame, IsContainer, Reached, forgotten}
+use Rattle.markdown_plain.specs.Frames.{innermost_is, inside_container, is_list, reached, reached_past, rebuilt}
+use Rattle.markdown_plain.specs.Frames.{touched}
+use Rattle.markdown_plain.proofs.FramesLemmas.{AllGoOn, Innermost, around_list, container_goes_lazily}
+use Rattle.markdown_plain.proofs.FramesLemmas.{container_goes_on, inner_containers, innermost_apart, line_inside}
+use Rattle.markdown_plain.proofs.FramesLemmas.{HasMarker, list_takes, marker_of_list, outer_containers, outer_nested}
+use Rattle.markdown_plain.proofs.FramesLemmas.{rebuilt_in, rebuilt_more, rest_next, takes_nothing}
+
+-- ---- how far a line reaches
+
+-- some open containers go on, and the others do not
+pub reached_parts : (s : Source) (frames : List Frame) (inside : Forest Block) (l : SourceLine)
+    → (reached s frames inside l).outer ++ (reached s frames inside l).inner ≡ frames
+unfolding reached
+reached_parts s [] inside l = refl
+reached_parts s (f ∷ frames) inside l =
+    past (inside_container s l (is_nil (rebuilt frames inside)) f.block.kind)
+    (λ m. reached_parts s frames inside m)
+  where
+    past : (rest : Option SourceLine)
+        → ((m : SourceLine) → (reached s frames inside m).outer ++ (reached s frames inside m).inner ≡ frames)
+        → (reached_past f frames l (reached s frames inside) rest).outer
+        ++ (reached_past f frames l (reached s frames inside) rest).inner ≡ f ∷ frames
+    past None parts = refl
+    past (Some m) parts = ap (λ (fs : List Frame). f ∷ fs) (parts m)
+
+-- those are the outermost, by their number
+pub outer_taken : (s : Source) (frames : List Frame) (inside : Forest Block) (l : SourceLine)
+    → take (length (reached s frames inside l).outer) frames ≡ (reached s frames inside l).outer
+outer_taken s frames inside l =
+    let r = reached s frames inside l in
+    ap (take (length r.outer)) (sym (reached_parts s frames inside l)) ∙ take_at r.outer r.inner (length r.outer) refl
+
+pub inner_left : (s : Source) (frames : List Frame) (inside : Forest Block) (l : SourceLine)
+    → drop (length (reached s frames inside l).outer) frames ≡ (reached s frames inside l).inner
+inner_left s frames inside l =
+    let r = reached s frames inside l in
+    ap (drop (length r.outer)) (sym (reached_parts s frames inside l)) ∙ drop_at r.outer r.inner (length r.outer) refl
+
+-- they hold the same blocks
+pub reached_same : (s : Source) (frames : List Frame) (inside : Forest Block) (l : SourceLine)
+    → rebuilt (reached s frames inside l).outer (rebuilt (reached s frames inside l).inner inside)
+    ≡ rebuilt frames inside
+reached_same s frames inside l =
+    sym (rebuilt_in (reached s frames inside l).outer (reached s frames inside l).inner inside)
+    ∙ ap (λ (fs : List Frame). rebuilt fs inside) (reached_parts s frames inside l)
+
+-- what is left of the line ends where the line does
+pub reached_next : (s : Source) (frames : List Frame) (inside : Forest Block) (l : SourceLine)
+    → (reached s frames inside l).rest.next ≡ l.next
+unfolding reached
+reached_next s [] inside l = refl
+reached_next s (f ∷ frames) inside l =
+    past (inside_container s l (is_nil (rebuilt frames inside)) f.block.kind) refl
+    (λ m. reached_next s frames inside m)
+  where
+    past : (rest : Option SourceLine)
+        → inside_container s l (is_nil (rebuilt frames inside)) f.block.kind ≡ rest
+        → ((m : SourceLine) → (reached s frames inside m).rest.next ≡ m.next)
+        → (reached_past f frames l (reached s frames inside) rest).rest.next ≡ l.next
+    past None takes next = refl
+    past (Some m) takes next = next m ∙ rest_next s (is_nil (rebuilt frames inside)) l m f.block.kind takes
+
+-- the outer ones go on
+all_reached : (s : Source) (frames : List Frame) (inside : Forest Block) (l : SourceLine)
+    → AllGoOn s (reached s frames inside l).outer (rebuilt (reached s frames inside l).inner inside) l
+    (reached s frames inside l).rest
+unfolding reached
+all_reached s [] inside l = refl
+all_reached s (f ∷ frames) inside l =
+    past (inside_container s l (is_nil (rebuilt frames inside)) f.block.kind) refl
+    (λ m. all_reached s frames inside m)
+  where
+    past : (rest : Option SourceLine)
+        → inside_container s l (is_nil (rebuilt frames inside)) f.block.kind ≡ rest
+        → ((m : SourceLine) → AllGoOn s (reached s frames inside m).outer
+        (rebuilt (reached s frames inside m).inner inside) m (reached s frames inside m).rest)
+        → AllGoOn s (reached_past f frames l (reached s frames inside) rest).outer
+        (rebuilt (reached_past f frames l (reached s frames inside) rest).inner inside) l
+        (reached_past f frames l (reached s frames inside) rest).rest
+    past None takes all = refl
+    past (Some m) takes all = (
+      m,
+      ap (λ b. inside_container s l (is_nil b) f.block.kind) (reached_same s frames inside m) ∙ takes,
+      all m,
+    )
+
+-- the outermost of some open containers takes nothing of a line
+abbrev Stops : Source → Forest Block → SourceLine → List Frame → Type 0
+Stops s inside l [] = Unit
+Stops s inside l (f ∷ frames) = inside_container s l (is_nil (rebuilt frames inside)) f.block.kind ≡ None
+
+-- the outermost of the inner ones does not go on
+inner_stops : (s : Source) (frames : List Frame) (inside : Forest Block) (l : SourceLine)
+    → Stops s inside (reached s frames inside l).rest (reached s frames inside l).inner
+unfolding reached
+inner_stops s [] inside l = tt
+inner_stops s (f ∷ frames) inside l =
+    past (inside_container s l (is_nil (rebuilt frames inside)) f.block.kind) refl
+    (λ m. inner_stops s frames inside m)
+  where
+    past : (rest : Option SourceLine)
+        → inside_container s l (is_nil (rebuilt frames inside)) f.block.kind ≡ rest
+        → ((m : SourceLine) → Stops s inside (reached s frames inside m).rest (reached s frames inside m).inner)
+        → Stops s inside (reached_past f frames l (reached s frames inside) rest).rest
+        (reached_past f frames l (reached s frames inside) rest).inner
+    past None takes stops = takes
+    past (Some m) takes stops = stops m
+
+-- ---- what the line makes of the blocks
+
+-- blocks whose last one is a container that takes nothing of a line
+stopped : (s : Source) (inside : Forest Block) (l : SourceLine) (f : Frame) (frames : List Frame)
+    → IsContainer f.block.kind → Stops s inside l (f ∷ frames)
+    → goes_on s (rebuilt (f ∷ frames) inside) l ≡ lazily s l (rebuilt (f ∷ frames) inside)
+stopped s inside l f frames is stops =
+    container_goes_on s f (rebuilt frames inside) l is
+    ∙ (ap (option_map (forgotten (touched l f))) (takes_nothing s (rebuilt frames inside) l f.block.kind is stops)
+    ∙ decided (not (is_blank_rest l) && is_text (begins s paragraph.Lazy l)))
+  where
+    decided : (text : Bool)
+        → option_map (forgotten (touched l f)) (if text then with_lazy l (rebuilt frames inside) else None)
+        ≡ (if text then with_lazy l (rebuilt (f ∷ frames) inside) else None)
+    decided true = sym (container_goes_lazily f (rebuilt frames inside) l is)
+    decided false = refl
+
+-- all of some open containers go on, of which the innermost is a list: so do the others, with the list closed
+around_all : (s : Source) (inside : Forest Block) (l rest : SourceLine) (outer : List Frame) (f : Frame)
+    → is_list f.block.kind ≡ true → AllGoOn s (outer ++ f ∷ []) inside l rest
+    → AllGoOn s outer (forgotten f inside) l rest
+around_all s inside l rest [] f list (m, takes, same) =
+    list_takes s (is_nil inside) l m f.block.kind list takes ∙ same
+around_all s inside l rest (g ∷ outer) f list (m, takes, more) = (
+  m,
+  ap (λ b. inside_container s l (is_nil b) g.block.kind) (sym (rebuilt_more outer f inside)) ∙ takes,
+  around_all s inside m rest outer f list more,
+)
+
+-- a list goes on as its last item does, or with another item
+list_goes_on : (s : Source) (f : Frame) (below : Forest Block) (l : SourceLine) (marker : ListMarker)
+    → f.block.kind ≡ was.list_container marker
+    → goes_on s (forgotten f below) l
+    ≡ option_map (forgotten (touched l f))
+    (option_or (goes_on s below l) (option_map (followed_by below) (next_item s l marker)))
+list_goes_on s f below l marker is =
+    container_goes_on s f below l (subst IsContainer (sym is) tt)
+    ∙ ap (λ kind. option_map (forgotten (touched l f)) (container_with s l below (goes_on s below) kind)) is
+
+-- an open container around others
+touched_around : (l m : SourceLine) (outer : List Frame) (f : Frame) (inside : Forest Block) → m.next ≡ l.next
+    → rebuilt (map (touched l) outer) (forgotten (touched m f) inside)
+    ≡ rebuilt (map (touched l) (outer ++ f ∷ [])) inside
+touched_around l m outer f inside next =
+    ap (λ n. rebuilt (map (touched l) outer) (forgotten (record f { block = record f.block { last = n } }) inside)) next
+    ∙ (sym (rebuilt_more (map (touched l) outer) (touched l f) inside)
+    ∙ ap (λ (fs : List Frame). rebuilt fs inside) (sym (map_push (touched l) outer f)))
+
+-- what is in the first container that the line does not reach goes on lazily at most
+pub inner_goes_lazily : (s : Source) (frames : List Frame) (inside : Forest Block) (l : SourceLine) (f : Frame)
+    (others : List Frame) → AreContainers frames → (reached s frames inside l).inner ≡ f ∷ others
+    → goes_on s (rebuilt (reached s frames inside l).inner inside) (reached s frames inside l).rest
+    ≡ lazily s (reached s frames inside l).rest (rebuilt (reached s frames inside l).inner inside)
+inner_goes_lazily s frames inside l f others are is =
+    let r = reached s frames inside l in
+    let parts = subst AreContainers (sym (reached_parts s frames inside l)) are in
+    let inner = subst AreContainers is (inner_containers r.outer r.inner parts) in
+    let stops = subst (Stops s inside r.rest) is (inner_stops s frames inside l) in
+    subst (λ (fs : List Frame). goes_on s (rebuilt fs inside) r.rest ≡ lazily s r.rest (rebuilt fs inside)) (sym is)
+    (stopped s inside r.rest f others inner.0 stops)
+
+-- what a line makes of blocks with these open containers
+module _ (s : Source) (frames : List Frame) (inside : Forest Block) (l : SourceLine) (are : AreContainers frames)
+    (nested : AreNested frames) where
+  -- that of what is in the innermost container that it reaches, where that is no list
+  pub outer_go_on : innermost_is is_list (reached s frames inside l).outer ≡ false
+      → with_line s (rebuilt frames inside) l
+      ≡ rebuilt (map (touched l) (reached s frames inside l).outer)
+      (with_line s (rebuilt (reached s frames inside l).inner inside) (reached s frames inside l).rest)
+  outer_go_on plain =
+      let r = reached s frames inside l in
+      let parts = sym (reached_parts s frames inside l) in
+      ap (λ blocks. with_line s blocks l) (sym (reached_same s frames inside l))
+      ∙ line_inside s (rebuilt r.inner inside) l r.rest r.outer
+      (outer_containers r.outer r.inner (subst AreContainers parts are))
+      (outer_nested r.outer r.inner (subst AreNested parts nested)) plain (all_reached s frames inside l)
+
+  -- it reaches all of them
+  pub all_go_on : (reached s frames inside l).inner ≡ [] → innermost_is is_list frames ≡ false
+      → with_line s (rebuilt frames inside) l
+      ≡ rebuilt (map (touched l) frames) (with_line s inside (reached s frames inside l).rest)
+  all_go_on none plain =
+      let r = reached s frames inside l in
+      let all : r.outer ≡ frames =
+      sym (append-nil r.outer) ∙ (ap (λ (fs : List Frame). r.outer ++ fs) (sym none)
+      ∙ reached_parts s frames inside l) in
+      outer_go_on (ap (innermost_is is_list) all ∙ plain)
+      ∙ (ap (λ (fs : List Frame). rebuilt (map (touched l) fs) (with_line s (rebuilt r.inner inside) r.rest)) all
+      ∙ ap (λ (fs : List Frame). rebuilt (map (touched l) frames) (with_line s (rebuilt fs inside) r.rest)) none)
+
+  -- that of a list, which is the innermost container that it reaches
+  module _ (outer : List Frame) (f : Frame) (marker : ListMarker)
+      (ends : (reached s frames inside l).outer ≡ outer ++ f ∷ []) (list : f.block.kind ≡ was.list_container marker)
+    where
+      in_list : (grown : Option (Forest Block))
+          → option_or (goes_on s (rebuilt (reached s frames inside l).inner inside) (reached s frames inside l).rest)
+          (option_map (followed_by (rebuilt (reached s frames inside l).inner inside))
+          (next_item s (reached s frames inside l).rest marker)) ≡ grown
+          → with_line s (rebuilt frames inside) l
+          ≡ rebuilt (map (touched l) outer)
+          (unwrap_or (option_map (forgotten (touched (reached s frames inside l).rest f)) grown)
+          (followed_by (forgotten f (rebuilt (reached s frames inside l).inner inside))
+          (line_block s (reached s frames inside l).rest)))
+      in_list grown goes =
+          let r = reached s frames inside l in
+          let below = rebuilt r.inner inside in
+          let parts = sym (reached_parts s frames inside l) in
+          let reached_all = outer_containers r.outer r.inner (subst AreContainers parts are) in
+          let containers = subst AreContainers ends reached_all in
+          let levels = subst AreNested ends (outer_nested r.outer r.inner (subst AreNested parts nested)) in
+          let all = subst (λ (fs : List Frame). AllGoOn s fs below l r.rest) ends (all_reached s frames inside l) in
+          ap (λ blocks. with_line s blocks l)
+          (sym (reached_same s frames inside l) ∙ (ap (λ (fs : List Frame). rebuilt fs below) ends
+          ∙ rebuilt_more outer f below))
+          ∙ (line_inside s (forgotten f below) l r.rest outer (outer_containers outer (f ∷ []) containers)
+          (outer_nested outer (f ∷ []) levels) (around_list outer f marker list levels)
+          (around_all s below l r.rest outer f (ap is_list list) all)
+          ∙ ap (λ o. rebuilt (map (touched l) outer)
+          (unwrap_or o (followed_by (forgotten f below) (line_block s r.rest))))
+          (list_goes_on s f below r.rest marker list ∙ ap (option_map (forgotten (touched r.rest f))) goes))
+
+      list_grown : (grown : Forest Block)
+          → option_or (goes_on s (rebuilt (reached s frames inside l).inner inside) (reached s frames inside l).rest)
+          (option_map (followed_by (rebuilt (reached s frames inside l).inner inside))
+          (next_item s (reached s frames inside l).rest marker)) ≡ Some grown
+          → with_line s (rebuilt frames inside) l ≡ rebuilt (map (touched l) (outer ++ f ∷ [])) grown
+      list_grown grown goes =
+          in_list (Some grown) goes
+          ∙ touched_around l (reached s frames inside l).rest outer f grown (reached_next s frames inside l)
+
+      -- with an item more
+      pub item_begins : (new : Forest Block)
+          → goes_on s (rebuilt (reached s frames inside l).inner inside) (reached s frames inside l).rest ≡ None
+          → next_item s (reached s frames inside l).rest marker ≡ Some new
+          → with_line s (rebuilt frames inside) l
+          ≡ rebuilt (map (touched l) (outer ++ f ∷ []))
+          (followed_by (rebuilt (reached s frames inside l).inner inside) new)
+      item_begins new none next =
+          let r = reached s frames inside l in
+          list_grown (followed_by (rebuilt r.inner inside) new)
+          (ap (λ o. option_or o (option_map (followed_by (rebuilt r.inner inside)) (next_item s r.rest marker))) none
+          ∙ ap (λ o. option_map (followed_by (rebuilt r.inner inside)) o) next)
+
+      -- or with what follows it, where it ends
+      pub list_ends :
+          goes_on s (rebuilt (reached s frames inside l).inner inside) (reached s frames inside l).rest ≡ None
+          → next_item s (reached s frames inside l).rest marker ≡ None
+          → with_line s (rebuilt frames inside) l
+          ≡ rebuilt (map (touched l) outer)
+          (followed_by (forgotten f (rebuilt (reached s frames inside l).inner inside))
+          (line_block s (reached s frames inside l).rest))
+      list_ends none next =
+          let r = reached s frames inside l in
+          in_list None
+          (ap (λ o. option_or o (option_map (followed_by (rebuilt r.inner inside)) (next_item s r.rest marker))) none
+          ∙ ap (λ o. option_map (followed_by (rebuilt r.inner inside)) o) next)
+
+  -- what is in the innermost container that it reaches goes on
+  pub last_goes_on : (grown : Forest Block)
+      → goes_on s (rebuilt (reached s frames inside l).inner inside) (reached s frames inside l).rest ≡ Some grown
+      → with_line s (rebuilt frames inside) l ≡ rebuilt (map (touched l) (reached s frames inside l).outer) grown
+  last_goes_on grown goes = decided (innermost_is is_list r.outer) refl
+    where
+      r : Reached
+      r = reached s frames inside l
+
+      below : Forest Block
+      below = rebuilt r.inner inside
+
+      in_marked : (list : Innermost is_list r.outer) → HasMarker list.last.block.kind
+          → with_line s (rebuilt frames inside) l ≡ rebuilt (map (touched l) r.outer) grown
+      in_marked list marked =
+          list_grown list.outer list.last marked.marker list.are marked.is grown
+          (ap (λ o. option_or o (option_map (followed_by below) (next_item s r.rest marked.marker))) goes)
+          ∙ ap (λ (fs : List Frame). rebuilt (map (touched l) fs) grown) (sym list.are)
+
+      decided : (list : Bool) → innermost_is is_list r.outer ≡ list
+          → with_line s (rebuilt frames inside) l ≡ rebuilt (map (touched l) r.outer) grown
+      decided true is =
+          let list = innermost_apart is_list r.outer is in
+          in_marked list (marker_of_list list.last.block.kind list.passes)
+      decided false plain =
+          outer_go_on plain
+          ∙ ap (λ o. rebuilt (map (touched l) r.outer) (unwrap_or o (followed_by below (line_block s r.rest)))) goes
+
+  -- it does not, and is in no list
+  pub block_begins :
+      goes_on s (rebuilt (reached s frames inside l).inner inside) (reached s frames inside l).rest ≡ None
+      → innermost_is is_list (reached s frames inside l).outer ≡ false
+      → with_line s (rebuilt frames inside) l
+      ≡ rebuilt (map (touched l) (reached s frames inside l).outer)
+      (followed_by (rebuilt (reached s frames inside l).inner inside)
+      (line_block s (reached s frames inside l).rest))
+  block_begins none plain =
+      let r = reached s frames inside l in
+      let below = rebuilt r.inner inside in
+      outer_go_on plain
+      ∙ ap (λ o. rebuilt (map (touched l) r.outer) (unwrap_or o (followed_by below (line_block s r.rest)))) none
