@@ -13,3 +13,4 @@ pub mod EndedParagraphsLemmas
 pub mod ParagraphsLemmas
 pub mod DividedLemmas
 pub mod ListLoosenessLemmas
+pub mod ReachedFramesLemmas

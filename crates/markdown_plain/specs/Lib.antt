@@ -13,3 +13,7 @@ pub mod Stretches
 pub mod Containers
 pub mod NewContainers
 pub mod ParagraphItems
+-- the open containers of the definition of blocks
+pub mod Frames
+pub mod Settled
+pub mod ReachedFrames
