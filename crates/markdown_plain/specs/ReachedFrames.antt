@@ -1,6 +1,6 @@
 -- Which of the open containers go on in a line, as the definition of blocks says.
-use Rattle.std.specs.Prelude.{◌≡◌, ℕ, ◌+◌, Bool, true, false, ◌&&◌, ◌||◌, nat_le, nat_lt, List, [], ◌∷◌, ◌++◌, length}
-use Rattle.std.specs.Prelude.{if◌then◌else◌}
+use Rattle.std.specs.Prelude.{◌≡◌, ℕ, ◌+◌, Bool, true, false, ◌&&◌, ◌||◌, nat_le, nat_lt}
+use Rattle.std.specs.Prelude.{List, [], ◌∷◌, ◌++◌, length, if◌then◌else◌}
 use Rattle.std.specs.List.{list_all}
 use Rattle.markdown_base.specs.Forest.{Forest}
 use Rattle.markdown_builder.specs.declared.open_block.OpenBlock.{OpenBlock}
@@ -22,10 +22,10 @@ IsAtMostLeaf [] = Unit
 IsAtMostLeaf (block ∷ []) = is_container block.body ≡ false
 IsAtMostLeaf (block ∷ inner ∷ blocks) = ⊥
 
--- Open containers, with these blocks in the innermost, before a line. Where a leaf or a table is open, the innermost
--- container is no empty item.
-pub record IsBefore (pass : Pass) (line : Line) (s : Source) (frames : List Frame) (inside : Forest Block)
-    (source : SourceLine) : Type 0 where
+-- Open containers, with these blocks in the innermost, before a line. Where a leaf or a table is
+-- open, the innermost container is no empty item.
+pub record IsBefore (pass : Pass) (line : Line) (s : Source) (frames : List Frame)
+    (inside : Forest Block) (source : SourceLine) : Type 0 where
   pub containers : List OpenBlock
   -- the leaf or the table that is open in them, or nothing
   pub leaf : List OpenBlock
@@ -43,21 +43,23 @@ abbrev pub are_none : List Frame → Bool
 are_none [] = true
 are_none (f ∷ frames) = false
 
--- the number of open containers down to the innermost block quote, with that included; 0 where there is none
+-- the number of open containers down to the innermost block quote, with that included; 0 where
+-- there is none
 abbrev pub quote_depth : List Frame → ℕ
 quote_depth [] = 0
 quote_depth (f ∷ frames) =
     if is_quote f.block.kind || nat_lt 0 (quote_depth frames) then quote_depth frames + 1 else 0
 
 -- what was reached in a line, by the open containers that go on in it
-pub record IsReached (text : List ℕ) (line : Line) (source : SourceLine) (result : Reached) (r : kept.Reached)
-    : Type 0 where
+pub record IsReached (text : List ℕ) (line : Line) (source : SourceLine) (result : Reached)
+    (r : kept.Reached) : Type 0 where
   pub depth : result.depth ≡ length r.outer
   pub all : result.all ≡ are_none r.inner
   pub rest : IsRest text result.position line r.rest
   pub stop : line.stop ≡ stop_of r.rest
   -- what is left is directly under the root where the line is, and only lists are around it
-  pub outermost : r.rest.outermost ≡ (source.outermost && list_all (λ f. is_list f.block.kind) r.outer)
+  pub outermost : r.rest.outermost
+      ≡ (source.outermost && list_all (λ f. is_list f.block.kind) r.outer)
   pub indent : r.rest.indent ≡ source.indent
   pub content : result.content ≡ content_of r.rest
   pub blank : nat_le line.stop result.content ≡ is_blank_rest r.rest
