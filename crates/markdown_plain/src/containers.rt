@@ -258,9 +258,10 @@ pub fn reach(pass: &Pass<'_>, line: Line) -> Reached
         line.stop
         pass.now.placing.builder.blocks
         (spec.reach_start (spec.whole_line pass.now.placing.builder.text line)) }
-    ensures frames { (s : Source) (frames : List Frame) (inside : Forest Block) (source : SourceLine)
-        → IsBefore pass.now line s frames inside source
-        → IsReached pass.now.placing.builder.text line source result (reached s frames inside source) }
+    ensures frames { (s : Source) (frames : List Frame) (inside : Forest Block)
+        (source : SourceLine) → IsBefore pass.now line s frames inside source
+        → IsReached pass.now.placing.builder.text line source result
+        (reached s frames inside source) }
 {
     reach_blocks(
         pass.placing.text(),
