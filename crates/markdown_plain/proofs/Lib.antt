@@ -18,3 +18,4 @@ pub mod FramesLemmas
 pub mod ReachedLemmas
 pub mod BegunLemmas
 pub mod LastBlocksLemmas
+pub mod ReachedFramesLemmas

@@ -16,3 +16,4 @@ pub mod ParagraphItems
 -- the blocks that it stands for
 pub mod Frames
 pub mod Settled
+pub mod ReachedFrames

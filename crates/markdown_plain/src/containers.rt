@@ -2,10 +2,16 @@
 //! are opened. Functions that return a `Result` fail only where memory is refused.
 ghost use Rattle.std.specs.Prelude.{◌≡◌, ℕ, ◌+◌, ◌<◌, ◌^◌, ◌++◌, ◌∷◌, [], true, None, List, nat_le, take, IfOk};
 ghost use Rattle.markdown_base.specs.EnabledOptions.{old_footnotes_on};
+ghost use Rattle.markdown_base.specs.Forest.{Forest};
+ghost use Rattle.markdown_block_rules.specs.BlockGrowth.{Block};
+ghost use Rattle.markdown_lines.specs.BlockBeginnings.{Source};
 ghost use Rattle.markdown_lines.specs.Positions.{left_from};
+ghost use Rattle.markdown_lines.specs.SourceLines.{SourceLine};
 ghost use Rattle.markdown_plain.specs.Containers as spec;
 ghost use Rattle.markdown_plain.specs.NewContainers as opening;
 ghost use Rattle.markdown_plain.specs.Fitting.{IfFitted, opened};
+ghost use Rattle.markdown_plain.specs.Frames.{Frame, reached};
+ghost use Rattle.markdown_plain.specs.ReachedFrames.{IsBefore, IsReached};
 ghost use Rattle.markdown_plain.specs.OpenBlocks.{outer_of, room_in, without_leaf};
 ghost use Rattle.markdown_plain.specs.Stretches.{TakesNothing, deep_starts, taken_by};
 ghost use Rattle.markdown_base.specs.declared.item.ItemBody.TheVariants as body;
@@ -247,11 +253,15 @@ fn reach_blocks(
 // inlined, with what it calls: it is called for most lines
 #[inline(always)]
 pub fn reach(pass: &Pass<'_>, line: Line) -> Reached
-    ensures { spec.reach_of pass.now.placing.builder.text line.stop result
+    ensures reaches { spec.reach_of pass.now.placing.builder.text line.stop result
         ≡ spec.reach_from (old_footnotes_on pass.now.options) pass.now.looseness.item_is_empty
         line.stop
         pass.now.placing.builder.blocks
         (spec.reach_start (spec.whole_line pass.now.placing.builder.text line)) }
+    ensures frames { (s : Source) (frames : List Frame) (inside : Forest Block)
+        (source : SourceLine) → IsBefore pass.now line s frames inside source
+        → IsReached pass.now.placing.builder.text line source result
+        (reached s frames inside source) }
 {
     reach_blocks(
         pass.placing.text(),
