@@ -100,6 +100,8 @@ fn ending_length(bytes: &[u8]) -> usize
 
 /// Returns the line that begins at byte offset `start`, up to its line ending or the end of the text; past the end of
 /// the text, an empty line there.
+// inlined: it is called for each line
+#[inline(always)]
 pub fn line_from(text: &str, start: usize) -> Line
     ensures value { start ≤ length text.now → IsLineFrom text.now start result }
     ensures longer { start < length text.now → start < result.next }

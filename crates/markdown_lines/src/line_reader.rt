@@ -404,6 +404,8 @@ impl<'a> LineReader<'a> {
     }
 
     /// Returns the list item that begins after some space, or text.
+    // inlined, with the space after its marker: it is called for each item
+    #[inline(always)]
     fn item(&self, space: Space, before: Before) -> BlockStart<'a>
         requires { space.columns < 4 }
         ensures { IsFirstOf self.now (line.item_in_line (source_read self.now) before space.columns
@@ -425,6 +427,7 @@ impl<'a> LineReader<'a> {
 
     /// Returns the space between an item's marker, which ends at a place, and its content: one to four columns, or one
     /// column where the item begins with a blank line or with indented code.
+    #[inline(always)]
     fn item_space(&self, after: Position) -> Space
         ensures columns { result.columns ≡ (line.item_space (left_at self.now after)).columns }
         ensures after { left_at self.now result.after

@@ -283,6 +283,8 @@ impl<'a> Pass<'a> {
 
     /// Adds a row to the open table, if a line has a cell and may have the cells that it lacks, and returns whether it is
     /// one. Its first byte that is neither a space nor a tab is at the byte offset `start`, and begins nothing but text.
+    // apart, so that lines outside tables take fewer instructions
+    #[inline(never)]
     pub fn add_row(&mut self, line: Line, start: usize) -> Result<bool, AllocError>
         ensures { IfOk result (λ _. self.new.placing.builder.text ≡ self.old.placing.builder.text) }
     {
