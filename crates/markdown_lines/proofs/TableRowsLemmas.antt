@@ -2,11 +2,12 @@
 use Rattle.std.proofs.Common.{◌≡◌, ℕ, ◌+◌, ◌<◌, ◌≤◌, List, [], ◌∷◌, ◌++◌, Bool, true, false, not, ◌&&◌, ◌==◌}
 use Rattle.std.proofs.Common.{Option, Some, None, length, take, drop, get_or, refl, sym, ap, ◌∙◌, arith, append_assoc}
 use Rattle.std.proofs.Common.{append-nil, length-take, length-take-le, take_all, nat_eq, nat_lt, codes}
-use Rattle.std.proofs.Common.{slice_index, slice_range, ◌-◌}
+use Rattle.std.proofs.Common.{slice_index, slice_range, ◌-◌, zero, suc, min}
 use Rattle.std.proofs.lemmas.List.{drop_all, drop_more, take_more}
 use Rattle.std.proofs.lemmas.Bool.{true≢false}
 use Rattle.std.proofs.lemmas.Bool.Decides.{nat_tests}
 use Rattle.std.specs.List.{list_all, prefix_len}
+use Rattle.std.proofs.lemmas.List.Sums.{prefix_len-le-length}
 use Rattle.markdown_base.specs.Bytes.{backslash, pipe}
 use Rattle.markdown_base.specs.declared.tag.Alignment.{Alignment}
 use Rattle.markdown_lines.specs.declared.table_row.Cell.{Cell}
@@ -49,6 +50,49 @@ part_goes_on bytes at before less is none =
     ∙ (ap (onto (take at bytes)) (no_cut before byte rest none)
     ∙ (onto_more (take at bytes) byte (parts_after byte rest)
     ∙ ap (λ xs. onto xs (parts_after byte rest)) (sym (take_more bytes at 0 less)))))
+
+-- the byte before the next one
+next_before : (bytes : List ℕ) (at : ℕ) → get_or (pipe ∷ bytes) (at + 1) 0 ≡ get_or bytes at 0
+next_before bytes at = let on : at + 1 ≡ suc at = omega arith in ap (λ n. get_or (pipe ∷ bytes) n 0) on
+
+-- a byte more of the first part, where a `|` is before the bytes
+pub part_goes_on_at : (bytes : List ℕ) (at : ℕ) → at < length bytes
+    → parts_after pipe bytes ≡ onto (take at bytes) (parts_after (get_or (pipe ∷ bytes) at 0) (drop at bytes))
+    → is_cut (get_or (pipe ∷ bytes) at 0) (get_or bytes at 0) ≡ false
+    → parts_after pipe bytes
+    ≡ onto (take (at + 1) bytes) (parts_after (get_or (pipe ∷ bytes) (at + 1) 0) (drop (at + 1) bytes))
+part_goes_on_at bytes at less is none =
+    part_goes_on bytes at (get_or (pipe ∷ bytes) at 0) less is none
+    ∙ ap (λ before. onto (take (at + 1) bytes) (parts_after before (drop (at + 1) bytes))) (sym (next_before bytes at))
+
+onto_none : (parts : List (List ℕ)) → onto [] parts ≡ parts
+onto_none [] = refl
+onto_none (part ∷ parts) = refl
+
+onto_front : (byte : ℕ) (front : List ℕ) (parts : List (List ℕ))
+    → onto_first byte (onto front parts) ≡ onto (byte ∷ front) parts
+onto_front byte front [] = refl
+onto_front byte front (part ∷ parts) = refl
+
+-- bytes of which none is a `|` are the beginning of the first part
+unpiped_from : (before : ℕ) (bytes : List ℕ) (count : ℕ)
+    → ((at : ℕ) → at < count → (get_or bytes at 0 == pipe) ≡ false)
+    → parts_after before bytes
+    ≡ onto (take count bytes) (parts_after (get_or (before ∷ bytes) count 0) (drop count bytes))
+unfolding parts_after
+unpiped_from before bytes zero none = sym (onto_none (parts_after before bytes))
+unpiped_from before [] (suc count) none = refl
+unpiped_from before (byte ∷ bytes) (suc count) none =
+    let other : is_cut before byte ≡ false = ap (λ test. test && not (before == backslash)) (none zero (omega arith)) in
+    no_cut before byte bytes other
+    ∙ (ap (onto_first byte) (unpiped_from byte bytes count (λ at less. none (suc at) (omega (arith, less))))
+    ∙ onto_front byte (take count bytes) (parts_after (get_or (byte ∷ bytes) count 0) (drop count bytes)))
+
+pub unpiped_part : (bytes : List ℕ) (count : ℕ)
+    → ((at : ℕ) → at < count → (slice_index bytes at == pipe) ≡ false)
+    → parts_after pipe bytes
+    ≡ onto (take count bytes) (parts_after (get_or (pipe ∷ bytes) count 0) (drop count bytes))
+unpiped_part bytes count none = unpiped_from pipe bytes count none
 
 cut_is_pipe : (before byte : ℕ) → is_cut before byte ≡ true → byte ≡ pipe
 cut_is_pipe before byte is = grind (arith, nat_tests)
@@ -148,6 +192,43 @@ white_part before (byte ∷ bytes) all =
 pub no_cell : (start : ℕ) (bytes : List ℕ) → list_all is_row_white bytes ≡ true → cells_from start bytes ≡ []
 no_cell start bytes all = ap (cells_over start) (white_part pipe bytes all) ∙ rw all refl
 
+lone_part : (before : ℕ) (bytes part : List ℕ) → parts_after before bytes ≡ part ∷ [] → part ≡ bytes
+unfolding parts_after
+lone_part before [] part is = cc (is)
+lone_part before (byte ∷ bytes) part is =
+    decided (lone_part byte bytes) (first_part byte bytes) (is_cut before byte) refl
+  where
+    decided : ((part : List ℕ) → parts_after byte bytes ≡ part ∷ [] → part ≡ bytes)
+        → HasFirst (parts_after byte bytes) → (test : Bool) → is_cut before byte ≡ test → part ≡ byte ∷ bytes
+    decided on there true one =
+        let parts : [] ∷ there.first ∷ there.others ≡ part ∷ [] =
+        sym (one_cut before byte bytes one ∙ ap (λ parts. [] ∷ parts) there.is) ∙ is in
+        cc (parts)
+    decided on there false none =
+        let parts : (byte ∷ there.first) ∷ there.others ≡ part ∷ [] =
+        sym (no_cut before byte bytes none ∙ ap (onto_first byte) there.is) ∙ is in
+        let alone : there.others ≡ [] = cc (parts) in
+        let first : byte ∷ there.first ≡ part = cc (parts) in
+        let rest = on there.first (there.is ∙ ap (λ others. there.first ∷ others) alone) in
+        sym first ∙ ap (λ bytes. byte ∷ bytes) rest
+
+-- bytes that are not white space alone have a cell
+pub some_cell : (start : ℕ) (bytes : List ℕ) → list_all is_row_white bytes ≡ false
+    → nat_lt 0 (length (cells_from start bytes)) ≡ true
+some_cell start bytes filled = decided (parts_after pipe bytes) refl
+  where
+    decided : (parts : List (List ℕ)) → parts_after pipe bytes ≡ parts
+        → nat_lt 0 (length (cells_over start parts)) ≡ true
+    decided [] is =
+        let there = first_part pipe bytes in
+        let none : there.first ∷ there.others ≡ [] = sym there.is ∙ is in
+        cc (none)
+    decided (part ∷ []) is =
+        let part_filled : list_all is_row_white part ≡ false =
+        ap (list_all is_row_white) (lone_part pipe bytes part is) ∙ filled in
+        rw part_filled refl
+    decided (part ∷ next ∷ parts) is = grind (arith, nat_tests)
+
 -- the first cell is the first part, and the others are what follows the cut after it
 pub cell_found : (start count : ℕ) (bytes : List ℕ) → list_all is_row_white bytes ≡ false → IsPart bytes count
     → cells_from start bytes
@@ -173,6 +254,65 @@ cell_found start count bytes filled part = decided (count == length bytes) refl
         ap (cells_over start) parts
         ∙ (ap (λ n. cell_over start (take count bytes) ∷ cells_over (start + n + 1) (there.first ∷ there.others)) size
         ∙ ap (λ others. cell_over start (take count bytes) ∷ cells_over (start + count + 1) others) (sym there.is))
+
+-- white space at the beginning of the first bytes
+pub white_of_first : (test : ℕ → Bool) (bytes : List ℕ) (count : ℕ)
+    → prefix_len test (take count bytes) ≡ min (prefix_len test bytes) count
+white_of_first test bytes zero = omega arith
+white_of_first test [] (suc count) = omega arith
+white_of_first test (byte ∷ bytes) (suc count) = decided (white_of_first test bytes count) (test byte) refl
+  where
+    decided : prefix_len test (take count bytes) ≡ min (prefix_len test bytes) count
+        → (is : Bool) → test byte ≡ is
+        → prefix_len test (byte ∷ take count bytes) ≡ min (prefix_len test (byte ∷ bytes)) (suc count)
+    decided on true is = rw is (omega (arith, on))
+    decided on false is = rw is (omega arith)
+
+-- bytes are white space alone where as many are at the beginning
+white_is_all : (bytes : List ℕ) → list_all is_row_white bytes ≡ true
+    → prefix_len is_row_white bytes ≡ length bytes
+white_is_all [] all = refl
+white_is_all (byte ∷ bytes) all =
+    let both = both_true (is_row_white byte) (list_all is_row_white bytes) all in
+    let more : prefix_len is_row_white (byte ∷ bytes) ≡ 1 + prefix_len is_row_white bytes = rw both.0 refl in
+    let on = white_is_all bytes both.1 in
+    omega (arith, more, on)
+
+pub not_all_white : (bytes : List ℕ) → (prefix_len is_row_white bytes ≡ length bytes → ⊥)
+    → list_all is_row_white bytes ≡ false
+not_all_white bytes fewer = decided (list_all is_row_white bytes) refl
+  where
+    decided : (all : Bool) → list_all is_row_white bytes ≡ all → list_all is_row_white bytes ≡ false
+    decided true all = absurd (fewer (white_is_all bytes all))
+    decided false all = all
+
+pub all_white : (bytes : List ℕ) → prefix_len is_row_white bytes ≡ length bytes → list_all is_row_white bytes ≡ true
+all_white [] is = refl
+all_white (byte ∷ bytes) is = decided (all_white bytes) (is_row_white byte) refl
+  where
+    decided : (prefix_len is_row_white bytes ≡ length bytes → list_all is_row_white bytes ≡ true)
+        → (white : Bool) → is_row_white byte ≡ white → list_all is_row_white (byte ∷ bytes) ≡ true
+    decided on true white =
+        let more : prefix_len is_row_white (byte ∷ bytes) ≡ 1 + prefix_len is_row_white bytes = rw white refl in
+        let rest = on (omega (arith, is, more)) in
+        rw (white, rest) refl
+    decided on false white =
+        let none : prefix_len is_row_white (byte ∷ bytes) ≡ 0 = rw white refl in
+        absurd (omega (arith, is, none))
+
+pub has_some : (start : ℕ) (bytes : List ℕ)
+    → nat_lt (prefix_len is_row_white bytes) (length bytes) ≡ nat_lt 0 (length (cells_from start bytes))
+has_some start bytes = decided (nat_lt (prefix_len is_row_white bytes) (length bytes)) refl
+  where
+    decided : (less : Bool) → nat_lt (prefix_len is_row_white bytes) (length bytes) ≡ less
+        → nat_lt (prefix_len is_row_white bytes) (length bytes) ≡ nat_lt 0 (length (cells_from start bytes))
+    decided true less =
+        let fewer : prefix_len is_row_white bytes ≡ length bytes → ⊥ = λ all. grind (arith, nat_tests) in
+        less ∙ sym (some_cell start bytes (not_all_white bytes fewer))
+    decided false less =
+        let few = prefix_len-le-length is_row_white bytes in
+        let all : prefix_len is_row_white bytes ≡ length bytes = grind (arith, nat_tests) in
+        less ∙ sym (ap (λ (cells : List Cell). nat_lt 0 (length cells)) (no_cell start bytes (all_white bytes all)))
 
 -- what is read as the next cell
 pub next_found : (text rest : List ℕ) (at stop count end from to : ℕ) → rest ≡ slice_range text at stop

@@ -1,12 +1,15 @@
 //! The rows of tables: how a line is cut into cells, and the delimiter row.
-ghost use Rattle.std.specs.Prelude.{◌≡◌, ◌≤◌, ◌∷◌, ◌+◌, ◌-◌, [], length, codes, IfOk, IfSome, MatchOption};
-ghost use Rattle.std.specs.List.{list_all, list_any, prefix_len, suffix_len};
+ghost use Rattle.std.specs.Prelude.{◌≡◌, ℕ, ◌≤◌, ◌<◌, ◌==◌, ◌∷◌, ◌+◌, ◌-◌, [], false, nat_lt, length, codes};
+ghost use Rattle.std.specs.Prelude.{IfOk, IfSome, MatchOption, slice_index};
+ghost use Rattle.std.specs.List.{list_any, prefix_len, suffix_len};
 ghost use Rattle.std.specs.Option.{option_map};
+ghost use Rattle.markdown_base.specs.Bytes.{pipe};
 ghost use Rattle.markdown_scan.specs.Beginnings.{begins_with};
 ghost use Rattle.markdown_lines.specs.TableRows as spec;
 
 use crate::bytes::{byte_or_zero, bytes_from, bytes_of, run_length};
 use crate::line::is_space_or_tab;
+use markdown_base::byte_tests::holds;
 use markdown_base::tag::Alignment;
 use std::alloc::{AllocError, Global};
 
@@ -40,18 +43,6 @@ fn row_white_length(bytes: &[u8]) -> usize
     bytes.len()
 }
 
-/// Returns whether all bytes are white space.
-fn is_row_blank(bytes: &[u8]) -> bool
-    ensures { result ≡ list_all spec.is_row_white bytes.now }
-{
-    for byte in bytes {
-        if !is_row_white(*byte) {
-            return false;
-        }
-    }
-    true
-}
-
 /// Returns the length of the bytes without the white space at their end.
 fn row_trimmed_length(bytes: &[u8]) -> usize
     ensures value { result ≡ length bytes.now - suffix_len spec.is_row_white bytes.now }
@@ -64,23 +55,41 @@ fn row_trimmed_length(bytes: &[u8]) -> usize
     end
 }
 
-/// Returns whether a byte cuts a row, after another.
-fn is_cut(before: u8, byte: u8) -> bool
-    ensures { result ≡ spec.is_cut before byte }
+/// Returns whether the byte at an index cuts the row. A `|` is before the bytes.
+#[inline(always)]
+fn is_cut_at(bytes: &[u8], at: usize) -> bool
+    requires { at < length bytes.now }
+    ensures { result
+        ≡ spec.is_cut (slice_index (pipe ∷ bytes.now) at) (slice_index bytes.now at) }
 {
-    byte == b'|' && before != b'\\'
+    bytes[at] == b'|' && (at == 0 || bytes[at - 1] != b'\\')
+}
+
+/// The number of bytes that are tested together, without a branch for each.
+const TOGETHER: usize = 16;
+
+/// Returns a number of bytes at the beginning of which none is a `|`.
+#[inline(always)]
+fn unpiped_length(bytes: &[u8]) -> usize
+    ensures none { (at : ℕ) → at < result → (slice_index bytes.now at == pipe) ≡ false }
+    ensures within { result ≤ length bytes.now }
+{
+    let mut at = 0;
+    'together: while bytes.len() - at >= TOGETHER && !holds(&bytes[at..at + TOGETHER], b'|') {
+        at += TOGETHER;
+    }
+    at
 }
 
 /// Returns the number of bytes before the first that cuts the row, or that of all bytes. A `|` is before them.
+#[inline(always)]
 fn part_length(bytes: &[u8]) -> usize
     ensures { spec.IsPart bytes.now result }
 {
-    let mut before = b'|';
-    for at in 0..bytes.len() {
-        if is_cut(before, bytes[at]) {
+    for at in unpiped_length(bytes)..bytes.len() {
+        if is_cut_at(bytes, at) {
             return at;
         }
-        before = bytes[at];
     }
     bytes.len()
 }
@@ -106,6 +115,8 @@ pub fn cells_start(text: &str, at: usize, stop: usize) -> usize
 
 /// Returns the cell that begins at the byte offset `at`, in a line whose content ends before `stop`; `None` where only
 /// white space is left. The next cell begins after the byte at its end.
+// inlined: it is called for each cell
+#[inline(always)]
 pub fn next_cell(text: &str, at: usize, stop: usize) -> Option<Cell>
     ensures value { MatchOption result
         (spec.cells_left text.now at stop ≡ [])
@@ -114,12 +125,13 @@ pub fn next_cell(text: &str, at: usize, stop: usize) -> Option<Cell>
     ensures within { IfSome result (λ cell. (at ≤ cell.end) × (cell.end ≤ length text.now)) }
 {
     let rest = bytes_of(text, at, stop);
-    if is_row_blank(rest) {
+    let blank = row_white_length(rest);
+    if blank == rest.len() {
         return None;
     }
     let length = part_length(rest);
     let part = &rest[..length];
-    let white = row_white_length(part);
+    let white = blank.min(length);
     let from = at.saturating_add(white);
     Some(Cell {
         start: at,
@@ -127,6 +139,14 @@ pub fn next_cell(text: &str, at: usize, stop: usize) -> Option<Cell>
         from,
         to: from.saturating_add(row_trimmed_length(bytes_from(part, white))),
     })
+}
+
+/// Returns whether the row from byte offset `at` on has a cell, in a line whose content ends before `stop`.
+pub fn has_cell(text: &str, at: usize, stop: usize) -> bool
+    ensures { result ≡ nat_lt 0 (length (spec.row_cells_at text.now at stop)) }
+{
+    let rest = bytes_of(text, cells_start(text, at, stop), stop);
+    row_white_length(rest) < rest.len()
 }
 
 /// Returns the number of cells of the row from byte offset `at` on, in a line whose content ends before `stop`.
