@@ -224,8 +224,9 @@ some_cell start bytes filled = decided (parts_after pipe bytes) refl
         let none : there.first ∷ there.others ≡ [] = sym there.is ∙ is in
         cc (none)
     decided (part ∷ []) is =
-        let filled : list_all is_row_white part ≡ false = ap (list_all is_row_white) (lone_part pipe bytes part is) ∙ filled in
-        rw filled refl
+        let part_filled : list_all is_row_white part ≡ false =
+        ap (list_all is_row_white) (lone_part pipe bytes part is) ∙ filled in
+        rw part_filled refl
     decided (part ∷ next ∷ parts) is = grind (arith, nat_tests)
 
 -- the first cell is the first part, and the others are what follows the cut after it

@@ -1,6 +1,7 @@
 -- A cell is one tree of its row, and a row with as many cells as the open table has columns may be closed.
 use Rattle.std.proofs.Common.{◌≡◌, ℕ, ◌+◌, List, [], ◌∷◌, ◌++◌, Option, Some, true, false, length, refl, sym, ap}
-use Rattle.std.proofs.Common.{◌∙◌, subst, arith}
+use Rattle.std.proofs.Common.{◌∙◌, subst, arith, ◌≤◌, ◌<◌, ◌-◌, min, take, drop, ⊎_elim}
+use Rattle.std.proofs.lemmas.Bool.{cases_lt}
 use Rattle.std.specs.Option.{option_map_or}
 use Rattle.std.proofs.lemmas.List.{append_assoc, length-append}
 use Rattle.markdown_base.specs.Forest.{Forest, nil, node, roots}
@@ -12,6 +13,9 @@ use Rattle.markdown_builder.specs.Shown.{Shown, alignments_shown, chain_of, sett
 use Rattle.markdown_builder.specs.TreeLevels.{followed_by, with_trees}
 use Rattle.markdown_builder.proofs.RowInsideLemmas.{no_row_inside}
 use Rattle.markdown_items.specs.ContentItems.{AddsItems}
+use Rattle.markdown_lines.specs.declared.table_row.Cell.{Cell}
+use Rattle.markdown_lines.specs.TableRows.{cells_from, cells_left}
+use Rattle.markdown_lines.proofs.TableRowsLemmas.{no_cell}
 use Rattle.markdown_items.proofs.RestOfLineLemmas.{adds_more}
 use Rattle.markdown_plain.specs.declared.placing.Placing.{Placing}
 use Rattle.markdown_plain.specs.Fitting.{IfFitted, PutsBlock}
@@ -106,6 +110,28 @@ row_is_even old view row count whole listed has columns outer table last levels 
     ∙ (ap (λ (o : Option OpenBlock).
     option_map_or (λ block. length (alignments_shown old.alignments block.body)) o 0) inner
     ∙ ap (λ listing. length (alignments_shown listing table.body)) (sym listed))))
+
+-- ---- cells that a row has
+
+-- as long as there is a cell, none is lacking
+pub none_lacking : (found count left rest : ℕ) → found ≤ count → (found < count → left ≡ 0) → left ≡ rest + 1
+    → found ≡ count
+none_lacking found count left rest few lacking more =
+    ⊎_elim (λ (less : found < count). let none = lacking less in absurd (omega (arith, none, more)))
+    (λ (all : count ≤ found). omega (arith, all, few)) (cases_lt found count)
+
+pub none_left : (text : List ℕ) (stop : ℕ) → length (cells_left text stop stop) ≡ 0
+none_left text stop =
+    let none : stop - stop ≡ 0 = omega arith in
+    ap (λ n. length (cells_from stop (take n (drop stop text)))) none
+    ∙ ap (λ (cells : List Cell). length cells) (no_cell stop [] refl)
+
+-- all cells that are read are those of the row, or as many as there are columns
+pub found_is : (found columns left all : ℕ) → found ≤ columns → found + left ≡ all → (found < columns → left ≡ 0)
+    → found ≡ min columns all
+found_is found columns left all few whole lacking =
+    ⊎_elim (λ (less : found < columns). let none = lacking less in omega (arith, none, whole, less))
+    (λ (full : columns ≤ found). omega (arith, full, few, whole)) (cases_lt found columns)
 
 -- ---- a row that is made another block
 

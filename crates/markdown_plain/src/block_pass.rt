@@ -22,7 +22,7 @@ use markdown_base::tag::{BlockQuoteKind, HeadingLevel, MetadataBlockKind};
 use markdown_base::tree::Tree;
 use markdown_builder::open_block::OpenBlock;
 use markdown_lines::atx_heading::AtxHeading;
-use markdown_lines::block_start::{Before, Begun, BlockStart, ItemStart};
+use markdown_lines::block_start::{Before, BlockStart, ItemStart};
 use markdown_lines::bytes::{byte_at, bytes_of, is_white};
 use markdown_lines::extended_only::is_read;
 use markdown_lines::fence::OpeningFence;
@@ -72,6 +72,27 @@ fn begins_text(text: &str, at: usize, stop: usize) -> bool {
             Some(byte) => !is_space_or_tab(byte) && !may_begin_block(byte),
             None => false,
         }
+}
+
+/// Returns whether the rest of a line from a place on begins with a byte that shows that it is text.
+// inlined, as `begins_text`
+#[inline(always)]
+fn is_text_from(text: &str, position: Position, stop: usize) -> bool {
+    position.owed == 0 && begins_text(text, position.at, stop)
+}
+
+/// Returns whether what a line begins is text.
+fn is_text(start: &BlockStart<'_>) -> bool {
+    match start {
+        BlockStart::Text => true,
+        _ => false,
+    }
+}
+
+/// Returns whether metadata of some kind is read.
+fn reads_metadata(options: Options) -> bool {
+    is_read(Options::ENABLE_YAML_STYLE_METADATA_BLOCKS, options)
+        || is_read(Options::ENABLE_PLUSES_DELIMITED_METADATA_BLOCKS, options)
 }
 
 /// Returns whether the outermost `depth` of the open blocks are lists, so that what a line begins in them is directly
@@ -137,7 +158,15 @@ impl<'a> Pass<'a> {
         if reached.content >= line.stop {
             return self.read_blank(line, reached);
         }
-        let outermost = are_lists(self.placing.open_blocks(), reached.depth);
+        let is_row = reached.all && self.is_in_table();
+        if !is_row && is_text_from(self.placing.text(), reached.position, line.stop) {
+            self.add_text(line, reached.position.at, reached.depth)?;
+            self.see_content(line);
+            return Ok(());
+        }
+        // only metadata asks whether the line is directly under the root
+        let outermost = reads_metadata(self.options)
+            && are_lists(self.placing.open_blocks(), reached.depth);
         let mut rest = LineRest {
             line,
             reader: LineReader::new(self.alloc, ahead, self.options, line, outermost),
@@ -146,7 +175,7 @@ impl<'a> Pass<'a> {
             before: self.paragraph_before(reached.all),
             unless_row: None,
         };
-        if reached.all && self.is_in_table() {
+        if is_row {
             try_as_row(&mut rest, reached.content);
         }
         self.read_rest(&mut rest)?;
@@ -218,14 +247,13 @@ impl<'a> Pass<'a> {
         // each container takes at least one byte of the line; what is left after the last one is read too, and a line
         // that underlines definitions, or ends a table, is read twice
         'blocks: for _ in rest.line.start..rest.line.next.saturating_add(3) {
-            if rest.unless_row.is_none()
-                && rest.position.owed == 0
-                && begins_text(self.placing.text(), rest.position.at, rest.line.stop)
-            {
-                return self.add_text(rest.line, rest.position.at, rest.depth);
-            }
             if !self.read_block(rest)? {
                 break;
+            }
+            if rest.unless_row.is_none()
+                && is_text_from(self.placing.text(), rest.position, rest.line.stop)
+            {
+                return self.add_text(rest.line, rest.position.at, rest.depth);
             }
         }
         Ok(())
@@ -240,10 +268,17 @@ impl<'a> Pass<'a> {
             return Ok(false);
         }
         let begun = rest.reader.beginning(rest.position, rest.before)?;
-        if let Some(outside) = rest.unless_row {
-            return self.read_row(rest, begun, outside);
-        }
         let at = begun.at;
+        if let Some(outside) = rest.unless_row {
+            // what begins nothing but text is a row, or else the line is read once more, from outside the table on
+            if is_text(&begun.start) && self.add_row(rest.line, at)? {
+                return Ok(false);
+            }
+            rest.unless_row = None;
+            rest.position = outside;
+            rest.before = self.paragraph_before(true);
+            return Ok(true);
+        }
         match begun.start {
             BlockStart::Nothing => self.skip_blank(rest.line),
             BlockStart::Text => self.read_text(rest, at),
@@ -271,31 +306,6 @@ impl<'a> Pass<'a> {
             }
             _ => Ok(false),
         }
-    }
-
-    /// Reads a row of the open table, which begins nothing but text. Returns whether the rest of the line is still to be
-    /// read, where it is none: from a place outside the table on.
-    // apart, so that lines outside tables take fewer instructions
-    #[inline(never)]
-    fn read_row(
-        &mut self,
-        rest: &mut LineRest<'a>,
-        begun: Begun<'a>,
-        outside: Position,
-    ) -> Result<bool, AllocError>
-        ensures { IfOk result (λ _. self.new.placing.builder.text ≡ self.old.placing.builder.text) }
-    {
-        let is_text = match begun.start {
-            BlockStart::Text => true,
-            _ => false,
-        };
-        if is_text && self.add_row(rest.line, begun.at)? {
-            return Ok(false);
-        }
-        rest.unless_row = None;
-        rest.position = outside;
-        rest.before = self.paragraph_before(true);
-        Ok(true)
     }
 
     /// Passes over the rest of a line that is blank. Returns false, as for all blocks that are not containers.

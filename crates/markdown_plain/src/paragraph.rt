@@ -326,6 +326,7 @@ fn open_text(
 impl<'a> Pass<'a> {
     /// Returns the task marker at byte offset `start` in a line, if text begins there an item that was opened in this
     /// line: whether the task is done.
+    #[inline(always)]
     fn task_at(&self, line: Line, start: usize) -> Option<bool>
         ensures { result ≡ task_at self.now line start }
     {

@@ -205,6 +205,8 @@ impl<'a> Pass<'a> {
 
     /// Ends the open leaf: places a paragraph, or closes another leaf without the blank lines held back at its end,
     /// which are not part of it.
+    // inlined: it is called for each block
+    #[inline(always)]
     pub fn end_leaf(&mut self) -> Result<(), AllocError>
         ensures text { IfOk result (λ _. self.new.placing.builder.text
             ≡ self.old.placing.builder.text) }

@@ -514,6 +514,7 @@ impl<'a> Placing<'a> {
 
     /// Closes the innermost open block, which ends at the current byte offset.
     #[tactic(auto, using(crate::proofs::OpenBlocksLemmas::outer_of_these))]
+    #[inline(always)]
     fn close_innermost(&mut self)
         requires { InnermostRowIsEven self.old.builder }
         ensures text { self.new.builder.text ≡ self.old.builder.text }

@@ -30,6 +30,13 @@ impl Tables {
         }
     }
 
+    /// Returns whether the cells that a row of `count` cells lacks may still be added.
+    pub fn may_add(&self, count: usize) -> bool
+        ensures { result ≡ nat_le (self.now.added + (self.now.columns - count)) self.now.most }
+    {
+        self.columns.saturating_sub(count) <= self.most - self.added
+    }
+
     /// Counts the cells that a row of `count` cells lacks, if as many may still be added, and returns whether they may.
     pub fn add(&mut self, count: usize) -> bool
         ensures fits { result ≡ nat_le (self.old.added + (self.old.columns - count)) self.old.most }
@@ -37,11 +44,10 @@ impl Tables {
             ≡ (if result then self.old.added + (self.old.columns - count) else self.old.added) }
         ensures most { self.new.most ≡ self.old.most }
     {
-        let missing = self.columns.saturating_sub(count);
-        if missing > self.most - self.added {
+        if !self.may_add(count) {
             return false;
         }
-        self.added += missing;
+        self.added += self.columns.saturating_sub(count);
         true
     }
 }

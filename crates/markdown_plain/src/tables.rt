@@ -1,15 +1,18 @@
 //! Tables: how one begins at its delimiter row, and its rows. Functions that return a `Result` fail only where memory is
 //! refused.
-ghost use Rattle.std.specs.Prelude.{◌≡◌, ◌≤◌, false, true, length, IfOk};
+ghost use Rattle.std.specs.Prelude.{◌≡◌, ◌≤◌, false, true, length, min, IfOk};
 ghost use Rattle.markdown_builder.specs.Bodies.{is_leaf, is_plain_block};
+ghost use Rattle.markdown_builder.specs.EvenRows.{open_columns};
 ghost use Rattle.markdown_plain.specs.Fitting.{GoesOn, IfFitted};
 ghost use Rattle.markdown_items.specs.ContentItems.{AddsItems};
 ghost use Rattle.markdown_plain.specs.Paragraphs.{IsPlacedTo};
-ghost use Rattle.markdown_plain.specs.TableRows.{PutsTree};
+ghost use Rattle.markdown_lines.specs.TableRows.{row_cells_at};
+ghost use Rattle.markdown_plain.specs.TableRows.{PutsTree, may_be_row};
 
 use crate::containers::reach;
 use crate::pass::{Pass, innermost};
 use crate::placing::Placing;
+use markdown_base::byte_tests::holds;
 use markdown_base::item::ItemBody;
 use markdown_base::options::Options;
 use markdown_base::tag::Alignment;
@@ -21,14 +24,20 @@ use markdown_lines::line::Line;
 use markdown_lines::position::Position;
 use markdown_lines::space::read_space;
 use markdown_lines::table_row::{
-    Cell, cells_start, count_cells, delimiter_row, has_cut, next_cell, piece_length,
+    Cell, cells_start, count_cells, delimiter_row, has_cell, has_cut, next_cell, piece_length,
 };
 use markdown_scan::entity::{EntityNames, entity_names};
 use std::alloc::{AllocError, Global};
 
-/// Appends the items of a cell's content, up to the byte offset `to`. Two backslashes that a `|` directly follows are in
-/// no item.
-fn add_cell_items(placing: &mut Placing<'_>, cell: Cell, options: Options) -> Result<(), AllocError>
+/// Appends the items of a cell's content. Two backslashes that a `|` directly follows are in no item; they are looked for
+/// where `escapes`, that a backslash may be in the content.
+#[inline(always)]
+fn add_cell_items(
+    placing: &mut Placing<'_>,
+    cell: Cell,
+    escapes: bool,
+    options: Options,
+) -> Result<(), AllocError>
     ensures text { IfOk result (λ _. placing.new.builder.text ≡ placing.old.builder.text) }
     ensures goes_on { IfOk result (λ _. IfFitted placing.old placing.new
         (GoesOn placing.old.builder placing.new.builder placing.new.builder.at)) }
@@ -37,7 +46,11 @@ fn add_cell_items(placing: &mut Placing<'_>, cell: Cell, options: Options) -> Re
 {
     let mut from = cell.from;
     'pieces: while from < cell.to {
-        let length = piece_length(bytes_of(placing.text(), from, cell.to));
+        let length = if escapes {
+            piece_length(bytes_of(placing.text(), from, cell.to))
+        } else {
+            cell.to - from
+        };
         let end = from.saturating_add(length);
         placing.step_to(from);
         placing.add_items(end, options)?;
@@ -46,9 +59,15 @@ fn add_cell_items(placing: &mut Placing<'_>, cell: Cell, options: Options) -> Re
     Ok(())
 }
 
-/// Places a cell.
+/// Places a cell of a row, in which a backslash may be where `escapes`.
 #[tactic(auto, using(crate::proofs::OpenBlocksLemmas::outer_of_opened))]
-fn place_cell(placing: &mut Placing<'_>, cell: Cell, options: Options) -> Result<(), AllocError>
+#[inline(always)]
+fn place_cell(
+    placing: &mut Placing<'_>,
+    cell: Cell,
+    escapes: bool,
+    options: Options,
+) -> Result<(), AllocError>
     ensures text { IfOk result (λ _. placing.new.builder.text ≡ placing.old.builder.text) }
     ensures placed { IfOk result (λ _. IfFitted placing.old placing.new
         (IsPlacedTo placing.old.builder placing.new.builder cell.end)) }
@@ -57,7 +76,7 @@ fn place_cell(placing: &mut Placing<'_>, cell: Cell, options: Options) -> Result
 {
     placing.step_to(cell.start);
     placing.open_block(ItemBody::TableCell)?;
-    add_cell_items(placing, cell, options)?;
+    add_cell_items(placing, cell, escapes, options)?;
     placing.step_to(cell.end);
     placing.close();
     Ok(())
@@ -79,30 +98,35 @@ fn place_empty_cell(placing: &mut Placing<'_>, at: usize) -> Result<(), AllocErr
 }
 
 /// Places a line as a row of as many cells as the open table has columns: those beyond them are in no item, and those that
-/// it lacks are empty ones at its end.
+/// it lacks are empty ones at its end. Returns how many it does not lack.
 #[tactic(auto, using(crate::proofs::OpenBlocksLemmas::outer_of_opened))]
 fn place_row(
     placing: &mut Placing<'_>,
     row: ItemBody,
     line: HeldLine,
     options: Options,
-) -> Result<(), AllocError>
+) -> Result<usize, AllocError>
     requires block { is_plain_block row ≡ true }
     requires outside { is_leaf row ≡ false }
     ensures text { IfOk result (λ _. placing.new.builder.text ≡ placing.old.builder.text) }
     ensures placed { IfOk result (λ _. IfFitted placing.old placing.new
         (IsPlacedTo placing.old.builder placing.new.builder line.next)) }
+    ensures found { IfOk result (λ found. found ≡ min (open_columns placing.old.builder)
+        (length (row_cells_at placing.old.builder.text line.start line.stop))) }
 {
     let text = placing.text();
     let columns = placing.builder.columns();
     placing.step_to(line.start);
     placing.open_block(row)?;
+    let escapes = holds(bytes_of(text, line.start, line.stop), b'\\');
+    let mut found = 0;
     let mut start = cells_start(text, line.start, line.stop);
-    'cells: for _count in 0..columns {
+    'cells: for count in 0..columns {
         match next_cell(text, start, line.stop) {
             Some(cell) => {
-                place_cell(placing, cell, options)?;
-                start = cell.end.saturating_add(1);
+                place_cell(placing, cell, escapes, options)?;
+                start = cell.end + 1;
+                found = count + 1;
             }
             None => {
                 place_empty_cell(placing, line.next)?;
@@ -112,7 +136,7 @@ fn place_row(
     }
     placing.step_to(line.next);
     placing.close_row();
-    Ok(())
+    Ok(found)
 }
 
 /// Returns whether lines are definitions alone.
@@ -278,17 +302,20 @@ impl<'a> Pass<'a> {
         self.tables.columns = alignments.len();
         self.placing.step_to(head.start);
         self.placing.open_table(alignments)?;
-        place_row(&mut self.placing, ItemBody::TableHead, head, self.options)
+        let _found = place_row(&mut self.placing, ItemBody::TableHead, head, self.options)?;
+        Ok(())
     }
 
     /// Adds a row to the open table, if a line has a cell and may have the cells that it lacks, and returns whether it is
     /// one. Its first byte that is neither a space nor a tab is at the byte offset `start`, and begins nothing but text.
+    // apart, so that lines outside tables take fewer instructions
+    #[inline(never)]
     pub fn add_row(&mut self, line: Line, start: usize) -> Result<bool, AllocError>
-        ensures { IfOk result (λ _. self.new.placing.builder.text ≡ self.old.placing.builder.text) }
+        ensures text { IfOk result (λ _. self.new.placing.builder.text
+            ≡ self.old.placing.builder.text) }
+        ensures value { IfOk result (λ added. added ≡ may_be_row self.old start line.stop) }
     {
-        let text = self.placing.text();
-        let count = count_cells(text, start, line.stop);
-        if count == 0 || !self.tables.add(count) {
+        if !self.may_be_row(start, line.stop) {
             return Ok(false);
         }
         let row = HeldLine {
@@ -297,7 +324,21 @@ impl<'a> Pass<'a> {
             next: line.next,
             owed: 0,
         };
-        place_row(&mut self.placing, ItemBody::TableRow, row, self.options)?;
+        let found = place_row(&mut self.placing, ItemBody::TableRow, row, self.options)?;
+        let _fits = self.tables.add(found);
         Ok(true)
+    }
+
+    /// Returns whether a line has a cell, from the byte offset `start` on, and may have those that it lacks. Its cells are
+    /// counted only where there is no room for a whole row of them.
+    fn may_be_row(&self, start: usize, stop: usize) -> bool
+        ensures { result ≡ may_be_row self.now start stop }
+    {
+        let text = self.placing.text();
+        if self.tables.may_add(0) {
+            return has_cell(text, start, stop);
+        }
+        let count = count_cells(text, start, stop);
+        0 < count && self.tables.may_add(count)
     }
 }

@@ -7,4 +7,5 @@ use Rattle.markdown_lines.proofs.table_row.part_length.Given as goal
 
 abbrev pub invariant-loop-at : goal.invariant-loop-at
 invariant-loop-at l =
-    parts_after pipe l.bytes ≡ onto (take l.at l.bytes) (parts_after (get_or (pipe ∷ l.bytes) l.at 0) (drop l.at l.bytes))
+    parts_after pipe l.bytes
+    ≡ onto (take l.at l.bytes) (parts_after (get_or (pipe ∷ l.bytes) l.at 0) (drop l.at l.bytes))

@@ -1,5 +1,6 @@
--- The text stays, and the row is open.
-use Rattle.std.proofs.Common.{◌≡◌}
+-- The text stays, the row is open, and the cells so far and those that are left are all cells.
+use Rattle.std.proofs.Common.{◌≡◌, ◌+◌, ◌<◌, ◌≤◌, length}
+use Rattle.markdown_lines.specs.TableRows.{cells_left, row_cells_at}
 use Rattle.markdown_plain.specs.Fitting.{IfFitted, opened}
 use Rattle.markdown_plain.specs.TableRows.{HasCells}
 use Rattle.markdown_plain.proofs.tables.place_row.Given as goal
@@ -14,5 +15,9 @@ invariant-cells l = record {
         headings = l.placing.builder.headings;
         texts = l.placing.builder.texts;
       });
-  cells : IfFitted l.fn.placing l.placing (HasCells l.fn.placing.builder.levels l._count l.placing.builder.levels);
+  cells : IfFitted l.fn.placing l.placing (HasCells l.fn.placing.builder.levels l.count l.placing.builder.levels);
+  few : l.found ≤ l.count;
+  all : l.found + length (cells_left l.text l.start l.line.stop)
+      ≡ length (row_cells_at l.text l.line.start l.line.stop);
+  lacking : l.found < l.count → length (cells_left l.text l.start l.line.stop) ≡ 0;
 }
