@@ -13,3 +13,6 @@ pub mod EndedParagraphsLemmas
 pub mod ParagraphsLemmas
 pub mod DividedLemmas
 pub mod ListLoosenessLemmas
+-- on open containers that are closed
+pub mod TightBlocksLemmas
+pub mod ClosedFramesLemmas
