@@ -16,3 +16,4 @@ pub mod ListLoosenessLemmas
 -- on open containers that are closed
 pub mod TightBlocksLemmas
 pub mod ClosedFramesLemmas
+pub mod ItemsInListsLemmas

@@ -171,6 +171,10 @@ impl<'a> Pass<'a> {
           lists = self.new.looseness.lists;
           item_is_empty = self.new.looseness.item_is_empty;
         } }
+        ensures forgets { IfOk result (λ _. (s : Source) (frames : List Frame)
+            (inside : Forest Block) → self.old.lines.items ≡ []
+            → MayClose s self.old frames inside → IfFitted self.old.placing self.new.placing
+            (MayClose s self.new (take depth frames) (rebuilt (drop depth frames) inside))) }
     {
         self.end_leaf()?;
         'blocks: for _closed in depth..self.depth() {
@@ -203,6 +207,11 @@ impl<'a> Pass<'a> {
               lists = self.new.looseness.lists;
               item_is_empty = false;
             }) }
+        ensures forgets { IfOk result (λ _. (s : Source) (frames : List Frame)
+            (inside : Forest Block) → self.old.lines.items ≡ [] → depth ≤ length frames
+            → MayClose s self.old frames inside → IfFitted self.old.placing self.new.placing
+            (StandsFor s self.new (take (room_depth depth frames) frames)
+            (rebuilt (drop (room_depth depth frames) frames) inside))) }
     {
         self.close_down(depth)?;
         if self.is_in_list() {
@@ -227,6 +236,8 @@ impl<'a> Pass<'a> {
         ensures ended { IfOk result (λ _. self.new.lines.items ≡ []) }
         ensures dropped { IfOk result (λ _. self.old.placing.builder.leaf ≡ true
             → self.new.blanks.items ≡ []) }
+        ensures none { IfOk result (λ _. self.old.placing.builder.leaf ≡ false
+            → self.old.lines.items ≡ [] → self.new ≡ self.old) }
         ensures same { self.new ≡ record self.old {
           placing = self.new.placing;
           lines = self.new.lines;
