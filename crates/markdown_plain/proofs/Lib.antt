@@ -19,3 +19,7 @@ pub mod ReachedLemmas
 pub mod BegunLemmas
 pub mod LastBlocksLemmas
 pub mod ReachedFramesLemmas
+-- on open containers that are closed
+pub mod TightBlocksLemmas
+pub mod ClosedFramesLemmas
+pub mod ItemsInListsLemmas
