@@ -13,3 +13,7 @@ pub mod EndedParagraphsLemmas
 pub mod ParagraphsLemmas
 pub mod DividedLemmas
 pub mod ListLoosenessLemmas
+-- on what open containers say of looseness
+pub mod FramesInsideLemmas
+pub mod LooseFramesLemmas
+pub mod OpenListsLemmas

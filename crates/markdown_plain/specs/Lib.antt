@@ -13,3 +13,6 @@ pub mod Stretches
 pub mod Containers
 pub mod NewContainers
 pub mod ParagraphItems
+-- the blocks that the pass stands for, and the containers among them that are open
+pub mod Frames
+pub mod Settled
