@@ -110,3 +110,16 @@ list_of_open texts blocks frames these = inner_alike block.is_list is_list list_
 pub item_of_open : (texts : List (List ℕ)) (blocks : List OpenBlock) (frames : List Frame) → AreOpen texts blocks frames
     → block.innermost_is body.is_item blocks ≡ innermost_is is_item frames
 item_of_open texts blocks frames these = inner_alike body.is_item is_item item_alike texts blocks frames these
+
+-- the last of some open containers is the innermost
+inner_last : (test : Kind → Bool) (frames : List Frame) (f : Frame)
+    → innermost_is test (frames ++ f ∷ []) ≡ test f.block.kind
+inner_last test [] f = refl
+inner_last test (g ∷ []) f = refl
+inner_last test (g ∷ h ∷ frames) f = innermost_in test g h (frames ++ f ∷ []) ∙ inner_last test (h ∷ frames) f
+
+-- the innermost open block is a list where the innermost container is
+pub list_of_last : (texts : List (List ℕ)) (blocks : List OpenBlock) (frames : List Frame) (f : Frame)
+    → AreOpen texts blocks (frames ++ f ∷ []) → block.innermost_is block.is_list blocks ≡ is_list f.block.kind
+list_of_last texts blocks frames f these =
+    list_of_open texts blocks (frames ++ f ∷ []) these ∙ inner_last is_list frames f

@@ -17,3 +17,4 @@ pub mod ListLoosenessLemmas
 pub mod FramesInsideLemmas
 pub mod LooseFramesLemmas
 pub mod OpenListsLemmas
+pub mod ClosedListsLemmas

@@ -1,13 +1,18 @@
 //! The state of the block pass between two lines, and the closing of blocks. Functions that return a `Result` fail only
 //! where memory is refused.
-ghost use Rattle.std.specs.Prelude.{◌≡◌, [], ◌&&◌, true, false, not, length, take, IfOk};
+ghost use Rattle.std.specs.Prelude.{◌≡◌, ◌≤◌, ℕ, List, [], ◌∷◌, ◌++◌, ◌&&◌, true, false, not, length, take};
+ghost use Rattle.std.specs.Prelude.{drop, IfOk};
 ghost use Rattle.std.specs.Option.{option_map};
+ghost use Rattle.markdown_base.specs.Forest.{Forest};
 ghost use Rattle.markdown_base.specs.declared.item.ItemBody.TheVariants as body;
+ghost use Rattle.markdown_block_rules.specs.BlockGrowth.{Block, is_nil};
 ghost use Rattle.markdown_builder.specs.BuilderView.{BuilderView, innermost_block, nothing_made};
 ghost use Rattle.markdown_plain.specs.Fitting.{AllFitted, HasBody, IfFitted, PutsBlock, closed};
 ghost use Rattle.markdown_plain.specs.OpenBlocks.{innermost_is, is_list, room_in, without_leaf};
 ghost use Rattle.markdown_plain.specs.Containers.{closing_place};
+ghost use Rattle.markdown_plain.specs.Frames.{AreNested, Frame, forgotten, rebuilt, room_depth};
 ghost use Rattle.markdown_plain.specs.Paragraphs.{has_paragraph};
+ghost use Rattle.markdown_plain.specs.Settled.{AreOpen, BlanksKnown, IsLooseAs, IsLooseBefore};
 
 use crate::looseness::Looseness;
 use crate::placing::Placing;
@@ -125,6 +130,11 @@ impl<'a> Pass<'a> {
         ensures stands { self.new.looseness.item_is_empty
             ≡ (not (innermost_is is_list self.old.placing.builder.blocks)
             && self.old.looseness.item_is_empty) }
+        ensures loose { (texts : List (List ℕ)) (frames : List Frame) (f : Frame)
+            (inside : Forest Block) → AreOpen texts self.old.placing.builder.blocks (frames ++ f ∷ [])
+            → AreNested (frames ++ f ∷ [])
+            → IsLooseAs self.old.looseness (frames ++ f ∷ []) inside
+            → IsLooseAs self.new.looseness frames (forgotten f inside) }
     {
         match innermost(&self.placing) {
             Some(ItemBody::List(_, character, first)) => {
@@ -162,6 +172,11 @@ impl<'a> Pass<'a> {
           lists = self.new.looseness.lists;
           item_is_empty = self.new.looseness.item_is_empty;
         } }
+        ensures loose { IfOk result (λ _. (texts : List (List ℕ)) (frames : List Frame)
+            (inside : Forest Block) → AreOpen texts (without_leaf self.old.placing.builder) frames
+            → AreNested frames → IsLooseAs self.old.looseness frames inside
+            → IfFitted self.old.placing self.new.placing (IsLooseAs self.new.looseness
+            (take depth frames) (rebuilt (drop depth frames) inside))) }
     {
         self.end_leaf()?;
         'blocks: for _closed in depth..self.depth() {
@@ -194,6 +209,15 @@ impl<'a> Pass<'a> {
               lists = self.new.looseness.lists;
               item_is_empty = false;
             }) }
+        ensures loose { IfOk result (λ _. (texts : List (List ℕ)) (frames : List Frame)
+            (inside : Forest Block) → AreOpen texts (without_leaf self.old.placing.builder) frames
+            → AreNested frames → IsLooseAs self.old.looseness frames inside
+            → depth ≤ length frames
+            → (is_nil (rebuilt (drop (room_depth depth frames) frames) inside) ≡ false
+            → BlanksKnown self.old.looseness.blank_from 0 frames inside)
+            → IfFitted self.old.placing self.new.placing (IsLooseBefore self.new.looseness
+            (take (room_depth depth frames) frames)
+            (rebuilt (drop (room_depth depth frames) frames) inside))) }
     {
         self.close_down(depth)?;
         if self.is_in_list() {

@@ -1,7 +1,12 @@
 -- The text stays, and each turn closes one of the blocks that were open without the leaf.
-use Rattle.std.proofs.Common.{◌≡◌, ◌+◌, [], true, false, length, take}
+use Rattle.std.proofs.Common.{◌≡◌, ℕ, ◌+◌, List, [], true, false, length, take}
+use Rattle.markdown_base.specs.Forest.{Forest}
+use Rattle.markdown_block_rules.specs.BlockGrowth.{Block}
+use Rattle.markdown_plain.proofs.ClosedListsLemmas.{AreClosedTo}
 use Rattle.markdown_plain.specs.Fitting.{IfFitted}
+use Rattle.markdown_plain.specs.Frames.{AreNested, Frame}
 use Rattle.markdown_plain.specs.OpenBlocks.{without_leaf}
+use Rattle.markdown_plain.specs.Settled.{AreOpen, IsLooseAs}
 use Rattle.markdown_plain.proofs.pass.Pass.close_down.Given as goal
 
 abbrev pub invariant-blocks-2 : goal.invariant-blocks-2
@@ -24,4 +29,8 @@ invariant-blocks-2 l = record {
     lists = l.self.looseness.lists;
     item_is_empty = l.self.looseness.item_is_empty;
   };
+  loose : (texts : List (List ℕ)) (frames : List Frame) (inside : Forest Block)
+      → AreOpen texts (without_leaf l.fn.self.placing.builder) frames → AreNested frames
+      → IsLooseAs l.fn.self.looseness frames inside → IfFitted l.fn.self.placing l.self.placing (AreClosedTo texts
+      frames inside (length l.self.placing.builder.blocks) l.self.placing.builder.blocks l.self.looseness);
 }
