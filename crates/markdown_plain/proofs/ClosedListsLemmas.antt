@@ -1,18 +1,20 @@
 -- What the pass remembers of lists, as open containers are closed from the innermost on.
-use Rattle.std.proofs.Common.{◌≡◌, ℕ, zero, suc, ◌+◌, ◌<◌, ◌≤◌, List, [], ◌∷◌, ◌++◌, Bool, true, false, Option}
+use Rattle.std.proofs.Common.{◌≡◌, ℕ, zero, suc, ◌+◌, ◌-◌, ◌<◌, ◌≤◌, List, [], ◌∷◌, ◌++◌, Bool, true, false, Option}
+use Rattle.std.proofs.Common.{if◌then◌else◌}
 use Rattle.std.proofs.Common.{length, take, drop, refl, sym, ap, ◌∙◌, subst, arith, ⊎_elim}
-use Rattle.std.proofs.lemmas.Bool.{cases_lt}
+use Rattle.std.proofs.lemmas.Bool.{cases_lt, true≢false}
 use Rattle.std.proofs.lemmas.List.{length-take, take-append-drop, take_all}
 use Rattle.markdown_base.specs.Forest.{Forest}
-use Rattle.markdown_block_rules.specs.BlockGrowth.{Block}
+use Rattle.markdown_block_rules.specs.BlockGrowth.{Block, is_nil}
 use Rattle.markdown_block_rules.specs.BlockRules.{ends_blank}
 use Rattle.markdown_builder.specs.declared.open_block.OpenBlock.{OpenBlock}
-use Rattle.markdown_plain.proofs.FramesInsideLemmas.{as_many_frames}
+use Rattle.markdown_plain.proofs.FramesInsideLemmas.{as_many_frames, list_of_open, no_list_outside}
 use Rattle.markdown_plain.proofs.LooseFramesLemmas.{rebuilt_more}
 use Rattle.markdown_plain.proofs.OpenBlocksLemmas.{length_of_outer}
-use Rattle.markdown_plain.specs.Frames.{AreNested, Frame, forgotten, rebuilt}
+use Rattle.markdown_plain.specs.Frames.{AreNested, Frame, forgotten, innermost_is, is_list, rebuilt, room_depth}
+use Rattle.markdown_plain.specs.OpenBlocks as block
 use Rattle.markdown_plain.specs.OpenBlocks.{outer_of}
-use Rattle.markdown_plain.specs.Settled.{AreOpen, BlanksKnown, IsLooseAs}
+use Rattle.markdown_plain.specs.Settled.{AreOpen, BlanksKnown, IsLooseAs, IsLooseBefore}
 use Rattle.markdown_plain.specs.declared.looseness.Looseness.{Looseness}
 
 -- ---- the outermost containers, and the next one
@@ -158,3 +160,83 @@ all_closed texts frames inside depth before blocks now these same most closed =
     (subst (λ (fs : List Frame). IsLooseAs now (take (length frames) frames) (rebuilt fs inside))
     (none_left (length frames) frames (omega arith) ∙ sym (none_left depth frames few)) here))
     (cases_lt depth (length frames))
+
+-- ---- room for a block
+
+open_front : (n : ℕ) (texts : List (List ℕ)) (blocks : List OpenBlock) (frames : List Frame)
+    → AreOpen texts blocks frames → AreOpen texts (take n blocks) (take n frames)
+open_front zero texts blocks frames these = tt
+open_front (suc n) texts [] [] these = tt
+open_front (suc n) texts [] (f ∷ frames) these = absurd these
+open_front (suc n) texts (b ∷ blocks) [] these = absurd these
+open_front (suc n) texts (b ∷ blocks) (f ∷ frames) these = (these.0, open_front n texts blocks frames these.1)
+
+-- all containers but the outermost `depth` are closed
+pub closed_down : (texts : List (List ℕ)) (frames : List Frame) (inside : Forest Block) (depth : ℕ)
+    (before blocks : List OpenBlock) (now : Looseness) → AreOpen texts before frames → depth ≤ length frames
+    → blocks ≡ take depth before → IsLooseAs now (take depth frames) (rebuilt (drop depth frames) inside)
+    → AreClosedTo texts frames inside depth blocks now
+closed_down texts frames inside depth before blocks now these within is loose = record {
+  open_blocks = subst (λ (bs : List OpenBlock). AreOpen texts bs (take depth frames)) (sym is)
+      (open_front depth texts before frames these);
+  loose = loose;
+  within = within;
+}
+
+-- all are closed but those that a block may begin in
+pub record IsRoom (texts : List (List ℕ)) (frames : List Frame) (inside : Forest Block) (n : ℕ)
+    (blocks : List OpenBlock) (now : Looseness) : Type 0 where
+  pub closed : AreClosedTo texts frames inside n blocks now
+  pub no_list : innermost_is is_list (take n frames) ≡ false
+
+room_is : (depth : ℕ) (frames : List Frame) (list : Bool) → innermost_is is_list (take depth frames) ≡ list
+    → room_depth depth frames ≡ (if list then depth - 1 else depth)
+room_is depth frames list is = ap (λ (b : Bool). if b then depth - 1 else depth) is
+
+-- the innermost of the outermost `depth` is no list
+pub room_there : (texts : List (List ℕ)) (frames : List Frame) (inside : Forest Block) (depth : ℕ)
+    (blocks : List OpenBlock) (now : Looseness) → AreClosedTo texts frames inside depth blocks now
+    → block.innermost_is block.is_list blocks ≡ false
+    → IsRoom texts frames inside (room_depth depth frames) blocks now
+room_there texts frames inside depth blocks now closed other =
+    let none = sym (list_of_open texts blocks (take depth frames) closed.open_blocks) ∙ other in
+    subst (λ n. IsRoom texts frames inside n blocks now) (sym (room_is depth frames false none))
+    (record { closed = closed; no_list = none })
+
+-- it is a list, and is closed
+pub room_left : (texts : List (List ℕ)) (frames : List Frame) (inside : Forest Block) (depth : ℕ)
+    (blocks left : List OpenBlock) (old now : Looseness) → left ≡ outer_of blocks → ClosesLast texts blocks old now
+    → AreNested frames → AreClosedTo texts frames inside depth blocks old
+    → block.innermost_is block.is_list blocks ≡ true
+    → IsRoom texts frames inside (room_depth depth frames) left now
+room_left texts frames inside zero blocks left old now is closes nested closed list =
+    absurd (true≢false (sym list ∙ list_of_open texts blocks [] closed.open_blocks))
+room_left texts frames inside (suc n) blocks left old now is closes nested closed list =
+    let inner = sym (list_of_open texts blocks (take (suc n) frames) closed.open_blocks) ∙ list in
+    let within = closed.within in
+    let next = next_frame frames n (omega (arith, within)) in
+    let fewer : suc n - 1 ≡ n = omega arith in
+    subst (λ (bs : List OpenBlock). IsRoom texts frames inside (room_depth (suc n) frames) bs now) (sym is)
+    (subst (λ k. IsRoom texts frames inside k (outer_of blocks) now)
+    (sym (room_is (suc n) frames true inner ∙ fewer))
+    (record {
+      closed = next_closed texts frames inside n blocks old now closes nested closed;
+      no_list = no_list_outside (take n frames) next.frame
+          (subst AreNested next.taken (nested_front (suc n) frames nested))
+          (subst (λ (fs : List Frame). innermost_is is_list fs ≡ true) next.taken inner);
+    }))
+
+-- what is remembered is that of the blocks before another one, once that is added
+pub record AddsBlock (texts : List (List ℕ)) (blocks : List OpenBlock) (old new : Looseness) : Type 0 where
+  pub loose : (frames : List Frame) (inside : Forest Block) → AreOpen texts blocks frames → AreNested frames
+      → innermost_is is_list frames ≡ false → IsLooseAs old frames inside
+      → (is_nil inside ≡ false → BlanksKnown old.blank_from 0 frames inside) → IsLooseBefore new frames inside
+
+pub room_made : (texts : List (List ℕ)) (frames : List Frame) (inside : Forest Block) (n : ℕ)
+    (blocks : List OpenBlock) (old new : Looseness) → AddsBlock texts blocks old new → AreNested frames
+    → (is_nil (rebuilt (drop n frames) inside) ≡ false → BlanksKnown old.blank_from 0 frames inside)
+    → IsRoom texts frames inside n blocks old
+    → IsLooseBefore new (take n frames) (rebuilt (drop n frames) inside)
+room_made texts frames inside n blocks old new adds nested known room =
+    adds.loose (take n frames) (rebuilt (drop n frames) inside) room.closed.open_blocks (nested_front n frames nested)
+    room.no_list room.closed.loose (λ some. known_of_outermost old.blank_from n frames inside (known some))

@@ -10,7 +10,7 @@ use Rattle.markdown_block_rules.specs.BlockGrowth.{Block, Kind}
 use Rattle.markdown_builder.specs.declared.open_block.OpenBlock.{OpenBlock}
 use Rattle.markdown_plain.specs.ListLooseness as body
 use Rattle.markdown_plain.specs.OpenBlocks as block
-use Rattle.markdown_plain.specs.Frames.{Frame, forgotten, innermost_is, is_item, is_list, is_quote, rebuilt}
+use Rattle.markdown_plain.specs.Frames.{AreNested, Frame, innermost_is, is_item, is_list, is_quote}
 use Rattle.markdown_plain.specs.Settled.{AreOpen, IsBodyOf}
 
 -- ---- the innermost container
@@ -123,3 +123,16 @@ pub list_of_last : (texts : List (List ℕ)) (blocks : List OpenBlock) (frames :
     → AreOpen texts blocks (frames ++ f ∷ []) → block.innermost_is block.is_list blocks ≡ is_list f.block.kind
 list_of_last texts blocks frames f these =
     list_of_open texts blocks (frames ++ f ∷ []) these ∙ inner_last is_list frames f
+
+-- a list is not directly in a list
+no_list_around : (frames : List Frame) (f : Frame) → AreNested (frames ++ f ∷ []) → is_list f.block.kind ≡ true
+    → innermost_is is_list frames ≡ false
+no_list_around [] f nested list = refl
+no_list_around (g ∷ []) f nested list = nested.0 ∙ list_no_item f.block.kind list
+no_list_around (g ∷ h ∷ frames) f nested list =
+    innermost_in is_list g h frames ∙ no_list_around (h ∷ frames) f nested.1 list
+
+-- outside a list is no list
+pub no_list_outside : (frames : List Frame) (f : Frame) → AreNested (frames ++ f ∷ [])
+    → innermost_is is_list (frames ++ f ∷ []) ≡ true → innermost_is is_list frames ≡ false
+no_list_outside frames f nested list = no_list_around frames f nested (sym (inner_last is_list frames f) ∙ list)
