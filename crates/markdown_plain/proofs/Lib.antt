@@ -23,3 +23,8 @@ pub mod ReachedFramesLemmas
 pub mod TightBlocksLemmas
 pub mod ClosedFramesLemmas
 pub mod ItemsInListsLemmas
+-- on what open containers say of looseness
+pub mod FramesInsideLemmas
+pub mod LooseFramesLemmas
+pub mod OpenListsLemmas
+pub mod ClosedListsLemmas

@@ -18,3 +18,4 @@ pub mod Frames
 pub mod Settled
 pub mod ReachedFrames
 pub mod Closing
+-- the blocks that the pass stands for, and the containers among them that are open

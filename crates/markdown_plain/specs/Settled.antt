@@ -102,15 +102,16 @@ BlanksKnown from outside (f ∷ frames) inside =
     (is_quote f.block.kind ≡ false → is_blank_in from (outside + 1) ≡ ends_blank false (rebuilt frames inside))
     × BlanksKnown from (outside + 1) frames inside
 
+-- it is known whether a container with these blocks in it is an empty item; of lists it does not matter
+abbrev pub EmptyKnownIn : Bool → Forest Block → Kind → Type 0
+EmptyKnownIn empty inside (was.item_container indent) = empty ≡ is_nil inside
+EmptyKnownIn empty inside (was.list_container marker) = Unit
+EmptyKnownIn empty inside other = empty ≡ false
+
 -- it is known whether the innermost open container is an empty item
 abbrev pub EmptyKnown : Bool → List Frame → Forest Block → Type 0
-EmptyKnown empty [] inside = empty ≡ false
-EmptyKnown empty (f ∷ []) inside = IsKnownIn f.block.kind
-  where
-    IsKnownIn : Kind → Type 0
-    IsKnownIn (was.item_container indent) = empty ≡ is_nil inside
-    IsKnownIn (was.list_container marker) = Unit
-    IsKnownIn other = empty ≡ false
+EmptyKnown empty [] inside = Unit
+EmptyKnown empty (f ∷ []) inside = EmptyKnownIn empty inside f.block.kind
 EmptyKnown empty (f ∷ g ∷ frames) inside = EmptyKnown empty (g ∷ frames) inside
 
 -- what is remembered of blank lines and lists is that of these open blocks

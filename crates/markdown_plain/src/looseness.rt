@@ -1,9 +1,15 @@
 //! What makes lists loose (CommonMark 5.3): blank lines between the items of a list, or between two blocks directly in
 //! an item.
-ghost use Rattle.std.specs.Prelude.{◌≡◌, ◌++◌, ◌∷◌, [], true, false, List, Bool, Some, None, IfOk};
+ghost use Rattle.std.specs.Prelude.{◌≡◌, ℕ, ◌++◌, ◌∷◌, [], true, false, List, Bool, Some, None, IfOk};
+ghost use Rattle.markdown_base.specs.Forest.{Forest, nil};
+ghost use Rattle.markdown_block_rules.specs.BlockGrowth.{Block, is_nil};
+ghost use Rattle.markdown_block_rules.specs.BlockRules as defined;
+ghost use Rattle.markdown_plain.specs.Frames as frame;
+ghost use Rattle.markdown_plain.specs.Frames.{AreNested, Frame, forgotten};
 ghost use Rattle.markdown_plain.specs.ListLooseness.{ItemRead, IsRead, blank_from, is_after_blank, is_empty};
 ghost use Rattle.markdown_plain.specs.ListLooseness.{is_item, is_loose, new_item, with_block};
 ghost use Rattle.markdown_plain.specs.OpenBlocks.{innermost_is};
+ghost use Rattle.markdown_plain.specs.Settled.{AreOpen, BlanksKnown, IsLooseAs, IsLooseBefore};
 
 use markdown_base::item::ItemBody;
 use markdown_builder::open_block::OpenBlock;
@@ -46,6 +52,11 @@ impl Looseness {
     pub fn open_list(&mut self) -> Result<(), AllocError>
         ensures read { IfOk result (λ _. (blank : Bool)
             → IsRead self.old.lists.items [] (new_item blank) self.new) }
+        ensures begins { IfOk result (λ _. (frames : List Frame) (inside : Forest Block) (list item : Block)
+            → IsLooseBefore self.old frames inside
+            → frame.is_list list.kind ≡ true → frame.is_item item.kind ≡ true
+            → IsLooseAs self.new (frames ++ record { before = inside; block = list }
+            ∷ record { before = nil; block = item } ∷ []) nil) }
         ensures same { IfOk result (λ _. self.new
             ≡ record self.old { lists = self.new.lists; item_is_empty = true }) }
     {
@@ -61,6 +72,11 @@ impl Looseness {
             → IsRead outer items last self.old
             → IsRead outer (items ++ last ∷ [])
             (new_item (is_after_blank self.old.blank_from blocks.now)) self.new }
+        ensures begins { (texts : List (List ℕ)) (frames : List Frame) (inside : Forest Block) (item : Block)
+            → AreOpen texts blocks.now frames → AreNested frames
+            → frame.innermost_is frame.is_list frames ≡ true → IsLooseAs self.old frames inside
+            → BlanksKnown self.old.blank_from 0 frames inside → frame.is_item item.kind ≡ true
+            → IsLooseAs self.new (frames ++ record { before = inside; block = item } ∷ []) nil }
         ensures same { self.new ≡ record self.old { lists = self.new.lists; item_is_empty = true } }
     {
         if self.is_after_blank(blocks) {
@@ -80,6 +96,11 @@ impl Looseness {
             self.new }
         ensures elsewhere { innermost_is is_item blocks.now ≡ false
             → self.new.lists ≡ self.old.lists }
+        ensures begins { (texts : List (List ℕ)) (frames : List Frame) (inside : Forest Block)
+            → AreOpen texts blocks.now frames → AreNested frames
+            → frame.innermost_is frame.is_list frames ≡ false → IsLooseAs self.old frames inside
+            → (is_nil inside ≡ false → BlanksKnown self.old.blank_from 0 frames inside)
+            → IsLooseBefore self.new frames inside }
         ensures same { self.new
             ≡ record self.old { lists = self.new.lists; item_is_empty = false } }
     {
@@ -102,6 +123,9 @@ impl Looseness {
             → self.old.lists.items ≡ outer ++ loose ∷ []
             → (result ≡ loose) × (self.new.lists.items ≡ outer) }
         ensures none { self.old.lists.items ≡ [] → (self.new.lists.items ≡ []) × (result ≡ false) }
+        ensures ends { (frames : List Frame) (f : Frame) (inside : Forest Block)
+            → frame.is_list f.block.kind ≡ true → IsLooseAs self.old (frames ++ f ∷ []) inside
+            → (result ≡ defined.is_loose inside) × IsLooseAs self.new frames (forgotten f inside) }
         ensures same { self.new
             ≡ record self.old { lists = self.new.lists; item_is_empty = false } }
     {
@@ -135,6 +159,7 @@ impl Looseness {
         ensures loose { (outer : List Bool) (before : Bool)
             → self.old.lists.items ≡ outer ++ before ∷ []
             → self.new.lists.items ≡ outer ++ true ∷ [] }
+        ensures none { self.old.lists.items ≡ [] → self.new.lists.items ≡ [] }
         ensures same { self.new ≡ record self.old { lists = self.new.lists } }
     {
         if self.lists.is_empty() {

@@ -1,18 +1,20 @@
 //! The state of the block pass between two lines, and the closing of blocks. Functions that return a `Result` fail only
 //! where memory is refused.
-ghost use Rattle.std.specs.Prelude.{◌≡◌, ◌≤◌, List, [], ◌∷◌, ◌++◌, ◌&&◌, true, false, not, length, take, drop, IfOk};
+ghost use Rattle.std.specs.Prelude.{◌≡◌, ◌≤◌, List, [], ◌∷◌, ◌++◌, ◌&&◌, true, false, not, length, take};
+ghost use Rattle.std.specs.Prelude.{drop, IfOk, ℕ};
 ghost use Rattle.std.specs.Option.{option_map};
 ghost use Rattle.markdown_base.specs.Forest.{Forest};
 ghost use Rattle.markdown_base.specs.declared.item.ItemBody.TheVariants as body;
+ghost use Rattle.markdown_block_rules.specs.BlockGrowth.{Block, is_nil};
 ghost use Rattle.markdown_builder.specs.BuilderView.{BuilderView, innermost_block, nothing_made};
 ghost use Rattle.markdown_lines.specs.BlockBeginnings.{Source};
-ghost use Rattle.markdown_block_rules.specs.BlockGrowth.{Block};
 ghost use Rattle.markdown_plain.specs.Closing.{MayClose, StandsFor};
-ghost use Rattle.markdown_plain.specs.Frames.{Frame, forgotten, rebuilt, room_depth};
+ghost use Rattle.markdown_plain.specs.Frames.{Frame, forgotten, rebuilt, room_depth, AreNested};
 ghost use Rattle.markdown_plain.specs.Fitting.{AllFitted, HasBody, IfFitted, PutsBlock, closed};
 ghost use Rattle.markdown_plain.specs.OpenBlocks.{innermost_is, is_list, room_in, without_leaf};
 ghost use Rattle.markdown_plain.specs.Containers.{closing_place};
 ghost use Rattle.markdown_plain.specs.Paragraphs.{has_paragraph};
+ghost use Rattle.markdown_plain.specs.Settled.{AreOpen, BlanksKnown, IsLooseAs, IsLooseBefore};
 
 use crate::looseness::Looseness;
 use crate::placing::Placing;
@@ -134,6 +136,11 @@ impl<'a> Pass<'a> {
             → MayClose s self.old (frames ++ f ∷ []) inside
             → IfFitted self.old.placing self.new.placing
             (MayClose s self.new frames (forgotten f inside)) }
+        ensures loose { (texts : List (List ℕ)) (frames : List Frame) (f : Frame)
+            (inside : Forest Block) → AreOpen texts self.old.placing.builder.blocks (frames ++ f ∷ [])
+            → AreNested (frames ++ f ∷ [])
+            → IsLooseAs self.old.looseness (frames ++ f ∷ []) inside
+            → IsLooseAs self.new.looseness frames (forgotten f inside) }
     {
         match innermost(&self.placing) {
             Some(ItemBody::List(_, character, first)) => {
@@ -175,6 +182,11 @@ impl<'a> Pass<'a> {
             (inside : Forest Block) → self.old.lines.items ≡ []
             → MayClose s self.old frames inside → IfFitted self.old.placing self.new.placing
             (MayClose s self.new (take depth frames) (rebuilt (drop depth frames) inside))) }
+        ensures loose { IfOk result (λ _. (texts : List (List ℕ)) (frames : List Frame)
+            (inside : Forest Block) → AreOpen texts (without_leaf self.old.placing.builder) frames
+            → AreNested frames → IsLooseAs self.old.looseness frames inside
+            → IfFitted self.old.placing self.new.placing (IsLooseAs self.new.looseness
+            (take depth frames) (rebuilt (drop depth frames) inside))) }
     {
         self.end_leaf()?;
         'blocks: for _closed in depth..self.depth() {
@@ -211,6 +223,15 @@ impl<'a> Pass<'a> {
             (inside : Forest Block) → self.old.lines.items ≡ [] → depth ≤ length frames
             → MayClose s self.old frames inside → IfFitted self.old.placing self.new.placing
             (StandsFor s self.new (take (room_depth depth frames) frames)
+            (rebuilt (drop (room_depth depth frames) frames) inside))) }
+        ensures loose { IfOk result (λ _. (texts : List (List ℕ)) (frames : List Frame)
+            (inside : Forest Block) → AreOpen texts (without_leaf self.old.placing.builder) frames
+            → AreNested frames → IsLooseAs self.old.looseness frames inside
+            → depth ≤ length frames
+            → (is_nil (rebuilt (drop (room_depth depth frames) frames) inside) ≡ false
+            → BlanksKnown self.old.looseness.blank_from 0 frames inside)
+            → IfFitted self.old.placing self.new.placing (IsLooseBefore self.new.looseness
+            (take (room_depth depth frames) frames)
             (rebuilt (drop (room_depth depth frames) frames) inside))) }
     {
         self.close_down(depth)?;

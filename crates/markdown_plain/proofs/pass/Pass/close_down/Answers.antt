@@ -1,19 +1,23 @@
 -- A turn closes the innermost block, which is not one of the outermost blocks that stay.
-use Rattle.std.proofs.Common.{◌≡◌, ◌∙◌, ◌<◌, suc, ap, refl, sym, subst, length, take, drop, arith, rules}
+use Rattle.std.proofs.Common.{◌≡◌, ◌∙◌, ◌<◌, suc, ap, refl, sym, subst, length, take, drop, arith, rules, ◌≤◌, List}
 use Rattle.markdown_builder.specs.BuilderView.{BuilderView}
 use Rattle.markdown_plain.specs.Closing.{MayClose}
 use Rattle.markdown_plain.specs.Fitting.{AllFitted}
 use Rattle.markdown_plain.specs.Frames.{rebuilt}
 use Rattle.markdown_plain.specs.declared.pass.Pass.{Pass}
 use Rattle.markdown_plain.proofs.ClosedFramesLemmas.{all_kept, kept_alike, one_less, open_containers}
+use Rattle.markdown_builder.specs.declared.open_block.OpenBlock.{OpenBlock}
+use Rattle.markdown_plain.proofs.ClosedListsLemmas.{all_closed, none_closed, one_closed}
 use Rattle.markdown_plain.proofs.OpenBlocksLemmas.{length_of_outer, take_of_outer}
+use Rattle.markdown_plain.specs.OpenBlocks.{without_leaf}
+use Rattle.markdown_plain.specs.Settled.{AreOpen, IsLooseAs}
 use Rattle.markdown_plain.proofs.pass.Pass.close_down.Goals as goal
 
 -- one block less is open, and before there were more than stay
-one_closed : (c : goal.After-close_block) → AllFitted c.close_block.new.self.placing
+one_less_open : (c : goal.After-close_block) → AllFitted c.close_block.new.self.placing
     → (c.args.depth < length c.blocks-2.self.placing.builder.blocks)
     × (suc (length c.close_block.new.self.placing.builder.blocks) ≡ length c.blocks-2.self.placing.builder.blocks)
-one_closed c fitted =
+one_less_open c fitted =
     let done = c.close_block.ensures.closes fitted in
     let left = (c.blocks-2.invariant.left done.0).1 in
     let more : c.args.depth < length c.blocks-2.self.placing.builder.blocks = omega (arith, left) in
@@ -31,12 +35,12 @@ blocks-2-preserved c =
           let kept = before.closes done.0 in (
             kept.0,
             ap (λ (b : BuilderView). take c.args.depth b.blocks) done.1
-                ∙ take_of_outer c.args.depth _ (one_closed c fitted).0
+                ∙ take_of_outer c.args.depth _ (one_less_open c fitted).0
                 ∙ kept.1,
           );
       left = λ fitted.
           let left = before.left (fits fitted) in
-          let less = (one_closed c fitted).1 in (left.0, omega (arith, left.1, less));
+          let less = (one_less_open c fitted).1 in (left.0, omega (arith, left.1, less));
       outside = λ fitted.
           let done = c.close_block.ensures.closes fitted in
           ((before.closes done.0).0, ap (λ (b : BuilderView). b.leaf) done.1);
@@ -45,13 +49,25 @@ blocks-2-preserved c =
       same = search rules;
       looseness = search rules;
       least = λ fitted.
-          let closed = one_closed c fitted in
+          let closed = one_less_open c fitted in
           ((before.least (fits fitted)).0, λ few. absurd (omega (arith, closed.0, closed.1, few)));
       forgets = λ s frames inside none may fitted.
           let stands = before.forgets s frames inside none may (fits fitted) in (
             stands.0,
-            (one_less s c.blocks-2.self c.close_block.new.self frames inside _ _ refl (one_closed c fitted).1 stands.1
+            (one_less s c.blocks-2.self c.close_block.new.self frames inside _ _ refl (one_less_open c fitted).1 stands.1
                 (c.close_block.ensures.forgets s) fitted).1,
+          );
+      loose = λ texts frames inside these nested loose fitted.
+          let done = c.close_block.ensures.closes fitted in
+          let closed = before.loose texts frames inside these nested loose done.0 in
+          let left = (before.left done.0).1 in
+          let blocks = c.blocks-2.self.placing.builder.blocks in
+          let some : 0 < length blocks = omega (arith, left) in (
+            closed.0,
+            one_closed texts frames inside blocks c.close_block.new.self.placing.builder.blocks
+                c.blocks-2.self.looseness c.close_block.new.self.looseness
+                (ap (λ (b : BuilderView). b.blocks) done.1) some
+                (record { loose = c.close_block.ensures.loose texts }) nested closed.1,
           );
     }
 
@@ -74,6 +90,16 @@ blocks-2-init c = record {
             (rebuilt (drop (length p.placing.builder.blocks) frames) inside)) (sym same)
             (all_kept s now frames inside _ (open_containers s now frames inside may) may),
       );
+  loose = λ texts frames inside these nested loose fitted.
+      let old = c.args.self.now in
+      let new = c.end_leaf.new.self in
+      let ends = c.in_ok-end_leaf.ensures.ends fitted in
+      let now : new.looseness ≡ old.looseness = search rules in (
+        ends.0,
+        none_closed texts frames inside new.placing.builder.blocks new.looseness
+            (subst (λ (bs : List OpenBlock). AreOpen texts bs frames) (sym ends.1) these)
+            (subst (λ l. IsLooseAs l frames inside) (sym now) loose),
+      );
 }
 
 pub returns-clause-forgets : goal.returns-clause-forgets
@@ -91,4 +117,18 @@ returns-clause-forgets c = λ s frames inside none may fitted.
       stands.0,
       subst (λ inner. MayClose s loop.self (take depth frames) (rebuilt inner inside)) alike.1
           (subst (λ outer. MayClose s loop.self outer (rebuilt (drop n frames) inside)) alike.0 stands.1),
+    )
+
+pub returns-clause-loose : goal.returns-clause-loose
+returns-clause-loose c = λ texts frames inside these nested loose fitted.
+    let closed = c.blocks-2.invariant.loose texts frames inside these nested loose fitted in
+    let kept = c.blocks-2.invariant.closes fitted in
+    let blocks = c.blocks-2.self.placing.builder.blocks in
+    let before = without_leaf c.args.self.now.placing.builder in
+    let left = (c.blocks-2.invariant.left fitted).1 in
+    let end = c.blocks-2-test.false in
+    let all = c.depth-closed-end.ensures in
+    let most : length blocks ≤ c.args.depth = omega (arith, left, end, all) in (
+      kept.0,
+      all_closed texts frames inside c.args.depth before blocks c.blocks-2.self.looseness these kept.1 most closed.1,
     )

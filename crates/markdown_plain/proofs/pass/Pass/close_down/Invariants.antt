@@ -1,13 +1,15 @@
 -- The text stays, and each turn closes one of the blocks that were open without the leaf. Where there was no leaf, the
 -- blocks are the same.
-use Rattle.std.proofs.Common.{◌≡◌, ◌+◌, ◌<◌, ◌≤◌, List, [], true, false, length, take, drop}
+use Rattle.std.proofs.Common.{◌≡◌, ◌+◌, ◌<◌, ◌≤◌, List, [], true, false, length, take, drop, ℕ}
 use Rattle.markdown_base.specs.Forest.{Forest}
 use Rattle.markdown_lines.specs.BlockBeginnings.{Source}
 use Rattle.markdown_block_rules.specs.BlockGrowth.{Block}
 use Rattle.markdown_plain.specs.Closing.{MayClose}
-use Rattle.markdown_plain.specs.Frames.{Frame, rebuilt}
+use Rattle.markdown_plain.specs.Frames.{Frame, rebuilt, AreNested}
+use Rattle.markdown_plain.proofs.ClosedListsLemmas.{AreClosedTo}
 use Rattle.markdown_plain.specs.Fitting.{IfFitted}
 use Rattle.markdown_plain.specs.OpenBlocks.{without_leaf}
+use Rattle.markdown_plain.specs.Settled.{AreOpen, IsLooseAs}
 use Rattle.markdown_plain.proofs.pass.Pass.close_down.Given as goal
 
 abbrev pub invariant-blocks-2 : goal.invariant-blocks-2
@@ -36,4 +38,8 @@ invariant-blocks-2 l = record {
       → MayClose s l.fn.self frames inside → IfFitted l.fn.self.placing l.self.placing
       (MayClose s l.self (take (length l.self.placing.builder.blocks) frames)
       (rebuilt (drop (length l.self.placing.builder.blocks) frames) inside));
+  loose : (texts : List (List ℕ)) (frames : List Frame) (inside : Forest Block)
+      → AreOpen texts (without_leaf l.fn.self.placing.builder) frames → AreNested frames
+      → IsLooseAs l.fn.self.looseness frames inside → IfFitted l.fn.self.placing l.self.placing (AreClosedTo texts
+      frames inside (length l.self.placing.builder.blocks) l.self.placing.builder.blocks l.self.looseness);
 }

@@ -1,5 +1,5 @@
 -- The blocks are the same, with a list forgotten that is in the way.
-use Rattle.std.proofs.Common.{◌∙◌, refl, sym, subst, take, drop}
+use Rattle.std.proofs.Common.{◌∙◌, refl, sym, subst, take, drop, ◌≡◌, List, true, false, ap, rules}
 use Rattle.markdown_plain.specs.Closing.{StandsFor}
 use Rattle.markdown_plain.specs.Fitting.{AllFitted, IfFitted}
 use Rattle.markdown_plain.specs.Frames.{rebuilt, room_depth}
@@ -7,6 +7,12 @@ use Rattle.markdown_plain.specs.declared.pass.Pass.{Pass}
 use Rattle.markdown_plain.proofs.ClosedFramesLemmas.{list_in_the_way, no_list_closed, stands_on}
 use Rattle.markdown_plain.proofs.pass.Pass.make_room.Goals.{then-is_in_list, else-is_in_list}
 use Rattle.markdown_plain.proofs.pass.Pass.make_room.Goals as goal
+use Rattle.markdown_builder.specs.BuilderView.{BuilderView}
+use Rattle.markdown_builder.specs.declared.open_block.OpenBlock.{OpenBlock}
+use Rattle.markdown_plain.proofs.ClosedListsLemmas.{AddsBlock, AreClosedTo, IsRoom, closed_down, room_left}
+use Rattle.markdown_plain.proofs.ClosedListsLemmas.{room_made, room_there}
+use Rattle.markdown_plain.specs.OpenBlocks.{innermost_is, is_list, without_leaf}
+use Rattle.markdown_plain.specs.Settled.{BlanksKnown}
 
 pub returns-clause-forgets : goal.returns-clause-forgets
 returns-clause-forgets c = λ s frames inside none few may fitted.
@@ -36,3 +42,46 @@ returns-clause-forgets c = λ s frames inside none few may fitted.
           )
     ] in
     let made = room fitted in (made.0, stands_on s c.if-is_in_list.self _ _ _ refl refl made.1)
+-- What is remembered before the block is added is that of the containers which it may begin in.
+
+pub returns-clause-loose : goal.returns-clause-loose
+returns-clause-loose c = λ texts frames inside these nested loose within known fitted.
+    let old = c.args.self.now in
+    let down = c.close_down.new.self in
+    let now = c.if-is_in_list.self in
+    let n = room_depth c.args.depth frames in
+    let blocks = down.placing.builder.blocks in
+    let closed : AllFitted down.placing
+    → AllFitted old.placing × AreClosedTo texts frames inside c.args.depth blocks down.looseness = λ fits.
+    let done = c.in_ok-close_down.ensures.loose texts frames inside these nested loose fits in (
+      done.0,
+      closed_down texts frames inside c.args.depth (without_leaf old.placing.builder) blocks down.looseness these within
+          (c.in_ok-close_down.ensures.closes fits).1 done.1,
+    ) in
+    let room : AllFitted old.placing × IsRoom texts frames inside n now.placing.builder.blocks now.looseness =
+    elim c.if-is_in_list.branch [
+      | then-is_in_list w ↦
+          let shut = w.close_block.ensures.closes (subst (λ (p : Pass). AllFitted p.placing) w.self-is fitted) in
+          let first = closed shut.0 in
+          let inner : innermost_is is_list blocks ≡ true = search rules in (
+            first.0,
+            subst (λ (p : Pass). IsRoom texts frames inside n p.placing.builder.blocks p.looseness) (sym w.self-is)
+                (room_left texts frames inside c.args.depth blocks w.close_block.new.self.placing.builder.blocks
+                down.looseness w.close_block.new.self.looseness (ap (λ (b : BuilderView). b.blocks) shut.1)
+                (record { loose = w.close_block.ensures.loose texts }) nested first.1 inner),
+          )
+      | else-is_in_list w ↦
+          let first = closed (subst (λ (p : Pass). AllFitted p.placing) w.self-is fitted) in
+          let inner : innermost_is is_list blocks ≡ false = search rules in (
+            first.0,
+            subst (λ (p : Pass). IsRoom texts frames inside n p.placing.builder.blocks p.looseness) (sym w.self-is)
+                (room_there texts frames inside c.args.depth blocks down.looseness first.1 inner),
+          )
+    ] in
+    let from : now.looseness.blank_from ≡ old.looseness.blank_from = search rules in (
+      room.0,
+      room_made texts frames inside n now.placing.builder.blocks now.looseness c.add_block.new.self
+          (subst (λ (bs : List OpenBlock). AddsBlock texts bs now.looseness c.add_block.new.self) c.open_blocks.ensures
+          (record { loose = c.add_block.ensures.begins texts })) nested
+          (λ some. subst (λ from. BlanksKnown from 0 frames inside) (sym from) (known some)) room.1,
+    )

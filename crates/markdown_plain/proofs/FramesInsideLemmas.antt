@@ -1,0 +1,138 @@
+-- The innermost of the open containers, and the open blocks that they are.
+use Rattle.std.proofs.Common.{◌≡◌, ℕ, ◌+◌, ◌-◌, List, [], ◌∷◌, ◌++◌, Bool, true, false, None, Some, Option, length}
+use Rattle.std.proofs.Common.{refl, sym, ap, ◌∙◌, arith, nat_lt}
+use native.Mathlib.Numerals.{unary_clauses}
+use Rattle.std.proofs.lemmas.Bool.{true≢false}
+use Rattle.markdown_base.specs.Forest.{Forest}
+use Rattle.markdown_base.specs.declared.item.ItemBody.{ItemBody}
+use Rattle.markdown_block_rules.specs.BlockGrowth as was
+use Rattle.markdown_block_rules.specs.BlockGrowth.{Block, Kind}
+use Rattle.markdown_builder.specs.declared.open_block.OpenBlock.{OpenBlock}
+use Rattle.markdown_plain.specs.ListLooseness as body
+use Rattle.markdown_plain.specs.OpenBlocks as block
+use Rattle.markdown_plain.specs.Frames.{AreNested, Frame, innermost_is, is_item, is_list, is_quote}
+use Rattle.markdown_plain.specs.Settled.{AreOpen, IsBodyOf}
+
+-- ---- the innermost container
+
+pub innermost_in : (test : Kind → Bool) (f g : Frame) (frames : List Frame)
+    → innermost_is test (f ∷ g ∷ frames) ≡ innermost_is test (g ∷ frames)
+innermost_in test f g frames = simp unary_clauses
+
+-- a container of one kind is of no other
+excludes : (one other : Kind → Bool) → ((kind : Kind) → one kind ≡ true → other kind ≡ false) → (frames : List Frame)
+    → innermost_is one frames ≡ true → innermost_is other frames ≡ false
+excludes one other apart [] is = refl
+excludes one other apart (f ∷ []) is = apart f.block.kind is
+excludes one other apart (f ∷ g ∷ frames) is =
+    innermost_in other f g frames
+    ∙ excludes one other apart (g ∷ frames) (sym (innermost_in one f g frames) ∙ is)
+
+pub item_no_list : (kind : Kind) → is_item kind ≡ true → is_list kind ≡ false
+item_no_list (was.list_container marker) is = absurd (true≢false (sym is))
+item_no_list other is = refl
+
+pub list_no_item : (kind : Kind) → is_list kind ≡ true → is_item kind ≡ false
+list_no_item (was.item_container indent) is = absurd (true≢false (sym is))
+list_no_item other is = refl
+
+item_no_quote : (kind : Kind) → is_item kind ≡ true → is_quote kind ≡ false
+item_no_quote (was.item_container indent) is = refl
+item_no_quote other is = absurd (true≢false (sym is))
+
+list_no_quote : (kind : Kind) → is_list kind ≡ true → is_quote kind ≡ false
+list_no_quote (was.list_container marker) is = refl
+list_no_quote other is = absurd (true≢false (sym is))
+
+pub inner_item_no_list : (frames : List Frame) → innermost_is is_item frames ≡ true
+    → innermost_is is_list frames ≡ false
+inner_item_no_list frames is = excludes is_item is_list item_no_list frames is
+
+pub inner_list_no_item : (frames : List Frame) → innermost_is is_list frames ≡ true
+    → innermost_is is_item frames ≡ false
+inner_list_no_item frames is = excludes is_list is_item list_no_item frames is
+
+pub inner_item_no_quote : (frames : List Frame) → innermost_is is_item frames ≡ true
+    → innermost_is is_quote frames ≡ false
+inner_item_no_quote frames is = excludes is_item is_quote item_no_quote frames is
+
+pub inner_list_no_quote : (frames : List Frame) → innermost_is is_list frames ≡ true
+    → innermost_is is_quote frames ≡ false
+inner_list_no_quote frames is = excludes is_list is_quote list_no_quote frames is
+
+-- ---- the open blocks
+
+pub as_many_frames : (texts : List (List ℕ)) (blocks : List OpenBlock) (frames : List Frame)
+    → AreOpen texts blocks frames → length blocks ≡ length frames
+as_many_frames texts [] [] these = refl
+as_many_frames texts [] (f ∷ frames) these = absurd these
+as_many_frames texts (block ∷ blocks) [] these = absurd these
+as_many_frames texts (block ∷ blocks) (f ∷ frames) these =
+    let h = as_many_frames texts blocks frames these.1 in omega (arith, h)
+
+-- a test of bodies says of the innermost open block what one of kinds does
+inner_alike : (test : ItemBody → Bool) (of : Kind → Bool)
+    → ((texts : List (List ℕ)) (kind : Kind) (b : ItemBody) → IsBodyOf texts kind b → test b ≡ of kind)
+    → (texts : List (List ℕ)) (blocks : List OpenBlock) (frames : List Frame) → AreOpen texts blocks frames
+    → block.innermost_is test blocks ≡ innermost_is of frames
+inner_alike test of alike texts [] [] these = refl
+inner_alike test of alike texts [] (f ∷ frames) these = absurd these
+inner_alike test of alike texts (b ∷ blocks) [] these = absurd these
+inner_alike test of alike texts (b ∷ []) (f ∷ []) these = alike texts f.block.kind b.body these.0.body
+inner_alike test of alike texts (b ∷ []) (f ∷ g ∷ frames) these = absurd these.1
+inner_alike test of alike texts (b ∷ c ∷ blocks) (f ∷ []) these = absurd these.1
+inner_alike test of alike texts (b ∷ c ∷ blocks) (f ∷ g ∷ frames) these =
+    let h = inner_alike test of alike texts (c ∷ blocks) (g ∷ frames) these.1 in
+    simp unary_clauses (simp unary_clauses at h)
+
+list_alike : (texts : List (List ℕ)) (kind : Kind) (b : ItemBody) → IsBodyOf texts kind b
+    → block.is_list b ≡ is_list kind
+list_alike texts was.quote_container b is = ap block.is_list is
+list_alike texts (was.alert_container kind) b is = ap block.is_list is
+list_alike texts (was.list_container marker) b is = ap block.is_list is
+list_alike texts (was.item_container indent) b is = ap block.is_list is
+list_alike texts (was.footnote_container label) b is = ap block.is_list is.1
+list_alike texts other b is = absurd is
+
+item_alike : (texts : List (List ℕ)) (kind : Kind) (b : ItemBody) → IsBodyOf texts kind b
+    → body.is_item b ≡ is_item kind
+item_alike texts was.quote_container b is = ap body.is_item is
+item_alike texts (was.alert_container kind) b is = ap body.is_item is
+item_alike texts (was.list_container marker) b is = ap body.is_item is
+item_alike texts (was.item_container indent) b is = ap body.is_item is
+item_alike texts (was.footnote_container label) b is = ap body.is_item is.1
+item_alike texts other b is = absurd is
+
+pub list_of_open : (texts : List (List ℕ)) (blocks : List OpenBlock) (frames : List Frame) → AreOpen texts blocks frames
+    → block.innermost_is block.is_list blocks ≡ innermost_is is_list frames
+list_of_open texts blocks frames these = inner_alike block.is_list is_list list_alike texts blocks frames these
+
+pub item_of_open : (texts : List (List ℕ)) (blocks : List OpenBlock) (frames : List Frame) → AreOpen texts blocks frames
+    → block.innermost_is body.is_item blocks ≡ innermost_is is_item frames
+item_of_open texts blocks frames these = inner_alike body.is_item is_item item_alike texts blocks frames these
+
+-- the last of some open containers is the innermost
+inner_last : (test : Kind → Bool) (frames : List Frame) (f : Frame)
+    → innermost_is test (frames ++ f ∷ []) ≡ test f.block.kind
+inner_last test [] f = refl
+inner_last test (g ∷ []) f = refl
+inner_last test (g ∷ h ∷ frames) f = innermost_in test g h (frames ++ f ∷ []) ∙ inner_last test (h ∷ frames) f
+
+-- the innermost open block is a list where the innermost container is
+pub list_of_last : (texts : List (List ℕ)) (blocks : List OpenBlock) (frames : List Frame) (f : Frame)
+    → AreOpen texts blocks (frames ++ f ∷ []) → block.innermost_is block.is_list blocks ≡ is_list f.block.kind
+list_of_last texts blocks frames f these =
+    list_of_open texts blocks (frames ++ f ∷ []) these ∙ inner_last is_list frames f
+
+-- a list is not directly in a list
+no_list_around : (frames : List Frame) (f : Frame) → AreNested (frames ++ f ∷ []) → is_list f.block.kind ≡ true
+    → innermost_is is_list frames ≡ false
+no_list_around [] f nested list = refl
+no_list_around (g ∷ []) f nested list = nested.0 ∙ list_no_item f.block.kind list
+no_list_around (g ∷ h ∷ frames) f nested list =
+    innermost_in is_list g h frames ∙ no_list_around (h ∷ frames) f nested.1 list
+
+-- outside a list is no list
+pub no_list_outside : (frames : List Frame) (f : Frame) → AreNested (frames ++ f ∷ [])
+    → innermost_is is_list (frames ++ f ∷ []) ≡ true → innermost_is is_list frames ≡ false
+no_list_outside frames f nested list = no_list_around frames f nested (sym (inner_last is_list frames f) ∙ list)
