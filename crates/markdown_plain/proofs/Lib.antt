@@ -13,3 +13,6 @@ pub mod EndedParagraphsLemmas
 pub mod ParagraphsLemmas
 pub mod DividedLemmas
 pub mod ListLoosenessLemmas
+-- on open containers, and on blocks that are appended inside them
+pub mod AppendedBlocksLemmas
+pub mod OpenedFramesLemmas

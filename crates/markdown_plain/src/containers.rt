@@ -264,6 +264,14 @@ pub fn reach(pass: &Pass<'_>, line: Line) -> Reached
 }
 
 impl<'a> Pass<'a> {
+    ghost use Rattle.std.specs.Prelude.{false};
+    ghost use Rattle.markdown_base.specs.Forest.{Forest, nil};
+    ghost use Rattle.markdown_block_rules.specs.BlockGrowth.{Block};
+    ghost use Rattle.markdown_lines.specs.BlockBeginnings.{Source};
+    ghost use Rattle.markdown_plain.specs.Frames.{Frame, innermost_is, is_list};
+    ghost use Rattle.markdown_plain.specs.OpenedFrames.{quote_kind, with_frame};
+    ghost use Rattle.markdown_plain.specs.Settled.{IsBuilt};
+
     /// Opens a block quote, an alert of a kind or none, whose marker is at the byte offset `at`.
     pub fn open_quote(&mut self, at: usize, kind: Option<BlockQuoteKind>) -> Result<(), AllocError>
         ensures text { IfOk result (λ _. self.new.placing.builder.text
@@ -271,6 +279,11 @@ impl<'a> Pass<'a> {
         ensures opens { IfOk result (λ _.
             IfFitted self.old.placing self.new.placing (self.new.placing.builder
             ≡ opened self.old.placing.builder at (body.BlockQuote kind))) }
+        ensures frame { IfOk result (λ _. (s : Source) (frames : List Frame) (inside : Forest Block)
+            (b : Block) → IsBuilt s self.old.placing.builder frames inside
+            → innermost_is is_list frames ≡ false → b.start ≡ at → b.kind ≡ quote_kind kind
+            → IfFitted self.old.placing self.new.placing
+            (IsBuilt s self.new.placing.builder (with_frame frames inside b) nil)) }
         ensures same { self.new ≡ record self.old { placing = self.new.placing } }
     {
         self.placing.step_to(at);

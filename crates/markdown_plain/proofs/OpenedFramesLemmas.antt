@@ -1,0 +1,181 @@
+-- A container that is opened: one more frame, and nothing else of the tree changes.
+use Rattle.std.proofs.Common.{◌≡◌, ℕ, zero, suc, Bool, false, List, [], ◌∷◌, ◌++◌, Some, refl, sym, ap}
+use Rattle.std.proofs.Common.{◌∙◌, Option, None, subst, arith, append-nil}
+use Rattle.std.specs.Prelude.{slice_get}
+use native.Mathlib.Numerals.{unary_clauses}
+use Rattle.markdown_base.specs.Forest.{Forest, nil, node}
+use Rattle.markdown_base.specs.declared.item.ItemBody.{ItemBody}
+use Rattle.markdown_base.specs.declared.item.ItemBody.TheVariants as body
+use Rattle.markdown_base.specs.declared.tag.BlockQuoteKind.{BlockQuoteKind}
+use Rattle.markdown_builder.specs.declared.open_block.OpenBlock.{OpenBlock}
+use Rattle.markdown_builder.specs.Bodies.{is_leaf}
+use Rattle.markdown_builder.specs.BuilderView.{BuilderView, Opens}
+use Rattle.markdown_builder.specs.TreeLevels.{followed_by}
+use Rattle.markdown_lines.specs.BlockBeginnings.{Source}
+use Rattle.markdown_block_rules.specs.BlockGrowth as was
+use Rattle.markdown_block_rules.specs.BlockGrowth.{Block, Kind}
+use Rattle.markdown_block_rules.specs.BlockRules.{Around, definitions_in, footnotes_in, in_no_item, label_of}
+use Rattle.markdown_block_rules.specs.BlockRules.{paragraph_lines, shown_blocks}
+use Rattle.markdown_lines.specs.DefinitionRules.{divided, divided_in}
+use Rattle.markdown_scan.specs.Entity.{entity_names}
+use Rattle.markdown_plain.specs.Fitting.{stepped}
+use Rattle.markdown_plain.specs.Frames.{AreNested, Frame, forgotten, innermost_is, is_item, is_list, rebuilt}
+use Rattle.markdown_plain.specs.Settled.{AreOpen, IsBodyOf, IsBuilt, IsOpen, around_in, levels_shown}
+use Rattle.markdown_plain.specs.OpenedFrames.{quote_kind, with_frame}
+use Rattle.markdown_plain.proofs.AppendedBlocksLemmas.{definitions_appended, footnotes_appended}
+
+-- ---- one more frame
+
+-- the innermost container closed: the same blocks
+pub rebuilt_more : (frames : List Frame) (f : Frame) (inside : Forest Block)
+    → rebuilt (frames ++ f ∷ []) inside ≡ rebuilt frames (forgotten f inside)
+rebuilt_more [] f inside = refl
+rebuilt_more (g ∷ frames) f inside =
+    ap (λ r. followed_by g.before (node g.block r nil)) (rebuilt_more frames f inside)
+
+levels_more : (s : Source) (around : Around) (frames : List Frame) (f : Frame)
+    → levels_shown s around (frames ++ f ∷ []) nil ≡ levels_shown s around frames f.before ++ nil ∷ []
+unfolding shown_blocks
+levels_more s around [] f = refl
+levels_more s around (g ∷ frames) f =
+    ap (λ ls. shown_blocks s around g.before ∷ ls) (levels_more s (around_in g.block g.block.kind) frames f)
+
+-- the innermost of at least two
+innermost_inside : (test : Kind → Bool) (f g : Frame) (frames : List Frame)
+    → innermost_is test (f ∷ g ∷ frames) ≡ innermost_is test (g ∷ frames)
+innermost_inside test f g frames = simp unary_clauses refl
+
+nested_more : (frames : List Frame) (f : Frame) → innermost_is is_list frames ≡ is_item f.block.kind
+    → AreNested frames → AreNested (frames ++ f ∷ [])
+nested_more [] f fits nested = tt
+nested_more (g ∷ []) f fits nested = (fits, tt)
+nested_more (g ∷ h ∷ frames) f fits nested =
+    (nested.0, nested_more (h ∷ frames) f (sym (innermost_inside is_list g h frames) ∙ fits) nested.1)
+
+-- ---- the open blocks
+
+-- with more texts a body is that of the same container
+body_after : (texts more : List (List ℕ)) (kind : Kind) (b : ItemBody) → IsBodyOf texts kind b
+    → IsBodyOf (texts ++ more) kind b
+body_after texts more was.quote_container b is = is
+body_after texts more (was.alert_container kind) b is = is
+body_after texts more (was.list_container marker) b is = is
+body_after texts more (was.item_container indent) b is = is
+body_after texts more (was.footnote_container label) b is = (is.0, is.1, get_after texts more is.0.0 label is.2)
+  where
+    get_after : (xs ys : List (List ℕ)) (n : ℕ) (x : List ℕ) → slice_get xs n ≡ Some x → slice_get (xs ++ ys) n ≡ Some x
+    get_after [] ys n x e = absurd (grind (arith, e))
+    get_after (y ∷ xs) ys zero x e = e
+    get_after (y ∷ xs) ys (suc n) x e = get_after xs ys n x e
+body_after texts more other b is = absurd is
+
+open_after : (texts more : List (List ℕ)) (blocks : List OpenBlock) (frames : List Frame) → AreOpen texts blocks frames
+    → AreOpen (texts ++ more) blocks frames
+open_after texts more [] [] are = tt
+open_after texts more [] (f ∷ frames) are = absurd are
+open_after texts more (block ∷ blocks) [] are = absurd are
+open_after texts more (block ∷ blocks) (f ∷ frames) are = (
+  record { start = are.0.start; body = body_after texts more f.block.kind block.body are.0.body },
+  open_after texts more blocks frames are.1,
+)
+
+open_more : (texts : List (List ℕ)) (blocks : List OpenBlock) (frames : List Frame) (block : OpenBlock) (f : Frame)
+    → AreOpen texts blocks frames → IsOpen texts block f → AreOpen texts (blocks ++ block ∷ []) (frames ++ f ∷ [])
+open_more texts [] [] block f are is = (is, tt)
+open_more texts [] (g ∷ frames) block f are is = absurd are
+open_more texts (other ∷ blocks) [] block f are is = absurd are
+open_more texts (other ∷ blocks) (g ∷ frames) block f are is =
+    (are.0, open_more texts blocks frames block f are.1 is)
+
+-- ---- what is built
+
+-- a builder has opened a container, and changed nothing else, but that texts may follow the others
+pub record OpensContainer (old new : BuilderView) (b : Block) : Type 0 where
+  pub block : OpenBlock
+  pub more : List (List ℕ)
+  pub start : block.start ≡ b.start
+  pub body : IsBodyOf new.texts b.kind block.body
+  pub text : new.text ≡ old.text
+  pub blocks : new.blocks ≡ old.blocks ++ block ∷ []
+  pub outside : new.leaf ≡ false
+  pub levels : new.levels ≡ old.levels ++ nil ∷ []
+  pub texts : new.texts ≡ old.texts ++ more
+  pub definitions : new.definitions ≡ old.definitions
+  pub footnotes : new.footnotes ≡ old.footnotes ++ label_of b.kind
+
+-- a container has no lines of its own, and so no definitions
+no_lines : (texts : List (List ℕ)) (kind : Kind) (b : ItemBody) → IsBodyOf texts kind b → paragraph_lines kind ≡ []
+no_lines texts (was.paragraph_leaf lines) b is = absurd is
+no_lines texts (was.underlined_leaf level lines) b is = absurd is
+no_lines texts other b is = refl
+
+none_of_lines : (s : Source) (b : Block) → paragraph_lines b.kind ≡ [] → definitions_in s (node b nil nil) ≡ []
+unfolding definitions_in divided_in
+none_of_lines s b none =
+    ap (λ lines. (divided (entity_names s.options) s.text lines).definitions ++ ([] ++ [])) none
+
+own_label : (b : Block) → footnotes_in (node b nil nil) ≡ label_of b.kind
+unfolding footnotes_in
+own_label b = append-nil (label_of b.kind)
+
+pub opened_is_built : (s : Source) (old new : BuilderView) (frames : List Frame) (inside : Forest Block) (b : Block)
+    → OpensContainer old new b → innermost_is is_list frames ≡ is_item b.kind → IsBuilt s old frames inside
+    → IsBuilt s new (with_frame frames inside b) nil
+opened_is_built s old new frames inside b opens fits built =
+    let f : Frame = record { before = inside; block = b } in
+    let open_still = subst (λ texts. AreOpen texts old.blocks frames) (sym opens.texts)
+    (open_after old.texts opens.more old.blocks frames built.blocks) in
+    let open_now = open_more new.texts old.blocks frames opens.block f open_still
+    (record { start = opens.start; body = opens.body }) in
+    record {
+      text = opens.text ∙ built.text;
+      blocks = subst (λ blocks. AreOpen new.texts blocks (frames ++ f ∷ [])) (sym opens.blocks) open_now;
+      nested = nested_more frames f fits built.nested;
+      outside = opens.outside;
+      levels = opens.levels ∙ (ap (λ ls. ls ++ nil ∷ []) built.levels ∙ sym (levels_more s in_no_item frames f));
+      definitions = opens.definitions ∙ (built.definitions ∙ sym (ap (definitions_in s) (rebuilt_more frames f nil)
+          ∙ (definitions_appended s frames inside (node b nil nil)
+          ∙ (ap (λ ds. definitions_in s (rebuilt frames inside) ++ ds)
+          (none_of_lines s b (no_lines new.texts b.kind opens.block.body opens.body))
+          ∙ append-nil (definitions_in s (rebuilt frames inside))))));
+      footnotes = opens.footnotes ∙ (ap (λ ls. ls ++ label_of b.kind) built.footnotes
+          ∙ sym (ap footnotes_in (rebuilt_more frames f nil) ∙ (footnotes_appended frames inside (node b nil nil)
+          ∙ ap (λ ls. footnotes_in (rebuilt frames inside) ++ ls) (own_label b))));
+    }
+
+-- ---- containers that refer to nothing
+
+pub record IsPlain (kind : Kind) (b : ItemBody) : Type 0 where
+  pub inner : is_leaf b ≡ false
+  pub is : (texts : List (List ℕ)) → IsBodyOf texts kind b
+  pub unnamed : label_of kind ≡ []
+
+pub quote_is : (kind : Option BlockQuoteKind) → IsPlain (quote_kind kind) (body.BlockQuote kind)
+quote_is None = record { inner = refl; is = λ texts. refl; unnamed = refl }
+quote_is (Some kind) = record { inner = refl; is = λ texts. refl; unnamed = refl }
+
+pub quote_outside : (kind : Option BlockQuoteKind) → is_item (quote_kind kind) ≡ false
+quote_outside None = refl
+quote_outside (Some kind) = refl
+
+-- one of these is opened at a byte offset
+pub plain_is_built : (s : Source) (old new : BuilderView) (frames : List Frame) (inside : Forest Block) (b : Block)
+    (at : ℕ) (kind : Kind) (now : ItemBody) → IsPlain kind now → Opens (stepped old at) new now
+    → b.start ≡ at → b.kind ≡ kind → innermost_is is_list frames ≡ is_item kind → IsBuilt s old frames inside
+    → IsBuilt s new (with_frame frames inside b) nil
+plain_is_built s old new frames inside b at kind now plain opens start same fits built =
+    opened_is_built s old new frames inside b (record {
+      block = record { start = at; body = now };
+      more = [];
+      start = sym start;
+      body = subst (λ k. IsBodyOf new.texts k now) (sym same) (plain.is new.texts);
+      text = ap (λ (v : BuilderView). v.text) opens;
+      blocks = ap (λ (v : BuilderView). v.blocks) opens;
+      outside = ap (λ (v : BuilderView). v.leaf) opens ∙ plain.inner;
+      levels = ap (λ (v : BuilderView). v.levels) opens;
+      texts = ap (λ (v : BuilderView). v.texts) opens ∙ sym (append-nil old.texts);
+      definitions = ap (λ (v : BuilderView). v.definitions) opens;
+      footnotes = ap (λ (v : BuilderView). v.footnotes) opens
+          ∙ (sym (append-nil old.footnotes)
+          ∙ ap (λ ls. old.footnotes ++ ls) (sym (ap label_of same ∙ plain.unnamed)));
+    }) (fits ∙ ap is_item (sym same)) built
