@@ -1,7 +1,8 @@
 -- A container that is opened: one more frame, and nothing else of the tree changes.
-use Rattle.std.proofs.Common.{◌≡◌, ℕ, zero, suc, Bool, false, List, [], ◌∷◌, ◌++◌, Some, refl, sym, ap}
+use Rattle.std.proofs.Common.{◌≡◌, ℕ, zero, suc, Bool, true, false, List, [], ◌∷◌, ◌++◌, Some, refl, sym, ap}
 use Rattle.std.proofs.Common.{◌∙◌, Option, None, subst, arith, append-nil}
-use Rattle.std.specs.Prelude.{slice_get}
+use Rattle.std.specs.Prelude.{slice_get, ◌==◌}
+use Rattle.std.proofs.lemmas.Bool.Decides.{nat_tests}
 use native.Mathlib.Numerals.{unary_clauses}
 use Rattle.markdown_base.specs.Forest.{Forest, nil, node}
 use Rattle.markdown_base.specs.declared.item.ItemBody.{ItemBody}
@@ -21,7 +22,10 @@ use Rattle.markdown_scan.specs.Entity.{entity_names}
 use Rattle.markdown_plain.specs.Fitting.{stepped}
 use Rattle.markdown_plain.specs.Frames.{AreNested, Frame, forgotten, innermost_is, is_item, is_list, rebuilt}
 use Rattle.markdown_plain.specs.Settled.{AreOpen, IsBodyOf, IsBuilt, IsOpen, around_in, levels_shown}
-use Rattle.markdown_plain.specs.OpenedFrames.{quote_kind, with_frame}
+use Rattle.markdown_plain.specs.OpenedFrames.{is_list_for, quote_kind, with_frame}
+use Rattle.markdown_plain.specs.NewContainers.{is_list_of}
+use Rattle.markdown_plain.specs.OpenBlocks as own
+use Rattle.markdown_lines.specs.declared.list_marker.ListMarker.{ListMarker}
 use Rattle.markdown_plain.proofs.AppendedBlocksLemmas.{definitions_appended, footnotes_appended}
 
 -- ---- one more frame
@@ -179,3 +183,65 @@ plain_is_built s old new frames inside b at kind now plain opens start same fits
           ∙ (sym (append-nil old.footnotes)
           ∙ ap (λ ls. old.footnotes ++ ls) (sym (ap label_of same ∙ plain.unnamed)));
     }) (fits ∙ ap is_item (sym same)) built
+
+-- ---- the innermost container, as an open block
+
+-- a test of bodies is one of kinds
+abbrev TestsAlike : (ItemBody → Bool) → (Kind → Bool) → Type 0
+TestsAlike test is = (texts : List (List ℕ)) (kind : Kind) (b : ItemBody) → IsBodyOf texts kind b → test b ≡ is kind
+
+lists_alike : TestsAlike own.is_list is_list
+lists_alike texts was.quote_container b e = ap own.is_list e
+lists_alike texts (was.alert_container kind) b e = ap own.is_list e
+lists_alike texts (was.list_container marker) b e = ap own.is_list e
+lists_alike texts (was.item_container indent) b e = ap own.is_list e
+lists_alike texts (was.footnote_container label) b e = ap own.is_list e.1
+lists_alike texts other b e = absurd e
+
+goes_on_alike : (marker : ListMarker) → TestsAlike (is_list_of marker.character) (is_list_for marker)
+goes_on_alike marker texts was.quote_container b e = ap (is_list_of marker.character) e
+goes_on_alike marker texts (was.alert_container kind) b e = ap (is_list_of marker.character) e
+goes_on_alike marker texts (was.list_container found) b e =
+    ap (is_list_of marker.character) e ∙ turned found.character marker.character
+  where
+    turned : (m n : ℕ) → (m == n) ≡ (n == m)
+    turned m n = grind (arith, nat_tests)
+goes_on_alike marker texts (was.item_container indent) b e = ap (is_list_of marker.character) e
+goes_on_alike marker texts (was.footnote_container label) b e = ap (is_list_of marker.character) e.1
+goes_on_alike marker texts other b e = absurd e
+
+innermost_alike : (test : ItemBody → Bool) (is : Kind → Bool) → TestsAlike test is → (texts : List (List ℕ))
+    (blocks : List OpenBlock) (frames : List Frame) → AreOpen texts blocks frames
+    → own.innermost_is test blocks ≡ innermost_is is frames
+innermost_alike test is alike texts [] [] are = refl
+innermost_alike test is alike texts [] (f ∷ frames) are = absurd are
+innermost_alike test is alike texts (block ∷ blocks) [] are = absurd are
+innermost_alike test is alike texts (block ∷ []) (f ∷ []) are = alike texts f.block.kind block.body are.0.body
+innermost_alike test is alike texts (block ∷ []) (f ∷ g ∷ frames) are = absurd are.1
+innermost_alike test is alike texts (block ∷ inner ∷ blocks) (f ∷ []) are = absurd are.1
+innermost_alike test is alike texts (block ∷ inner ∷ blocks) (f ∷ g ∷ frames) are =
+    block_inside test block inner blocks
+    ∙ (innermost_alike test is alike texts (inner ∷ blocks) (g ∷ frames) are.1 ∙ sym (innermost_inside is f g frames))
+  where
+    block_inside : (test : ItemBody → Bool) (block inner : OpenBlock) (blocks : List OpenBlock)
+        → own.innermost_is test (block ∷ inner ∷ blocks) ≡ own.innermost_is test (inner ∷ blocks)
+    block_inside test block inner blocks = simp unary_clauses refl
+
+pub list_innermost : (s : Source) (view : BuilderView) (frames : List Frame) (inside : Forest Block)
+    → IsBuilt s view frames inside → own.innermost_is own.is_list view.blocks ≡ innermost_is is_list frames
+list_innermost s view frames inside built =
+    innermost_alike own.is_list is_list lists_alike view.texts view.blocks frames built.blocks
+
+pub list_goes_on : (marker : ListMarker) (s : Source) (view : BuilderView) (frames : List Frame)
+    (inside : Forest Block) → IsBuilt s view frames inside
+    → own.innermost_is (is_list_of marker.character) view.blocks ≡ innermost_is (is_list_for marker) frames
+list_goes_on marker s view frames inside built =
+    innermost_alike (is_list_of marker.character) (is_list_for marker) (goes_on_alike marker) view.texts view.blocks
+    frames built.blocks
+
+pub list_is : (marker : ListMarker)
+    → IsPlain (was.list_container marker) (body.List true marker.character marker.first)
+list_is marker = record { inner = refl; is = λ texts. refl; unnamed = refl }
+
+pub item_is : (indent : ℕ) → IsPlain (was.item_container indent) (body.ListItem indent)
+item_is indent = record { inner = refl; is = λ texts. refl; unnamed = refl }

@@ -266,10 +266,10 @@ pub fn reach(pass: &Pass<'_>, line: Line) -> Reached
 impl<'a> Pass<'a> {
     ghost use Rattle.std.specs.Prelude.{false};
     ghost use Rattle.markdown_base.specs.Forest.{Forest, nil};
-    ghost use Rattle.markdown_block_rules.specs.BlockGrowth.{Block};
+    ghost use Rattle.markdown_block_rules.specs.BlockGrowth.{Block, list_container};
     ghost use Rattle.markdown_lines.specs.BlockBeginnings.{Source};
     ghost use Rattle.markdown_plain.specs.Frames.{Frame, innermost_is, is_list};
-    ghost use Rattle.markdown_plain.specs.OpenedFrames.{quote_kind, with_frame};
+    ghost use Rattle.markdown_plain.specs.OpenedFrames.{is_list_for, quote_kind, with_frame};
     ghost use Rattle.markdown_plain.specs.Settled.{IsBuilt};
 
     /// Opens a block quote, an alert of a kind or none, whose marker is at the byte offset `at`.
@@ -324,6 +324,16 @@ impl<'a> Pass<'a> {
         ensures around { IfOk result (λ _. IfFitted self.old.placing self.new.placing
             (self.new.placing.builder.blocks
             ≡ opening.around_item at marker self.old.placing.builder.blocks)) }
+        ensures continues { IfOk result (λ _. (s : Source) (frames : List Frame) (inside : Forest Block)
+            → IsBuilt s self.old.placing.builder frames inside
+            → innermost_is (is_list_for marker) frames ≡ true
+            → IfFitted self.old.placing self.new.placing
+            (IsBuilt s self.new.placing.builder frames inside)) }
+        ensures begins { IfOk result (λ _. (s : Source) (frames : List Frame) (inside : Forest Block)
+            (b : Block) → IsBuilt s self.old.placing.builder frames inside
+            → innermost_is is_list frames ≡ false → b.start ≡ at → b.kind ≡ list_container marker
+            → IfFitted self.old.placing self.new.placing
+            (IsBuilt s self.new.placing.builder (with_frame frames inside b) nil)) }
         ensures empty { IfOk result (λ _. self.new.looseness.item_is_empty ≡ true) }
         ensures same { self.new ≡ record self.old {
           placing = self.new.placing;
