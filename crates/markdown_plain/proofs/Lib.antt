@@ -16,3 +16,6 @@ pub mod ListLoosenessLemmas
 -- on open containers, and on blocks that are appended inside them
 pub mod AppendedBlocksLemmas
 pub mod OpenedFramesLemmas
+-- on open containers that are closed
+pub mod TightBlocksLemmas
+pub mod ClosedFramesLemmas

@@ -17,3 +17,4 @@ pub mod ParagraphItems
 pub mod Frames
 pub mod Settled
 pub mod OpenedFrames
+pub mod Closing

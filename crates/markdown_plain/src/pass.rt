@@ -1,9 +1,14 @@
 //! The state of the block pass between two lines, and the closing of blocks. Functions that return a `Result` fail only
 //! where memory is refused.
-ghost use Rattle.std.specs.Prelude.{◌≡◌, [], ◌&&◌, true, false, not, length, take, IfOk};
+ghost use Rattle.std.specs.Prelude.{◌≡◌, ◌≤◌, List, [], ◌∷◌, ◌++◌, ◌&&◌, true, false, not, length, take, drop, IfOk};
 ghost use Rattle.std.specs.Option.{option_map};
+ghost use Rattle.markdown_base.specs.Forest.{Forest};
 ghost use Rattle.markdown_base.specs.declared.item.ItemBody.TheVariants as body;
 ghost use Rattle.markdown_builder.specs.BuilderView.{BuilderView, innermost_block, nothing_made};
+ghost use Rattle.markdown_lines.specs.BlockBeginnings.{Source};
+ghost use Rattle.markdown_block_rules.specs.BlockGrowth.{Block};
+ghost use Rattle.markdown_plain.specs.Closing.{MayClose, StandsFor};
+ghost use Rattle.markdown_plain.specs.Frames.{Frame, forgotten, rebuilt, room_depth};
 ghost use Rattle.markdown_plain.specs.Fitting.{AllFitted, HasBody, IfFitted, PutsBlock, closed};
 ghost use Rattle.markdown_plain.specs.OpenBlocks.{innermost_is, is_list, room_in, without_leaf};
 ghost use Rattle.markdown_plain.specs.Containers.{closing_place};
@@ -125,6 +130,10 @@ impl<'a> Pass<'a> {
         ensures stands { self.new.looseness.item_is_empty
             ≡ (not (innermost_is is_list self.old.placing.builder.blocks)
             && self.old.looseness.item_is_empty) }
+        ensures forgets { (s : Source) (frames : List Frame) (f : Frame) (inside : Forest Block)
+            → MayClose s self.old (frames ++ f ∷ []) inside
+            → IfFitted self.old.placing self.new.placing
+            (MayClose s self.new frames (forgotten f inside)) }
     {
         match innermost(&self.placing) {
             Some(ItemBody::List(_, character, first)) => {
@@ -255,6 +264,10 @@ fn close_list(placing: &mut Placing<'_>, character: u8, first: u64, loose: bool)
         × (placing.new.builder ≡ closed settled placing.new.builder.levels)) }
     ensures closes { IfFitted placing.old placing.new
         (placing.new.builder ≡ closed placing.old.builder placing.new.builder.levels) }
+    ensures tree { IfFitted placing.old placing.new ((settled : BuilderView)
+        × (settled ≡ record placing.old.builder { blocks = settled.blocks })
+        × HasBody placing.old.builder settled (body.List (not loose) character first)
+        × PutsBlock settled placing.new.builder) }
 {
     placing.change(ItemBody::List(!loose, character, first));
     placing.close();

@@ -1,0 +1,510 @@
+-- Open containers that are closed: the blocks are the same.
+use Rattle.std.proofs.Common.{◌≡◌, ◌∙◌, ℕ, suc, Bool, true, false, List, [], ◌∷◌, ◌++◌, Some, None}
+use Rattle.std.proofs.Common.{not, append-nil, true≢false, length, refl, sym, ap, subst}
+use Rattle.std.specs.Prelude.{if◌then◌else◌}
+use Rattle.std.specs.Option.{option_map, option_map_or}
+use Rattle.std.proofs.lemmas.Option.{same_Some}
+use Rattle.markdown_base.specs.Forest.{Forest, nil, node}
+use Rattle.markdown_base.specs.declared.item.ItemBody.{ItemBody}
+use Rattle.markdown_base.specs.declared.item.ItemBody.TheVariants as body
+use Rattle.markdown_builder.specs.declared.open_block.OpenBlock.{OpenBlock}
+use Rattle.markdown_builder.specs.BuilderView.{BuilderView, innermost_block, parts_of}
+use Rattle.markdown_builder.specs.Shown.{Parts, Shown, plain_item, settled_below, shown_item, with_block}
+use Rattle.markdown_builder.specs.TreeLevels.{followed_by, with_trees}
+use Rattle.markdown_builder.proofs.LaidLemmas.{followed_by-assoc}
+use Rattle.markdown_lines.specs.BlockBeginnings.{Source}
+use Rattle.markdown_block_rules.specs.BlockGrowth as was
+use Rattle.markdown_block_rules.specs.BlockGrowth.{Block, Kind}
+use Rattle.markdown_block_rules.specs.BlockRules.{Around, block_end, in_no_item, is_blank_block, is_loose, last_end}
+use Rattle.markdown_block_rules.specs.BlockRules.{definitions_in, footnotes_in, shown_block, shown_blocks, shown_over}
+use Rattle.markdown_plain.specs.declared.looseness.Looseness.{Looseness}
+use Rattle.markdown_plain.specs.declared.pass.Pass.{Pass}
+use Rattle.markdown_plain.specs.Closing.{AreItemsInLists, MayClose, StandsFor}
+use Rattle.markdown_plain.specs.Fitting.{HasBody, PutsBlock, closed, stepped}
+use Rattle.markdown_plain.specs.Frames.{AreNested, Frame, forgotten, is_list, is_quote, rebuilt}
+use Rattle.markdown_plain.specs.OpenBlocks as blocks
+use Rattle.markdown_plain.specs.OpenBlocks.{outer_of}
+use Rattle.markdown_plain.specs.Settled.{AreOpen, IsBodyOf, IsOpen, QuotesEnd, are_loose, around_in, levels_shown}
+use Rattle.markdown_plain.specs.Settled.{placed_end}
+use Rattle.markdown_plain.proofs.LeafTreesLemmas.{closed_tree}
+use Rattle.markdown_plain.proofs.OpenBlocksLemmas.{innermost_of_opened, outer_of_these}
+use Rattle.markdown_plain.proofs.TightBlocksLemmas.{items_made_tight}
+
+-- ---- the blocks
+
+-- a container that is closed is the last block in the one around it
+pub rebuilt_more : (frames : List Frame) (f : Frame) (inside : Forest Block)
+    → rebuilt (frames ++ f ∷ []) inside ≡ rebuilt frames (forgotten f inside)
+rebuilt_more [] f inside = refl
+rebuilt_more (g ∷ frames) f inside =
+    ap (λ blocks. followed_by g.before (node g.block blocks nil)) (rebuilt_more frames f inside)
+
+-- the items of the innermost container, where that is a list
+items_inside : (frames : List Frame) (f : Frame) (inside : Forest Block) (in_list : Bool)
+    → AreItemsInLists in_list (rebuilt (frames ++ f ∷ []) inside) → AreItemsInLists (is_list f.block.kind) inside
+items_inside frames f inside in_list are = within frames f inside in_list are
+  where
+    last_of : (in_list : Bool) (before : Forest Block) (b : Block) (below : Forest Block)
+        → AreItemsInLists in_list (followed_by before (node b below nil)) → AreItemsInLists (is_list b.kind) below
+    last_of in_list nil b below are = are.1
+    last_of in_list (node a others after) b below are = last_of in_list after b below are.2
+
+    within : (frames : List Frame) (f : Frame) (inside : Forest Block) (in_list : Bool)
+        → AreItemsInLists in_list (rebuilt (frames ++ f ∷ []) inside) → AreItemsInLists (is_list f.block.kind) inside
+    within [] f inside in_list are = last_of in_list f.before f.block inside are
+    within (g ∷ frames) f inside in_list are =
+        within frames f inside (is_list g.block.kind)
+        (last_of in_list g.before g.block (rebuilt (frames ++ f ∷ []) inside) are)
+
+-- ---- the closed trees
+
+shown_of_both : (s : Source) (around : Around) (f g : Forest Block)
+    → shown_blocks s around (followed_by f g) ≡ followed_by (shown_blocks s around f) (shown_blocks s around g)
+unfolding shown_blocks
+shown_of_both s around nil g = refl
+shown_of_both s around (node b below after) g =
+    ap (λ rest. followed_by (shown_block s around b (block_end b (last_end b.first below) b.kind) below
+    (λ inside. shown_blocks s inside below) b.kind) rest) (shown_of_both s around after g)
+    ∙ sym (followed_by-assoc _ (shown_blocks s around after) (shown_blocks s around g))
+
+-- in an open container no list is tight yet
+none_tight : (b : Block) (kind : Kind) → (around_in b kind).tight ≡ false
+none_tight b (was.item_container indent) = refl
+none_tight b other = refl
+
+-- an item is the innermost container, closed, with what is in it
+abbrev IsClosedItem : Source → Frame → Forest Block → Shown → Type 0
+IsClosedItem s f inside a = (around : Around) → around.tight ≡ false
+    → node a (settled_below a (shown_blocks s (around_in f.block f.block.kind) inside)) nil
+    ≡ shown_blocks s around (node f.block inside nil)
+
+levels_parted : (s : Source) (around : Around) (frames : List Frame) (f : Frame) (inside : Forest Block)
+    → levels_shown s around (frames ++ f ∷ []) inside
+    ≡ levels_shown s around frames f.before ++ shown_blocks s (around_in f.block f.block.kind) inside ∷ []
+levels_parted s around [] f inside = refl
+levels_parted s around (g ∷ frames) f inside =
+    ap (λ levels. shown_blocks s around g.before ∷ levels)
+    (levels_parted s (around_in g.block g.block.kind) frames f inside)
+
+some_level : (s : Source) (around : Around) (frames : List Frame) (inside : Forest Block)
+    → levels_shown s around frames inside ≡ [] → ⊥
+some_level s around [] inside e = cc (e)
+some_level s around (f ∷ frames) inside e = cc (e)
+
+levels_grown : (s : Source) (around : Around) (frames : List Frame) (f : Frame) (inside : Forest Block)
+    (new : Forest Shown) → around.tight ≡ false
+    → ((other : Around) → other.tight ≡ false → new ≡ shown_blocks s other (node f.block inside nil))
+    → with_trees (levels_shown s around frames f.before) new ≡ levels_shown s around frames (forgotten f inside)
+levels_grown s around [] f inside new loose is =
+    ap (λ trees. followed_by (shown_blocks s around f.before) trees ∷ []) (is around loose)
+    ∙ ap (λ level. level ∷ []) (sym (shown_of_both s around f.before (node f.block inside nil)))
+levels_grown s around (g ∷ []) f inside new loose is =
+    ap (λ levels. shown_blocks s around g.before ∷ levels)
+    (levels_grown s (around_in g.block g.block.kind) [] f inside new (none_tight g.block g.block.kind) is)
+levels_grown s around (g ∷ h ∷ frames) f inside new loose is =
+    ap (λ levels. shown_blocks s around g.before ∷ levels)
+    (levels_grown s (around_in g.block g.block.kind) (h ∷ frames) f inside new (none_tight g.block g.block.kind) is)
+
+levels_closed : (s : Source) (frames : List Frame) (f : Frame) (inside : Forest Block) (a : Shown)
+    → IsClosedItem s f inside a
+    → with_block (levels_shown s in_no_item (frames ++ f ∷ []) inside) a
+    ≡ levels_shown s in_no_item frames (forgotten f inside)
+levels_closed s frames f inside a is =
+    ap (λ levels. with_block levels a) (levels_parted s in_no_item frames f inside)
+    ∙ (closed_tree (levels_shown s in_no_item frames f.before)
+    (shown_blocks s (around_in f.block f.block.kind) inside) a (some_level s in_no_item frames f.before)
+    ∙ levels_grown s in_no_item frames f inside _ refl is)
+
+-- ---- the item of a container
+
+-- the body that a block is closed with: of a list it is known then whether it is loose
+abbrev pub closed_body : Bool → ItemBody → ItemBody
+closed_body loose (body.List tight character first) = body.List (not loose) character first
+closed_body loose other = other
+
+-- an open block as an item that ends at a byte offset, where it is loose if it is a list
+abbrev closed_as : Parts → OpenBlock → ℕ → Bool → Shown
+closed_as parts block end loose =
+    shown_item parts (record { start = block.start; end = end; body = closed_body loose block.body })
+
+abbrev IsShownClosed : Source → Parts → Around → Block → Forest Block → Kind → ItemBody → Type 0
+IsShownClosed s parts around b inside kind opened =
+    let end = block_end b (last_end b.first inside) kind in
+    let a = closed_as parts (record { start = b.start; body = opened }) end (is_loose inside) in
+    node a (settled_below a (shown_blocks s (around_in b kind) inside)) nil
+    ≡ followed_by (shown_block s around b end inside (λ inner. shown_blocks s inner inside) kind) nil
+
+list_shown : (s : Source) (start end character first : ℕ) (inside : Forest Block)
+    → AreItemsInLists true inside → (loose : Bool)
+    → shown_over start end (body.List (not loose) character first) None
+    (settled_below (plain_item start end (body.List (not loose) character first)) (shown_blocks s in_no_item inside))
+    ≡ shown_over start end (body.List (not loose) character first) None
+    (shown_blocks s (record { tight = not loose; marked = 0 }) inside)
+list_shown s start end character first inside items true = refl
+list_shown s start end character first inside items false =
+    ap (λ below. shown_over start end (body.List true character first) None below) (items_made_tight s inside items)
+
+container_shown : (s : Source) (parts : Parts) (around : Around) (b : Block) (inside : Forest Block) (kind : Kind)
+    (opened : ItemBody) → IsBodyOf parts.texts kind opened → AreItemsInLists (is_list kind) inside → around.tight ≡ false
+    → IsShownClosed s parts around b inside kind opened
+container_shown s parts around b inside was.quote_container opened is items loose =
+    subst (λ now. IsShownClosed s parts around b inside was.quote_container now) (sym is) refl
+container_shown s parts around b inside (was.alert_container kind) opened is items loose =
+    subst (λ now. IsShownClosed s parts around b inside (was.alert_container kind) now) (sym is) refl
+container_shown s parts around b inside (was.list_container marker) opened is items loose =
+    subst (λ now. IsShownClosed s parts around b inside (was.list_container marker) now) (sym is)
+    (list_shown s b.start _ marker.character marker.first inside items (is_loose inside))
+container_shown s parts around b inside (was.item_container indent) opened is items loose =
+    subst (λ now. IsShownClosed s parts around b inside (was.item_container indent) now) (sym is)
+    (ap (λ tight. shown_over b.start (last_end b.first inside) (body.ListItem indent) None
+    (shown_blocks s (record { tight = tight; marked = b.first }) inside)) (sym loose))
+container_shown s parts around b inside (was.footnote_container label) opened is items loose =
+    subst (λ now. IsShownClosed s parts around b inside (was.footnote_container label) now) (sym is.1)
+    (ap (λ text. shown_over b.start (last_end b.first inside) (body.FootnoteDefinition (record { 0 = 0 })) text
+    (shown_blocks s in_no_item inside)) is.2)
+container_shown s parts around b inside other opened is items loose = absurd is
+
+-- ---- where blocks end
+
+end_of_both : (before : ℕ) (f g : Forest Block) → last_end before (followed_by f g) ≡ last_end (last_end before f) g
+end_of_both before nil g = refl
+end_of_both before (node b below after) g =
+    end_of_both (if is_blank_block b.kind then before else block_end b (last_end b.first below) b.kind) after g
+
+-- the innermost container ends with what is in it
+end_inside : (before : ℕ) (frames : List Frame) (f : Frame) (inside : Forest Block)
+    → placed_end before (frames ++ f ∷ []) inside ≡ last_end f.block.first inside
+end_inside before [] f inside = refl
+end_inside before (g ∷ frames) f inside = end_inside g.block.first frames f inside
+
+-- once it is closed, the one around it ends where it does
+end_closed : (before : ℕ) (frames : List Frame) (f : Frame) (inside : Forest Block)
+    → is_blank_block f.block.kind ≡ false
+    → placed_end before frames (forgotten f inside)
+    ≡ block_end f.block (last_end f.block.first inside) f.block.kind
+end_closed before [] f inside some =
+    end_of_both before f.before (node f.block inside nil)
+    ∙ ap (λ blank. if blank then last_end before f.before
+    else block_end f.block (last_end f.block.first inside) f.block.kind) some
+end_closed before (g ∷ frames) f inside some = end_closed g.block.first frames f inside some
+
+quotes_outside : (to : ℕ) (frames : List Frame) (f : Frame) → QuotesEnd to (frames ++ f ∷ [])
+    → QuotesEnd to frames × (is_quote f.block.kind ≡ true → f.block.last ≡ to)
+quotes_outside to [] f ends = (tt, ends.0)
+quotes_outside to (g ∷ frames) f ends =
+    let others = quotes_outside to frames f ends.1 in ((ends.0, others.0), others.1)
+
+-- ---- open blocks
+
+nested_outside : (frames : List Frame) (f : Frame) → AreNested (frames ++ f ∷ []) → AreNested frames
+nested_outside [] f nested = tt
+nested_outside (g ∷ []) f nested = tt
+nested_outside (g ∷ h ∷ frames) f nested = (nested.0, nested_outside (h ∷ frames) f nested.1)
+
+-- the innermost of some open containers, and those outside it
+pub record IsOpenInside (texts : List (List ℕ)) (blocks : List OpenBlock) (frames : List Frame) (f : Frame)
+    : Type 0 where
+  pub block : OpenBlock
+  pub outer : List OpenBlock
+  pub is : blocks ≡ outer ++ block ∷ []
+  pub opened : IsOpen texts block f
+  pub outside : AreOpen texts outer frames
+
+pub innermost_open : (texts : List (List ℕ)) (blocks : List OpenBlock) (frames : List Frame) (f : Frame)
+    → AreOpen texts blocks (frames ++ f ∷ []) → IsOpenInside texts blocks frames f
+innermost_open texts [] [] f are = absurd are
+innermost_open texts (block ∷ []) [] f are =
+    record { block = block; outer = []; is = refl; opened = are.0; outside = tt }
+innermost_open texts (block ∷ other ∷ blocks) [] f are = absurd are.1
+innermost_open texts [] (g ∷ frames) f are = absurd are
+innermost_open texts (block ∷ blocks) (g ∷ frames) f are =
+    let last = innermost_open texts blocks frames f are.1 in
+    record {
+      block = last.block;
+      outer = block ∷ last.outer;
+      is = ap (λ others. block ∷ others) last.is;
+      opened = last.opened;
+      outside = (are.0, last.outside);
+    }
+
+as_many_open : (texts : List (List ℕ)) (blocks : List OpenBlock) (frames : List Frame) → AreOpen texts blocks frames
+    → length blocks ≡ length frames
+as_many_open texts [] [] are = refl
+as_many_open texts [] (f ∷ frames) are = absurd are
+as_many_open texts (block ∷ blocks) [] are = absurd are
+as_many_open texts (block ∷ blocks) (f ∷ frames) are = ap suc (as_many_open texts blocks frames are.1)
+
+-- ---- loose lists
+
+-- whether the innermost open container is loose, where it is a list
+abbrev own_looseness : Frame → Forest Block → List Bool
+own_looseness f inside = if is_list f.block.kind then is_loose inside ∷ [] else []
+
+loose_parted : (frames : List Frame) (f : Frame) (inside : Forest Block)
+    → are_loose (frames ++ f ∷ []) inside ≡ are_loose frames (forgotten f inside) ++ own_looseness f inside
+loose_parted [] f inside = refl
+loose_parted (g ∷ frames) f inside =
+    both (is_list g.block.kind) _ _ _ _ (ap is_loose (rebuilt_more frames f inside)) (loose_parted frames f inside)
+  where
+    both : (test before after : Bool) (flags others : List Bool) → before ≡ after
+        → flags ≡ others ++ own_looseness f inside
+        → (if test then before ∷ flags else flags)
+        ≡ (if test then after ∷ others else others) ++ own_looseness f inside
+    both true before after flags others same more =
+        ap (λ flag. flag ∷ flags) same ∙ ap (λ flags. after ∷ flags) more
+    both false before after flags others same more = more
+
+-- ---- one container closed
+
+-- tests of a container's kind are those of its block's body
+abbrev AreAlike : Kind → ItemBody → Type 0
+AreAlike kind block = (is_list kind ≡ blocks.is_list block) × (is_quote kind ≡ blocks.is_quote block)
+    × (is_blank_block kind ≡ false)
+
+are_alike : (texts : List (List ℕ)) (kind : Kind) (block : ItemBody) → IsBodyOf texts kind block → AreAlike kind block
+are_alike texts was.quote_container block is = subst (AreAlike was.quote_container) (sym is) (refl, refl, refl)
+are_alike texts (was.alert_container kind) block is =
+    subst (AreAlike (was.alert_container kind)) (sym is) (refl, refl, refl)
+are_alike texts (was.list_container marker) block is =
+    subst (AreAlike (was.list_container marker)) (sym is) (refl, refl, refl)
+are_alike texts (was.item_container indent) block is =
+    subst (AreAlike (was.item_container indent)) (sym is) (refl, refl, refl)
+are_alike texts (was.footnote_container label) block is =
+    subst (AreAlike (was.footnote_container label)) (sym is.1) (refl, refl, refl)
+are_alike texts other block is = absurd is
+
+-- where a container ends that is no block quote, and one that is
+ends_inside : (texts : List (List ℕ)) (kind : Kind) (block : ItemBody) → IsBodyOf texts kind block
+    → is_quote kind ≡ false → (b : Block) (inside : ℕ) → block_end b inside kind ≡ inside
+ends_inside texts was.quote_container block is other b inside = cc (other)
+ends_inside texts (was.alert_container kind) block is other b inside = cc (other)
+ends_inside texts (was.list_container marker) block is other b inside = refl
+ends_inside texts (was.item_container indent) block is other b inside = refl
+ends_inside texts (was.footnote_container label) block is other b inside = refl
+ends_inside texts kind block is other b inside = absurd is
+
+ends_itself : (kind : Kind) → is_quote kind ≡ true → (b : Block) (inside : ℕ) → block_end b inside kind ≡ b.last
+ends_itself was.quote_container quote b inside = refl
+ends_itself (was.alert_container kind) quote b inside = refl
+ends_itself other quote b inside = absurd (true≢false (sym quote))
+
+-- the innermost open block, which is this one, was closed where the container ends
+pub record IsClosed (old new : Pass) (f : Frame) (inside : Forest Block) (block : OpenBlock) : Type 0 where
+  pub builder : new.placing.builder ≡ record (closed old.placing.builder new.placing.builder.levels) {
+    at = new.placing.builder.at;
+  }
+  pub at : new.placing.builder.at ≡ block_end f.block (last_end f.block.first inside) f.block.kind
+  pub levels : new.placing.builder.levels ≡ with_block old.placing.builder.levels
+      (closed_as (parts_of old.placing.builder) block new.placing.builder.at (is_loose inside))
+  pub placed : new.placed ≡ old.placed
+  pub lists : (outer : List Bool) → old.looseness.lists.items ≡ outer ++ own_looseness f inside
+      → new.looseness.lists.items ≡ outer
+
+closed_item : (s : Source) (f : Frame) (inside : Forest Block) (parts : Parts) (block : OpenBlock) (end : ℕ)
+    → IsOpen parts.texts block f → AreItemsInLists (is_list f.block.kind) inside
+    → end ≡ block_end f.block (last_end f.block.first inside) f.block.kind
+    → IsClosedItem s f inside (closed_as parts block end (is_loose inside))
+unfolding shown_blocks
+closed_item s f inside parts block end opened items ends around loose =
+    rw (opened.start, ends)
+    (container_shown s parts around f.block inside f.block.kind block.body opened.body items loose)
+
+-- it is forgotten that it was open
+pub forget : (s : Source) (old new : Pass) (frames : List Frame) (f : Frame) (inside : Forest Block)
+    → MayClose s old (frames ++ f ∷ []) inside
+    → (last : IsOpenInside old.placing.builder.texts old.placing.builder.blocks frames f)
+    → IsClosed old new f inside last.block → MayClose s new frames (forgotten f inside)
+forget s old new frames f inside may last is =
+    let built = may.stands.built in
+    let before = old.placing.builder in
+    let view = new.placing.builder in
+    let tests = are_alike before.texts f.block.kind last.block.body last.opened.body in
+    let same = rebuilt_more frames f inside in
+    let item = closed_as (parts_of before) last.block view.at (is_loose inside) in
+    let outer : view.blocks ≡ last.outer =
+    ap (λ (b : BuilderView). b.blocks) is.builder ∙ outer_of_these before.blocks last.outer last.block last.is in
+    record {
+      stands = record {
+        built = record {
+          text = ap (λ (b : BuilderView). b.text) is.builder ∙ built.text;
+          blocks = subst (λ ts. AreOpen ts view.blocks frames) (sym (ap (λ (b : BuilderView). b.texts) is.builder))
+              (subst (λ bs. AreOpen before.texts bs frames) (sym outer) last.outside);
+          nested = nested_outside frames f built.nested;
+          outside = ap (λ (b : BuilderView). b.leaf) is.builder;
+          levels = is.levels ∙ (ap (λ levels. with_block levels item) built.levels
+              ∙ levels_closed s frames f inside item (closed_item s f inside (parts_of before) last.block view.at last.opened
+              (items_inside frames f inside false may.stands.items) is.at));
+          definitions = ap (λ (b : BuilderView). b.definitions) is.builder
+              ∙ (built.definitions ∙ ap (definitions_in s) same);
+          footnotes = ap (λ (b : BuilderView). b.footnotes) is.builder ∙ (built.footnotes ∙ ap footnotes_in same);
+        };
+        ends = record {
+          at = is.at ∙ sym (end_closed 0 frames f inside tests.2);
+          quotes = subst (λ to. QuotesEnd to frames) (sym is.placed)
+              (quotes_outside old.placed frames f may.stands.ends.quotes).0;
+        };
+        items = subst (AreItemsInLists false) same may.stands.items;
+      };
+      lists = is.lists (are_loose frames (forgotten f inside)) (may.lists ∙ loose_parted frames f inside);
+    }
+
+-- ---- how the pass closes one
+
+-- it is the innermost open block
+last_open : (s : Source) (pass : Pass) (frames : List Frame) (f : Frame) (inside : Forest Block)
+    → StandsFor s pass (frames ++ f ∷ []) inside
+    → IsOpenInside pass.placing.builder.texts pass.placing.builder.blocks frames f
+last_open s pass frames f inside stands =
+    innermost_open pass.placing.builder.texts pass.placing.builder.blocks frames f stands.built.blocks
+
+same_last : (these outer others : List OpenBlock) (a b : OpenBlock) → these ≡ outer ++ a ∷ []
+    → these ≡ others ++ b ∷ [] → a ≡ b
+same_last these outer others a b e f =
+    same_Some a b (sym (innermost_of_opened outer a) ∙ (ap innermost_block (sym e ∙ f) ∙ innermost_of_opened others b))
+
+innermost_test : (test : ItemBody → Bool) (these outer : List OpenBlock) (block : OpenBlock)
+    → these ≡ outer ++ block ∷ [] → blocks.innermost_is test these ≡ test block.body
+innermost_test test these outer block is =
+    ap (λ found. option_map_or (λ b. test b.body) found false) (ap innermost_block is ∙ innermost_of_opened outer block)
+
+-- a list is given its looseness, and closed
+pub record ClosesList (old new : Pass) (character first : ℕ) : Type 0 where
+  pub tight : Bool
+  pub loose : Bool
+  pub settled : BuilderView
+  pub innermost : option_map (λ b. b.body) (innermost_block old.placing.builder.blocks)
+      ≡ Some (body.List tight character first)
+  pub same : settled ≡ record old.placing.builder { blocks = settled.blocks }
+  pub settles : HasBody old.placing.builder settled (body.List (not loose) character first)
+  pub closes : new.placing.builder ≡ closed old.placing.builder new.placing.builder.levels
+  pub puts : PutsBlock settled new.placing.builder
+  pub decides : (outer : List Bool) (last : Bool) → old.looseness.lists.items ≡ outer ++ last ∷ []
+      → (loose ≡ last) × (new.looseness.lists.items ≡ outer)
+  pub placed : new.placed ≡ old.placed
+
+-- another container is closed at a byte offset
+pub record ClosesOther (old new : Pass) (to : ℕ) : Type 0 where
+  pub other : blocks.innermost_is blocks.is_list old.placing.builder.blocks ≡ false
+  pub closes : new.placing.builder ≡ closed (stepped old.placing.builder to) new.placing.builder.levels
+  pub puts : PutsBlock (stepped old.placing.builder to) new.placing.builder
+  pub looseness : new.looseness ≡ old.looseness
+  pub placed : new.placed ≡ old.placed
+
+-- what is no list is closed with the body that it has
+body_stays : (loose : Bool) (block : ItemBody) → blocks.is_list block ≡ false → closed_body loose block ≡ block
+body_stays loose (body.List tight character first) other = absurd (true≢false other)
+body_stays loose block other = refl
+
+other_closed : (s : Source) (old new : Pass) (to : ℕ) (frames : List Frame) (f : Frame) (inside : Forest Block)
+    → (may : MayClose s old (frames ++ f ∷ []) inside) → ClosesOther old new to
+    → to ≡ block_end f.block (last_end f.block.first inside) f.block.kind
+    → IsClosed old new f inside (last_open s old frames f inside may.stands).block
+other_closed s old new to frames f inside may closes ends =
+    let before = old.placing.builder in
+    let last = last_open s old frames f inside may.stands in
+    let unlisted = sym (innermost_test blocks.is_list before.blocks last.outer last.block last.is) ∙ closes.other in
+    let alike = are_alike before.texts f.block.kind last.block.body last.opened.body in
+    let at = ap (λ (b : BuilderView). b.at) closes.closes in
+    let put = same_last before.blocks (outer_of before.blocks) last.outer closes.puts.block last.block closes.puts.was
+    last.is in
+    record {
+      builder = closes.closes ∙ ap (λ n. record (closed before new.placing.builder.levels) { at = n }) (sym at);
+      at = at ∙ ends;
+      levels = closes.puts.levels ∙ ap (with_block before.levels)
+          (ap (λ (b : OpenBlock). shown_item (parts_of before) (record { start = b.start; end = to; body = b.body })) put
+          ∙ (ap (λ block. shown_item (parts_of before) (record { start = last.block.start; end = to; body = block }))
+          (sym (body_stays (is_loose inside) last.block.body unlisted))
+          ∙ ap (λ n. closed_as (parts_of before) last.block n (is_loose inside)) (sym at)));
+      placed = closes.placed;
+      lists = λ outer is. ap (λ (l : Looseness). l.lists.items) closes.looseness ∙ (is
+          ∙ (ap (λ test. outer ++ (if test then is_loose inside ∷ [] else [])) (alike.0 ∙ unlisted)
+          ∙ append-nil outer));
+    }
+
+list_closed : (s : Source) (old new : Pass) (character first : ℕ) (frames : List Frame) (f : Frame)
+    (inside : Forest Block) → (may : MayClose s old (frames ++ f ∷ []) inside) → ClosesList old new character first
+    → IsClosed old new f inside (last_open s old frames f inside may.stands).block
+list_closed s old new character first frames f inside may closes =
+    let before = old.placing.builder in
+    let last = last_open s old frames f inside may.stands in
+    let is_body : last.block.body ≡ body.List closes.tight character first =
+    same_Some _ _ (sym (ap (option_map (λ b. b.body)) (ap innermost_block last.is
+    ∙ innermost_of_opened last.outer last.block)) ∙ closes.innermost) in
+    let alike = are_alike before.texts f.block.kind last.block.body last.opened.body in
+    let listed : is_list f.block.kind ≡ true = alike.0 ∙ ap blocks.is_list is_body in
+    let quoted : is_quote f.block.kind ≡ false = alike.1 ∙ ap blocks.is_quote is_body in
+    let ends = ends_inside before.texts f.block.kind last.block.body last.opened.body quoted f.block
+    (last_end f.block.first inside) in
+    let at = ap (λ (b : BuilderView). b.at) closes.closes in
+    let decided = λ (outer : List Bool) (is : old.looseness.lists.items ≡ outer ++ own_looseness f inside).
+    closes.decides outer (is_loose inside) (is
+    ∙ ap (λ test. outer ++ (if test then is_loose inside ∷ [] else [])) listed) in
+    let loose = (decided (are_loose frames (forgotten f inside)) (may.lists ∙ loose_parted frames f inside)).0 in
+    let is_closed : body.List (not closes.loose) character first ≡ closed_body (is_loose inside) last.block.body =
+    ap (λ flag. body.List (not flag) character first) loose ∙ sym (ap (closed_body (is_loose inside)) is_body) in
+    let put = same_last closes.settled.blocks (outer_of closes.settled.blocks) (outer_of before.blocks)
+    closes.puts.block (record closes.settles.block { body = body.List (not closes.loose) character first })
+    closes.puts.was closes.settles.becomes in
+    let was = same_last before.blocks (outer_of before.blocks) last.outer closes.settles.block last.block
+    closes.settles.was last.is in
+    record {
+      builder = closes.closes ∙ ap (λ n. record (closed before new.placing.builder.levels) { at = n }) (sym at);
+      at = at ∙ (may.stands.ends.at ∙ (end_inside 0 frames f inside ∙ sym ends));
+      levels = closes.puts.levels ∙ (ap (λ (b : BuilderView). with_block b.levels (shown_item (parts_of b)
+          (record { start = closes.puts.block.start; end = b.at; body = closes.puts.block.body }))) closes.same
+          ∙ ap (with_block before.levels)
+          (ap (λ (b : OpenBlock). shown_item (parts_of before)
+          (record { start = b.start; end = before.at; body = b.body })) put
+          ∙ (ap (λ (b : OpenBlock). shown_item (parts_of before) (record {
+            start = b.start;
+            end = before.at;
+            body = body.List (not closes.loose) character first;
+          })) was
+          ∙ (ap (λ block. shown_item (parts_of before) (record {
+            start = last.block.start;
+            end = before.at;
+            body = block;
+          })) is_closed
+          ∙ ap (λ n. closed_as (parts_of before) last.block n (is_loose inside)) (sym at)))));
+      placed = closes.placed;
+      lists = λ outer is. (decided outer is).1;
+    }
+
+-- the pass closes a list
+pub list_forgotten : (s : Source) (old new : Pass) (character first : ℕ) (frames : List Frame) (f : Frame)
+    (inside : Forest Block) → MayClose s old (frames ++ f ∷ []) inside → ClosesList old new character first
+    → MayClose s new frames (forgotten f inside)
+list_forgotten s old new character first frames f inside may closes =
+    forget s old new frames f inside may (last_open s old frames f inside may.stands)
+    (list_closed s old new character first frames f inside may closes)
+
+-- the pass closes a block quote, after its last line
+pub quote_forgotten : (s : Source) (old new : Pass) (frames : List Frame) (f : Frame) (inside : Forest Block)
+    → MayClose s old (frames ++ f ∷ []) inside
+    → blocks.innermost_is blocks.is_quote old.placing.builder.blocks ≡ true → ClosesOther old new old.placed
+    → MayClose s new frames (forgotten f inside)
+quote_forgotten s old new frames f inside may quote closes =
+    let before = old.placing.builder in
+    let last = last_open s old frames f inside may.stands in
+    let alike = are_alike before.texts f.block.kind last.block.body last.opened.body in
+    let quoted : is_quote f.block.kind ≡ true =
+    alike.1 ∙ (sym (innermost_test blocks.is_quote before.blocks last.outer last.block last.is) ∙ quote) in
+    forget s old new frames f inside may last (other_closed s old new old.placed frames f inside may closes
+    (sym ((quotes_outside old.placed frames f may.stands.ends.quotes).1 quoted)
+    ∙ sym (ends_itself f.block.kind quoted f.block (last_end f.block.first inside))))
+
+-- the pass closes an item or a footnote definition
+pub other_forgotten : (s : Source) (old new : Pass) (frames : List Frame) (f : Frame) (inside : Forest Block)
+    → MayClose s old (frames ++ f ∷ []) inside
+    → blocks.innermost_is blocks.is_quote old.placing.builder.blocks ≡ false
+    → ClosesOther old new old.placing.builder.at → MayClose s new frames (forgotten f inside)
+other_forgotten s old new frames f inside may other closes =
+    let before = old.placing.builder in
+    let last = last_open s old frames f inside may.stands in
+    let alike = are_alike before.texts f.block.kind last.block.body last.opened.body in
+    let unquoted : is_quote f.block.kind ≡ false =
+    alike.1 ∙ (sym (innermost_test blocks.is_quote before.blocks last.outer last.block last.is) ∙ other) in
+    forget s old new frames f inside may last (other_closed s old new before.at frames f inside may closes
+    (may.stands.ends.at ∙ (end_inside 0 frames f inside
+    ∙ sym (ends_inside before.texts f.block.kind last.block.body last.opened.body unquoted f.block
+    (last_end f.block.first inside)))))

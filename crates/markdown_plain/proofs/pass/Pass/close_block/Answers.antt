@@ -1,0 +1,52 @@
+-- A container that is closed leaves the blocks as they are: a list, a block quote, or another one.
+use Rattle.std.proofs.Common.{refl, rules, ap, subst, ◌∙◌}
+use Rattle.markdown_builder.specs.BuilderView.{BuilderView}
+use Rattle.markdown_plain.specs.Fitting.{PutsBlock, closed}
+use Rattle.markdown_plain.proofs.ClosedFramesLemmas.{list_forgotten, other_forgotten, quote_forgotten}
+use Rattle.markdown_plain.proofs.pass.Pass.close_block.Goals as goal
+
+pub returns-in-Some-List-clause-forgets : goal.returns-in-Some-List-clause-forgets
+returns-in-Some-List-clause-forgets c = λ s frames f inside may fitted.
+    let tree = c.close_list.ensures.tree fitted in (
+      tree.0,
+      list_forgotten s c.args.self.now _ c.in-Some-List.character c.in-Some-List.first frames f inside may (record {
+        tight = c.in-Some-List.field-0-0;
+        loose = c.close_list-loose.result;
+        settled = tree.1.0;
+        innermost = search rules;
+        same = tree.1.1;
+        settles = tree.1.2;
+        closes = (c.close_list.ensures.closes fitted).1;
+        puts = tree.1.3;
+        decides = c.close_list-loose.ensures.closes;
+        placed = refl;
+      }),
+    )
+
+pub returns-in-Some-BlockQuote-clause-forgets : goal.returns-in-Some-BlockQuote-clause-forgets
+returns-in-Some-BlockQuote-clause-forgets c = λ s frames f inside may fitted.
+    let closes = c.close.ensures.closes fitted in
+    let steps = c.step_to.ensures.steps closes.0 in (
+      steps.0,
+      quote_forgotten s c.args.self.now _ frames f inside may (search rules) (record {
+        other = search rules;
+        closes = closes.1 ∙ ap (λ (b : BuilderView). closed b c.close.new.self.builder.levels) steps.1;
+        puts = subst (λ (b : BuilderView). PutsBlock b c.close.new.self.builder) steps.1
+            (c.close.ensures.tree fitted).1;
+        looseness = refl;
+        placed = refl;
+      }),
+    )
+
+pub returns-in_default-clause-forgets : goal.returns-in_default-clause-forgets
+returns-in_default-clause-forgets c = λ s frames f inside may fitted.
+    let closes = c.close-in_default.ensures.closes fitted in (
+      closes.0,
+      other_forgotten s c.args.self.now _ frames f inside may (search rules) (record {
+        other = search rules;
+        closes = closes.1;
+        puts = (c.close-in_default.ensures.tree fitted).1;
+        looseness = refl;
+        placed = refl;
+      }),
+    )

@@ -1,0 +1,30 @@
+-- What the pass stands for, as containers are closed one after another.
+use Rattle.std.specs.Prelude.{◌≡◌, Bool, false, List}
+use Rattle.markdown_base.specs.Forest.{Forest, nil, node}
+use Rattle.markdown_lines.specs.BlockBeginnings.{Source}
+use Rattle.markdown_block_rules.specs.BlockGrowth.{Block, Kind}
+use Rattle.markdown_block_rules.specs.BlockRules.{is_blank_block}
+use Rattle.markdown_plain.specs.declared.pass.Pass.{Pass}
+use Rattle.markdown_plain.specs.Frames.{Frame, is_item, is_list, rebuilt}
+use Rattle.markdown_plain.specs.Settled.{IsAtEnd, IsBuilt, are_loose}
+
+-- a block of a kind may be directly in a list, or elsewhere
+abbrev pub MayBeIn : (in_list : Bool) → Kind → Type 0
+MayBeIn in_list kind = is_blank_block kind ≡ false → is_item kind ≡ in_list
+
+-- directly in a list there are items and blank lines, and items nowhere else
+abbrev pub AreItemsInLists : (in_list : Bool) → Forest Block → Type 0
+AreItemsInLists in_list nil = Unit
+AreItemsInLists in_list (node b below after) =
+    MayBeIn in_list b.kind × AreItemsInLists (is_list b.kind) below × AreItemsInLists in_list after
+
+-- the pass stands for the blocks in some open containers while no leaf is open and no line is held back
+pub record StandsFor (s : Source) (pass : Pass) (frames : List Frame) (inside : Forest Block) : Type 0 where
+  pub built : IsBuilt s pass.placing.builder frames inside
+  pub ends : IsAtEnd pass frames inside
+  pub items : AreItemsInLists false (rebuilt frames inside)
+
+-- it does, and knows of each open list whether that is loose
+pub record MayClose (s : Source) (pass : Pass) (frames : List Frame) (inside : Forest Block) : Type 0 where
+  pub stands : StandsFor s pass frames inside
+  pub lists : pass.looseness.lists.items ≡ are_loose frames inside
