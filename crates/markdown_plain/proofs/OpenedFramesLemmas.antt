@@ -2,6 +2,7 @@
 use Rattle.std.proofs.Common.{◌≡◌, ℕ, zero, suc, Bool, true, false, List, [], ◌∷◌, ◌++◌, Some, refl, sym, ap}
 use Rattle.std.proofs.Common.{◌∙◌, Option, None, subst, arith, append-nil}
 use Rattle.std.specs.Prelude.{slice_get, ◌==◌}
+use Rattle.std.proofs.lemmas.Bool.{true≢false}
 use Rattle.std.proofs.lemmas.Bool.Decides.{nat_tests}
 use native.Mathlib.Numerals.{unary_clauses}
 use Rattle.markdown_base.specs.Forest.{Forest, nil, node}
@@ -11,7 +12,6 @@ use Rattle.markdown_base.specs.declared.tag.BlockQuoteKind.{BlockQuoteKind}
 use Rattle.markdown_builder.specs.declared.open_block.OpenBlock.{OpenBlock}
 use Rattle.markdown_builder.specs.Bodies.{is_leaf}
 use Rattle.markdown_builder.specs.BuilderView.{BuilderView, Opens}
-use Rattle.markdown_builder.specs.TreeLevels.{followed_by}
 use Rattle.markdown_lines.specs.BlockBeginnings.{Source}
 use Rattle.markdown_block_rules.specs.BlockGrowth as was
 use Rattle.markdown_block_rules.specs.BlockGrowth.{Block, Kind}
@@ -20,22 +20,16 @@ use Rattle.markdown_block_rules.specs.BlockRules.{paragraph_lines, shown_blocks}
 use Rattle.markdown_lines.specs.DefinitionRules.{divided, divided_in}
 use Rattle.markdown_scan.specs.Entity.{entity_names}
 use Rattle.markdown_plain.specs.Fitting.{stepped}
-use Rattle.markdown_plain.specs.Frames.{AreNested, Frame, forgotten, innermost_is, is_item, is_list, rebuilt}
+use Rattle.markdown_plain.specs.Frames.{AreNested, Frame, innermost_is, is_item, is_list, rebuilt}
 use Rattle.markdown_plain.specs.Settled.{AreOpen, IsBodyOf, IsBuilt, IsOpen, around_in, levels_shown}
 use Rattle.markdown_plain.specs.OpenedFrames.{is_list_for, quote_kind, with_frame}
 use Rattle.markdown_plain.specs.NewContainers.{is_list_of}
 use Rattle.markdown_plain.specs.OpenBlocks as own
 use Rattle.markdown_lines.specs.declared.list_marker.ListMarker.{ListMarker}
 use Rattle.markdown_plain.proofs.AppendedBlocksLemmas.{definitions_appended, footnotes_appended}
+use Rattle.markdown_plain.proofs.ClosedFramesLemmas.{rebuilt_more}
 
 -- ---- one more frame
-
--- the innermost container closed: the same blocks
-pub rebuilt_more : (frames : List Frame) (f : Frame) (inside : Forest Block)
-    → rebuilt (frames ++ f ∷ []) inside ≡ rebuilt frames (forgotten f inside)
-rebuilt_more [] f inside = refl
-rebuilt_more (g ∷ frames) f inside =
-    ap (λ r. followed_by g.before (node g.block r nil)) (rebuilt_more frames f inside)
 
 levels_more : (s : Source) (around : Around) (frames : List Frame) (f : Frame)
     → levels_shown s around (frames ++ f ∷ []) nil ≡ levels_shown s around frames f.before ++ nil ∷ []
@@ -48,6 +42,25 @@ levels_more s around (g ∷ frames) f =
 innermost_inside : (test : Kind → Bool) (f g : Frame) (frames : List Frame)
     → innermost_is test (f ∷ g ∷ frames) ≡ innermost_is test (g ∷ frames)
 innermost_inside test f g frames = simp unary_clauses refl
+
+pub innermost_of_more : (test : Kind → Bool) (frames : List Frame) (f : Frame)
+    → innermost_is test (frames ++ f ∷ []) ≡ test f.block.kind
+innermost_of_more test [] f = refl
+innermost_of_more test (g ∷ []) f = innermost_inside test g f []
+innermost_of_more test (g ∷ h ∷ frames) f =
+    innermost_inside test g h (frames ++ f ∷ []) ∙ innermost_of_more test (h ∷ frames) f
+
+-- a list is in no list
+pub list_outside : (frames : List Frame) (f : Frame) → is_list f.block.kind ≡ true → AreNested (frames ++ f ∷ [])
+    → innermost_is is_list frames ≡ false
+list_outside [] f list nested = refl
+list_outside (g ∷ []) f list nested = nested.0 ∙ no_item f.block.kind list
+  where
+    no_item : (kind : Kind) → is_list kind ≡ true → is_item kind ≡ false
+    no_item (was.item_container indent) e = absurd (true≢false (sym e))
+    no_item other e = refl
+list_outside (g ∷ h ∷ frames) f list nested =
+    innermost_inside is_list g h frames ∙ list_outside (h ∷ frames) f list nested.1
 
 nested_more : (frames : List Frame) (f : Frame) → innermost_is is_list frames ≡ is_item f.block.kind
     → AreNested frames → AreNested (frames ++ f ∷ [])

@@ -268,7 +268,8 @@ impl<'a> Pass<'a> {
     ghost use Rattle.markdown_base.specs.Forest.{Forest, nil};
     ghost use Rattle.markdown_block_rules.specs.BlockGrowth.{Block, list_container};
     ghost use Rattle.markdown_lines.specs.BlockBeginnings.{Source};
-    ghost use Rattle.markdown_plain.specs.Frames.{Frame, innermost_is, is_list};
+    ghost use Rattle.markdown_plain.specs.Closing.{MayClose};
+    ghost use Rattle.markdown_plain.specs.Frames.{Frame, forgotten, innermost_is, is_list};
     ghost use Rattle.markdown_plain.specs.OpenedFrames.{is_list_for, quote_kind, with_frame};
     ghost use Rattle.markdown_plain.specs.Settled.{IsBuilt};
 
@@ -334,6 +335,11 @@ impl<'a> Pass<'a> {
             → innermost_is is_list frames ≡ false → b.start ≡ at → b.kind ≡ list_container marker
             → IfFitted self.old.placing self.new.placing
             (IsBuilt s self.new.placing.builder (with_frame frames inside b) nil)) }
+        ensures changes { IfOk result (λ _. (s : Source) (frames : List Frame) (f : Frame)
+            (inside : Forest Block) (b : Block) → MayClose s self.old (frames ++ f ∷ []) inside
+            → is_list f.block.kind ≡ true → is_list_for marker f.block.kind ≡ false → b.start ≡ at
+            → b.kind ≡ list_container marker → IfFitted self.old.placing self.new.placing
+            (IsBuilt s self.new.placing.builder (with_frame frames (forgotten f inside) b) nil)) }
         ensures empty { IfOk result (λ _. self.new.looseness.item_is_empty ≡ true) }
         ensures same { self.new ≡ record self.old {
           placing = self.new.placing;
