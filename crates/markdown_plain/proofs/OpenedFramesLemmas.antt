@@ -1,7 +1,7 @@
 -- A container that is opened: one more frame, and nothing else of the tree changes.
-use Rattle.std.proofs.Common.{◌≡◌, ℕ, zero, suc, Bool, true, false, List, [], ◌∷◌, ◌++◌, Some, refl, sym, ap}
+use Rattle.std.proofs.Common.{◌≡◌, ℕ, Bool, true, false, List, [], ◌∷◌, ◌++◌, Some, refl, sym, ap}
 use Rattle.std.proofs.Common.{◌∙◌, Option, None, subst, arith, append-nil}
-use Rattle.std.specs.Prelude.{slice_get, ◌==◌}
+use Rattle.std.specs.Prelude.{◌==◌}
 use Rattle.std.proofs.lemmas.Bool.{true≢false}
 use Rattle.std.proofs.lemmas.Bool.Decides.{nat_tests}
 use native.Mathlib.Numerals.{unary_clauses}
@@ -26,7 +26,7 @@ use Rattle.markdown_plain.specs.OpenedFrames.{is_list_for, quote_kind, with_fram
 use Rattle.markdown_plain.specs.NewContainers.{is_list_of}
 use Rattle.markdown_plain.specs.OpenBlocks as own
 use Rattle.markdown_lines.specs.declared.list_marker.ListMarker.{ListMarker}
-use Rattle.markdown_plain.proofs.AppendedBlocksLemmas.{definitions_appended, footnotes_appended}
+use Rattle.markdown_plain.proofs.AppendedBlocksLemmas.{definitions_appended, footnotes_appended, open_after}
 use Rattle.markdown_plain.proofs.ClosedFramesLemmas.{rebuilt_more}
 
 -- ---- one more frame
@@ -70,31 +70,6 @@ nested_more (g ∷ h ∷ frames) f fits nested =
     (nested.0, nested_more (h ∷ frames) f (sym (innermost_inside is_list g h frames) ∙ fits) nested.1)
 
 -- ---- the open blocks
-
--- with more texts a body is that of the same container
-body_after : (texts more : List (List ℕ)) (kind : Kind) (b : ItemBody) → IsBodyOf texts kind b
-    → IsBodyOf (texts ++ more) kind b
-body_after texts more was.quote_container b is = is
-body_after texts more (was.alert_container kind) b is = is
-body_after texts more (was.list_container marker) b is = is
-body_after texts more (was.item_container indent) b is = is
-body_after texts more (was.footnote_container label) b is = (is.0, is.1, get_after texts more is.0.0 label is.2)
-  where
-    get_after : (xs ys : List (List ℕ)) (n : ℕ) (x : List ℕ) → slice_get xs n ≡ Some x → slice_get (xs ++ ys) n ≡ Some x
-    get_after [] ys n x e = absurd (grind (arith, e))
-    get_after (y ∷ xs) ys zero x e = e
-    get_after (y ∷ xs) ys (suc n) x e = get_after xs ys n x e
-body_after texts more other b is = absurd is
-
-open_after : (texts more : List (List ℕ)) (blocks : List OpenBlock) (frames : List Frame) → AreOpen texts blocks frames
-    → AreOpen (texts ++ more) blocks frames
-open_after texts more [] [] are = tt
-open_after texts more [] (f ∷ frames) are = absurd are
-open_after texts more (block ∷ blocks) [] are = absurd are
-open_after texts more (block ∷ blocks) (f ∷ frames) are = (
-  record { start = are.0.start; body = body_after texts more f.block.kind block.body are.0.body },
-  open_after texts more blocks frames are.1,
-)
 
 open_more : (texts : List (List ℕ)) (blocks : List OpenBlock) (frames : List Frame) (block : OpenBlock) (f : Frame)
     → AreOpen texts blocks frames → IsOpen texts block f → AreOpen texts (blocks ++ block ∷ []) (frames ++ f ∷ [])
