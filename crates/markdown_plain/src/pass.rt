@@ -153,6 +153,9 @@ impl<'a> Pass<'a> {
     pub fn close_down(&mut self, depth: usize) -> Result<(), AllocError>
         ensures text { IfOk result (λ _. self.new.placing.builder.text
             ≡ self.old.placing.builder.text) }
+        ensures kept { IfOk result (λ _. self.old.placing.builder.leaf ≡ false
+            → self.old.lines.items ≡ [] → length self.old.placing.builder.blocks ≤ depth
+            → self.new ≡ self.old) }
         ensures closes { IfOk result (λ _. IfFitted self.old.placing self.new.placing
             (self.new.placing.builder.blocks
             ≡ take depth (without_leaf self.old.placing.builder))) }
@@ -184,6 +187,10 @@ impl<'a> Pass<'a> {
     pub fn make_room(&mut self, depth: usize) -> Result<(), AllocError>
         ensures text { IfOk result (λ _. self.new.placing.builder.text
             ≡ self.old.placing.builder.text) }
+        ensures kept { IfOk result (λ _. self.old.placing.builder.leaf ≡ false
+            → self.old.lines.items ≡ [] → length self.old.placing.builder.blocks ≤ depth
+            → innermost_is is_list self.old.placing.builder.blocks ≡ false
+            → self.new.placing ≡ self.old.placing) }
         ensures closes { IfOk result (λ _. IfFitted self.old.placing self.new.placing
             (self.new.placing.builder.blocks
             ≡ room_in depth (without_leaf self.old.placing.builder))) }
@@ -227,6 +234,8 @@ impl<'a> Pass<'a> {
         ensures ended { IfOk result (λ _. self.new.lines.items ≡ []) }
         ensures dropped { IfOk result (λ _. self.old.placing.builder.leaf ≡ true
             → self.new.blanks.items ≡ []) }
+        ensures none { IfOk result (λ _. self.old.placing.builder.leaf ≡ false
+            → self.old.lines.items ≡ [] → self.new ≡ self.old) }
         ensures same { self.new ≡ record self.old {
           placing = self.new.placing;
           lines = self.new.lines;
