@@ -142,6 +142,11 @@ open_after texts more (block ∷ blocks) (f ∷ frames) are = (
   open_after texts more blocks frames are.1,
 )
 
+pub some_levels : (s : Source) (view : BuilderView) (frames : List Frame) (inside : Forest Block)
+    → IsBuilt s view frames inside → view.levels ≡ [] → ⊥
+some_levels s view [] inside built none = let levels = built.levels in cc (levels, none)
+some_levels s view (f ∷ frames) inside built none = let levels = built.levels in cc (levels, none)
+
 -- a builder has appended, in the innermost of these open containers, what is shown of some blocks, with the texts that
 -- this refers to, and what they define
 pub record AppendsBlocks (s : Source) (frames : List Frame) (new : Forest Block) (old now : BuilderView) : Type 0 where

@@ -119,7 +119,7 @@ put_begun old opened filled begun new from items opens blocks levels begins kept
 -- ---- headings
 
 -- the last of some, by their number
-get_last : {A : Type 0} (xs : List A) (x : A) → slice_get (xs ++ x ∷ []) (length xs) ≡ Some x
+pub get_last : {A : Type 0} (xs : List A) (x : A) → slice_get (xs ++ x ∷ []) (length xs) ≡ Some x
 get_last [] x = refl
 get_last (y ∷ xs) x = get_last xs x
 

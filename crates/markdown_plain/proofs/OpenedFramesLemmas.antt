@@ -1,7 +1,10 @@
 -- A container that is opened: one more frame, and nothing else of the tree changes.
-use Rattle.std.proofs.Common.{◌≡◌, ℕ, Bool, true, false, List, [], ◌∷◌, ◌++◌, Some, refl, sym, ap}
-use Rattle.std.proofs.Common.{◌∙◌, Option, None, subst, arith, append-nil}
-use Rattle.std.specs.Prelude.{◌==◌}
+use Rattle.std.proofs.Common.{◌≡◌, ℕ, zero, suc, Bool, true, false, List, [], ◌∷◌, ◌++◌, Some, refl, sym, ap}
+use Rattle.std.proofs.Common.{◌∙◌, ◌-◌, ◌<◌, ◌≤◌, Option, None, length, take, drop, take_all, length-take-le}
+use Rattle.std.proofs.Common.{subst, arith, append-nil}
+use Rattle.std.specs.Prelude.{◌==◌, if◌then◌else◌, slice_get, Result, Ok, Err}
+use Rattle.std.specs.Result.{IfOk}
+use Rattle.std.proofs.lemmas.List.{drop_all}
 use Rattle.std.proofs.lemmas.Bool.{true≢false}
 use Rattle.std.proofs.lemmas.Bool.Decides.{nat_tests}
 use native.Mathlib.Numerals.{unary_clauses}
@@ -11,7 +14,7 @@ use Rattle.markdown_base.specs.declared.item.ItemBody.TheVariants as body
 use Rattle.markdown_base.specs.declared.tag.BlockQuoteKind.{BlockQuoteKind}
 use Rattle.markdown_builder.specs.declared.open_block.OpenBlock.{OpenBlock}
 use Rattle.markdown_builder.specs.Bodies.{is_leaf}
-use Rattle.markdown_builder.specs.BuilderView.{BuilderView, Opens}
+use Rattle.markdown_builder.specs.BuilderView.{BuilderView, Opens, OpensNaming}
 use Rattle.markdown_lines.specs.BlockBeginnings.{Source}
 use Rattle.markdown_block_rules.specs.BlockGrowth as was
 use Rattle.markdown_block_rules.specs.BlockGrowth.{Block, Kind}
@@ -20,14 +23,16 @@ use Rattle.markdown_block_rules.specs.BlockRules.{paragraph_lines, shown_blocks}
 use Rattle.markdown_lines.specs.DefinitionRules.{divided, divided_in}
 use Rattle.markdown_scan.specs.Entity.{entity_names}
 use Rattle.markdown_plain.specs.Fitting.{stepped}
-use Rattle.markdown_plain.specs.Frames.{AreNested, Frame, innermost_is, is_item, is_list, rebuilt}
+use Rattle.markdown_plain.specs.Frames.{AreNested, Frame, forgotten, innermost_is, is_item, is_list, rebuilt}
+use Rattle.markdown_plain.specs.Frames.{room_depth}
 use Rattle.markdown_plain.specs.Settled.{AreOpen, IsBodyOf, IsBuilt, IsOpen, around_in, levels_shown}
-use Rattle.markdown_plain.specs.OpenedFrames.{is_list_for, quote_kind, with_frame}
+use Rattle.markdown_plain.specs.OpenedFrames.{is_list_for, quote_kind, with_frame, with_item, with_list}
 use Rattle.markdown_plain.specs.NewContainers.{is_list_of}
 use Rattle.markdown_plain.specs.OpenBlocks as own
 use Rattle.markdown_lines.specs.declared.list_marker.ListMarker.{ListMarker}
 use Rattle.markdown_plain.proofs.AppendedBlocksLemmas.{definitions_appended, footnotes_appended, open_after}
-use Rattle.markdown_plain.proofs.ClosedFramesLemmas.{rebuilt_more}
+use Rattle.markdown_plain.proofs.ClosedFramesLemmas.{as_many_open, last_kept, rebuilt_more}
+use Rattle.markdown_plain.proofs.LeafTreesLemmas.{get_last}
 
 -- ---- one more frame
 
@@ -49,6 +54,17 @@ innermost_of_more test [] f = refl
 innermost_of_more test (g ∷ []) f = innermost_inside test g f []
 innermost_of_more test (g ∷ h ∷ frames) f =
     innermost_inside test g h (frames ++ f ∷ []) ∙ innermost_of_more test (h ∷ frames) f
+
+nested_taken : (n : ℕ) (frames : List Frame) → AreNested frames → AreNested (take n frames)
+nested_taken zero frames nested = tt
+nested_taken (suc n) [] nested = tt
+nested_taken (suc n) (f ∷ []) nested = single n
+  where
+    single : (n : ℕ) → AreNested (f ∷ take n [])
+    single zero = tt
+    single (suc n) = tt
+nested_taken (suc zero) (f ∷ g ∷ frames) nested = tt
+nested_taken (suc (suc n)) (f ∷ g ∷ frames) nested = (nested.0, nested_taken (suc n) (g ∷ frames) nested.1)
 
 -- a list is in no list
 pub list_outside : (frames : List Frame) (f : Frame) → is_list f.block.kind ≡ true → AreNested (frames ++ f ∷ [])
@@ -215,6 +231,10 @@ innermost_alike test is alike texts (block ∷ inner ∷ blocks) (f ∷ g ∷ fr
         → own.innermost_is test (block ∷ inner ∷ blocks) ≡ own.innermost_is test (inner ∷ blocks)
     block_inside test block inner blocks = simp unary_clauses refl
 
+pub as_many_containers : (s : Source) (view : BuilderView) (frames : List Frame) (inside : Forest Block)
+    → IsBuilt s view frames inside → length view.blocks ≡ length frames
+as_many_containers s view frames inside built = as_many_open view.texts view.blocks frames built.blocks
+
 pub list_innermost : (s : Source) (view : BuilderView) (frames : List Frame) (inside : Forest Block)
     → IsBuilt s view frames inside → own.innermost_is own.is_list view.blocks ≡ innermost_is is_list frames
 list_innermost s view frames inside built =
@@ -233,3 +253,128 @@ list_is marker = record { inner = refl; is = λ texts. refl; unnamed = refl }
 
 pub item_is : (indent : ℕ) → IsPlain (was.item_container indent) (body.ListItem indent)
 item_is indent = record { inner = refl; is = λ texts. refl; unnamed = refl }
+
+-- ---- footnote definitions
+
+-- one is opened at a byte offset, with its label as the last text
+pub note_is_built : (s : Source) (old new : BuilderView) (frames : List Frame) (inside : Forest Block) (b : Block)
+    (at : ℕ) (label : List ℕ) → OpensNaming (stepped old at) new body.FootnoteDefinition label
+    → new.footnotes ≡ old.footnotes ++ label ∷ [] → b.start ≡ at → b.kind ≡ was.footnote_container label
+    → innermost_is is_list frames ≡ false → IsBuilt s old frames inside
+    → IsBuilt s new (with_frame frames inside b) nil
+note_is_built s old new frames inside b at label opens listed start same fits built =
+    let now = body.FootnoteDefinition (record { 0 = length old.texts }) in
+    let texts = ap (λ (v : BuilderView). v.texts) opens in
+    let labelled : IsBodyOf new.texts (was.footnote_container label) now = (
+      record { 0 = length old.texts },
+      refl,
+      ap (λ ts. slice_get ts (length old.texts)) texts ∙ get_last old.texts label,
+    ) in
+    opened_is_built s old new frames inside b (record {
+      block = record { start = at; body = now };
+      more = label ∷ [];
+      start = sym start;
+      body = subst (λ kind. IsBodyOf new.texts kind now) (sym same) labelled;
+      text = ap (λ (v : BuilderView). v.text) opens;
+      blocks = ap (λ (v : BuilderView). v.blocks) opens;
+      outside = ap (λ (v : BuilderView). v.leaf) opens;
+      levels = ap (λ (v : BuilderView). v.levels) opens;
+      texts = texts;
+      definitions = ap (λ (v : BuilderView). v.definitions) opens;
+      footnotes = listed ∙ ap (λ ls. old.footnotes ++ ls) (sym (ap label_of same));
+    }) (fits ∙ ap is_item (sym same)) built
+
+-- what two clauses say of a result
+pub both_ok : {T E : Type 0} (r : Result T E) (P Q : T → Type 0) → IfOk r P → IfOk r Q → IfOk r (λ x. P x × Q x)
+both_ok (Ok x) P Q p q = (p, q)
+both_ok (Err e) P Q p q = tt
+
+-- ---- where a container is opened
+
+-- what holds of either value of a test
+on_test : {A : Type 0} (P : A → Type 0) (test : Bool) (x y : A) → (test ≡ true → P x) → (test ≡ false → P y)
+    → P (if test then x else y)
+on_test P true x y first second = first refl
+on_test P false x y first second = second refl
+
+-- a list that goes on is a list
+pub list_for_item : (marker : ListMarker) (frames : List Frame) → innermost_is (is_list_for marker) frames ≡ true
+    → innermost_is is_list frames ≡ true
+list_for_item marker [] e = e
+list_for_item marker (f ∷ []) e = is f.block.kind e
+  where
+    is : (kind : Kind) → is_list_for marker kind ≡ true → is_list kind ≡ true
+    is (was.list_container found) e = refl
+    is other e = absurd (true≢false (sym e))
+list_for_item marker (f ∷ g ∷ frames) e =
+    innermost_inside is_list f g frames
+    ∙ list_for_item marker (g ∷ frames) (sym (innermost_inside (is_list_for marker) f g frames) ∙ e)
+
+-- a list is not the innermost of none
+list_among : (frames : List Frame) → innermost_is is_list frames ≡ true → 0 < length frames
+list_among [] e = absurd (true≢false (sym e))
+list_among (f ∷ frames) e = omega arith
+
+-- the innermost of these containers is no list
+pub room_is_free : (depth : ℕ) (frames : List Frame) → depth ≤ length frames → AreNested frames
+    → innermost_is is_list (take (room_depth depth frames) frames) ≡ false
+room_is_free depth frames few nested =
+    on_test (λ n. innermost_is is_list (take n frames) ≡ false) (innermost_is is_list (take depth frames)) (depth - 1)
+    depth (λ list. outside list) (λ none. none)
+  where
+    outside : innermost_is is_list (take depth frames) ≡ true → innermost_is is_list (take (depth - 1) frames) ≡ false
+    outside list =
+        let some = list_among (take depth frames) list in
+        let many = length-take-le depth frames few in
+        let next : suc (depth - 1) ≡ depth = omega (arith, some, many) in
+        let last = last_kept (depth - 1) frames (omega (arith, next, few)) in
+        let taken : take depth frames ≡ take (depth - 1) frames ++ last.f ∷ [] =
+        ap (λ n. take n frames) (sym next) ∙ last.taken in
+        list_outside (take (depth - 1) frames) last.f
+        (sym (ap (innermost_is is_list) taken ∙ innermost_of_more is_list (take (depth - 1) frames) last.f) ∙ list)
+        (subst AreNested taken (nested_taken depth frames nested))
+
+-- all of some containers
+all_taken : (P : List Frame → List Frame → Type 0) (frames : List Frame) → P frames []
+    → P (take (length frames) frames) (drop (length frames) frames)
+all_taken P frames p =
+    subst (λ inner. P (take (length frames) frames) inner) (sym (drop_all (length frames) frames (omega arith)))
+    (subst (λ outer. P outer []) (sym (take_all (length frames) frames (omega arith))) p)
+
+-- all of them but the last
+last_taken : (P : List Frame → List Frame → Type 0) (frames : List Frame) → 0 < length frames
+    → ((outer : List Frame) (f : Frame) → frames ≡ outer ++ f ∷ [] → P outer (f ∷ []))
+    → P (take (length frames - 1) frames) (drop (length frames - 1) frames)
+last_taken P frames some p =
+    let n = length frames - 1 in
+    let next : suc n ≡ length frames = omega (arith, some) in
+    let last = last_kept n frames (omega (arith, next)) in
+    let whole : frames ≡ take n frames ++ last.f ∷ [] =
+    sym (ap (λ k. take k frames) next ∙ take_all (length frames) frames (omega arith)) ∙ last.taken in
+    let rest : drop n frames ≡ last.f ∷ [] =
+    last.dropped ∙ ap (λ fs. last.f ∷ fs) (drop_all (suc n) frames (omega (arith, next))) in
+    subst (λ inner. P (take n frames) inner) (sym rest) (p (take n frames) last.f whole)
+
+-- An item is put into the list that it continues, or into one that is put into what is no list, or that is put after
+-- another list.
+pub item_placed : (P : List Frame → Type 0) (marker : ListMarker) (list item : Block) (frames : List Frame)
+    (inside : Forest Block)
+    → (innermost_is (is_list_for marker) frames ≡ true → P (with_frame frames inside item))
+    → (innermost_is is_list frames ≡ false → P (with_frame (with_frame frames inside list) nil item))
+    → ((outer : List Frame) (f : Frame) → frames ≡ outer ++ f ∷ [] → is_list f.block.kind ≡ true
+    → is_list_for marker f.block.kind ≡ false
+    → P (with_frame (with_frame outer (forgotten f inside) list) nil item))
+    → P (with_item marker list item frames inside)
+item_placed P marker list item frames inside goes_on begins changes =
+    let all : take (length frames) frames ≡ frames = take_all (length frames) frames (omega arith) in
+    let there : List Frame → List Frame → Type 0 =
+    λ outer inner. P (with_frame (with_frame outer (rebuilt inner inside) list) nil item) in
+    on_test P (innermost_is (is_list_for marker) frames) (with_frame frames inside item)
+    (with_frame (with_list list frames inside) nil item) goes_on
+    (λ other. on_test (λ depth. there (take depth frames) (drop depth frames))
+    (innermost_is is_list (take (length frames) frames)) (length frames - 1) (length frames)
+    (λ taken. let is = sym (ap (innermost_is is_list) all) ∙ taken in
+    last_taken there frames (list_among frames is) (λ outer f whole. changes outer f whole
+    (sym (ap (innermost_is is_list) whole ∙ innermost_of_more is_list outer f) ∙ is)
+    (sym (ap (innermost_is (is_list_for marker)) whole ∙ innermost_of_more (is_list_for marker) outer f) ∙ other)))
+    (λ none. all_taken there frames (begins (sym (ap (innermost_is is_list) all) ∙ none))))

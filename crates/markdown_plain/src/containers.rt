@@ -264,13 +264,17 @@ pub fn reach(pass: &Pass<'_>, line: Line) -> Reached
 }
 
 impl<'a> Pass<'a> {
-    ghost use Rattle.std.specs.Prelude.{false};
+    ghost use Rattle.std.specs.Prelude.{◌≤◌, false, drop, length};
+    ghost use Rattle.markdown_base.specs.CowText.{text_of};
     ghost use Rattle.markdown_base.specs.Forest.{Forest, nil};
-    ghost use Rattle.markdown_block_rules.specs.BlockGrowth.{Block, list_container};
+    ghost use Rattle.markdown_block_rules.specs.BlockGrowth.{Block, footnote_container, item_container};
+    ghost use Rattle.markdown_block_rules.specs.BlockGrowth.{list_container};
     ghost use Rattle.markdown_lines.specs.BlockBeginnings.{Source};
     ghost use Rattle.markdown_plain.specs.Closing.{MayClose};
-    ghost use Rattle.markdown_plain.specs.Frames.{Frame, forgotten, innermost_is, is_list};
-    ghost use Rattle.markdown_plain.specs.OpenedFrames.{is_list_for, quote_kind, with_frame};
+    ghost use Rattle.markdown_plain.specs.Frames.{Frame, forgotten, innermost_is, is_list, rebuilt};
+    ghost use Rattle.markdown_plain.specs.Frames.{room_depth};
+    ghost use Rattle.markdown_plain.specs.OpenedFrames.{MayOpen, is_list_for, quote_kind, with_frame};
+    ghost use Rattle.markdown_plain.specs.OpenedFrames.{with_item};
     ghost use Rattle.markdown_plain.specs.Settled.{IsBuilt};
 
     /// Opens a block quote, an alert of a kind or none, whose marker is at the byte offset `at`.
@@ -304,6 +308,19 @@ impl<'a> Pass<'a> {
             (self.new.placing.builder.at ≡ at)) }
         ensures ended { IfOk result (λ _. self.new.lines.items ≡ []) }
         ensures empty { IfOk result (λ _. self.new.looseness.item_is_empty ≡ true) }
+        ensures begins { IfOk result (λ _. (s : Source) (frames : List Frame) (inside : Forest Block)
+            (list b : Block) → MayOpen s self.old frames inside → depth ≡ length frames
+            → list.start ≡ at → list.kind ≡ list_container item.marker
+            → b.start ≡ at → b.kind ≡ item_container item.indent
+            → IfFitted self.old.placing self.new.placing
+            (IsBuilt s self.new.placing.builder (with_frame (with_frame frames inside list) nil b) nil)) }
+        ensures frame { IfOk result (λ _. (s : Source) (frames : List Frame) (inside : Forest Block)
+            (list b : Block) → self.old.lines.items ≡ [] → MayClose s self.old frames inside
+            → list.start ≡ at → list.kind ≡ list_container item.marker
+            → b.start ≡ at → b.kind ≡ item_container item.indent
+            → IfFitted self.old.placing self.new.placing (IsBuilt s self.new.placing.builder
+            (with_item item.marker list b (take depth frames) (rebuilt (drop depth frames) inside))
+            nil)) }
         ensures same { self.new ≡ record self.old {
           placing = self.new.placing;
           lines = self.new.lines;
@@ -378,6 +395,17 @@ impl<'a> Pass<'a> {
         ensures here { IfOk result (λ _. IfFitted self.old.placing self.new.placing
             (self.new.placing.builder.at ≡ at)) }
         ensures ended { IfOk result (λ _. self.new.lines.items ≡ []) }
+        ensures begins { IfOk result (λ _. (s : Source) (frames : List Frame) (inside : Forest Block)
+            (b : Block) → MayOpen s self.old frames inside → depth ≡ length frames
+            → b.start ≡ at → b.kind ≡ footnote_container (text_of label.entry)
+            → IfFitted self.old.placing self.new.placing
+            (IsBuilt s self.new.placing.builder (with_frame frames inside b) nil)) }
+        ensures frame { IfOk result (λ _. (s : Source) (frames : List Frame) (inside : Forest Block)
+            (b : Block) → self.old.lines.items ≡ [] → MayClose s self.old frames inside
+            → depth ≤ length frames → b.start ≡ at → b.kind ≡ footnote_container (text_of label.entry)
+            → IfFitted self.old.placing self.new.placing (IsBuilt s self.new.placing.builder
+            (with_frame (take (room_depth depth frames) frames)
+            (rebuilt (drop (room_depth depth frames) frames) inside) b) nil)) }
         ensures same { self.new ≡ record self.old {
           placing = self.new.placing;
           lines = self.new.lines;
