@@ -19,6 +19,9 @@ pub mod ReachedLemmas
 pub mod BegunLemmas
 pub mod LastBlocksLemmas
 pub mod ReachedFramesLemmas
+-- on open containers, and on blocks that are appended inside them
+pub mod AppendedBlocksLemmas
+pub mod OpenedFramesLemmas
 -- on open containers that are closed
 pub mod TightBlocksLemmas
 pub mod ClosedFramesLemmas

@@ -274,6 +274,19 @@ pub fn reach(pass: &Pass<'_>, line: Line) -> Reached
 }
 
 impl<'a> Pass<'a> {
+    ghost use Rattle.std.specs.Prelude.{◌≤◌, false, drop, length};
+    ghost use Rattle.markdown_base.specs.CowText.{text_of};
+    ghost use Rattle.markdown_base.specs.Forest.{Forest, nil};
+    ghost use Rattle.markdown_block_rules.specs.BlockGrowth.{Block, footnote_container, item_container};
+    ghost use Rattle.markdown_block_rules.specs.BlockGrowth.{list_container};
+    ghost use Rattle.markdown_lines.specs.BlockBeginnings.{Source};
+    ghost use Rattle.markdown_plain.specs.Closing.{MayClose};
+    ghost use Rattle.markdown_plain.specs.Frames.{Frame, forgotten, innermost_is, is_list, rebuilt};
+    ghost use Rattle.markdown_plain.specs.Frames.{room_depth};
+    ghost use Rattle.markdown_plain.specs.OpenedFrames.{MayOpen, is_list_for, quote_kind, with_frame};
+    ghost use Rattle.markdown_plain.specs.OpenedFrames.{with_item};
+    ghost use Rattle.markdown_plain.specs.Settled.{IsBuilt};
+
     /// Opens a block quote, an alert of a kind or none, whose marker is at the byte offset `at`.
     pub fn open_quote(&mut self, at: usize, kind: Option<BlockQuoteKind>) -> Result<(), AllocError>
         ensures text { IfOk result (λ _. self.new.placing.builder.text
@@ -281,6 +294,11 @@ impl<'a> Pass<'a> {
         ensures opens { IfOk result (λ _.
             IfFitted self.old.placing self.new.placing (self.new.placing.builder
             ≡ opened self.old.placing.builder at (body.BlockQuote kind))) }
+        ensures frame { IfOk result (λ _. (s : Source) (frames : List Frame) (inside : Forest Block)
+            (b : Block) → IsBuilt s self.old.placing.builder frames inside
+            → innermost_is is_list frames ≡ false → b.start ≡ at → b.kind ≡ quote_kind kind
+            → IfFitted self.old.placing self.new.placing
+            (IsBuilt s self.new.placing.builder (with_frame frames inside b) nil)) }
         ensures same { self.new ≡ record self.old { placing = self.new.placing } }
     {
         self.placing.step_to(at);
@@ -300,6 +318,19 @@ impl<'a> Pass<'a> {
             (self.new.placing.builder.at ≡ at)) }
         ensures ended { IfOk result (λ _. self.new.lines.items ≡ []) }
         ensures empty { IfOk result (λ _. self.new.looseness.item_is_empty ≡ true) }
+        ensures begins { IfOk result (λ _. (s : Source) (frames : List Frame) (inside : Forest Block)
+            (list b : Block) → MayOpen s self.old frames inside → depth ≡ length frames
+            → list.start ≡ at → list.kind ≡ list_container item.marker
+            → b.start ≡ at → b.kind ≡ item_container item.indent
+            → IfFitted self.old.placing self.new.placing
+            (IsBuilt s self.new.placing.builder (with_frame (with_frame frames inside list) nil b) nil)) }
+        ensures frame { IfOk result (λ _. (s : Source) (frames : List Frame) (inside : Forest Block)
+            (list b : Block) → self.old.lines.items ≡ [] → MayClose s self.old frames inside
+            → list.start ≡ at → list.kind ≡ list_container item.marker
+            → b.start ≡ at → b.kind ≡ item_container item.indent
+            → IfFitted self.old.placing self.new.placing (IsBuilt s self.new.placing.builder
+            (with_item item.marker list b (take depth frames) (rebuilt (drop depth frames) inside))
+            nil)) }
         ensures same { self.new ≡ record self.old {
           placing = self.new.placing;
           lines = self.new.lines;
@@ -321,6 +352,21 @@ impl<'a> Pass<'a> {
         ensures around { IfOk result (λ _. IfFitted self.old.placing self.new.placing
             (self.new.placing.builder.blocks
             ≡ opening.around_item at marker self.old.placing.builder.blocks)) }
+        ensures continues { IfOk result (λ _. (s : Source) (frames : List Frame) (inside : Forest Block)
+            → IsBuilt s self.old.placing.builder frames inside
+            → innermost_is (is_list_for marker) frames ≡ true
+            → IfFitted self.old.placing self.new.placing
+            (IsBuilt s self.new.placing.builder frames inside)) }
+        ensures begins { IfOk result (λ _. (s : Source) (frames : List Frame) (inside : Forest Block)
+            (b : Block) → IsBuilt s self.old.placing.builder frames inside
+            → innermost_is is_list frames ≡ false → b.start ≡ at → b.kind ≡ list_container marker
+            → IfFitted self.old.placing self.new.placing
+            (IsBuilt s self.new.placing.builder (with_frame frames inside b) nil)) }
+        ensures changes { IfOk result (λ _. (s : Source) (frames : List Frame) (f : Frame)
+            (inside : Forest Block) (b : Block) → MayClose s self.old (frames ++ f ∷ []) inside
+            → is_list f.block.kind ≡ true → is_list_for marker f.block.kind ≡ false → b.start ≡ at
+            → b.kind ≡ list_container marker → IfFitted self.old.placing self.new.placing
+            (IsBuilt s self.new.placing.builder (with_frame frames (forgotten f inside) b) nil)) }
         ensures empty { IfOk result (λ _. self.new.looseness.item_is_empty ≡ true) }
         ensures same { self.new ≡ record self.old {
           placing = self.new.placing;
@@ -359,6 +405,17 @@ impl<'a> Pass<'a> {
         ensures here { IfOk result (λ _. IfFitted self.old.placing self.new.placing
             (self.new.placing.builder.at ≡ at)) }
         ensures ended { IfOk result (λ _. self.new.lines.items ≡ []) }
+        ensures begins { IfOk result (λ _. (s : Source) (frames : List Frame) (inside : Forest Block)
+            (b : Block) → MayOpen s self.old frames inside → depth ≡ length frames
+            → b.start ≡ at → b.kind ≡ footnote_container (text_of label.entry)
+            → IfFitted self.old.placing self.new.placing
+            (IsBuilt s self.new.placing.builder (with_frame frames inside b) nil)) }
+        ensures frame { IfOk result (λ _. (s : Source) (frames : List Frame) (inside : Forest Block)
+            (b : Block) → self.old.lines.items ≡ [] → MayClose s self.old frames inside
+            → depth ≤ length frames → b.start ≡ at → b.kind ≡ footnote_container (text_of label.entry)
+            → IfFitted self.old.placing self.new.placing (IsBuilt s self.new.placing.builder
+            (with_frame (take (room_depth depth frames) frames)
+            (rebuilt (drop (room_depth depth frames) frames) inside) b) nil)) }
         ensures same { self.new ≡ record self.old {
           placing = self.new.placing;
           lines = self.new.lines;

@@ -160,6 +160,9 @@ impl<'a> Pass<'a> {
     pub fn close_down(&mut self, depth: usize) -> Result<(), AllocError>
         ensures text { IfOk result (λ _. self.new.placing.builder.text
             ≡ self.old.placing.builder.text) }
+        ensures kept { IfOk result (λ _. self.old.placing.builder.leaf ≡ false
+            → self.old.lines.items ≡ [] → length self.old.placing.builder.blocks ≤ depth
+            → self.new ≡ self.old) }
         ensures closes { IfOk result (λ _. IfFitted self.old.placing self.new.placing
             (self.new.placing.builder.blocks
             ≡ take depth (without_leaf self.old.placing.builder))) }
@@ -200,6 +203,10 @@ impl<'a> Pass<'a> {
     pub fn make_room(&mut self, depth: usize) -> Result<(), AllocError>
         ensures text { IfOk result (λ _. self.new.placing.builder.text
             ≡ self.old.placing.builder.text) }
+        ensures kept { IfOk result (λ _. self.old.placing.builder.leaf ≡ false
+            → self.old.lines.items ≡ [] → length self.old.placing.builder.blocks ≤ depth
+            → innermost_is is_list self.old.placing.builder.blocks ≡ false
+            → self.new.placing ≡ self.old.placing) }
         ensures closes { IfOk result (λ _. IfFitted self.old.placing self.new.placing
             (self.new.placing.builder.blocks
             ≡ room_in depth (without_leaf self.old.placing.builder))) }

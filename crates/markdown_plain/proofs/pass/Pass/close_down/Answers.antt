@@ -30,6 +30,7 @@ blocks-2-preserved c =
     let fits = λ (fitted : AllFitted c.close_block.new.self.placing). (c.close_block.ensures.closes fitted).0 in
     record {
       text = cc;
+      kept = λ none. absurd (omega (arith, none, c.blocks-2-test.true, c.blocks-2.auto._closed));
       closes = λ fitted.
           let done = c.close_block.ensures.closes fitted in
           let kept = before.closes done.0 in (

@@ -15,6 +15,7 @@ use Rattle.markdown_plain.proofs.pass.Pass.close_down.Given as goal
 abbrev pub invariant-blocks-2 : goal.invariant-blocks-2
 invariant-blocks-2 l = record {
   text : l.self.placing.builder.text ≡ l.fn.self.placing.builder.text;
+  kept : length l.initial.self.placing.builder.blocks ≤ l.depth → l.self ≡ l.initial.self;
   closes : IfFitted l.fn.self.placing l.self.placing
       (take l.depth l.self.placing.builder.blocks ≡ take l.depth (without_leaf l.fn.self.placing.builder));
   left : IfFitted l.fn.self.placing l.self.placing

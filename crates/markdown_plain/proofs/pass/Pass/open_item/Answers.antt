@@ -1,0 +1,75 @@
+-- The item is one more open container, in a list that goes on or is one more as well.
+use Rattle.std.proofs.Common.{◌≡◌, ◌∙◌, ◌++◌, ◌∷◌, [], List, sym, subst, ap, length, arith, rules, true, take, drop}
+use Rattle.std.proofs.lemmas.Result.{IfOk-weaker}
+use Rattle.markdown_base.specs.Forest.{Forest, nil}
+use Rattle.markdown_base.specs.declared.item.ItemBody.TheVariants as body
+use Rattle.markdown_builder.specs.BuilderView.{BuilderView, Opens}
+use Rattle.markdown_lines.specs.BlockBeginnings.{Source}
+use Rattle.markdown_block_rules.specs.BlockGrowth.{Block, item_container}
+use Rattle.markdown_plain.specs.Closing.{MayClose}
+use Rattle.markdown_plain.specs.Fitting.{AllFitted, IfFitted, stepped}
+use Rattle.markdown_plain.specs.Frames.{Frame, forgotten, innermost_is, is_list, rebuilt}
+use Rattle.markdown_plain.specs.OpenedFrames.{with_frame}
+use Rattle.markdown_plain.specs.Settled.{IsBuilt}
+use Rattle.markdown_plain.specs.declared.pass.Pass.{Pass}
+use Rattle.markdown_plain.proofs.OpenedFramesLemmas.{as_many_containers, innermost_of_more, item_is, item_placed}
+use Rattle.markdown_plain.proofs.OpenedFramesLemmas.{list_for_item, plain_is_built}
+use Rattle.markdown_plain.proofs.pass.Pass.open_item.Goals as goal
+
+-- once its list is the innermost open container
+item_in : (c : goal.After-open_block) (s : Source) (frames : List Frame) (inside : Forest Block) (b : Block)
+    → Opens c.step_to.new.self.builder c.open_block.new.self.builder (body.ListItem c.args.item.indent)
+    → c.step_to.new.self.builder ≡ stepped c.open_list.new.self.placing.builder c.args.at
+    → b.start ≡ c.args.at → b.kind ≡ item_container c.args.item.indent
+    → innermost_is is_list frames ≡ true → IsBuilt s c.open_list.new.self.placing.builder frames inside
+    → IsBuilt s c.open_block.new.self.builder (with_frame frames inside b) nil
+item_in c s frames inside b opens steps start same listed built =
+    let now = c.open_block.new.self.builder in
+    let indent = c.args.item.indent in
+    plain_is_built s c.open_list.new.self.placing.builder now frames inside b c.args.at (item_container indent)
+    (body.ListItem indent) (item_is indent) (subst (λ (v : BuilderView). Opens v now (body.ListItem indent)) steps opens)
+    start same listed built
+
+pub returns-clause-begins : goal.returns-clause-begins
+returns-clause-begins c =
+    IfOk-weaker c.open_block.result _ _ (λ done opens s frames inside list b may deep starts is start same fitted.
+    let last = opens fitted in
+    let first = c.step_to.ensures.steps last.0 in
+    let many = as_many_containers s c.args.self.now.placing.builder frames inside may.built in
+    let kept = c.in_ok-close_down.ensures.kept may.built.outside may.lines (omega (arith, many, deep)) in
+    let listed = c.in_ok-open_list.ensures.begins s frames inside list
+    (subst (λ (p : Pass). IsBuilt s p.placing.builder frames inside) (sym kept) may.built) may.free starts is first.0
+    in (
+      subst (λ (p : Pass). AllFitted p.placing) kept listed.0,
+      item_in c s (with_frame frames inside list) nil b last.1 first.1 start same
+          (innermost_of_more is_list frames (record { before = inside; block = list }) ∙ ap is_list is) listed.1,
+    )) c.open_block.ensures.opens
+
+pub returns-clause-frame : goal.returns-clause-frame
+returns-clause-frame c =
+    IfOk-weaker c.open_block.result _ _ (λ done opens s frames inside list b none may starts is start same fitted.
+    let last = opens fitted in
+    let first = c.step_to.ensures.steps last.0 in
+    let outer = take c.args.depth frames in
+    let below = rebuilt (drop c.args.depth frames) inside in
+    let listed = c.in_ok-open_list.ensures in
+    let down = c.in_ok-close_down.ensures.forgets s frames inside none may (listed.around first.0).0 in
+    let put : (fs : List Frame) (before : Forest Block) → innermost_is is_list fs ≡ true
+        → IsBuilt s c.open_list.new.self.placing.builder fs before
+        → IsBuilt s c.open_block.new.self.builder (with_frame fs before b) nil =
+    λ fs before innermost built. item_in c s fs before b last.1 first.1 start same innermost built in
+    let put_first : (fs : List Frame) (before : Forest Block)
+        → IsBuilt s c.open_list.new.self.placing.builder (with_frame fs before list) nil
+        → IsBuilt s c.open_block.new.self.builder (with_frame (with_frame fs before list) nil b) nil =
+    λ fs before built. put (with_frame fs before list) nil
+    (innermost_of_more is_list fs (record { before = before; block = list }) ∙ ap is_list is) built in (
+      down.0,
+      item_placed (λ fs. IsBuilt s c.open_block.new.self.builder fs nil) c.args.item.marker list b outer below
+          (λ goes_on. put outer below (list_for_item c.args.item.marker outer goes_on)
+          (listed.continues s outer below down.1.stands.built goes_on first.0).1)
+          (λ free. put_first outer below
+          (listed.begins s outer below list down.1.stands.built free starts is first.0).1)
+          (λ others f whole ends other. put_first others (forgotten f below)
+          (listed.changes s others f below list (subst (λ fs. MayClose s c.close_down.new.self fs below) whole down.1)
+          ends other starts is first.0).1),
+    )) c.open_block.ensures.opens

@@ -1,0 +1,99 @@
+-- The list goes on, or is one more open container.
+use Rattle.std.proofs.Common.{◌≡◌, ◌∙◌, ◌++◌, ◌∷◌, [], List, sym, subst, rules, true, false}
+use Rattle.std.proofs.lemmas.Bool.{true≢false}
+use Rattle.std.proofs.lemmas.Result.{IfOk-weaker}
+use Rattle.markdown_base.specs.declared.item.ItemBody.TheVariants as body
+use Rattle.markdown_builder.specs.BuilderView.{BuilderView, Opens}
+use Rattle.markdown_block_rules.specs.BlockGrowth.{Block, list_container}
+use Rattle.markdown_base.specs.Forest.{Forest}
+use Rattle.markdown_lines.specs.BlockBeginnings.{Source}
+use Rattle.markdown_plain.specs.Closing.{MayClose}
+use Rattle.markdown_plain.specs.Fitting.{AllFitted, IfFitted, stepped}
+use Rattle.markdown_plain.specs.Frames.{Frame, forgotten, is_list}
+use Rattle.markdown_plain.specs.OpenedFrames.{is_list_for}
+use Rattle.markdown_plain.specs.NewContainers.{is_list_of}
+use Rattle.markdown_plain.specs.OpenBlocks as own
+use Rattle.markdown_plain.specs.declared.pass.Pass.{Pass}
+use Rattle.markdown_plain.proofs.OpenedFramesLemmas.{innermost_of_more, list_goes_on, list_innermost, list_is}
+use Rattle.markdown_plain.proofs.OpenedFramesLemmas.{list_outside, plain_is_built}
+use Rattle.markdown_plain.proofs.pass.Pass.open_list.Goals.{in-Some-List+else-character-marker}
+use Rattle.markdown_plain.proofs.pass.Pass.open_list.Goals.{in-Some+in-MaybeEmphasis-1, in-None-1}
+use Rattle.markdown_plain.proofs.pass.Pass.open_list.Goals as goal
+
+pub returns-then-character-marker-clause-begins : goal.returns-then-character-marker-clause-begins
+returns-then-character-marker-clause-begins c = λ s frames inside b built none start same fitted.
+    let list : own.innermost_is own.is_list c.args.self.now.placing.builder.blocks ≡ true = search rules in
+    absurd (true≢false (sym list ∙ (list_innermost s c.args.self.now.placing.builder frames inside built ∙ none)))
+
+-- a list that goes on is not the innermost
+begins : (c : goal.After-open_list)
+    → own.innermost_is (is_list_of c.args.marker.character) c.args.self.now.placing.builder.blocks ≡ false
+begins c = search rules
+
+pub returns-clause-continues : goal.returns-clause-continues
+returns-clause-continues c =
+    IfOk-weaker c.open_list.result _ _ (λ done read s frames inside built goes_on fitted.
+    absurd (true≢false (sym goes_on ∙ (sym (list_goes_on c.args.marker s c.args.self.now.placing.builder frames inside
+    built) ∙ begins c)))) c.open_list.ensures.read
+
+-- no list is closed
+none_closed : (c : goal.After-open_list)
+    → own.innermost_is own.is_list c.args.self.now.placing.builder.blocks ≡ false
+    → c.match-innermost.self ≡ c.args.self.now
+none_closed c none = search (rules, none)
+
+pub returns-clause-begins : goal.returns-clause-begins
+returns-clause-begins c =
+    IfOk-weaker c.open_list.result _ _ (λ done read s frames inside b built fits start same fitted.
+    let list = body.List true c.args.marker.character c.args.marker.first in
+    let now = c.open_block.new.self.builder in
+    let last = c.in_ok-open_block.ensures.opens fitted in
+    let first = c.step_to.ensures.steps last.0 in
+    let kept = none_closed c (list_innermost s c.args.self.now.placing.builder frames inside built ∙ fits) in (
+      subst (λ (p : Pass). AllFitted p.placing) kept first.0,
+      plain_is_built s c.args.self.now.placing.builder now frames inside b c.args.at (list_container c.args.marker)
+          list (list_is c.args.marker)
+          (subst (λ (p : Pass). Opens (stepped p.placing.builder c.args.at) now list) kept
+          (subst (λ (v : BuilderView). Opens v now list) first.1 last.1)) start same fits built,
+    )) c.open_list.ensures.read
+
+pub returns-then-character-marker-clause-changes : goal.returns-then-character-marker-clause-changes
+returns-then-character-marker-clause-changes c = λ s frames f inside b may list other start same fitted.
+    let goes_on : own.innermost_is (is_list_of c.args.marker.character) c.args.self.now.placing.builder.blocks ≡ true =
+    search rules in
+    absurd (true≢false (sym goes_on
+    ∙ (list_goes_on c.args.marker s c.args.self.now.placing.builder (frames ++ f ∷ []) inside may.stands.built
+    ∙ (innermost_of_more (is_list_for c.args.marker) frames f ∙ other))))
+
+-- another list is closed
+list_closed : (c : goal.After-open_list)
+    → own.innermost_is own.is_list c.args.self.now.placing.builder.blocks ≡ true
+    → (s : Source) (frames : List Frame) (f : Frame) (inside : Forest Block)
+    → MayClose s c.args.self.now (frames ++ f ∷ []) inside
+    → IfFitted c.args.self.now.placing c.match-innermost.self.placing
+    (MayClose s c.match-innermost.self frames (forgotten f inside))
+list_closed c list s frames f inside may =
+    elim c.match-innermost.branch [
+      | in-Some-List+else-character-marker w ↦
+          subst (λ (p : Pass). IfFitted c.args.self.now.placing p.placing (MayClose s p frames (forgotten f inside)))
+          (sym w.self-is) (w.close_block.ensures.forgets s frames f inside may)
+      | in-Some+in-MaybeEmphasis-1 w ↦ absurd (true≢false (sym list ∙ search rules))
+      | in-None-1 w ↦ absurd (true≢false (sym list ∙ search rules))
+    ]
+
+pub returns-clause-changes : goal.returns-clause-changes
+returns-clause-changes c =
+    IfOk-weaker c.open_list.result _ _ (λ done read s frames f inside b may is other start same fitted.
+    let list = body.List true c.args.marker.character c.args.marker.first in
+    let now = c.open_block.new.self.builder in
+    let last = c.in_ok-open_block.ensures.opens fitted in
+    let first = c.step_to.ensures.steps last.0 in
+    let innermost = list_innermost s c.args.self.now.placing.builder (frames ++ f ∷ []) inside may.stands.built
+    ∙ (innermost_of_more is_list frames f ∙ is) in
+    let closed = list_closed c innermost s frames f inside may first.0 in (
+      closed.0,
+      plain_is_built s c.match-innermost.self.placing.builder now frames (forgotten f inside) b c.args.at
+          (list_container c.args.marker) list (list_is c.args.marker)
+          (subst (λ (v : BuilderView). Opens v now list) first.1 last.1) start same
+          (list_outside frames f is may.stands.built.nested) closed.1.stands.built,
+    )) c.open_list.ensures.read
