@@ -19,4 +19,3 @@ pub mod Settled
 pub mod ReachedFrames
 pub mod OpenedFrames
 pub mod Closing
--- the blocks that the pass stands for, and the containers among them that are open
