@@ -75,6 +75,7 @@ blocks-2-preserved c =
 pub blocks-2-init : goal.blocks-2-init
 blocks-2-init c = record {
   text = search rules;
+  kept = λ none. refl;
   closes = search rules;
   left = search rules;
   outside = search rules;
