@@ -19,3 +19,4 @@ pub mod OpenedFramesLemmas
 -- on open containers that are closed
 pub mod TightBlocksLemmas
 pub mod ClosedFramesLemmas
+pub mod ItemsInListsLemmas

@@ -174,6 +174,10 @@ impl<'a> Pass<'a> {
           lists = self.new.looseness.lists;
           item_is_empty = self.new.looseness.item_is_empty;
         } }
+        ensures forgets { IfOk result (λ _. (s : Source) (frames : List Frame)
+            (inside : Forest Block) → self.old.lines.items ≡ []
+            → MayClose s self.old frames inside → IfFitted self.old.placing self.new.placing
+            (MayClose s self.new (take depth frames) (rebuilt (drop depth frames) inside))) }
     {
         self.end_leaf()?;
         'blocks: for _closed in depth..self.depth() {
@@ -210,6 +214,11 @@ impl<'a> Pass<'a> {
               lists = self.new.looseness.lists;
               item_is_empty = false;
             }) }
+        ensures forgets { IfOk result (λ _. (s : Source) (frames : List Frame)
+            (inside : Forest Block) → self.old.lines.items ≡ [] → depth ≤ length frames
+            → MayClose s self.old frames inside → IfFitted self.old.placing self.new.placing
+            (StandsFor s self.new (take (room_depth depth frames) frames)
+            (rebuilt (drop (room_depth depth frames) frames) inside))) }
     {
         self.close_down(depth)?;
         if self.is_in_list() {
