@@ -8,7 +8,7 @@ use Rattle.markdown_base.specs.declared.item.ItemBody.{ItemBody}
 use Rattle.markdown_builder.specs.declared.open_block.OpenBlock.{OpenBlock}
 use Rattle.markdown_builder.specs.BuilderView.{BuilderView}
 use Rattle.markdown_builder.specs.TreeLevels.{followed_by, with_trees}
-use Rattle.markdown_builder.proofs.LaidLemmas.{followed_by-assoc, followed_by-nil}
+use Rattle.markdown_builder.proofs.LaidLemmas.{followed_by-nil}
 use Rattle.markdown_lines.specs.BlockBeginnings.{Source}
 use Rattle.markdown_lines.specs.DefinitionRules.{divided, divided_in}
 use Rattle.markdown_scan.specs.Entity.{entity_names}
@@ -21,25 +21,15 @@ use Rattle.markdown_plain.specs.Frames.{Frame, rebuilt}
 use Rattle.markdown_plain.specs.Settled.{AreOpen, IsAtEnd, IsBodyOf, IsBuilt, around_in, levels_shown, placed_end}
 use Rattle.markdown_plain.specs.declared.pass.Pass.{Pass}
 use Rattle.markdown_plain.specs.OpenedFrames.{around_innermost}
+use Rattle.markdown_plain.proofs.ClosedFramesLemmas.{end_of_both, shown_of_both, some_level}
 
 -- ---- what is shown
-
-shown_followed : (s : Source) (around : Around) (blocks new : Forest Block)
-    → shown_blocks s around (followed_by blocks new)
-    ≡ followed_by (shown_blocks s around blocks) (shown_blocks s around new)
-unfolding shown_blocks
-shown_followed s around nil new = refl
-shown_followed s around (node b below after) new =
-    let first = shown_block s around b (block_end b (last_end b.first below) b.kind) below
-    (λ inside. shown_blocks s inside below) b.kind in
-    ap (followed_by first) (shown_followed s around after new)
-    ∙ sym (followed_by-assoc first (shown_blocks s around after) (shown_blocks s around new))
 
 -- they are put at the end of the innermost level
 pub levels_appended : (s : Source) (around : Around) (frames : List Frame) (inside new : Forest Block)
     → levels_shown s around frames (followed_by inside new)
     ≡ with_trees (levels_shown s around frames inside) (shown_blocks s (around_innermost around frames) new)
-levels_appended s around [] inside new = ap (λ f. f ∷ []) (shown_followed s around inside new)
+levels_appended s around [] inside new = ap (λ f. f ∷ []) (shown_of_both s around inside new)
 levels_appended s around (f ∷ []) inside new =
     ap (λ ls. shown_blocks s around f.before ∷ ls)
     (levels_appended s (around_in f.block f.block.kind) [] inside new)
@@ -104,15 +94,9 @@ footnotes_appended frames inside new = gathered_appended _ footnotes_in footnote
 
 -- ---- where they end
 
-pub last_end_followed : (before : ℕ) (blocks new : Forest Block)
-    → last_end before (followed_by blocks new) ≡ last_end (last_end before blocks) new
-last_end_followed before nil new = refl
-last_end_followed before (node b below after) new =
-    last_end_followed (if is_blank_block b.kind then before else block_end b (last_end b.first below) b.kind) after new
-
 pub end_appended : (before : ℕ) (frames : List Frame) (inside new : Forest Block)
     → placed_end before frames (followed_by inside new) ≡ last_end (placed_end before frames inside) new
-end_appended before [] inside new = last_end_followed before inside new
+end_appended before [] inside new = end_of_both before inside new
 end_appended before (f ∷ frames) inside new = end_appended f.block.first frames inside new
 
 -- ---- what is built
@@ -144,8 +128,7 @@ open_after texts more (block ∷ blocks) (f ∷ frames) are = (
 
 pub some_levels : (s : Source) (view : BuilderView) (frames : List Frame) (inside : Forest Block)
     → IsBuilt s view frames inside → view.levels ≡ [] → ⊥
-some_levels s view [] inside built none = let levels = built.levels in cc (levels, none)
-some_levels s view (f ∷ frames) inside built none = let levels = built.levels in cc (levels, none)
+some_levels s view frames inside built none = some_level s in_no_item frames inside (sym built.levels ∙ none)
 
 -- a builder has appended, in the innermost of these open containers, what is shown of some blocks, with the texts that
 -- this refers to, and what they define

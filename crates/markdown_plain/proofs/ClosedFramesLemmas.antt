@@ -58,7 +58,7 @@ items_inside in_list (g ∷ frames) f inside are =
 
 -- ---- the closed trees
 
-shown_of_both : (s : Source) (around : Around) (f g : Forest Block)
+pub shown_of_both : (s : Source) (around : Around) (f g : Forest Block)
     → shown_blocks s around (followed_by f g) ≡ followed_by (shown_blocks s around f) (shown_blocks s around g)
 unfolding shown_blocks
 shown_of_both s around nil g = refl
@@ -78,7 +78,7 @@ IsClosedItem s f inside a = (around : Around) → around.tight ≡ false
     → node a (settled_below a (shown_blocks s (around_in f.block f.block.kind) inside)) nil
     ≡ shown_blocks s around (node f.block inside nil)
 
-levels_parted : (s : Source) (around : Around) (frames : List Frame) (f : Frame) (inside : Forest Block)
+pub levels_parted : (s : Source) (around : Around) (frames : List Frame) (f : Frame) (inside : Forest Block)
     → levels_shown s around (frames ++ f ∷ []) inside
     ≡ levels_shown s around frames f.before ++ shown_blocks s (around_in f.block f.block.kind) inside ∷ []
 levels_parted s around [] f inside = refl
@@ -86,7 +86,7 @@ levels_parted s around (g ∷ frames) f inside =
     ap (λ levels. shown_blocks s around g.before ∷ levels)
     (levels_parted s (around_in g.block g.block.kind) frames f inside)
 
-some_level : (s : Source) (around : Around) (frames : List Frame) (inside : Forest Block)
+pub some_level : (s : Source) (around : Around) (frames : List Frame) (inside : Forest Block)
     → levels_shown s around frames inside ≡ [] → ⊥
 some_level s around [] inside e = cc (e)
 some_level s around (f ∷ frames) inside e = cc (e)
@@ -166,7 +166,7 @@ container_shown s parts around b inside other opened is items loose = absurd is
 
 -- ---- where blocks end
 
-end_of_both : (before : ℕ) (f g : Forest Block) → last_end before (followed_by f g) ≡ last_end (last_end before f) g
+pub end_of_both : (before : ℕ) (f g : Forest Block) → last_end before (followed_by f g) ≡ last_end (last_end before f) g
 end_of_both before nil g = refl
 end_of_both before (node b below after) g =
     end_of_both (if is_blank_block b.kind then before else block_end b (last_end b.first below) b.kind) after g
@@ -227,7 +227,7 @@ innermost_open texts (block ∷ blocks) (g ∷ frames) f are =
       outside = (are.0, last.outside);
     }
 
-as_many_open : (texts : List (List ℕ)) (blocks : List OpenBlock) (frames : List Frame) → AreOpen texts blocks frames
+pub as_many_open : (texts : List (List ℕ)) (blocks : List OpenBlock) (frames : List Frame) → AreOpen texts blocks frames
     → length blocks ≡ length frames
 as_many_open texts [] [] are = refl
 as_many_open texts [] (f ∷ frames) are = absurd are
@@ -514,12 +514,12 @@ other_forgotten s old new frames f inside may other closes =
 -- ---- more containers closed
 
 -- of one container more than some number, the innermost
-record LastKept (n : ℕ) (frames : List Frame) : Type 0 where
+pub record LastKept (n : ℕ) (frames : List Frame) : Type 0 where
   pub f : Frame
   pub taken : take (suc n) frames ≡ take n frames ++ f ∷ []
   pub dropped : drop n frames ≡ f ∷ drop (suc n) frames
 
-last_kept : (n : ℕ) (frames : List Frame) → n < length frames → LastKept n frames
+pub last_kept : (n : ℕ) (frames : List Frame) → n < length frames → LastKept n frames
 last_kept n [] more = absurd (omega (arith, more))
 last_kept zero (f ∷ frames) more = record { f = f; taken = refl; dropped = refl }
 last_kept (suc n) (g ∷ frames) more =

@@ -2,7 +2,7 @@
 use Rattle.std.proofs.Common.{◌≡◌, ℕ, zero, suc, Bool, true, false, List, [], ◌∷◌, ◌++◌, Some, refl, sym, ap}
 use Rattle.std.proofs.Common.{◌∙◌, ◌-◌, ◌<◌, ◌≤◌, Option, None, length, take, drop, take_all, length-take-le}
 use Rattle.std.proofs.Common.{subst, arith, append-nil}
-use Rattle.std.specs.Prelude.{◌==◌, if◌then◌else◌, slice_get, Result, Ok, Err}
+use Rattle.std.specs.Prelude.{◌==◌, slice_get, Result, Ok, Err}
 use Rattle.std.specs.Result.{IfOk}
 use Rattle.std.proofs.lemmas.List.{drop_all}
 use Rattle.std.proofs.lemmas.Bool.{true≢false}
@@ -18,30 +18,28 @@ use Rattle.markdown_builder.specs.BuilderView.{BuilderView, Opens, OpensNaming}
 use Rattle.markdown_lines.specs.BlockBeginnings.{Source}
 use Rattle.markdown_block_rules.specs.BlockGrowth as was
 use Rattle.markdown_block_rules.specs.BlockGrowth.{Block, Kind}
-use Rattle.markdown_block_rules.specs.BlockRules.{Around, definitions_in, footnotes_in, in_no_item, label_of}
+use Rattle.markdown_block_rules.specs.BlockRules.{definitions_in, footnotes_in, in_no_item, label_of}
 use Rattle.markdown_block_rules.specs.BlockRules.{paragraph_lines, shown_blocks}
 use Rattle.markdown_lines.specs.DefinitionRules.{divided, divided_in}
 use Rattle.markdown_scan.specs.Entity.{entity_names}
 use Rattle.markdown_plain.specs.Fitting.{stepped}
 use Rattle.markdown_plain.specs.Frames.{AreNested, Frame, forgotten, innermost_is, is_item, is_list, rebuilt}
 use Rattle.markdown_plain.specs.Frames.{room_depth}
-use Rattle.markdown_plain.specs.Settled.{AreOpen, IsBodyOf, IsBuilt, IsOpen, around_in, levels_shown}
+use Rattle.markdown_plain.specs.Settled.{AreOpen, IsBodyOf, IsBuilt, IsOpen, levels_shown}
 use Rattle.markdown_plain.specs.OpenedFrames.{is_list_for, quote_kind, with_frame, with_item, with_list}
 use Rattle.markdown_plain.specs.NewContainers.{is_list_of}
 use Rattle.markdown_plain.specs.OpenBlocks as own
 use Rattle.markdown_lines.specs.declared.list_marker.ListMarker.{ListMarker}
 use Rattle.markdown_plain.proofs.AppendedBlocksLemmas.{definitions_appended, footnotes_appended, open_after}
-use Rattle.markdown_plain.proofs.ClosedFramesLemmas.{as_many_open, last_kept, rebuilt_more}
-use Rattle.markdown_plain.proofs.LeafTreesLemmas.{get_last}
+use Rattle.markdown_plain.proofs.ClosedFramesLemmas.{as_many_open, last_kept, levels_parted, rebuilt_more}
+use Rattle.markdown_plain.proofs.LeafTreesLemmas.{get_last, on_test}
 
 -- ---- one more frame
 
-levels_more : (s : Source) (around : Around) (frames : List Frame) (f : Frame)
-    → levels_shown s around (frames ++ f ∷ []) nil ≡ levels_shown s around frames f.before ++ nil ∷ []
+levels_more : (s : Source) (frames : List Frame) (f : Frame)
+    → levels_shown s in_no_item (frames ++ f ∷ []) nil ≡ levels_shown s in_no_item frames f.before ++ nil ∷ []
 unfolding shown_blocks
-levels_more s around [] f = refl
-levels_more s around (g ∷ frames) f =
-    ap (λ ls. shown_blocks s around g.before ∷ ls) (levels_more s (around_in g.block g.block.kind) frames f)
+levels_more s frames f = levels_parted s in_no_item frames f nil
 
 -- the innermost of at least two
 innermost_inside : (test : Kind → Bool) (f g : Frame) (frames : List Frame)
@@ -140,7 +138,7 @@ opened_is_built s old new frames inside b opens fits built =
       blocks = subst (λ blocks. AreOpen new.texts blocks (frames ++ f ∷ [])) (sym opens.blocks) open_now;
       nested = nested_more frames f fits built.nested;
       outside = opens.outside;
-      levels = opens.levels ∙ (ap (λ ls. ls ++ nil ∷ []) built.levels ∙ sym (levels_more s in_no_item frames f));
+      levels = opens.levels ∙ (ap (λ ls. ls ++ nil ∷ []) built.levels ∙ sym (levels_more s frames f));
       definitions = opens.definitions ∙ (built.definitions ∙ sym (ap (definitions_in s) (rebuilt_more frames f nil)
           ∙ (definitions_appended s frames inside (node b nil nil)
           ∙ (ap (λ ds. definitions_in s (rebuilt frames inside) ++ ds)
@@ -290,12 +288,6 @@ both_ok (Ok x) P Q p q = (p, q)
 both_ok (Err e) P Q p q = tt
 
 -- ---- where a container is opened
-
--- what holds of either value of a test
-on_test : {A : Type 0} (P : A → Type 0) (test : Bool) (x y : A) → (test ≡ true → P x) → (test ≡ false → P y)
-    → P (if test then x else y)
-on_test P true x y first second = first refl
-on_test P false x y first second = second refl
 
 -- a list that goes on is a list
 pub list_for_item : (marker : ListMarker) (frames : List Frame) → innermost_is (is_list_for marker) frames ≡ true

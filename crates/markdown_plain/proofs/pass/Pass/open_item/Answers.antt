@@ -1,5 +1,5 @@
 -- The item is one more open container, in a list that goes on or is one more as well.
-use Rattle.std.proofs.Common.{◌≡◌, ◌∙◌, ◌++◌, ◌∷◌, [], List, sym, subst, ap, length, arith, rules, true, take, drop}
+use Rattle.std.proofs.Common.{◌≡◌, ◌∙◌, List, sym, subst, ap, arith, true, take, drop}
 use Rattle.std.proofs.lemmas.Result.{IfOk-weaker}
 use Rattle.markdown_base.specs.Forest.{Forest, nil}
 use Rattle.markdown_base.specs.declared.item.ItemBody.TheVariants as body
@@ -7,7 +7,7 @@ use Rattle.markdown_builder.specs.BuilderView.{BuilderView, Opens}
 use Rattle.markdown_lines.specs.BlockBeginnings.{Source}
 use Rattle.markdown_block_rules.specs.BlockGrowth.{Block, item_container}
 use Rattle.markdown_plain.specs.Closing.{MayClose}
-use Rattle.markdown_plain.specs.Fitting.{AllFitted, IfFitted, stepped}
+use Rattle.markdown_plain.specs.Fitting.{AllFitted, stepped}
 use Rattle.markdown_plain.specs.Frames.{Frame, forgotten, innermost_is, is_list, rebuilt}
 use Rattle.markdown_plain.specs.OpenedFrames.{with_frame}
 use Rattle.markdown_plain.specs.Settled.{IsBuilt}
@@ -55,12 +55,12 @@ returns-clause-frame c =
     let listed = c.in_ok-open_list.ensures in
     let down = c.in_ok-close_down.ensures.forgets s frames inside none may (listed.around first.0).0 in
     let put : (fs : List Frame) (before : Forest Block) → innermost_is is_list fs ≡ true
-        → IsBuilt s c.open_list.new.self.placing.builder fs before
-        → IsBuilt s c.open_block.new.self.builder (with_frame fs before b) nil =
+    → IsBuilt s c.open_list.new.self.placing.builder fs before
+    → IsBuilt s c.open_block.new.self.builder (with_frame fs before b) nil =
     λ fs before innermost built. item_in c s fs before b last.1 first.1 start same innermost built in
     let put_first : (fs : List Frame) (before : Forest Block)
-        → IsBuilt s c.open_list.new.self.placing.builder (with_frame fs before list) nil
-        → IsBuilt s c.open_block.new.self.builder (with_frame (with_frame fs before list) nil b) nil =
+    → IsBuilt s c.open_list.new.self.placing.builder (with_frame fs before list) nil
+    → IsBuilt s c.open_block.new.self.builder (with_frame (with_frame fs before list) nil b) nil =
     λ fs before built. put (with_frame fs before list) nil
     (innermost_of_more is_list fs (record { before = before; block = list }) ∙ ap is_list is) built in (
       down.0,
