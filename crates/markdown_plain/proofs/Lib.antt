@@ -18,3 +18,4 @@ pub mod FramesInsideLemmas
 pub mod LooseFramesLemmas
 pub mod OpenListsLemmas
 pub mod ClosedListsLemmas
+pub mod BlanksKnownLemmas

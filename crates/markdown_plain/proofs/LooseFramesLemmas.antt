@@ -1,6 +1,6 @@
 -- Which open lists are loose, as a block is added to the innermost open container, and as containers are opened and
 -- closed.
-use Rattle.std.proofs.Common.{◌≡◌, ℕ, List, [], ◌∷◌, ◌++◌, Bool, true, false, ◌&&◌, not, refl, sym, ap, ◌∙◌}
+use Rattle.std.proofs.Common.{◌≡◌, List, [], ◌∷◌, ◌++◌, Bool, true, false, ◌&&◌, not, refl, sym, ap, ◌∙◌}
 use Rattle.std.specs.Prelude.{◌||◌, if◌then◌else◌}
 use Rattle.std.proofs.lemmas.Bool.{true≢false}
 use Rattle.markdown_base.specs.Forest.{Forest, nil, node}
@@ -11,7 +11,7 @@ use Rattle.markdown_block_rules.specs.BlockRules.{holds_block, is_blank_block, i
 use Rattle.markdown_builder.specs.TreeLevels.{followed_by}
 use Rattle.markdown_plain.specs.Frames.{AreNested, Frame, forgotten, innermost_is, is_item, is_list, rebuilt}
 use Rattle.markdown_plain.proofs.FramesInsideLemmas.{innermost_in, item_no_list, list_no_item}
-use Rattle.markdown_plain.specs.Settled.{EmptyKnown, EmptyKnownIn, IsLooseAs, IsLooseBefore, IsOneBlock, are_loose}
+use Rattle.markdown_plain.specs.Settled.{IsOneBlock, are_loose}
 
 -- ---- blocks after others
 
@@ -42,7 +42,7 @@ holds_more (node b below after) g =
     ∙ or_or (not (is_blank_block b.kind)) (holds_block after) (holds_block g)
 
 -- blocks end as the last of them does
-ends_more : (before : Bool) (f g : Forest Block)
+pub ends_more : (before : Bool) (f g : Forest Block)
     → ends_blank before (followed_by f g) ≡ ends_blank (ends_blank before f) g
 ends_more before nil g = refl
 ends_more before (node b below after) g = ends_more (block_ends_blank (ends_blank false below) b.kind) after g
@@ -114,7 +114,7 @@ one_separated f (node b below after) one =
 -- ---- the blocks in an open list
 
 -- what is in a container does not separate it from others
-closed_separated : (f : Frame) (inside : Forest Block)
+pub closed_separated : (f : Frame) (inside : Forest Block)
     → are_separated (forgotten f inside)
     ≡ (are_separated f.before || (ends_blank false f.before && not (is_blank_block f.block.kind)))
 closed_separated f inside =
@@ -125,7 +125,7 @@ closed_separated f inside =
     ) (or_false (are_separated f.before || (ends_blank false f.before && not (is_blank_block f.block.kind))))
 
 -- a list is loose by what is in its last item
-loose_by_last : (f : Frame) (inside : Forest Block)
+pub loose_by_last : (f : Frame) (inside : Forest Block)
     → is_loose (forgotten f inside)
     ≡ ((are_separated (forgotten f nil) || hold_separated f.before) || are_separated inside)
 loose_by_last f inside =
@@ -211,17 +211,21 @@ around : (f g : Frame) (frames : List Frame) (loose : Forest Block → Bool)
     → ByInnermost (g ∷ frames) loose → ByInnermost (f ∷ g ∷ frames) loose
 around f g frames loose steady by = by_kind (is_list f.block.kind) refl
   where
+    as_listed : (inside : Forest Block) (list : Bool) → is_list f.block.kind ≡ list
+        → are_loose (f ∷ g ∷ frames) inside
+        ≡ listed list (is_loose (rebuilt (g ∷ frames) inside)) (are_loose (g ∷ frames) inside)
+    as_listed inside list is =
+        ap (λ list. listed list (is_loose (rebuilt (g ∷ frames) inside)) (are_loose (g ∷ frames) inside)) is
+
     by_kind : (list : Bool) → is_list f.block.kind ≡ list → ByInnermost (f ∷ g ∷ frames) loose
     by_kind true is = record {
       outer = is_loose (rebuilt (g ∷ frames) nil) ∷ by.outer;
-      is = λ inside. ap (λ list. listed list (is_loose (rebuilt (g ∷ frames) inside)) (are_loose (g ∷ frames) inside)) is
-          ∙ (ap (λ flag. flag ∷ are_loose (g ∷ frames) inside) (steady is inside)
+      is = λ inside. as_listed inside true is ∙ (ap (λ flag. flag ∷ are_loose (g ∷ frames) inside) (steady is inside)
           ∙ ap (λ flags. is_loose (rebuilt (g ∷ frames) nil) ∷ flags) (by.is inside));
     }
     by_kind false is = record {
       outer = by.outer;
-      is = λ inside. ap (λ list. listed list (is_loose (rebuilt (g ∷ frames) inside)) (are_loose (g ∷ frames) inside)) is
-          ∙ by.is inside;
+      is = λ inside. as_listed inside false is ∙ by.is inside;
     }
 
 -- the innermost container is a list

@@ -5,11 +5,11 @@ use Rattle.std.proofs.lemmas.Bool.{true≢false}
 use Rattle.markdown_base.specs.Forest.{Forest, nil, node}
 use Rattle.markdown_block_rules.specs.BlockGrowth as was
 use Rattle.markdown_block_rules.specs.BlockGrowth.{Block, Kind, is_nil}
-use Rattle.markdown_block_rules.specs.BlockRules.{are_separated, block_ends_blank, ends_blank, hold_separated}
+use Rattle.markdown_block_rules.specs.BlockRules.{are_separated, block_ends_blank, ends_blank}
 use Rattle.markdown_block_rules.specs.BlockRules.{is_blank_block, is_loose}
 use Rattle.markdown_builder.specs.declared.open_block.OpenBlock.{OpenBlock}
 use Rattle.markdown_builder.specs.TreeLevels.{followed_by}
-use Rattle.markdown_plain.proofs.FramesInsideLemmas.{as_many_frames, inner_item_no_list, inner_item_no_quote}
+use Rattle.markdown_plain.proofs.FramesInsideLemmas.{as_many_frames, inner_item_no_quote}
 use Rattle.markdown_plain.proofs.FramesInsideLemmas.{inner_list_no_quote, innermost_in, item_no_list, item_of_open}
 use Rattle.markdown_plain.proofs.LooseFramesLemmas.{by_item, by_list, by_other, loose_last, loose_more}
 use Rattle.markdown_plain.proofs.LooseFramesLemmas.{loose_with_item, one_separated, same_last}
@@ -51,7 +51,8 @@ blank_inner from outside f (g ∷ frames) inside other known =
     ap (is_blank_in from) (omega arith)
     ∙ blank_inner from (outside + 1) g frames inside (sym (innermost_in is_quote f g frames) ∙ other) known.1
 
-after_blank : (from : Option ℕ) (blocks : List OpenBlock) → is_after_blank from blocks ≡ is_blank_in from (length blocks)
+after_blank : (from : Option ℕ) (blocks : List OpenBlock)
+    → is_after_blank from blocks ≡ is_blank_in from (length blocks)
 after_blank None blocks = refl
 after_blank (Some n) blocks = refl
 
@@ -97,7 +98,8 @@ block_in_item (f ∷ g ∷ frames) inside new old now true nested item is one bl
     one_separated inside new one
     ∙ (ap (λ b. are_separated inside || b) (sym blank) ∙ or_true (are_separated inside)) in
     (change.raised refl).loose inner.by.outer (is_loose (forgotten inner.item inside)) (is ∙ inner.by.is inside)
-    ∙ sym (inner.by.is (followed_by inside new) ∙ ap (λ flag. inner.by.outer ++ flag ∷ []) (loose_last inner.item (followed_by inside new) apart))
+    ∙ sym (inner.by.is (followed_by inside new)
+    ∙ ap (λ flag. inner.by.outer ++ flag ∷ []) (loose_last inner.item (followed_by inside new) apart))
 block_in_item (f ∷ g ∷ frames) inside new old now false nested item is one blank change =
     let inner = by_item f g frames nested item in
     let same : are_separated inside ≡ are_separated (followed_by inside new) =
@@ -141,13 +143,14 @@ block_added old new texts blocks frames inside change empty these nested other l
     in_frames (f ∷ frames) these item loose known =
         ap (λ b. b && (not old.item_is_empty && is_after_blank old.blank_from blocks))
         (item_of_open texts blocks (f ∷ frames) these ∙ item)
-        ∙ blank_in_item old texts blocks f frames inside these item (empty_item old.item_is_empty (f ∷ frames) inside item
-        loose.empty) known
+        ∙ blank_in_item old texts blocks f frames inside these item
+        (empty_item old.item_is_empty (f ∷ frames) inside item loose.empty) known
+
     by_kind : (item : Bool) → innermost_is is_item frames ≡ item → (n : Forest Block) → IsOneBlock n
         → new.lists.items ≡ are_loose frames (followed_by inside n)
     by_kind true item n one =
-        block_in_item frames inside n old.lists.items new.lists.items (parts_block old blocks) nested item loose.lists one
-        (in_frames frames these item loose known) change
+        block_in_item frames inside n old.lists.items new.lists.items (parts_block old blocks) nested item loose.lists
+        one (in_frames frames these item loose known) change
     by_kind false item n one =
         change.stays (ap (λ b. b && (not old.item_is_empty && is_after_blank old.blank_from blocks))
         (item_of_open texts blocks frames these ∙ item))
@@ -199,7 +202,8 @@ item_added old new texts blocks (f ∷ frames) inside item change empty these ne
     record {
       lists = lists_with_item (f ∷ frames) inside item old.lists.items new.lists.items
           (is_after_blank old.blank_from blocks) nested list kind loose.lists
-          (blank_in_blocks old.blank_from texts blocks f frames inside these (inner_list_no_quote (f ∷ frames) list) known)
+          (blank_in_blocks old.blank_from texts blocks f frames inside these (inner_list_no_quote (f ∷ frames) list)
+          known)
           change
           ∙ sym (loose_more (f ∷ frames) (last ∷ []) nil
           ∙ (ap (λ (b : Bool). are_loose (f ∷ frames) (rebuilt (last ∷ []) nil) ++ (if b then false ∷ [] else []))
@@ -224,7 +228,8 @@ item_starts item kind = starts item.kind kind
 pub list_begun : (old new : Looseness) (frames : List Frame) (inside : Forest Block) (list item : Block)
     → new.lists.items ≡ old.lists.items ++ false ∷ [] → new.item_is_empty ≡ true → IsLooseBefore old frames inside
     → is_list list.kind ≡ true → is_item item.kind ≡ true
-    → IsLooseAs new (frames ++ record { before = inside; block = list } ∷ record { before = nil; block = item } ∷ []) nil
+    → IsLooseAs new (frames ++ record { before = inside; block = list }
+    ∷ record { before = nil; block = item } ∷ []) nil
 list_begun old new frames inside list item more empty before kind inner =
     let outer : Frame = record { before = inside; block = list } in
     let last : Frame = record { before = nil; block = item } in

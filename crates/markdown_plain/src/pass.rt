@@ -131,7 +131,8 @@ impl<'a> Pass<'a> {
             ≡ (not (innermost_is is_list self.old.placing.builder.blocks)
             && self.old.looseness.item_is_empty) }
         ensures loose { (texts : List (List ℕ)) (frames : List Frame) (f : Frame)
-            (inside : Forest Block) → AreOpen texts self.old.placing.builder.blocks (frames ++ f ∷ [])
+            (inside : Forest Block)
+            → AreOpen texts self.old.placing.builder.blocks (frames ++ f ∷ [])
             → AreNested (frames ++ f ∷ [])
             → IsLooseAs self.old.looseness (frames ++ f ∷ []) inside
             → IsLooseAs self.new.looseness frames (forgotten f inside) }
