@@ -1,6 +1,7 @@
 -- Which open containers end with a blank line, and which lists are loose, after a line.
 use Rattle.std.proofs.Common.{◌≡◌, ℕ, ◌+◌, ◌≤◌, List, [], ◌∷◌, Bool, true, false, ◌&&◌, ◌||◌, not, map}
 use Rattle.std.proofs.Common.{Option, Some, None, refl, sym, ap, ◌∙◌, arith, nat_lt, if◌then◌else◌}
+use Rattle.std.proofs.Math.Bool.{and-false, or-true}
 use Rattle.std.proofs.lemmas.Bool.Decides.{nat_tests}
 use Rattle.markdown_base.specs.Forest.{Forest, nil, node}
 use Rattle.markdown_base.specs.declared.item.ItemBody.{ItemBody}
@@ -84,10 +85,6 @@ ends_open texts (b ∷ blocks) (f ∷ frames) inside these =
 
 -- ---- a line that is not blank
 
-none_ends : (b : Bool) → (b && false) ≡ false
-none_ends true = refl
-none_ends false = refl
-
 pub content_known : (outside : ℕ) (texts : List (List ℕ)) (blocks : List OpenBlock) (frames : List Frame)
     (inside : Forest Block) → AreOpen texts blocks frames → ends_blank false inside ≡ false
     → BlanksKnown None outside frames inside
@@ -96,7 +93,7 @@ content_known outside texts [] (f ∷ frames) inside these none = absurd these
 content_known outside texts (b ∷ blocks) [] inside these none = absurd these
 content_known outside texts (b ∷ blocks) (f ∷ frames) inside these none = (
   λ other. sym (ends_open texts blocks frames inside these.1
-      ∙ (ap (λ ends. not (has_quote frames) && ends) none ∙ none_ends (not (has_quote frames)))),
+      ∙ (ap (λ ends. not (has_quote frames) && ends) none ∙ and-false (not (has_quote frames)))),
   content_known (outside + 1) texts blocks frames inside these.1 none,
 )
 
@@ -111,17 +108,13 @@ quote_inside : (quoted outside : ℕ) (f : Frame) (frames : List Frame) → Quot
     → QuoteAt quoted (outside + 1) frames
 quote_inside quoted outside f frames at = record {
   there = λ some.
-      let whole = ap (λ deeper. is_quote f.block.kind || deeper) some ∙ or_true (is_quote f.block.kind) in
+      let whole = ap (λ deeper. is_quote f.block.kind || deeper) some ∙ or-true (is_quote f.block.kind) in
       let depth = quote_there f frames whole in
       let here = at.there whole in
       omega (arith, here, depth);
   outer = λ none. by_kind (is_quote f.block.kind) refl none;
 }
   where
-    or_true : (b : Bool) → (b || true) ≡ true
-    or_true true = refl
-    or_true false = refl
-
     by_kind : (quote : Bool) → is_quote f.block.kind ≡ quote → has_quote frames ≡ false → quoted ≤ outside + 1
     by_kind true is none =
         let whole : has_quote (f ∷ frames) ≡ true = ap (λ q. q || has_quote frames) is in

@@ -13,7 +13,7 @@ pub mod EndedParagraphsLemmas
 pub mod ParagraphsLemmas
 pub mod DividedLemmas
 pub mod ListLoosenessLemmas
--- on what open containers say of looseness
+-- on open containers: which lists are loose, and which containers end with a blank line
 pub mod FramesInsideLemmas
 pub mod LooseFramesLemmas
 pub mod OpenListsLemmas

@@ -2,6 +2,7 @@
 -- closed.
 use Rattle.std.proofs.Common.{◌≡◌, List, [], ◌∷◌, ◌++◌, Bool, true, false, ◌&&◌, not, refl, sym, ap, ◌∙◌}
 use Rattle.std.specs.Prelude.{◌||◌, if◌then◌else◌}
+use Rattle.std.proofs.Math.Bool.{and-false, and-true, or-false, or-true, or_assoc}
 use Rattle.std.proofs.lemmas.Bool.{true≢false}
 use Rattle.markdown_base.specs.Forest.{Forest, nil, node}
 use Rattle.markdown_block_rules.specs.BlockGrowth as was
@@ -15,31 +16,11 @@ use Rattle.markdown_plain.specs.Settled.{IsOneBlock, are_loose}
 
 -- ---- blocks after others
 
-or_false : (b : Bool) → (b || false) ≡ b
-or_false true = refl
-or_false false = refl
-
-or_true : (b : Bool) → (b || true) ≡ true
-or_true true = refl
-or_true false = refl
-
-or_or : (a b c : Bool) → (a || (b || c)) ≡ ((a || b) || c)
-or_or true b c = refl
-or_or false b c = refl
-
-and_true : (b : Bool) → (b && true) ≡ b
-and_true true = refl
-and_true false = refl
-
-and_false : (b : Bool) → (b && false) ≡ false
-and_false true = refl
-and_false false = refl
-
 holds_more : (f g : Forest Block) → holds_block (followed_by f g) ≡ (holds_block f || holds_block g)
 holds_more nil g = refl
 holds_more (node b below after) g =
     ap (λ h. not (is_blank_block b.kind) || h) (holds_more after g)
-    ∙ or_or (not (is_blank_block b.kind)) (holds_block after) (holds_block g)
+    ∙ sym (or_assoc (not (is_blank_block b.kind)) (holds_block after) (holds_block g))
 
 -- blocks end as the last of them does
 pub ends_more : (before : Bool) (f g : Forest Block)
@@ -96,7 +77,7 @@ hold_more : (f g : Forest Block) → hold_separated (followed_by f g) ≡ (hold_
 hold_more nil g = refl
 hold_more (node b below after) g =
     ap (λ h. are_separated below || h) (hold_more after g)
-    ∙ or_or (are_separated below) (hold_separated after) (hold_separated g)
+    ∙ sym (or_assoc (are_separated below) (hold_separated after) (hold_separated g))
 
 -- one more block is separated from others by a blank line at their end
 pub one_separated : (f new : Forest Block) → IsOneBlock new
@@ -107,9 +88,9 @@ one_separated f (node b below after) one =
       separated_more f (node b below after),
       one.1,
       one.0,
-      and_true (ends_blank false f),
-      and_false (block_ends_blank (ends_blank false below) b.kind),
-    ) (or_false (are_separated f || ends_blank false f))
+      and-true (ends_blank false f),
+      and-false (block_ends_blank (ends_blank false below) b.kind),
+    ) (or-false (are_separated f || ends_blank false f))
 
 -- ---- the blocks in an open list
 
@@ -120,9 +101,9 @@ pub closed_separated : (f : Frame) (inside : Forest Block)
 closed_separated f inside =
     rw (
       separated_more f.before (node f.block inside nil),
-      or_false (not (is_blank_block f.block.kind)),
-      and_false (block_ends_blank (ends_blank false inside) f.block.kind),
-    ) (or_false (are_separated f.before || (ends_blank false f.before && not (is_blank_block f.block.kind))))
+      or-false (not (is_blank_block f.block.kind)),
+      and-false (block_ends_blank (ends_blank false inside) f.block.kind),
+    ) (or-false (are_separated f.before || (ends_blank false f.before && not (is_blank_block f.block.kind))))
 
 -- a list is loose by what is in its last item
 pub loose_by_last : (f : Frame) (inside : Forest Block)
@@ -133,10 +114,10 @@ loose_by_last f inside =
       closed_separated f inside,
       closed_separated f nil,
       hold_more f.before (node f.block inside nil),
-      or_false (are_separated inside),
+      or-false (are_separated inside),
     )
-    (or_or (are_separated f.before || (ends_blank false f.before && not (is_blank_block f.block.kind)))
-    (hold_separated f.before) (are_separated inside))
+    (sym (or_assoc (are_separated f.before || (ends_blank false f.before && not (is_blank_block f.block.kind)))
+    (hold_separated f.before) (are_separated inside)))
 
 -- a list is loose whose last item has separated blocks
 pub loose_last : (f : Frame) (inside : Forest Block) → are_separated inside ≡ true
@@ -144,7 +125,7 @@ pub loose_last : (f : Frame) (inside : Forest Block) → are_separated inside �
 loose_last f inside apart =
     loose_by_last f inside
     ∙ (ap (λ s. (are_separated (forgotten f nil) || hold_separated f.before) || s) apart
-    ∙ or_true (are_separated (forgotten f nil) || hold_separated f.before))
+    ∙ or-true (are_separated (forgotten f nil) || hold_separated f.before))
 
 pub same_last : (f : Frame) (inside now : Forest Block) → are_separated inside ≡ are_separated now
     → is_loose (forgotten f inside) ≡ is_loose (forgotten f now)

@@ -1,6 +1,7 @@
 -- What the pass remembers of lists, as a block is added, and as containers are opened and closed.
 use Rattle.std.proofs.Common.{◌≡◌, ℕ, ◌+◌, List, [], ◌∷◌, ◌++◌, Bool, true, false, ◌&&◌, ◌||◌, not, refl, sym, ap, ◌∙◌}
 use Rattle.std.proofs.Common.{Option, Some, None, length, subst, arith, append-nil, if◌then◌else◌}
+use Rattle.std.proofs.Math.Bool.{or-false, or-true}
 use Rattle.std.proofs.lemmas.Bool.{true≢false}
 use Rattle.markdown_base.specs.Forest.{Forest, nil, node}
 use Rattle.markdown_block_rules.specs.BlockGrowth as was
@@ -20,14 +21,6 @@ use Rattle.markdown_plain.specs.OpenBlocks as block
 use Rattle.markdown_plain.specs.Settled.{AreOpen, BlanksKnown, EmptyKnown, EmptyKnownIn, IsLooseAs, IsLooseBefore}
 use Rattle.markdown_plain.specs.Settled.{IsOneBlock, are_loose, is_blank_in}
 use Rattle.markdown_plain.specs.declared.looseness.Looseness.{Looseness}
-
-or_true : (b : Bool) → (b || true) ≡ true
-or_true true = refl
-or_true false = refl
-
-or_false : (b : Bool) → (b || false) ≡ b
-or_false true = refl
-or_false false = refl
 
 -- ---- what is known of the innermost container
 
@@ -96,7 +89,7 @@ block_in_item (f ∷ g ∷ frames) inside new old now true nested item is one bl
     let inner = by_item f g frames nested item in
     let apart : are_separated (followed_by inside new) ≡ true =
     one_separated inside new one
-    ∙ (ap (λ b. are_separated inside || b) (sym blank) ∙ or_true (are_separated inside)) in
+    ∙ (ap (λ b. are_separated inside || b) (sym blank) ∙ or-true (are_separated inside)) in
     (change.raised refl).loose inner.by.outer (is_loose (forgotten inner.item inside)) (is ∙ inner.by.is inside)
     ∙ sym (inner.by.is (followed_by inside new)
     ∙ ap (λ flag. inner.by.outer ++ flag ∷ []) (loose_last inner.item (followed_by inside new) apart))
@@ -104,7 +97,7 @@ block_in_item (f ∷ g ∷ frames) inside new old now false nested item is one b
     let inner = by_item f g frames nested item in
     let same : are_separated inside ≡ are_separated (followed_by inside new) =
     sym (one_separated inside new one ∙ (ap (λ b. are_separated inside || b) (sym blank)
-    ∙ or_false (are_separated inside))) in
+    ∙ or-false (are_separated inside))) in
     change.stays refl ∙ (is ∙ (inner.by.is inside
     ∙ (ap (λ flag. inner.by.outer ++ flag ∷ []) (same_last inner.item inside (followed_by inside new) same)
     ∙ sym (inner.by.is (followed_by inside new)))))
@@ -181,12 +174,12 @@ lists_with_item frames inside item old new true nested list kind is blank change
     (change.raised refl).loose by.outer (is_loose inside) (is ∙ by.is inside)
     ∙ sym (by.is (followed_by inside (node item nil nil)) ∙ ap (λ flag. by.outer ++ flag ∷ [])
     (loose_with_item inside item (item_no_blank item.kind kind)
-    ∙ (ap (λ b. is_loose inside || b) (sym blank) ∙ or_true (is_loose inside))))
+    ∙ (ap (λ b. is_loose inside || b) (sym blank) ∙ or-true (is_loose inside))))
 lists_with_item frames inside item old new false nested list kind is blank change =
     let by = by_list frames nested list in
     change.stays refl ∙ (is ∙ (by.is inside ∙ sym (by.is (followed_by inside (node item nil nil))
     ∙ ap (λ flag. by.outer ++ flag ∷ []) (loose_with_item inside item (item_no_blank item.kind kind)
-    ∙ (ap (λ b. is_loose inside || b) (sym blank) ∙ or_false (is_loose inside))))))
+    ∙ (ap (λ b. is_loose inside || b) (sym blank) ∙ or-false (is_loose inside))))))
 
 -- another item begins in the innermost container, which is a list
 pub item_added : (old new : Looseness) (texts : List (List ℕ)) (blocks : List OpenBlock) (frames : List Frame)
