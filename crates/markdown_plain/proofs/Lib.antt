@@ -26,8 +26,9 @@ pub mod OpenedFramesLemmas
 pub mod TightBlocksLemmas
 pub mod ClosedFramesLemmas
 pub mod ItemsInListsLemmas
--- on what open containers say of looseness
+-- on open containers: which lists are loose, and which containers end with a blank line
 pub mod FramesInsideLemmas
 pub mod LooseFramesLemmas
 pub mod OpenListsLemmas
 pub mod ClosedListsLemmas
+pub mod BlanksKnownLemmas

@@ -1,7 +1,8 @@
 -- Which open lists are loose, as a block is added to the innermost open container, and as containers are opened and
 -- closed.
-use Rattle.std.proofs.Common.{◌≡◌, ℕ, List, [], ◌∷◌, ◌++◌, Bool, true, false, ◌&&◌, not, refl, sym, ap, ◌∙◌}
+use Rattle.std.proofs.Common.{◌≡◌, List, [], ◌∷◌, ◌++◌, Bool, true, false, ◌&&◌, not, refl, sym, ap, ◌∙◌}
 use Rattle.std.specs.Prelude.{◌||◌, if◌then◌else◌}
+use Rattle.std.proofs.Math.Bool.{and-false, and-true, or-false, or-true, or_assoc}
 use Rattle.std.proofs.lemmas.Bool.{true≢false}
 use Rattle.markdown_base.specs.Forest.{Forest, nil, node}
 use Rattle.markdown_block_rules.specs.BlockGrowth as was
@@ -11,38 +12,18 @@ use Rattle.markdown_block_rules.specs.BlockRules.{holds_block, is_blank_block, i
 use Rattle.markdown_builder.specs.TreeLevels.{followed_by}
 use Rattle.markdown_plain.specs.Frames.{AreNested, Frame, forgotten, innermost_is, is_item, is_list, rebuilt}
 use Rattle.markdown_plain.proofs.FramesInsideLemmas.{innermost_in, item_no_list, list_no_item}
-use Rattle.markdown_plain.specs.Settled.{EmptyKnown, EmptyKnownIn, IsLooseAs, IsLooseBefore, IsOneBlock, are_loose}
+use Rattle.markdown_plain.specs.Settled.{IsOneBlock, are_loose}
 
 -- ---- blocks after others
-
-or_false : (b : Bool) → (b || false) ≡ b
-or_false true = refl
-or_false false = refl
-
-or_true : (b : Bool) → (b || true) ≡ true
-or_true true = refl
-or_true false = refl
-
-or_or : (a b c : Bool) → (a || (b || c)) ≡ ((a || b) || c)
-or_or true b c = refl
-or_or false b c = refl
-
-and_true : (b : Bool) → (b && true) ≡ b
-and_true true = refl
-and_true false = refl
-
-and_false : (b : Bool) → (b && false) ≡ false
-and_false true = refl
-and_false false = refl
 
 holds_more : (f g : Forest Block) → holds_block (followed_by f g) ≡ (holds_block f || holds_block g)
 holds_more nil g = refl
 holds_more (node b below after) g =
     ap (λ h. not (is_blank_block b.kind) || h) (holds_more after g)
-    ∙ or_or (not (is_blank_block b.kind)) (holds_block after) (holds_block g)
+    ∙ sym (or_assoc (not (is_blank_block b.kind)) (holds_block after) (holds_block g))
 
 -- blocks end as the last of them does
-ends_more : (before : Bool) (f g : Forest Block)
+pub ends_more : (before : Bool) (f g : Forest Block)
     → ends_blank before (followed_by f g) ≡ ends_blank (ends_blank before f) g
 ends_more before nil g = refl
 ends_more before (node b below after) g = ends_more (block_ends_blank (ends_blank false below) b.kind) after g
@@ -96,7 +77,7 @@ hold_more : (f g : Forest Block) → hold_separated (followed_by f g) ≡ (hold_
 hold_more nil g = refl
 hold_more (node b below after) g =
     ap (λ h. are_separated below || h) (hold_more after g)
-    ∙ or_or (are_separated below) (hold_separated after) (hold_separated g)
+    ∙ sym (or_assoc (are_separated below) (hold_separated after) (hold_separated g))
 
 -- one more block is separated from others by a blank line at their end
 pub one_separated : (f new : Forest Block) → IsOneBlock new
@@ -107,25 +88,25 @@ one_separated f (node b below after) one =
       separated_more f (node b below after),
       one.1,
       one.0,
-      and_true (ends_blank false f),
-      and_false (block_ends_blank (ends_blank false below) b.kind),
-    ) (or_false (are_separated f || ends_blank false f))
+      and-true (ends_blank false f),
+      and-false (block_ends_blank (ends_blank false below) b.kind),
+    ) (or-false (are_separated f || ends_blank false f))
 
 -- ---- the blocks in an open list
 
 -- what is in a container does not separate it from others
-closed_separated : (f : Frame) (inside : Forest Block)
+pub closed_separated : (f : Frame) (inside : Forest Block)
     → are_separated (forgotten f inside)
     ≡ (are_separated f.before || (ends_blank false f.before && not (is_blank_block f.block.kind)))
 closed_separated f inside =
     rw (
       separated_more f.before (node f.block inside nil),
-      or_false (not (is_blank_block f.block.kind)),
-      and_false (block_ends_blank (ends_blank false inside) f.block.kind),
-    ) (or_false (are_separated f.before || (ends_blank false f.before && not (is_blank_block f.block.kind))))
+      or-false (not (is_blank_block f.block.kind)),
+      and-false (block_ends_blank (ends_blank false inside) f.block.kind),
+    ) (or-false (are_separated f.before || (ends_blank false f.before && not (is_blank_block f.block.kind))))
 
 -- a list is loose by what is in its last item
-loose_by_last : (f : Frame) (inside : Forest Block)
+pub loose_by_last : (f : Frame) (inside : Forest Block)
     → is_loose (forgotten f inside)
     ≡ ((are_separated (forgotten f nil) || hold_separated f.before) || are_separated inside)
 loose_by_last f inside =
@@ -133,10 +114,10 @@ loose_by_last f inside =
       closed_separated f inside,
       closed_separated f nil,
       hold_more f.before (node f.block inside nil),
-      or_false (are_separated inside),
+      or-false (are_separated inside),
     )
-    (or_or (are_separated f.before || (ends_blank false f.before && not (is_blank_block f.block.kind)))
-    (hold_separated f.before) (are_separated inside))
+    (sym (or_assoc (are_separated f.before || (ends_blank false f.before && not (is_blank_block f.block.kind)))
+    (hold_separated f.before) (are_separated inside)))
 
 -- a list is loose whose last item has separated blocks
 pub loose_last : (f : Frame) (inside : Forest Block) → are_separated inside ≡ true
@@ -144,7 +125,7 @@ pub loose_last : (f : Frame) (inside : Forest Block) → are_separated inside �
 loose_last f inside apart =
     loose_by_last f inside
     ∙ (ap (λ s. (are_separated (forgotten f nil) || hold_separated f.before) || s) apart
-    ∙ or_true (are_separated (forgotten f nil) || hold_separated f.before))
+    ∙ or-true (are_separated (forgotten f nil) || hold_separated f.before))
 
 pub same_last : (f : Frame) (inside now : Forest Block) → are_separated inside ≡ are_separated now
     → is_loose (forgotten f inside) ≡ is_loose (forgotten f now)
@@ -211,17 +192,21 @@ around : (f g : Frame) (frames : List Frame) (loose : Forest Block → Bool)
     → ByInnermost (g ∷ frames) loose → ByInnermost (f ∷ g ∷ frames) loose
 around f g frames loose steady by = by_kind (is_list f.block.kind) refl
   where
+    as_listed : (inside : Forest Block) (list : Bool) → is_list f.block.kind ≡ list
+        → are_loose (f ∷ g ∷ frames) inside
+        ≡ listed list (is_loose (rebuilt (g ∷ frames) inside)) (are_loose (g ∷ frames) inside)
+    as_listed inside list is =
+        ap (λ list. listed list (is_loose (rebuilt (g ∷ frames) inside)) (are_loose (g ∷ frames) inside)) is
+
     by_kind : (list : Bool) → is_list f.block.kind ≡ list → ByInnermost (f ∷ g ∷ frames) loose
     by_kind true is = record {
       outer = is_loose (rebuilt (g ∷ frames) nil) ∷ by.outer;
-      is = λ inside. ap (λ list. listed list (is_loose (rebuilt (g ∷ frames) inside)) (are_loose (g ∷ frames) inside)) is
-          ∙ (ap (λ flag. flag ∷ are_loose (g ∷ frames) inside) (steady is inside)
+      is = λ inside. as_listed inside true is ∙ (ap (λ flag. flag ∷ are_loose (g ∷ frames) inside) (steady is inside)
           ∙ ap (λ flags. is_loose (rebuilt (g ∷ frames) nil) ∷ flags) (by.is inside));
     }
     by_kind false is = record {
       outer = by.outer;
-      is = λ inside. ap (λ list. listed list (is_loose (rebuilt (g ∷ frames) inside)) (are_loose (g ∷ frames) inside)) is
-          ∙ by.is inside;
+      is = λ inside. as_listed inside false is ∙ by.is inside;
     }
 
 -- the innermost container is a list

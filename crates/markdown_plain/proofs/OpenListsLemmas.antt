@@ -1,15 +1,16 @@
 -- What the pass remembers of lists, as a block is added, and as containers are opened and closed.
 use Rattle.std.proofs.Common.{◌≡◌, ℕ, ◌+◌, List, [], ◌∷◌, ◌++◌, Bool, true, false, ◌&&◌, ◌||◌, not, refl, sym, ap, ◌∙◌}
 use Rattle.std.proofs.Common.{Option, Some, None, length, subst, arith, append-nil, if◌then◌else◌}
+use Rattle.std.proofs.Math.Bool.{or-false, or-true}
 use Rattle.std.proofs.lemmas.Bool.{true≢false}
 use Rattle.markdown_base.specs.Forest.{Forest, nil, node}
 use Rattle.markdown_block_rules.specs.BlockGrowth as was
 use Rattle.markdown_block_rules.specs.BlockGrowth.{Block, Kind, is_nil}
-use Rattle.markdown_block_rules.specs.BlockRules.{are_separated, block_ends_blank, ends_blank, hold_separated}
+use Rattle.markdown_block_rules.specs.BlockRules.{are_separated, block_ends_blank, ends_blank}
 use Rattle.markdown_block_rules.specs.BlockRules.{is_blank_block, is_loose}
 use Rattle.markdown_builder.specs.declared.open_block.OpenBlock.{OpenBlock}
 use Rattle.markdown_builder.specs.TreeLevels.{followed_by}
-use Rattle.markdown_plain.proofs.FramesInsideLemmas.{as_many_frames, inner_item_no_list, inner_item_no_quote}
+use Rattle.markdown_plain.proofs.FramesInsideLemmas.{as_many_frames, inner_item_no_quote}
 use Rattle.markdown_plain.proofs.FramesInsideLemmas.{inner_list_no_quote, innermost_in, item_no_list, item_of_open}
 use Rattle.markdown_plain.proofs.LooseFramesLemmas.{by_item, by_list, by_other, loose_last, loose_more}
 use Rattle.markdown_plain.proofs.LooseFramesLemmas.{loose_with_item, one_separated, same_last}
@@ -20,14 +21,6 @@ use Rattle.markdown_plain.specs.OpenBlocks as block
 use Rattle.markdown_plain.specs.Settled.{AreOpen, BlanksKnown, EmptyKnown, EmptyKnownIn, IsLooseAs, IsLooseBefore}
 use Rattle.markdown_plain.specs.Settled.{IsOneBlock, are_loose, is_blank_in}
 use Rattle.markdown_plain.specs.declared.looseness.Looseness.{Looseness}
-
-or_true : (b : Bool) → (b || true) ≡ true
-or_true true = refl
-or_true false = refl
-
-or_false : (b : Bool) → (b || false) ≡ b
-or_false true = refl
-or_false false = refl
 
 -- ---- what is known of the innermost container
 
@@ -51,7 +44,8 @@ blank_inner from outside f (g ∷ frames) inside other known =
     ap (is_blank_in from) (omega arith)
     ∙ blank_inner from (outside + 1) g frames inside (sym (innermost_in is_quote f g frames) ∙ other) known.1
 
-after_blank : (from : Option ℕ) (blocks : List OpenBlock) → is_after_blank from blocks ≡ is_blank_in from (length blocks)
+after_blank : (from : Option ℕ) (blocks : List OpenBlock)
+    → is_after_blank from blocks ≡ is_blank_in from (length blocks)
 after_blank None blocks = refl
 after_blank (Some n) blocks = refl
 
@@ -95,14 +89,15 @@ block_in_item (f ∷ g ∷ frames) inside new old now true nested item is one bl
     let inner = by_item f g frames nested item in
     let apart : are_separated (followed_by inside new) ≡ true =
     one_separated inside new one
-    ∙ (ap (λ b. are_separated inside || b) (sym blank) ∙ or_true (are_separated inside)) in
+    ∙ (ap (λ b. are_separated inside || b) (sym blank) ∙ or-true (are_separated inside)) in
     (change.raised refl).loose inner.by.outer (is_loose (forgotten inner.item inside)) (is ∙ inner.by.is inside)
-    ∙ sym (inner.by.is (followed_by inside new) ∙ ap (λ flag. inner.by.outer ++ flag ∷ []) (loose_last inner.item (followed_by inside new) apart))
+    ∙ sym (inner.by.is (followed_by inside new)
+    ∙ ap (λ flag. inner.by.outer ++ flag ∷ []) (loose_last inner.item (followed_by inside new) apart))
 block_in_item (f ∷ g ∷ frames) inside new old now false nested item is one blank change =
     let inner = by_item f g frames nested item in
     let same : are_separated inside ≡ are_separated (followed_by inside new) =
     sym (one_separated inside new one ∙ (ap (λ b. are_separated inside || b) (sym blank)
-    ∙ or_false (are_separated inside))) in
+    ∙ or-false (are_separated inside))) in
     change.stays refl ∙ (is ∙ (inner.by.is inside
     ∙ (ap (λ flag. inner.by.outer ++ flag ∷ []) (same_last inner.item inside (followed_by inside new) same)
     ∙ sym (inner.by.is (followed_by inside new)))))
@@ -141,13 +136,14 @@ block_added old new texts blocks frames inside change empty these nested other l
     in_frames (f ∷ frames) these item loose known =
         ap (λ b. b && (not old.item_is_empty && is_after_blank old.blank_from blocks))
         (item_of_open texts blocks (f ∷ frames) these ∙ item)
-        ∙ blank_in_item old texts blocks f frames inside these item (empty_item old.item_is_empty (f ∷ frames) inside item
-        loose.empty) known
+        ∙ blank_in_item old texts blocks f frames inside these item
+        (empty_item old.item_is_empty (f ∷ frames) inside item loose.empty) known
+
     by_kind : (item : Bool) → innermost_is is_item frames ≡ item → (n : Forest Block) → IsOneBlock n
         → new.lists.items ≡ are_loose frames (followed_by inside n)
     by_kind true item n one =
-        block_in_item frames inside n old.lists.items new.lists.items (parts_block old blocks) nested item loose.lists one
-        (in_frames frames these item loose known) change
+        block_in_item frames inside n old.lists.items new.lists.items (parts_block old blocks) nested item loose.lists
+        one (in_frames frames these item loose known) change
     by_kind false item n one =
         change.stays (ap (λ b. b && (not old.item_is_empty && is_after_blank old.blank_from blocks))
         (item_of_open texts blocks frames these ∙ item))
@@ -178,12 +174,12 @@ lists_with_item frames inside item old new true nested list kind is blank change
     (change.raised refl).loose by.outer (is_loose inside) (is ∙ by.is inside)
     ∙ sym (by.is (followed_by inside (node item nil nil)) ∙ ap (λ flag. by.outer ++ flag ∷ [])
     (loose_with_item inside item (item_no_blank item.kind kind)
-    ∙ (ap (λ b. is_loose inside || b) (sym blank) ∙ or_true (is_loose inside))))
+    ∙ (ap (λ b. is_loose inside || b) (sym blank) ∙ or-true (is_loose inside))))
 lists_with_item frames inside item old new false nested list kind is blank change =
     let by = by_list frames nested list in
     change.stays refl ∙ (is ∙ (by.is inside ∙ sym (by.is (followed_by inside (node item nil nil))
     ∙ ap (λ flag. by.outer ++ flag ∷ []) (loose_with_item inside item (item_no_blank item.kind kind)
-    ∙ (ap (λ b. is_loose inside || b) (sym blank) ∙ or_false (is_loose inside))))))
+    ∙ (ap (λ b. is_loose inside || b) (sym blank) ∙ or-false (is_loose inside))))))
 
 -- another item begins in the innermost container, which is a list
 pub item_added : (old new : Looseness) (texts : List (List ℕ)) (blocks : List OpenBlock) (frames : List Frame)
@@ -199,7 +195,8 @@ item_added old new texts blocks (f ∷ frames) inside item change empty these ne
     record {
       lists = lists_with_item (f ∷ frames) inside item old.lists.items new.lists.items
           (is_after_blank old.blank_from blocks) nested list kind loose.lists
-          (blank_in_blocks old.blank_from texts blocks f frames inside these (inner_list_no_quote (f ∷ frames) list) known)
+          (blank_in_blocks old.blank_from texts blocks f frames inside these (inner_list_no_quote (f ∷ frames) list)
+          known)
           change
           ∙ sym (loose_more (f ∷ frames) (last ∷ []) nil
           ∙ (ap (λ (b : Bool). are_loose (f ∷ frames) (rebuilt (last ∷ []) nil) ++ (if b then false ∷ [] else []))
@@ -224,7 +221,8 @@ item_starts item kind = starts item.kind kind
 pub list_begun : (old new : Looseness) (frames : List Frame) (inside : Forest Block) (list item : Block)
     → new.lists.items ≡ old.lists.items ++ false ∷ [] → new.item_is_empty ≡ true → IsLooseBefore old frames inside
     → is_list list.kind ≡ true → is_item item.kind ≡ true
-    → IsLooseAs new (frames ++ record { before = inside; block = list } ∷ record { before = nil; block = item } ∷ []) nil
+    → IsLooseAs new (frames ++ record { before = inside; block = list }
+    ∷ record { before = nil; block = item } ∷ []) nil
 list_begun old new frames inside list item more empty before kind inner =
     let outer : Frame = record { before = inside; block = list } in
     let last : Frame = record { before = nil; block = item } in

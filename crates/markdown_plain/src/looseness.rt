@@ -52,8 +52,8 @@ impl Looseness {
     pub fn open_list(&mut self) -> Result<(), AllocError>
         ensures read { IfOk result (λ _. (blank : Bool)
             → IsRead self.old.lists.items [] (new_item blank) self.new) }
-        ensures begins { IfOk result (λ _. (frames : List Frame) (inside : Forest Block) (list item : Block)
-            → IsLooseBefore self.old frames inside
+        ensures begins { IfOk result (λ _. (frames : List Frame) (inside : Forest Block)
+            (list item : Block) → IsLooseBefore self.old frames inside
             → frame.is_list list.kind ≡ true → frame.is_item item.kind ≡ true
             → IsLooseAs self.new (frames ++ record { before = inside; block = list }
             ∷ record { before = nil; block = item } ∷ []) nil) }
@@ -72,8 +72,8 @@ impl Looseness {
             → IsRead outer items last self.old
             → IsRead outer (items ++ last ∷ [])
             (new_item (is_after_blank self.old.blank_from blocks.now)) self.new }
-        ensures begins { (texts : List (List ℕ)) (frames : List Frame) (inside : Forest Block) (item : Block)
-            → AreOpen texts blocks.now frames → AreNested frames
+        ensures begins { (texts : List (List ℕ)) (frames : List Frame) (inside : Forest Block)
+            (item : Block) → AreOpen texts blocks.now frames → AreNested frames
             → frame.innermost_is frame.is_list frames ≡ true → IsLooseAs self.old frames inside
             → BlanksKnown self.old.blank_from 0 frames inside → frame.is_item item.kind ≡ true
             → IsLooseAs self.new (frames ++ record { before = inside; block = item } ∷ []) nil }

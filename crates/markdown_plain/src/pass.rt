@@ -137,7 +137,8 @@ impl<'a> Pass<'a> {
             → IfFitted self.old.placing self.new.placing
             (MayClose s self.new frames (forgotten f inside)) }
         ensures loose { (texts : List (List ℕ)) (frames : List Frame) (f : Frame)
-            (inside : Forest Block) → AreOpen texts self.old.placing.builder.blocks (frames ++ f ∷ [])
+            (inside : Forest Block)
+            → AreOpen texts self.old.placing.builder.blocks (frames ++ f ∷ [])
             → AreNested (frames ++ f ∷ [])
             → IsLooseAs self.old.looseness (frames ++ f ∷ []) inside
             → IsLooseAs self.new.looseness frames (forgotten f inside) }

@@ -5,7 +5,9 @@ use Rattle.markdown_plain.proofs.OpenListsLemmas.{LoosenedIf, block_added, parts
 use Rattle.markdown_plain.specs.declared.looseness.Looseness.{Looseness}
 use Rattle.markdown_plain.proofs.looseness.Looseness.add_block.Goals.{then-is_in_item+then-not-self+then-is_after_blank}
 use Rattle.markdown_plain.proofs.looseness.Looseness.add_block.Goals.{else-is_in_item}
-use Rattle.markdown_plain.proofs.looseness.Looseness.add_block.Goals.{else-is_in_item-via-then-is_in_item+then-not-self+else-is_after_blank}
+use Rattle.markdown_plain.proofs.looseness.Looseness.add_block.Goals.{
+  else-is_in_item-via-then-is_in_item+then-not-self+else-is_after_blank,
+}
 use Rattle.markdown_plain.proofs.looseness.Looseness.add_block.Goals.{else-is_in_item-via-then-is_in_item+else-not-self}
 use Rattle.markdown_plain.proofs.looseness.Looseness.add_block.Goals.{else-is_in_item-via-else-is_in_item}
 use Rattle.markdown_plain.proofs.looseness.Looseness.add_block.Goals as goal
