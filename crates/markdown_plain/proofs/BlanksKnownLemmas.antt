@@ -14,16 +14,11 @@ use Rattle.markdown_builder.specs.TreeLevels.{followed_by}
 use Rattle.markdown_plain.proofs.LooseFramesLemmas.{closed_separated, ends_more, loose_by_last}
 use Rattle.markdown_plain.specs.Frames.{Frame, forgotten, is_list, is_quote, rebuilt, touched}
 use Rattle.markdown_plain.specs.ListLooseness.{blank_from}
+use Rattle.markdown_plain.specs.ReachedFrames.{quote_depth}
 use Rattle.markdown_plain.specs.Settled.{AreOpen, BlanksKnown, EmptyKnown, IsBodyOf, IsLooseAs, are_loose, is_blank_in}
 use Rattle.markdown_plain.specs.declared.looseness.Looseness.{Looseness}
 
 -- ---- block quotes among open containers
-
--- the number of open containers down to the innermost block quote, with that included; 0 where there is none
-abbrev pub quote_depth : List Frame → ℕ
-quote_depth [] = 0
-quote_depth (f ∷ frames) =
-    if is_quote f.block.kind || nat_lt 0 (quote_depth frames) then quote_depth frames + 1 else 0
 
 abbrev has_quote : List Frame → Bool
 has_quote [] = false

@@ -30,18 +30,12 @@ use Rattle.markdown_plain.specs.OpenBlocks as blocks
 use Rattle.markdown_plain.specs.OpenBlocks.{outer_of}
 use Rattle.markdown_plain.specs.Settled.{AreOpen, IsBodyOf, IsBuilt, IsOpen, QuotesEnd, are_loose, around_in}
 use Rattle.markdown_plain.specs.Settled.{levels_shown, placed_end}
+use Rattle.markdown_plain.proofs.FramesLemmas.{rebuilt_more}
 use Rattle.markdown_plain.proofs.LeafTreesLemmas.{closed_tree, get_last}
 use Rattle.markdown_plain.proofs.OpenBlocksLemmas.{innermost_of_opened, outer_of_these}
 use Rattle.markdown_plain.proofs.TightBlocksLemmas.{items_made_tight}
 
 -- ---- the blocks
-
--- a container that is closed is the last block in the one around it
-pub rebuilt_more : (frames : List Frame) (f : Frame) (inside : Forest Block)
-    → rebuilt (frames ++ f ∷ []) inside ≡ rebuilt frames (forgotten f inside)
-rebuilt_more [] f inside = refl
-rebuilt_more (g ∷ frames) f inside =
-    ap (λ blocks. followed_by g.before (node g.block blocks nil)) (rebuilt_more frames f inside)
 
 -- what is in the innermost container is placed as it may be there
 last_items : (in_list : Bool) (before : Forest Block) (b : Block) (below : Forest Block)

@@ -9,7 +9,7 @@ use Rattle.markdown_block_rules.specs.BlockGrowth.{Block, is_nil}
 use Rattle.markdown_block_rules.specs.BlockRules.{ends_blank}
 use Rattle.markdown_builder.specs.declared.open_block.OpenBlock.{OpenBlock}
 use Rattle.markdown_plain.proofs.FramesInsideLemmas.{as_many_frames, list_of_open, no_list_outside}
-use Rattle.markdown_plain.proofs.LooseFramesLemmas.{rebuilt_more}
+use Rattle.markdown_plain.proofs.FramesLemmas.{rebuilt_in}
 use Rattle.markdown_plain.proofs.OpenBlocksLemmas.{length_of_outer}
 use Rattle.markdown_plain.specs.Frames.{AreNested, Frame, forgotten, innermost_is, is_list, rebuilt, room_depth}
 use Rattle.markdown_plain.specs.OpenBlocks as block
@@ -61,7 +61,7 @@ pub known_outside : (from : Option ℕ) (outside : ℕ) (frames more : List Fram
     → BlanksKnown from outside (frames ++ more) inside → BlanksKnown from outside frames (rebuilt more inside)
 known_outside from outside [] more inside known = tt
 known_outside from outside (f ∷ frames) more inside known = (
-  λ other. known.0 other ∙ ap (ends_blank false) (rebuilt_more frames more inside),
+  λ other. known.0 other ∙ ap (ends_blank false) (rebuilt_in frames more inside),
   known_outside from (outside + 1) frames more inside known.1,
 )
 

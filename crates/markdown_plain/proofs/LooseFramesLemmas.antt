@@ -10,6 +10,7 @@ use Rattle.markdown_block_rules.specs.BlockGrowth.{Block, Kind, is_nil}
 use Rattle.markdown_block_rules.specs.BlockRules.{are_separated, block_ends_blank, ends_blank, hold_separated}
 use Rattle.markdown_block_rules.specs.BlockRules.{holds_block, is_blank_block, is_loose}
 use Rattle.markdown_builder.specs.TreeLevels.{followed_by}
+use Rattle.markdown_plain.proofs.FramesLemmas.{rebuilt_in}
 use Rattle.markdown_plain.specs.Frames.{AreNested, Frame, forgotten, innermost_is, is_item, is_list, rebuilt}
 use Rattle.markdown_plain.proofs.FramesInsideLemmas.{innermost_in, item_no_list, list_no_item}
 use Rattle.markdown_plain.specs.Settled.{IsOneBlock, are_loose}
@@ -155,12 +156,6 @@ loose_with_item inside item block =
 
 -- ---- the open lists
 
--- containers in others
-pub rebuilt_more : (frames more : List Frame) (inside : Forest Block)
-    → rebuilt (frames ++ more) inside ≡ rebuilt frames (rebuilt more inside)
-rebuilt_more [] more inside = refl
-rebuilt_more (f ∷ frames) more inside = ap (forgotten f) (rebuilt_more frames more inside)
-
 -- a list within others
 abbrev listed : Bool → Bool → List Bool → List Bool
 listed list loose others = if list then loose ∷ others else others
@@ -175,7 +170,7 @@ pub loose_more : (frames more : List Frame) (inside : Forest Block)
 loose_more [] more inside = refl
 loose_more (f ∷ frames) more inside =
     ap (λ loose. listed (is_list f.block.kind) loose (are_loose (frames ++ more) inside))
-    (ap is_loose (rebuilt_more frames more inside))
+    (ap is_loose (rebuilt_in frames more inside))
     ∙ (ap (listed (is_list f.block.kind) (is_loose (rebuilt frames (rebuilt more inside))))
     (loose_more frames more inside)
     ∙ listed_more (is_list f.block.kind) (is_loose (rebuilt frames (rebuilt more inside)))

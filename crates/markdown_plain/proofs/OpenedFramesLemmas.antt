@@ -31,7 +31,8 @@ use Rattle.markdown_plain.specs.NewContainers.{is_list_of}
 use Rattle.markdown_plain.specs.OpenBlocks as own
 use Rattle.markdown_lines.specs.declared.list_marker.ListMarker.{ListMarker}
 use Rattle.markdown_plain.proofs.AppendedBlocksLemmas.{definitions_appended, footnotes_appended, open_after}
-use Rattle.markdown_plain.proofs.ClosedFramesLemmas.{as_many_open, last_kept, levels_parted, rebuilt_more}
+use Rattle.markdown_plain.proofs.ClosedFramesLemmas.{as_many_open, last_kept, levels_parted}
+use Rattle.markdown_plain.proofs.FramesLemmas.{rebuilt_more}
 use Rattle.markdown_plain.proofs.LeafTreesLemmas.{get_last, on_test}
 
 -- ---- one more frame
