@@ -86,7 +86,8 @@ footnotes_gathered = record { none = refl; block = λ b below after. refl }
 pub definitions_appended : (s : Source) (frames : List Frame) (inside new : Forest Block)
     → definitions_in s (rebuilt frames (followed_by inside new))
     ≡ definitions_in s (rebuilt frames inside) ++ definitions_in s new
-definitions_appended s frames inside new = gathered_appended _ (definitions_in s) (definitions_gathered s) frames inside new
+definitions_appended s frames inside new =
+    gathered_appended _ (definitions_in s) (definitions_gathered s) frames inside new
 
 pub footnotes_appended : (frames : List Frame) (inside new : Forest Block)
     → footnotes_in (rebuilt frames (followed_by inside new)) ≡ footnotes_in (rebuilt frames inside) ++ footnotes_in new
@@ -116,8 +117,8 @@ body_after texts more (was.footnote_container label) b is = (is.0, is.1, get_aft
     get_after (y ∷ xs) ys (suc n) x e = get_after xs ys n x e
 body_after texts more other b is = absurd is
 
-pub open_after : (texts more : List (List ℕ)) (blocks : List OpenBlock) (frames : List Frame) → AreOpen texts blocks frames
-    → AreOpen (texts ++ more) blocks frames
+pub open_after : (texts more : List (List ℕ)) (blocks : List OpenBlock) (frames : List Frame)
+    → AreOpen texts blocks frames → AreOpen (texts ++ more) blocks frames
 open_after texts more [] [] are = tt
 open_after texts more [] (f ∷ frames) are = absurd are
 open_after texts more (block ∷ blocks) [] are = absurd are

@@ -294,8 +294,8 @@ impl<'a> Pass<'a> {
         ensures opens { IfOk result (λ _.
             IfFitted self.old.placing self.new.placing (self.new.placing.builder
             ≡ opened self.old.placing.builder at (body.BlockQuote kind))) }
-        ensures frame { IfOk result (λ _. (s : Source) (frames : List Frame) (inside : Forest Block)
-            (b : Block) → IsBuilt s self.old.placing.builder frames inside
+        ensures frame { IfOk result (λ _. (s : Source) (frames : List Frame)
+            (inside : Forest Block) (b : Block) → IsBuilt s self.old.placing.builder frames inside
             → innermost_is is_list frames ≡ false → b.start ≡ at → b.kind ≡ quote_kind kind
             → IfFitted self.old.placing self.new.placing
             (IsBuilt s self.new.placing.builder (with_frame frames inside b) nil)) }
@@ -318,14 +318,17 @@ impl<'a> Pass<'a> {
             (self.new.placing.builder.at ≡ at)) }
         ensures ended { IfOk result (λ _. self.new.lines.items ≡ []) }
         ensures empty { IfOk result (λ _. self.new.looseness.item_is_empty ≡ true) }
-        ensures begins { IfOk result (λ _. (s : Source) (frames : List Frame) (inside : Forest Block)
-            (list b : Block) → MayOpen s self.old frames inside → depth ≡ length frames
+        ensures begins { IfOk result (λ _. (s : Source) (frames : List Frame)
+            (inside : Forest Block) (list b : Block) → MayOpen s self.old frames inside
+            → depth ≡ length frames
             → list.start ≡ at → list.kind ≡ list_container item.marker
             → b.start ≡ at → b.kind ≡ item_container item.indent
             → IfFitted self.old.placing self.new.placing
-            (IsBuilt s self.new.placing.builder (with_frame (with_frame frames inside list) nil b) nil)) }
-        ensures frame { IfOk result (λ _. (s : Source) (frames : List Frame) (inside : Forest Block)
-            (list b : Block) → self.old.lines.items ≡ [] → MayClose s self.old frames inside
+            (IsBuilt s self.new.placing.builder
+            (with_frame (with_frame frames inside list) nil b) nil)) }
+        ensures frame { IfOk result (λ _. (s : Source) (frames : List Frame)
+            (inside : Forest Block) (list b : Block) → self.old.lines.items ≡ []
+            → MayClose s self.old frames inside
             → list.start ≡ at → list.kind ≡ list_container item.marker
             → b.start ≡ at → b.kind ≡ item_container item.indent
             → IfFitted self.old.placing self.new.placing (IsBuilt s self.new.placing.builder
@@ -352,13 +355,13 @@ impl<'a> Pass<'a> {
         ensures around { IfOk result (λ _. IfFitted self.old.placing self.new.placing
             (self.new.placing.builder.blocks
             ≡ opening.around_item at marker self.old.placing.builder.blocks)) }
-        ensures continues { IfOk result (λ _. (s : Source) (frames : List Frame) (inside : Forest Block)
-            → IsBuilt s self.old.placing.builder frames inside
+        ensures continues { IfOk result (λ _. (s : Source) (frames : List Frame)
+            (inside : Forest Block) → IsBuilt s self.old.placing.builder frames inside
             → innermost_is (is_list_for marker) frames ≡ true
             → IfFitted self.old.placing self.new.placing
             (IsBuilt s self.new.placing.builder frames inside)) }
-        ensures begins { IfOk result (λ _. (s : Source) (frames : List Frame) (inside : Forest Block)
-            (b : Block) → IsBuilt s self.old.placing.builder frames inside
+        ensures begins { IfOk result (λ _. (s : Source) (frames : List Frame)
+            (inside : Forest Block) (b : Block) → IsBuilt s self.old.placing.builder frames inside
             → innermost_is is_list frames ≡ false → b.start ≡ at → b.kind ≡ list_container marker
             → IfFitted self.old.placing self.new.placing
             (IsBuilt s self.new.placing.builder (with_frame frames inside b) nil)) }
@@ -405,14 +408,16 @@ impl<'a> Pass<'a> {
         ensures here { IfOk result (λ _. IfFitted self.old.placing self.new.placing
             (self.new.placing.builder.at ≡ at)) }
         ensures ended { IfOk result (λ _. self.new.lines.items ≡ []) }
-        ensures begins { IfOk result (λ _. (s : Source) (frames : List Frame) (inside : Forest Block)
-            (b : Block) → MayOpen s self.old frames inside → depth ≡ length frames
+        ensures begins { IfOk result (λ _. (s : Source) (frames : List Frame)
+            (inside : Forest Block) (b : Block) → MayOpen s self.old frames inside
+            → depth ≡ length frames
             → b.start ≡ at → b.kind ≡ footnote_container (text_of label.entry)
             → IfFitted self.old.placing self.new.placing
             (IsBuilt s self.new.placing.builder (with_frame frames inside b) nil)) }
-        ensures frame { IfOk result (λ _. (s : Source) (frames : List Frame) (inside : Forest Block)
-            (b : Block) → self.old.lines.items ≡ [] → MayClose s self.old frames inside
-            → depth ≤ length frames → b.start ≡ at → b.kind ≡ footnote_container (text_of label.entry)
+        ensures frame { IfOk result (λ _. (s : Source) (frames : List Frame)
+            (inside : Forest Block) (b : Block) → self.old.lines.items ≡ []
+            → MayClose s self.old frames inside → depth ≤ length frames → b.start ≡ at
+            → b.kind ≡ footnote_container (text_of label.entry)
             → IfFitted self.old.placing self.new.placing (IsBuilt s self.new.placing.builder
             (with_frame (take (room_depth depth frames) frames)
             (rebuilt (drop (room_depth depth frames) frames) inside) b) nil)) }

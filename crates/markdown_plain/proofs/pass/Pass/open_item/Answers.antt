@@ -26,9 +26,9 @@ item_in : (c : goal.After-open_block) (s : Source) (frames : List Frame) (inside
 item_in c s frames inside b opens steps start same listed built =
     let now = c.open_block.new.self.builder in
     let indent = c.args.item.indent in
+    let list_item = body.ListItem indent in
     plain_is_built s c.open_list.new.self.placing.builder now frames inside b c.args.at (item_container indent)
-    (body.ListItem indent) (item_is indent) (subst (λ (v : BuilderView). Opens v now (body.ListItem indent)) steps opens)
-    start same listed built
+    list_item (item_is indent) (subst (λ (v : BuilderView). Opens v now list_item) steps opens) start same listed built
 
 pub returns-clause-begins : goal.returns-clause-begins
 returns-clause-begins c =
