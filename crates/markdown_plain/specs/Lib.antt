@@ -18,3 +18,4 @@ pub mod Frames
 pub mod Settled
 pub mod OpenedFrames
 pub mod Closing
+pub mod OpenLeaves
