@@ -19,3 +19,5 @@ pub mod OpenedFramesLemmas
 -- on open containers that are closed
 pub mod TightBlocksLemmas
 pub mod ClosedFramesLemmas
+-- on leaves in the innermost open container
+pub mod ParagraphsInPlaceLemmas

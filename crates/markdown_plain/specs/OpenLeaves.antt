@@ -1,12 +1,15 @@
 -- Blocks in the innermost open container: one that is put there whole, one that is open, and a paragraph whose lines are
 -- held back.
-use Rattle.std.specs.Prelude.{◌≡◌, Bool, true, false, List, [], ◌∷◌, ◌++◌}
+use Rattle.std.specs.Prelude.{◌≡◌, ℕ, ◌<◌, Bool, true, false, List, [], ◌∷◌, ◌++◌, Option, Some, None, length}
+use Rattle.std.specs.Prelude.{if◌then◌else◌}
 use Rattle.markdown_base.specs.Forest.{Forest, nil, node}
+use Rattle.markdown_base.specs.declared.tag.HeadingLevel.{HeadingLevel}
 use Rattle.markdown_builder.specs.declared.open_block.OpenBlock.{OpenBlock}
 use Rattle.markdown_builder.specs.BuilderView.{BuilderView, parts_of}
 use Rattle.markdown_builder.specs.Shown.{Shown, shown_item}
 use Rattle.markdown_builder.specs.TreeLevels.{followed_by}
 use Rattle.markdown_lines.specs.BlockBeginnings.{Source}
+use Rattle.markdown_lines.specs.declared.line.Line.{Line}
 use Rattle.markdown_lines.specs.SourceLines.{SourceLine}
 use Rattle.markdown_block_rules.specs.BlockGrowth as was
 use Rattle.markdown_block_rules.specs.BlockGrowth.{Block, Kind}
@@ -29,7 +32,7 @@ pub record IsPlaced (s : Source) (view : BuilderView) (frames : List Frame) (ins
 
 -- A block that is no container is open in the innermost container, after these blocks: if it is closed here, it is this
 -- one. It is a leaf of the builder, or a table.
-pub record IsOpenIn (s : Source) (view : BuilderView) (frames : List Frame) (inside : Forest Block) (leaf : Bool)
+pub record IsOpenIn (s : Source) (view : BuilderView) (frames : List Frame) (inside : Forest Block) (in_leaf : Bool)
     (b : Block) : Type 0 where
   pub outer : List OpenBlock
   pub block : OpenBlock
@@ -37,7 +40,7 @@ pub record IsOpenIn (s : Source) (view : BuilderView) (frames : List Frame) (ins
   pub below : Forest Shown
   pub around : IsBuilt s (record view { blocks = outer; leaf = false; levels = levels }) frames inside
   pub blocks : view.blocks ≡ outer ++ block ∷ []
-  pub leaf : view.leaf ≡ leaf
+  pub leaf : view.leaf ≡ in_leaf
   pub trees : view.levels ≡ levels ++ below ∷ []
   pub shown : node (shown_item (parts_of view) (record { start = block.start; end = view.at; body = block.body })) below nil
       ≡ shown_blocks s (around_innermost in_no_item frames) (leaf_block b)
@@ -56,10 +59,17 @@ abbrev pub IsLeafIn : Source → BuilderView → List Frame → Forest Block →
 IsLeafIn s view frames inside b true = IsPlaced s view frames (followed_by inside (leaf_block b))
 IsLeafIn s view frames inside b false = IsOpenIn s view frames inside true b
 
+-- the block that a paragraph is once it has ended: with an underline it is a heading, unless it held definitions only
+abbrev pub ended_block : Block → List SourceLine → (left : Bool) → Option (HeadingLevel × Line) → Block
+ended_block b sources left None = b
+ended_block b sources left (Some heading) =
+    if left then record b { last = heading.1.next; kind = was.underlined_leaf heading.0 sources } else b
+
 -- the pass holds back the lines of a paragraph that is the last block in the innermost open container
 pub record HoldsParagraph (s : Source) (pass : Pass) (frames : List Frame) (inside : Forest Block) (b : Block)
     (sources : List SourceLine) : Type 0 where
   pub built : IsBuilt s pass.placing.builder frames inside
+  pub some : 0 < length pass.lines.items
   pub kind : b.kind ≡ was.paragraph_leaf sources
   pub lines : IsParagraph pass.placing.builder.text pass.lines.items sources
   pub task : pass.task ≡ first_task s (around_innermost in_no_item frames).marked sources
