@@ -1,7 +1,9 @@
 -- Open containers that are closed: the blocks are the same.
-use Rattle.std.proofs.Common.{◌≡◌, ◌∙◌, ℕ, suc, Bool, true, false, List, [], ◌∷◌, ◌++◌, Some, None}
-use Rattle.std.proofs.Common.{not, append-nil, true≢false, length, refl, sym, ap, subst}
-use Rattle.std.specs.Prelude.{if◌then◌else◌}
+use Rattle.std.proofs.Common.{◌≡◌, ◌∙◌, ℕ, zero, suc, ◌-◌, ◌<◌, ◌≤◌, Bool, true, false, List, [], ◌∷◌, ◌++◌, Some, None}
+use Rattle.std.proofs.Common.{append-nil, not, true≢false, length, length-append, take, drop, length-take-le, take_all}
+use Rattle.std.proofs.Common.{refl, sym, ap, subst, arith}
+use Rattle.std.proofs.lemmas.List.{drop_all}
+use Rattle.std.specs.Prelude.{slice_get, if◌then◌else◌}
 use Rattle.std.specs.Option.{option_map, option_map_or}
 use Rattle.std.proofs.lemmas.Option.{same_Some}
 use Rattle.markdown_base.specs.Forest.{Forest, nil, node}
@@ -19,14 +21,16 @@ use Rattle.markdown_block_rules.specs.BlockRules.{Around, block_end, in_no_item,
 use Rattle.markdown_block_rules.specs.BlockRules.{definitions_in, footnotes_in, shown_block, shown_blocks, shown_over}
 use Rattle.markdown_plain.specs.declared.looseness.Looseness.{Looseness}
 use Rattle.markdown_plain.specs.declared.pass.Pass.{Pass}
+use Rattle.markdown_plain.specs.declared.placing.Placing.{Placing}
 use Rattle.markdown_plain.specs.Closing.{AreItemsInLists, MayClose, StandsFor}
-use Rattle.markdown_plain.specs.Fitting.{HasBody, PutsBlock, closed, stepped}
-use Rattle.markdown_plain.specs.Frames.{AreNested, Frame, forgotten, is_list, is_quote, rebuilt}
+use Rattle.markdown_plain.specs.Fitting.{HasBody, IfFitted, PutsBlock, closed, stepped}
+use Rattle.markdown_plain.specs.Frames.{AreNested, Frame, forgotten, innermost_is, is_list, is_quote, rebuilt}
+use Rattle.markdown_plain.specs.Frames.{room_depth}
 use Rattle.markdown_plain.specs.OpenBlocks as blocks
 use Rattle.markdown_plain.specs.OpenBlocks.{outer_of}
-use Rattle.markdown_plain.specs.Settled.{AreOpen, IsBodyOf, IsOpen, QuotesEnd, are_loose, around_in, levels_shown}
-use Rattle.markdown_plain.specs.Settled.{placed_end}
-use Rattle.markdown_plain.proofs.LeafTreesLemmas.{closed_tree}
+use Rattle.markdown_plain.specs.Settled.{AreOpen, IsBodyOf, IsBuilt, IsOpen, QuotesEnd, are_loose, around_in}
+use Rattle.markdown_plain.specs.Settled.{levels_shown, placed_end}
+use Rattle.markdown_plain.proofs.LeafTreesLemmas.{closed_tree, get_last}
 use Rattle.markdown_plain.proofs.OpenBlocksLemmas.{innermost_of_opened, outer_of_these}
 use Rattle.markdown_plain.proofs.TightBlocksLemmas.{items_made_tight}
 
@@ -39,22 +43,18 @@ rebuilt_more [] f inside = refl
 rebuilt_more (g ∷ frames) f inside =
     ap (λ blocks. followed_by g.before (node g.block blocks nil)) (rebuilt_more frames f inside)
 
--- the items of the innermost container, where that is a list
-items_inside : (frames : List Frame) (f : Frame) (inside : Forest Block) (in_list : Bool)
-    → AreItemsInLists in_list (rebuilt (frames ++ f ∷ []) inside) → AreItemsInLists (is_list f.block.kind) inside
-items_inside frames f inside in_list are = within frames f inside in_list are
-  where
-    last_of : (in_list : Bool) (before : Forest Block) (b : Block) (below : Forest Block)
-        → AreItemsInLists in_list (followed_by before (node b below nil)) → AreItemsInLists (is_list b.kind) below
-    last_of in_list nil b below are = are.1
-    last_of in_list (node a others after) b below are = last_of in_list after b below are.2
+-- what is in the innermost container is placed as it may be there
+last_items : (in_list : Bool) (before : Forest Block) (b : Block) (below : Forest Block)
+    → AreItemsInLists in_list (followed_by before (node b below nil)) → AreItemsInLists (is_list b.kind) below
+last_items in_list nil b below are = are.1
+last_items in_list (node a others after) b below are = last_items in_list after b below are.2
 
-    within : (frames : List Frame) (f : Frame) (inside : Forest Block) (in_list : Bool)
-        → AreItemsInLists in_list (rebuilt (frames ++ f ∷ []) inside) → AreItemsInLists (is_list f.block.kind) inside
-    within [] f inside in_list are = last_of in_list f.before f.block inside are
-    within (g ∷ frames) f inside in_list are =
-        within frames f inside (is_list g.block.kind)
-        (last_of in_list g.before g.block (rebuilt (frames ++ f ∷ []) inside) are)
+items_inside : (in_list : Bool) (frames : List Frame) (f : Frame) (inside : Forest Block)
+    → AreItemsInLists in_list (rebuilt (frames ++ f ∷ []) inside) → AreItemsInLists (is_list f.block.kind) inside
+items_inside in_list [] f inside are = last_items in_list f.before f.block inside are
+items_inside in_list (g ∷ frames) f inside are =
+    items_inside (is_list g.block.kind) frames f inside
+    (last_items in_list g.before g.block (rebuilt (frames ++ f ∷ []) inside) are)
 
 -- ---- the closed trees
 
@@ -145,8 +145,8 @@ list_shown s start end character first inside items false =
     ap (λ below. shown_over start end (body.List true character first) None below) (items_made_tight s inside items)
 
 container_shown : (s : Source) (parts : Parts) (around : Around) (b : Block) (inside : Forest Block) (kind : Kind)
-    (opened : ItemBody) → IsBodyOf parts.texts kind opened → AreItemsInLists (is_list kind) inside → around.tight ≡ false
-    → IsShownClosed s parts around b inside kind opened
+    (opened : ItemBody) → IsBodyOf parts.texts kind opened → AreItemsInLists (is_list kind) inside
+    → around.tight ≡ false → IsShownClosed s parts around b inside kind opened
 container_shown s parts around b inside was.quote_container opened is items loose =
     subst (λ now. IsShownClosed s parts around b inside was.quote_container now) (sym is) refl
 container_shown s parts around b inside (was.alert_container kind) opened is items loose =
@@ -332,8 +332,9 @@ forget s old new frames f inside may last is =
           nested = nested_outside frames f built.nested;
           outside = ap (λ (b : BuilderView). b.leaf) is.builder;
           levels = is.levels ∙ (ap (λ levels. with_block levels item) built.levels
-              ∙ levels_closed s frames f inside item (closed_item s f inside (parts_of before) last.block view.at last.opened
-              (items_inside frames f inside false may.stands.items) is.at));
+              ∙ levels_closed s frames f inside item
+              (closed_item s f inside (parts_of before) last.block view.at last.opened
+              (items_inside false frames f inside may.stands.items) is.at));
           definitions = ap (λ (b : BuilderView). b.definitions) is.builder
               ∙ (built.definitions ∙ ap (definitions_in s) same);
           footnotes = ap (λ (b : BuilderView). b.footnotes) is.builder ∙ (built.footnotes ∙ ap footnotes_in same);
@@ -411,7 +412,8 @@ other_closed s old new to frames f inside may closes ends =
       builder = closes.closes ∙ ap (λ n. record (closed before new.placing.builder.levels) { at = n }) (sym at);
       at = at ∙ ends;
       levels = closes.puts.levels ∙ ap (with_block before.levels)
-          (ap (λ (b : OpenBlock). shown_item (parts_of before) (record { start = b.start; end = to; body = b.body })) put
+          (ap (λ (b : OpenBlock). shown_item (parts_of before)
+          (record { start = b.start; end = to; body = b.body })) put
           ∙ (ap (λ block. shown_item (parts_of before) (record { start = last.block.start; end = to; body = block }))
           (sym (body_stays (is_loose inside) last.block.body unlisted))
           ∙ ap (λ n. closed_as (parts_of before) last.block n (is_loose inside)) (sym at)));
@@ -508,3 +510,149 @@ other_forgotten s old new frames f inside may other closes =
     (may.stands.ends.at ∙ (end_inside 0 frames f inside
     ∙ sym (ends_inside before.texts f.block.kind last.block.body last.opened.body unquoted f.block
     (last_end f.block.first inside)))))
+
+-- ---- more containers closed
+
+-- of one container more than some number, the innermost
+record LastKept (n : ℕ) (frames : List Frame) : Type 0 where
+  pub f : Frame
+  pub taken : take (suc n) frames ≡ take n frames ++ f ∷ []
+  pub dropped : drop n frames ≡ f ∷ drop (suc n) frames
+
+last_kept : (n : ℕ) (frames : List Frame) → n < length frames → LastKept n frames
+last_kept n [] more = absurd (omega (arith, more))
+last_kept zero (f ∷ frames) more = record { f = f; taken = refl; dropped = refl }
+last_kept (suc n) (g ∷ frames) more =
+    let last = last_kept n frames (omega (arith, more)) in
+    record { f = last.f; taken = ap (λ others. g ∷ others) last.taken; dropped = last.dropped }
+
+-- where this many containers are open, there are this many
+kept_within : (n : ℕ) (frames : List Frame) → n ≡ length (take n frames) → n ≤ length frames
+kept_within zero frames as_many = omega arith
+kept_within (suc n) [] as_many = omega (arith, as_many)
+kept_within (suc n) (f ∷ frames) as_many =
+    let others = kept_within n frames (omega (arith, as_many)) in omega (arith, others)
+
+-- the innermost of these containers is closed by a step of the pass
+pub one_less : (s : Source) (old new : Pass) (frames : List Frame) (inside : Forest Block) (n m : ℕ)
+    → n ≡ length old.placing.builder.blocks → suc m ≡ n
+    → MayClose s old (take n frames) (rebuilt (drop n frames) inside)
+    → ((outer : List Frame) (f : Frame) (below : Forest Block) → MayClose s old (outer ++ f ∷ []) below
+    → IfFitted old.placing new.placing (MayClose s new outer (forgotten f below)))
+    → IfFitted old.placing new.placing (MayClose s new (take m frames) (rebuilt (drop m frames) inside))
+one_less s old new frames inside n m number less may forgets fitted =
+    let many = as_many_open old.placing.builder.texts old.placing.builder.blocks (take n frames) may.stands.built.blocks
+    in
+    let within = kept_within n frames (number ∙ many) in
+    let last = last_kept m frames (omega (arith, within, less)) in
+    let these : MayClose s old (take m frames ++ last.f ∷ []) (rebuilt (drop (suc m) frames) inside) =
+    subst (λ outer. MayClose s old outer (rebuilt (drop (suc m) frames) inside)) last.taken
+    (subst (λ k. MayClose s old (take k frames) (rebuilt (drop k frames) inside)) (sym less) may) in
+    let done = forgets (take m frames) last.f (rebuilt (drop (suc m) frames) inside) these fitted in (
+      done.0,
+      subst (λ inner. MayClose s new (take m frames) (rebuilt inner inside)) (sym last.dropped) done.1,
+    )
+
+-- as many are open as there are
+pub open_containers : (s : Source) (pass : Pass) (frames : List Frame) (inside : Forest Block)
+    → MayClose s pass frames inside → length pass.placing.builder.blocks ≡ length frames
+open_containers s pass frames inside may =
+    as_many_open pass.placing.builder.texts pass.placing.builder.blocks frames may.stands.built.blocks
+
+-- the outermost are all, if there are no more
+pub kept_alike : (n depth : ℕ) (frames : List Frame) → n ≤ depth → (n < depth → length frames ≤ n)
+    → (take n frames ≡ take depth frames) × (drop n frames ≡ drop depth frames)
+kept_alike n depth [] most least = (
+  take_all n [] (omega arith) ∙ sym (take_all depth [] (omega arith)),
+  drop_all n [] (omega arith) ∙ sym (drop_all depth [] (omega arith)),
+)
+kept_alike zero zero (f ∷ frames) most least = (refl, refl)
+kept_alike zero (suc depth) (f ∷ frames) most least = let none = least (omega arith) in absurd (omega (arith, none))
+kept_alike (suc n) zero (f ∷ frames) most least = absurd (omega (arith, most))
+kept_alike (suc n) (suc depth) (f ∷ frames) most least =
+    let others = kept_alike n depth frames (omega (arith, most)) (λ less. omega (arith, least (omega (arith, less)))) in
+    (ap (λ fs. f ∷ fs) others.0, others.1)
+
+pub all_kept : (s : Source) (pass : Pass) (frames : List Frame) (inside : Forest Block) (n : ℕ) → n ≡ length frames
+    → MayClose s pass frames inside → MayClose s pass (take n frames) (rebuilt (drop n frames) inside)
+all_kept s pass frames inside n all may =
+    subst (λ outer. MayClose s pass outer (rebuilt (drop n frames) inside))
+    (sym (take_all n frames (omega (arith, all))))
+    (subst (λ inner. MayClose s pass frames (rebuilt inner inside)) (sym (drop_all n frames (omega (arith, all)))) may)
+
+-- ---- room for a block
+
+-- the innermost open container is a list, by its block or by its frame
+listed_alike : (s : Source) (pass : Pass) (outer : List Frame) (f : Frame) (inside : Forest Block)
+    → StandsFor s pass (outer ++ f ∷ []) inside
+    → innermost_is is_list (outer ++ f ∷ []) ≡ blocks.innermost_is blocks.is_list pass.placing.builder.blocks
+listed_alike s pass outer f inside stands =
+    let builder = pass.placing.builder in
+    let last = last_open s pass outer f inside stands in
+    let alike = are_alike builder.texts f.block.kind last.block.body last.opened.body in
+    let count : length (outer ++ f ∷ []) - 1 ≡ length outer = omega (arith, length-append outer (f ∷ [])) in
+    ap (λ found. option_map_or (λ g. is_list g.block.kind) found false)
+    (ap (slice_get (outer ++ f ∷ [])) count ∙ get_last outer f)
+    ∙ (alike.0 ∙ sym (innermost_test blocks.is_list builder.blocks last.outer last.block last.is))
+
+-- the innermost of some open containers that are kept is a list, by its block or by its frame
+kept_list : (s : Source) (pass : Pass) (depth : ℕ) (frames : List Frame) (inside : Forest Block)
+    → depth ≤ length frames → StandsFor s pass (take depth frames) inside
+    → innermost_is is_list (take depth frames) ≡ blocks.innermost_is blocks.is_list pass.placing.builder.blocks
+kept_list s pass zero frames inside few stands = none pass.placing.builder.blocks stands.built.blocks
+  where
+    none : (these : List OpenBlock) → AreOpen pass.placing.builder.texts these []
+        → false ≡ blocks.innermost_is blocks.is_list these
+    none [] are = refl
+    none (block ∷ others) are = absurd are
+kept_list s pass (suc n) frames inside few stands =
+    let last = last_kept n frames (omega (arith, few)) in
+    ap (innermost_is is_list) last.taken
+    ∙ listed_alike s pass (take n frames) last.f inside
+    (subst (λ outer. StandsFor s pass outer inside) last.taken stands)
+
+-- no list is in the way
+pub no_list_closed : (s : Source) (pass : Pass) (depth : ℕ) (frames : List Frame) (inside : Forest Block)
+    → depth ≤ length frames → MayClose s pass (take depth frames) (rebuilt (drop depth frames) inside)
+    → blocks.innermost_is blocks.is_list pass.placing.builder.blocks ≡ false
+    → StandsFor s pass (take (room_depth depth frames) frames)
+    (rebuilt (drop (room_depth depth frames) frames) inside)
+no_list_closed s pass depth frames inside few may other =
+    subst (λ n. StandsFor s pass (take n frames) (rebuilt (drop n frames) inside))
+    (sym (ap (λ test. if test then depth - 1 else depth)
+    (kept_list s pass depth frames _ few may.stands ∙ other))) may.stands
+
+-- the innermost, which is a list, is closed by a step of the pass
+pub list_in_the_way : (s : Source) (old new : Pass) (depth : ℕ) (frames : List Frame) (inside : Forest Block)
+    → depth ≤ length frames → MayClose s old (take depth frames) (rebuilt (drop depth frames) inside)
+    → blocks.innermost_is blocks.is_list old.placing.builder.blocks ≡ true
+    → ((outer : List Frame) (f : Frame) (below : Forest Block) → MayClose s old (outer ++ f ∷ []) below
+    → IfFitted old.placing new.placing (MayClose s new outer (forgotten f below)))
+    → IfFitted old.placing new.placing (StandsFor s new (take (room_depth depth frames) frames)
+    (rebuilt (drop (room_depth depth frames) frames) inside))
+list_in_the_way s old new depth frames inside few may listed forgets fitted =
+    let test = kept_list s old depth frames _ few may.stands ∙ listed in
+    let room : depth - 1 ≡ room_depth depth frames = sym (ap (λ t. if t then depth - 1 else depth) test) in
+    let many = sym (open_containers s old (take depth frames) _ may ∙ length-take-le depth frames few) in
+    let some : 0 < depth = some_open depth test in
+    let done = one_less s old new frames inside depth (depth - 1) many (omega (arith, some)) may forgets fitted in (
+      done.0,
+      subst (λ n. StandsFor s new (take n frames) (rebuilt (drop n frames) inside)) room done.1.stands,
+    )
+  where
+    some_open : (n : ℕ) → innermost_is is_list (take n frames) ≡ true → 0 < n
+    some_open zero test = cc (test)
+    some_open (suc n) test = omega arith
+
+-- it stands for the same blocks where it has the same builder
+pub stands_on : (s : Source) (old new : Pass) (frames : List Frame) (inside : Forest Block)
+    → new.placing ≡ old.placing → new.placed ≡ old.placed → StandsFor s old frames inside
+    → StandsFor s new frames inside
+stands_on s old new frames inside placing placed stands = record {
+  built = subst (λ (p : Placing). IsBuilt s p.builder frames inside) (sym placing) stands.built;
+  ends = record {
+    at = ap (λ (p : Placing). p.builder.at) placing ∙ stands.ends.at;
+    quotes = subst (λ to. QuotesEnd to frames) (sym placed) stands.ends.quotes;
+  };
+  items = stands.items;
+}

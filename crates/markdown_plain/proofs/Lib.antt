@@ -19,5 +19,7 @@ pub mod OpenedFramesLemmas
 -- on open containers that are closed
 pub mod TightBlocksLemmas
 pub mod ClosedFramesLemmas
+pub mod ItemsInListsLemmas
 -- on leaves in the innermost open container
 pub mod ParagraphsInPlaceLemmas
+pub mod ClosedLeavesLemmas

@@ -54,8 +54,8 @@ AreNested (f ∷ g ∷ frames) = (is_list f.block.kind ≡ is_item g.block.kind)
 abbrev pub innermost_is : (Kind → Bool) → List Frame → Bool
 innermost_is test frames = option_map_or (λ f. test f.block.kind) (slice_get frames (length frames - 1)) false
 
--- the number of the open containers that a block that is no item may begin in: the outermost `depth`, without the innermost
--- of them where that is a list
+-- the number of the open containers that a block that is no item may begin in: the outermost `depth`, without the
+-- innermost of them where that is a list
 abbrev pub room_depth : ℕ → List Frame → ℕ
 room_depth depth frames = if innermost_is is_list (take depth frames) then depth - 1 else depth
 

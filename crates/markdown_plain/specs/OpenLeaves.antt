@@ -25,6 +25,18 @@ use Rattle.markdown_plain.specs.Settled.{IsBuilt, placed_end}
 abbrev pub leaf_block : Block → Forest Block
 leaf_block b = node b nil nil
 
+-- a block of this kind is no container, and defines nothing
+abbrev pub is_leaf : Kind → Bool
+is_leaf was.blank_line = false
+is_leaf (was.paragraph_leaf lines) = false
+is_leaf (was.underlined_leaf level lines) = false
+is_leaf was.quote_container = false
+is_leaf (was.alert_container kind) = false
+is_leaf (was.list_container marker) = false
+is_leaf (was.item_container indent) = false
+is_leaf (was.footnote_container label) = false
+is_leaf other = true
+
 -- a builder has made these blocks, and is where the last of them ends
 pub record IsPlaced (s : Source) (view : BuilderView) (frames : List Frame) (inside : Forest Block) : Type 0 where
   pub built : IsBuilt s view frames inside
@@ -75,3 +87,10 @@ pub record HoldsParagraph (s : Source) (pass : Pass) (frames : List Frame) (insi
   pub task : pass.task ≡ first_task s (around_innermost in_no_item frames).marked sources
   pub from : EndsFrom (around_innermost in_no_item frames).marked sources
   pub last : b.last ≡ lines_end pass.lines.items
+
+-- a block is the last in the innermost open container, and has not ended: a paragraph whose lines are held back, or an
+-- open leaf
+abbrev pub IsUnended : Source → Pass → List Frame → Forest Block → Block → Option (List SourceLine) → Type 0
+IsUnended s pass frames inside b None =
+    (is_leaf b.kind ≡ true) × IsOpenIn s pass.placing.builder frames inside true b
+IsUnended s pass frames inside b (Some sources) = HoldsParagraph s pass frames inside b sources

@@ -94,8 +94,8 @@ abbrev pub is_blank_in : Option ℕ → ℕ → Bool
 is_blank_in None depth = false
 is_blank_in (Some from) depth = nat_lt from depth
 
--- It is known which open containers end with a blank line, from the one inside this number of others on; of block quotes
--- it does not matter.
+-- It is known which open containers end with a blank line, from the one inside this number of others on; of block
+-- quotes it does not matter.
 abbrev pub BlanksKnown : Option ℕ → ℕ → List Frame → Forest Block → Type 0
 BlanksKnown from outside [] inside = Unit
 BlanksKnown from outside (f ∷ frames) inside =

@@ -98,7 +98,8 @@ impl Looseness {
         ensures goes_on { (outer : List Bool) (items : List ItemRead) (last : ItemRead)
             → self.new.lists.items ≡ outer ++ is_loose (items ++ last ∷ []) ∷ []
             → is_empty last.blocks ≡ false → IsRead outer items last self.new }
-        ensures closes { (outer : List Bool) (loose : Bool) → self.old.lists.items ≡ outer ++ loose ∷ []
+        ensures closes { (outer : List Bool) (loose : Bool)
+            → self.old.lists.items ≡ outer ++ loose ∷ []
             → (result ≡ loose) × (self.new.lists.items ≡ outer) }
         ensures none { self.old.lists.items ≡ [] → (self.new.lists.items ≡ []) × (result ≡ false) }
         ensures same { self.new

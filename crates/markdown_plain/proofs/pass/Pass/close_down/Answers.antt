@@ -1,29 +1,48 @@
 -- A turn closes the innermost block, which is not one of the outermost blocks that stay.
-use Rattle.std.proofs.Common.{◌∙◌, ◌<◌, ap, length, take, arith, rules}
+use Rattle.std.proofs.Common.{◌≡◌, ◌∙◌, ◌<◌, List, suc, ap, refl, sym, subst, length, take, drop, arith, rules}
+use Rattle.markdown_base.specs.Forest.{Forest}
 use Rattle.markdown_builder.specs.BuilderView.{BuilderView}
+use Rattle.markdown_builder.specs.TreeLevels.{followed_by}
+use Rattle.markdown_lines.specs.BlockBeginnings.{Source}
+use Rattle.markdown_block_rules.specs.BlockGrowth.{Block}
+use Rattle.markdown_plain.specs.Closing.{MayClose}
+use Rattle.markdown_plain.specs.Fitting.{AllFitted}
+use Rattle.markdown_plain.specs.Frames.{Frame, rebuilt}
+use Rattle.markdown_plain.specs.OpenLeaves.{leaf_block}
+use Rattle.markdown_plain.specs.declared.pass.Pass.{Pass}
+use Rattle.markdown_plain.proofs.ClosedFramesLemmas.{all_kept, one_less, open_containers}
+use Rattle.markdown_plain.proofs.ClosedLeavesLemmas.{closed_to, ended_may_close}
 use Rattle.markdown_plain.proofs.OpenBlocksLemmas.{length_of_outer, take_of_outer}
 use Rattle.markdown_plain.proofs.pass.Pass.close_down.Goals as goal
+
+-- one block less is open, and before there were more than stay
+one_closed : (c : goal.After-close_block) → AllFitted c.close_block.new.self.placing
+    → (c.args.depth < length c.blocks-2.self.placing.builder.blocks)
+    × (suc (length c.close_block.new.self.placing.builder.blocks) ≡ length c.blocks-2.self.placing.builder.blocks)
+one_closed c fitted =
+    let done = c.close_block.ensures.closes fitted in
+    let left = (c.blocks-2.invariant.left done.0).1 in
+    let more : c.args.depth < length c.blocks-2.self.placing.builder.blocks = omega (arith, left) in
+    let same = ap (λ (b : BuilderView). length b.blocks) done.1
+    ∙ length_of_outer c.blocks-2.self.placing.builder.blocks in (more, omega (arith, more, same))
 
 pub blocks-2-preserved : goal.blocks-2-preserved
 blocks-2-preserved c =
     let before = c.blocks-2.invariant in
+    let fits = λ (fitted : AllFitted c.close_block.new.self.placing). (c.close_block.ensures.closes fitted).0 in
     record {
       text = cc;
       closes = λ fitted.
           let done = c.close_block.ensures.closes fitted in
-          let kept = before.closes done.0 in
-          let left = (before.left done.0).1 in
-          let more : c.args.depth < length c.blocks-2.self.placing.builder.blocks = omega (arith, left) in (
+          let kept = before.closes done.0 in (
             kept.0,
-            ap (λ (b : BuilderView). take c.args.depth b.blocks) done.1 ∙ take_of_outer c.args.depth _ more
+            ap (λ (b : BuilderView). take c.args.depth b.blocks) done.1
+                ∙ take_of_outer c.args.depth _ (one_closed c fitted).0
                 ∙ kept.1,
           );
       left = λ fitted.
-          let done = c.close_block.ensures.closes fitted in
-          let left = (before.left done.0).1 in
-          let same = ap (λ (b : BuilderView). length b.blocks) done.1
-          ∙ length_of_outer c.blocks-2.self.placing.builder.blocks in
-          ((before.left done.0).0, omega (arith, left, same));
+          let left = before.left (fits fitted) in
+          let less = (one_closed c fitted).1 in (left.0, omega (arith, left.1, less));
       outside = λ fitted.
           let done = c.close_block.ensures.closes fitted in
           ((before.closes done.0).0, ap (λ (b : BuilderView). b.leaf) done.1);
@@ -31,4 +50,67 @@ blocks-2-preserved c =
       dropped = search rules;
       same = search rules;
       looseness = search rules;
+      least = λ fitted.
+          let closed = one_closed c fitted in
+          ((before.least (fits fitted)).0, λ few. absurd (omega (arith, closed.0, closed.1, few)));
+      texts = λ fitted.
+          let done = c.close_block.ensures.closes fitted in
+          let kept = before.texts done.0 in
+          (kept.0, ap (λ (b : BuilderView). b.texts) done.1 ∙ kept.1);
+      forgets = λ s frames inside may fitted.
+          let stands = before.forgets s frames inside may (fits fitted) in (
+            stands.0,
+            (one_less s c.blocks-2.self c.close_block.new.self frames inside _ _ refl (one_closed c fitted).1 stands.1
+                (c.close_block.ensures.forgets s) fitted).1,
+          );
     }
+
+pub blocks-2-init : goal.blocks-2-init
+blocks-2-init c = record {
+  text = search rules;
+  closes = search rules;
+  left = search rules;
+  outside = search rules;
+  ended = search rules;
+  dropped = search rules;
+  same = search rules;
+  looseness = search rules;
+  least = search rules;
+  texts = λ fitted. (fitted, refl);
+  forgets = λ s frames inside may fitted. (
+    fitted,
+    all_kept s c.end_leaf.new.self frames inside _ (open_containers s c.end_leaf.new.self frames inside may) may,
+  );
+}
+
+-- the blocks that the pass stood for after the leaf are the same
+closed_from : (c : goal.After-blocks-2) (s : Source) (frames : List Frame) (inside : Forest Block)
+    → MayClose s c.end_leaf.new.self frames inside → AllFitted c.blocks-2.self.placing
+    → MayClose s c.blocks-2.self (take c.args.depth frames) (rebuilt (drop c.args.depth frames) inside)
+closed_from c s frames inside may fitted =
+    let loop = c.blocks-2 in
+    let left = (loop.invariant.left fitted).1 in
+    let all = open_containers s c.end_leaf.new.self frames inside may in
+    closed_to s loop.self frames inside (length loop.self.placing.builder.blocks) c.args.depth
+    (omega (arith, left, c.depth-closed-end.ensures, c.blocks-2-test.false))
+    (λ few. let least = (loop.invariant.least fitted).1 few in omega (arith, least, all))
+    (loop.invariant.forgets s frames inside may fitted).1
+
+pub returns-clause-forgets : goal.returns-clause-forgets
+returns-clause-forgets c = λ s frames inside none may fitted.
+    let now = c.args.self.now in
+    let same : c.end_leaf.new.self ≡ now = c.in_ok-end_leaf.ensures.none may.stands.built.outside none in (
+      (c.blocks-2.invariant.outside fitted).0,
+      closed_from c s frames inside (subst (λ (p : Pass). MayClose s p frames inside) (sym same) may) fitted,
+    )
+
+pub returns-clause-finishes : goal.returns-clause-finishes
+returns-clause-finishes c = λ s frames inside b held may more fitted.
+    let texts = c.blocks-2.invariant.texts fitted in
+    let placed = c.in_ok-end_leaf.ensures.frame s frames inside b held may.unended may.options
+    (more.0, sym texts.1 ∙ more.1) texts.0 in (
+      placed.0,
+      closed_from c s frames (followed_by inside (leaf_block b))
+          (ended_may_close s c.args.self.now c.end_leaf.new.self frames inside b held may
+          c.in_ok-end_leaf.ensures.same placed.1) fitted,
+    )

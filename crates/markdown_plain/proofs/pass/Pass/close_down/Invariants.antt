@@ -1,5 +1,11 @@
--- The text stays, and each turn closes one of the blocks that were open without the leaf.
-use Rattle.std.proofs.Common.{◌≡◌, ◌+◌, [], true, false, length, take}
+-- The text stays, and each turn closes one of the blocks that were open without the leaf, which leaves the blocks
+-- of the text as they are.
+use Rattle.std.proofs.Common.{◌≡◌, ◌+◌, ◌<◌, ◌≤◌, List, [], true, false, length, take, drop}
+use Rattle.markdown_base.specs.Forest.{Forest}
+use Rattle.markdown_lines.specs.BlockBeginnings.{Source}
+use Rattle.markdown_block_rules.specs.BlockGrowth.{Block}
+use Rattle.markdown_plain.specs.Closing.{MayClose}
+use Rattle.markdown_plain.specs.Frames.{Frame, rebuilt}
 use Rattle.markdown_plain.specs.Fitting.{IfFitted}
 use Rattle.markdown_plain.specs.OpenBlocks.{without_leaf}
 use Rattle.markdown_plain.proofs.pass.Pass.close_down.Given as goal
@@ -24,4 +30,12 @@ invariant-blocks-2 l = record {
     lists = l.self.looseness.lists;
     item_is_empty = l.self.looseness.item_is_empty;
   };
+  least : IfFitted l.fn.self.placing l.self.placing (length l.self.placing.builder.blocks < l.depth
+      → length l.initial.self.placing.builder.blocks ≤ length l.self.placing.builder.blocks);
+  texts : IfFitted l.initial.self.placing l.self.placing
+      (l.self.placing.builder.texts ≡ l.initial.self.placing.builder.texts);
+  forgets : (s : Source) (frames : List Frame) (inside : Forest Block) → MayClose s l.initial.self frames inside
+      → IfFitted l.initial.self.placing l.self.placing
+      (MayClose s l.self (take (length l.self.placing.builder.blocks) frames)
+      (rebuilt (drop (length l.self.placing.builder.blocks) frames) inside));
 }
