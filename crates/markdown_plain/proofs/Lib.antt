@@ -23,3 +23,4 @@ pub mod ItemsInListsLemmas
 -- on leaves in the innermost open container
 pub mod ParagraphsInPlaceLemmas
 pub mod ClosedLeavesLemmas
+pub mod AddedLinesLemmas

@@ -1,6 +1,6 @@
 -- Blocks in the innermost open container: one that is put there whole, one that is open, and a paragraph whose lines are
 -- held back.
-use Rattle.std.specs.Prelude.{◌≡◌, ℕ, ◌<◌, Bool, true, false, List, [], ◌∷◌, ◌++◌, Option, Some, None, length}
+use Rattle.std.specs.Prelude.{◌≡◌, ℕ, ◌<◌, ◌≤◌, ◌==◌, nat_le, Bool, true, false, List, [], ◌∷◌, ◌++◌, Option, Some, None, length}
 use Rattle.std.specs.Prelude.{if◌then◌else◌}
 use Rattle.markdown_base.specs.Forest.{Forest, nil, node}
 use Rattle.markdown_base.specs.declared.tag.HeadingLevel.{HeadingLevel}
@@ -9,14 +9,16 @@ use Rattle.markdown_builder.specs.BuilderView.{BuilderView, parts_of}
 use Rattle.markdown_builder.specs.Shown.{Shown, shown_item}
 use Rattle.markdown_builder.specs.TreeLevels.{followed_by}
 use Rattle.markdown_lines.specs.BlockBeginnings.{Source}
+use Rattle.markdown_lines.specs.HeldLines.{IsHeldLine}
+use Rattle.markdown_lines.specs.declared.held_line.HeldLine.{HeldLine}
 use Rattle.markdown_lines.specs.declared.line.Line.{Line}
 use Rattle.markdown_lines.specs.SourceLines.{SourceLine}
 use Rattle.markdown_block_rules.specs.BlockGrowth as was
 use Rattle.markdown_block_rules.specs.BlockGrowth.{Block, Kind}
 use Rattle.markdown_block_rules.specs.BlockRules.{in_no_item, shown_blocks}
 use Rattle.markdown_plain.specs.declared.pass.Pass.{Pass}
-use Rattle.markdown_plain.specs.Frames.{Frame}
-use Rattle.markdown_plain.specs.HeldSources.{IsParagraph}
+use Rattle.markdown_plain.specs.Frames.{Frame, is_item}
+use Rattle.markdown_plain.specs.HeldSources.{AreInParagraph, IsParagraph, IsTextLine}
 use Rattle.markdown_plain.specs.Paragraphs.{EndsFrom, first_task, lines_end}
 use Rattle.markdown_plain.specs.OpenedFrames.{around_innermost}
 use Rattle.markdown_plain.specs.Settled.{IsBuilt, placed_end}
@@ -94,3 +96,28 @@ abbrev pub IsUnended : Source → Pass → List Frame → Forest Block → Block
 IsUnended s pass frames inside b None =
     (is_leaf b.kind ≡ true) × IsOpenIn s pass.placing.builder frames inside true b
 IsUnended s pass frames inside b (Some sources) = HoldsParagraph s pass frames inside b sources
+
+-- a line with some content, which is this one of the definition, comes after these lines of a paragraph
+pub record ComesAfter (text : List ℕ) (lines : List HeldLine) (line : HeldLine) (source : SourceLine) : Type 0 where
+  pub is : IsTextLine text line source
+  pub held : IsHeldLine text line
+  pub after : lines_end lines ≤ line.start
+
+-- a block is a paragraph that begins with a line, which is this one of the definition
+pub record BeginsText (text : List ℕ) (line : HeldLine) (source : SourceLine) (b : Block) : Type 0 where
+  pub is : IsTextLine text line source
+  pub inside : AreInParagraph text (line ∷ [])
+  pub some : 0 < line.next
+  pub kind : b.kind ≡ was.paragraph_leaf (source ∷ [])
+  pub last : b.last ≡ source.next
+
+-- a block was opened in a line if its first line ends where that does, and not after it
+pub record IsOpenedIn (line : Line) (b : Block) : Type 0 where
+  pub same : nat_le line.start b.start ≡ (line.next == b.first)
+  pub before : b.first ≤ line.next
+
+-- this is so for each open item
+abbrev pub AreItemsOpenedIn : Line → List Frame → Type 0
+AreItemsOpenedIn line [] = Unit
+AreItemsOpenedIn line (f ∷ frames) =
+    (is_item f.block.kind ≡ true → IsOpenedIn line f.block) × AreItemsOpenedIn line frames
