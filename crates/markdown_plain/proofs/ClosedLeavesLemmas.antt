@@ -2,11 +2,9 @@
 use Rattle.std.proofs.Common.{◌≡◌, ℕ, Bool, true, false, List, [], ◌∷◌, ◌++◌, Option, Some, None}
 use Rattle.std.proofs.Common.{refl, sym, ap, ◌∙◌, ◌<◌, ◌≤◌, append-nil, drop, length, subst, take, true≢false}
 use Rattle.markdown_base.specs.Forest.{Forest, nil, node}
-use Rattle.markdown_base.specs.declared.item.ItemBody.{ItemBody}
-use Rattle.markdown_base.specs.declared.item.ItemBody.TheVariants as body
 use Rattle.markdown_builder.specs.declared.open_block.OpenBlock.{OpenBlock}
-use Rattle.markdown_builder.specs.BuilderView.{BuilderView, parts_of, with_items}
-use Rattle.markdown_builder.specs.Shown.{Shown, chain_of, settled_below, shown_item, text_shown, unnumbered, with_block}
+use Rattle.markdown_builder.specs.BuilderView.{BuilderView, parts_of}
+use Rattle.markdown_builder.specs.Shown.{Shown, chain_of, shown_item, with_block}
 use Rattle.markdown_builder.specs.Tightness.{is_tight_list}
 use Rattle.markdown_builder.specs.TreeLevels.{followed_by, with_trees}
 use Rattle.markdown_lines.specs.BlockBeginnings.{Source}
@@ -18,18 +16,16 @@ use Rattle.markdown_scan.specs.Entity.{entity_names}
 use Rattle.markdown_block_rules.specs.BlockGrowth as was
 use Rattle.markdown_block_rules.specs.BlockGrowth.{Block, Kind}
 use Rattle.markdown_block_rules.specs.BlockRules.{Around, block_end, definitions_in, footnotes_in, in_no_item}
-use Rattle.markdown_block_rules.specs.BlockRules.{is_blank_block, label_of, last_end, paragraph_lines, shown_block}
+use Rattle.markdown_block_rules.specs.BlockRules.{label_of, last_end, paragraph_lines, shown_block}
 use Rattle.markdown_block_rules.specs.BlockRules.{shown_blocks, shown_heading}
-use Rattle.markdown_plain.specs.Fitting.{GoesOn, PutsBlock, closed}
+use Rattle.markdown_plain.specs.Fitting.{PutsBlock, closed}
 use Rattle.markdown_plain.specs.Frames.{Frame}
-use Rattle.markdown_plain.specs.LeafTrees.{HasItems, HasMoreTexts, HasTrees, OpensWith}
 use Rattle.markdown_plain.specs.OpenBlocks.{outer_of}
 use Rattle.markdown_plain.specs.OpenedFrames.{around_innermost}
 use Rattle.markdown_plain.specs.OpenLeaves.{IsOpenIn, IsPlaced, is_leaf, leaf_block}
-use Rattle.markdown_plain.specs.Paragraphs.{IsPlacedTo}
-use Rattle.markdown_plain.specs.Settled.{AreOpen, IsBuilt, levels_shown, placed_end}
-use Rattle.markdown_plain.proofs.AppendedBlocksLemmas.{appended_is_built, end_appended, open_after}
-use Rattle.markdown_plain.proofs.LeafTreesLemmas.{closed_tree, same_block, settled_leaf, trees_last}
+use Rattle.markdown_plain.specs.Settled.{IsBuilt, levels_shown, placed_end}
+use Rattle.markdown_plain.proofs.AppendedBlocksLemmas.{appended_is_built, end_appended}
+use Rattle.markdown_plain.proofs.LeafTreesLemmas.{closed_tree, same_block, settled_leaf}
 use Rattle.markdown_plain.proofs.OpenBlocksLemmas.{outer_of_these}
 
 use Rattle.markdown_lines.specs.SourceLines.{SourceLine}

@@ -4,10 +4,10 @@ use Rattle.std.proofs.Common.{append-nil, arith, drop, length, not, refl, sym, a
 use Rattle.std.specs.Prelude.{nat_lt, ◌==◌, if◌then◌else◌}
 use Rattle.std.proofs.lemmas.Bool.Decides.{nat_tests}
 use Rattle.std.proofs.lemmas.List.{length-drop}
-use Rattle.markdown_base.specs.Forest.{Forest, nil, node}
+use Rattle.markdown_base.specs.Forest.{Forest, nil}
 use Rattle.markdown_base.specs.declared.item.ItemBody.TheVariants as body
 use Rattle.markdown_base.specs.declared.tag.HeadingLevel.{HeadingLevel}
-use Rattle.markdown_builder.specs.BuilderView.{BuilderView, Definition}
+use Rattle.markdown_builder.specs.BuilderView.{BuilderView}
 use Rattle.markdown_builder.specs.Shown.{Shown}
 use Rattle.markdown_builder.specs.TreeLevels.{followed_by, with_trees}
 use Rattle.markdown_builder.proofs.LaidLemmas.{followed_by-nil}
@@ -19,7 +19,7 @@ use Rattle.markdown_scan.specs.Entity.{entity_names}
 use Rattle.markdown_block_rules.specs.BlockGrowth as was
 use Rattle.markdown_block_rules.specs.BlockGrowth.{Block, Kind}
 use Rattle.markdown_block_rules.specs.BlockRules.{Around, block_end, definitions_in, footnotes_in, in_no_item}
-use Rattle.markdown_block_rules.specs.BlockRules.{is_blank_block, label_of, last_end, paragraph_body, paragraph_lines}
+use Rattle.markdown_block_rules.specs.BlockRules.{is_blank_block, label_of, paragraph_body, paragraph_lines}
 use Rattle.markdown_block_rules.specs.BlockRules.{shown_block, shown_blocks, shown_setext, shown_text}
 use Rattle.markdown_plain.specs.declared.pass.Pass.{Pass}
 use Rattle.markdown_plain.specs.Fitting.{defining}
@@ -29,7 +29,7 @@ use Rattle.markdown_plain.specs.OpenLeaves.{HoldsParagraph, IsPlaced, ended_bloc
 use Rattle.markdown_plain.specs.OpenedFrames.{around_innermost}
 use Rattle.markdown_plain.specs.Paragraphs.{IsPlacedTo, divided_of, lines_end, paragraph_end, shown_ended, source_of}
 use Rattle.markdown_plain.specs.Settled.{IsBuilt, around_in, levels_shown, placed_end}
-use Rattle.markdown_plain.proofs.AppendedBlocksLemmas.{AppendsBlocks, appended_is_built, end_appended}
+use Rattle.markdown_plain.proofs.AppendedBlocksLemmas.{appended_is_built, end_appended}
 
 -- ---- what is around a block in an open container
 

@@ -1,12 +1,10 @@
 -- The line is added to the paragraph that is held back, or one begins with it where room was made.
 use Rattle.std.proofs.Common.{◌≡◌, ◌∙◌, ◌++◌, ◌∷◌, [], ap, refl, rules, subst, sym, true, false, true≢false, None}
-use Rattle.markdown_builder.specs.TreeLevels.{followed_by}
 use Rattle.markdown_lines.specs.declared.held_line.HeldLine.{HeldLine}
 use Rattle.markdown_plain.proofs.AddedLinesLemmas.{has_held, line_added, no_leaf_open, paragraph_begun}
 use Rattle.markdown_plain.proofs.ClosedFramesLemmas.{stands_on}
 use Rattle.markdown_plain.specs.Fitting.{AllFitted}
 use Rattle.markdown_plain.specs.LeafTrees.{HasMoreTexts}
-use Rattle.markdown_plain.specs.OpenLeaves.{leaf_block}
 use Rattle.markdown_plain.specs.Paragraphs.{has_paragraph, task_at}
 use Rattle.markdown_plain.specs.declared.pass.Pass.{Pass}
 use Rattle.markdown_plain.proofs.pass.Pass.add_text.Goals.{then-not-has_paragraph+in_ok-make_room}
