@@ -32,3 +32,7 @@ pub mod LooseFramesLemmas
 pub mod OpenListsLemmas
 pub mod ClosedListsLemmas
 pub mod BlanksKnownLemmas
+-- on leaves in the innermost open container
+pub mod ParagraphsInPlaceLemmas
+pub mod ClosedLeavesLemmas
+pub mod AddedLinesLemmas

@@ -1,12 +1,15 @@
 -- What the pass stands for, as containers are closed one after another.
-use Rattle.std.specs.Prelude.{◌≡◌, Bool, false, List}
+use Rattle.std.specs.Prelude.{◌≡◌, Bool, false, List, Option}
 use Rattle.markdown_base.specs.Forest.{Forest, nil, node}
+use Rattle.markdown_builder.specs.TreeLevels.{followed_by}
 use Rattle.markdown_lines.specs.BlockBeginnings.{Source}
+use Rattle.markdown_lines.specs.SourceLines.{SourceLine}
 use Rattle.markdown_block_rules.specs.BlockGrowth.{Block, Kind}
 use Rattle.markdown_block_rules.specs.BlockRules.{is_blank_block}
 use Rattle.markdown_plain.specs.declared.pass.Pass.{Pass}
 use Rattle.markdown_plain.specs.Frames.{Frame, is_item, is_list, rebuilt}
-use Rattle.markdown_plain.specs.Settled.{IsAtEnd, IsBuilt, are_loose}
+use Rattle.markdown_plain.specs.OpenLeaves.{IsUnended, leaf_block}
+use Rattle.markdown_plain.specs.Settled.{IsAtEnd, IsBuilt, QuotesEnd, are_loose}
 
 -- a block of a kind may be directly in a list, or elsewhere
 abbrev pub MayBeIn : (in_list : Bool) → Kind → Type 0
@@ -28,3 +31,13 @@ pub record StandsFor (s : Source) (pass : Pass) (frames : List Frame) (inside : 
 pub record MayClose (s : Source) (pass : Pass) (frames : List Frame) (inside : Forest Block) : Type 0 where
   pub stands : StandsFor s pass frames inside
   pub lists : pass.looseness.lists.items ≡ are_loose frames inside
+
+-- the pass stands for such blocks with one after them that has not ended, and knows of each open list whether that is
+-- loose then
+pub record MayEnd (s : Source) (pass : Pass) (frames : List Frame) (inside : Forest Block) (b : Block)
+    (held : Option (List SourceLine)) : Type 0 where
+  pub unended : IsUnended s pass frames inside b held
+  pub options : s.options ≡ pass.options
+  pub quotes : QuotesEnd pass.placed frames
+  pub items : AreItemsInLists false (rebuilt frames (followed_by inside (leaf_block b)))
+  pub lists : pass.looseness.lists.items ≡ are_loose frames (followed_by inside (leaf_block b))

@@ -19,3 +19,4 @@ pub mod Settled
 pub mod ReachedFrames
 pub mod OpenedFrames
 pub mod Closing
+pub mod OpenLeaves

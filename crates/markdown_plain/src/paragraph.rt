@@ -1,7 +1,7 @@
 //! A paragraph: its lines, the breaks between them, and what else it may turn out to be (CommonMark 4.3, 4.7, 4.8).
 //! Functions that return a `Result` fail only where memory is refused.
 ghost use Rattle.std.specs.Prelude.{◌≡◌, ℕ, ◌<◌, ◌≤◌, ◌++◌, ◌∷◌, [], true, false, None, List, length, IfOk, MatchOption};
-ghost use Rattle.std.specs.Prelude.{◌+◌, ◌==◌, drop, slice_get, if◌then◌else◌};
+ghost use Rattle.std.specs.Prelude.{◌+◌, ◌==◌, drop, not, slice_get, take, if◌then◌else◌};
 ghost use Rattle.markdown_base.specs.declared.item.ItemBody.TheVariants as body;
 ghost use Rattle.markdown_builder.specs.BuilderView.{Opens};
 ghost use Rattle.markdown_plain.specs.Fitting.{BracesStand, IfFitted, GoesOn, OpensHeading, OpensHeadingOf, defining};
@@ -11,7 +11,7 @@ ghost use Rattle.markdown_plain.specs.Paragraphs.{divided_of, first_task, shown_
 ghost use Rattle.markdown_plain.specs.Paragraphs.{EndsFrom, IsDivided};
 ghost use Rattle.markdown_plain.specs.Paragraphs.{IsPlacedTo};
 ghost use Rattle.markdown_plain.specs.HeldSources.{IsParagraph};
-ghost use Rattle.markdown_plain.specs.LeafTrees.{HasItems, HasTrees};
+ghost use Rattle.markdown_plain.specs.LeafTrees.{HasItems, HasMoreTexts, HasTrees};
 ghost use Rattle.markdown_plain.specs.ParagraphItems.{after_task, heading_braces, line_or_nothing, task_items, text_items};
 ghost use Rattle.markdown_plain.specs.ParagraphItems.{AreSome, BeginsWithTask, HaveEnds, IsLeft};
 ghost use Rattle.markdown_base.specs.Forest.{Forest};
@@ -24,7 +24,14 @@ ghost use Rattle.markdown_plain.specs.HeldSources.{AreTextLines, IsTextLine};
 ghost use Rattle.markdown_plain.specs.TakenDefinitions.{TakesDefinitions};
 ghost use Rattle.markdown_lines.specs.DefinitionRules.{divided};
 ghost use Rattle.markdown_lines.specs.SourceLines.{SourceLine};
-ghost use Rattle.markdown_block_rules.specs.BlockGrowth.{Block};
+ghost use Rattle.markdown_lines.specs.BlockBeginnings.{Source};
+ghost use Rattle.markdown_block_rules.specs.BlockGrowth.{Block, paragraph_leaf};
+ghost use Rattle.markdown_plain.specs.Closing.{MayClose, MayEnd, StandsFor};
+ghost use Rattle.markdown_builder.specs.TreeLevels.{followed_by};
+ghost use Rattle.markdown_plain.specs.Frames.{Frame, rebuilt, room_depth};
+ghost use Rattle.markdown_plain.specs.OpenLeaves.{HoldsParagraph, IsPlaced, ended_block, leaf_block};
+ghost use Rattle.markdown_plain.specs.OpenLeaves.{AreItemsOpenedIn, BeginsText, ComesAfter};
+ghost use Rattle.markdown_plain.specs.Settled.{IsBuilt};
 
 use crate::leaves::open_heading;
 use crate::pass::Pass;
@@ -359,6 +366,35 @@ impl<'a> Pass<'a> {
         ensures line { IfOk result (λ _. self.new.lines.items
             ≡ (if has_paragraph self.old then self.old.lines.items else [])
             ++ record { start = start; stop = line.stop; next = line.next; owed = 0 } ∷ []) }
+        ensures forgets { IfOk result (λ _. (s : Source) (frames : List Frame)
+            (inside : Forest Block) → self.old.lines.items ≡ [] → depth ≤ length frames
+            → MayClose s self.old frames inside → IfFitted self.old.placing self.new.placing
+            (StandsFor s self.new (take (room_depth depth frames) frames)
+            (rebuilt (drop (room_depth depth frames) frames) inside))) }
+        ensures finishes { IfOk result (λ _. (s : Source) (frames : List Frame)
+            (inside : Forest Block) (b : Block) → depth ≤ length frames
+            → MayEnd s self.old frames inside b None
+            → HasMoreTexts self.old.placing.builder self.new.placing.builder
+            → IfFitted self.old.placing self.new.placing
+            (StandsFor s self.new (take (room_depth depth frames) frames)
+            (rebuilt (drop (room_depth depth frames) frames)
+            (followed_by inside (leaf_block b))))) }
+        ensures first { IfOk result (λ _. has_paragraph self.old ≡ false → (s : Source)
+            (frames : List Frame) (inside : Forest Block) (b : Block) (source : SourceLine)
+            → IsBuilt s self.new.placing.builder frames inside → s.options ≡ self.old.options
+            → BeginsText self.new.placing.builder.text
+            (record { start = start; stop = line.stop; next = line.next; owed = 0 }) source b
+            → AreItemsOpenedIn line frames
+            → HoldsParagraph s self.new frames inside b (source ∷ [])) }
+        ensures further { IfOk result (λ _. (s : Source) (frames : List Frame)
+            (inside : Forest Block) (b : Block) (sources : List SourceLine) (source : SourceLine)
+            → HoldsParagraph s self.old frames inside b sources
+            → ComesAfter self.old.placing.builder.text self.old.lines.items
+            (record { start = start; stop = line.stop; next = line.next; owed = 0 }) source
+            → HoldsParagraph s self.new frames inside (record b {
+              last = source.next;
+              kind = paragraph_leaf (sources ++ source ∷ []);
+            }) (sources ++ source ∷ [])) }
     {
         if !self.has_paragraph() {
             self.make_room(depth)?;
@@ -465,6 +501,17 @@ impl<'a> Pass<'a> {
             (HasTrees self.old.placing.builder self.new.placing.builder
             (shown_ended (source_of self.old) marked b heading
             (divided_of self.old sources).lines))) }
+        ensures left { IfOk result (λ left. (sources : List SourceLine)
+            → IsParagraph self.old.placing.builder.text self.old.lines.items sources
+            → IfFitted self.old.placing self.new.placing
+            (left ≡ not (length (divided_of self.old sources).lines == 0))) }
+        ensures frame { IfOk result (λ left. (s : Source) (frames : List Frame)
+            (inside : Forest Block) (b : Block) (sources : List SourceLine)
+            → HoldsParagraph s self.old frames inside b sources → s.options ≡ self.old.options
+            → HasMoreTexts self.old.placing.builder self.new.placing.builder
+            → IfFitted self.old.placing self.new.placing
+            (IsPlaced s self.new.placing.builder frames (followed_by inside
+            (leaf_block (ended_block b sources left heading))))) }
         ensures emptied { IfOk result (λ _. self.new.lines.items ≡ []) }
         ensures same { self.new
             ≡ record self.old { placing = self.new.placing; lines = self.new.lines } }

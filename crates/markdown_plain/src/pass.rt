@@ -1,15 +1,19 @@
 //! The state of the block pass between two lines, and the closing of blocks. Functions that return a `Result` fail only
 //! where memory is refused.
 ghost use Rattle.std.specs.Prelude.{◌≡◌, ◌≤◌, List, [], ◌∷◌, ◌++◌, ◌&&◌, true, false, not, length, take};
-ghost use Rattle.std.specs.Prelude.{drop, IfOk, ℕ};
+ghost use Rattle.std.specs.Prelude.{drop, IfOk, ℕ, Option};
 ghost use Rattle.std.specs.Option.{option_map};
 ghost use Rattle.markdown_base.specs.Forest.{Forest};
 ghost use Rattle.markdown_base.specs.declared.item.ItemBody.TheVariants as body;
 ghost use Rattle.markdown_block_rules.specs.BlockGrowth.{Block, is_nil};
 ghost use Rattle.markdown_builder.specs.BuilderView.{BuilderView, innermost_block, nothing_made};
 ghost use Rattle.markdown_lines.specs.BlockBeginnings.{Source};
-ghost use Rattle.markdown_plain.specs.Closing.{MayClose, StandsFor};
+ghost use Rattle.markdown_plain.specs.Closing.{MayClose, StandsFor, MayEnd};
 ghost use Rattle.markdown_plain.specs.Frames.{Frame, forgotten, rebuilt, room_depth, AreNested};
+ghost use Rattle.markdown_builder.specs.TreeLevels.{followed_by};
+ghost use Rattle.markdown_lines.specs.SourceLines.{SourceLine};
+ghost use Rattle.markdown_plain.specs.LeafTrees.{HasMoreTexts};
+ghost use Rattle.markdown_plain.specs.OpenLeaves.{IsPlaced, IsUnended, leaf_block};
 ghost use Rattle.markdown_plain.specs.Fitting.{AllFitted, HasBody, IfFitted, PutsBlock, closed};
 ghost use Rattle.markdown_plain.specs.OpenBlocks.{innermost_is, is_list, room_in, without_leaf};
 ghost use Rattle.markdown_plain.specs.Containers.{closing_place};
@@ -191,6 +195,12 @@ impl<'a> Pass<'a> {
             → AreNested frames → IsLooseAs self.old.looseness frames inside
             → IfFitted self.old.placing self.new.placing (IsLooseAs self.new.looseness
             (take depth frames) (rebuilt (drop depth frames) inside))) }
+        ensures finishes { IfOk result (λ _. (s : Source) (frames : List Frame)
+            (inside : Forest Block) (b : Block) (held : Option (List SourceLine))
+            → MayEnd s self.old frames inside b held
+            → HasMoreTexts self.old.placing.builder self.new.placing.builder
+            → IfFitted self.old.placing self.new.placing (MayClose s self.new (take depth frames)
+            (rebuilt (drop depth frames) (followed_by inside (leaf_block b))))) }
     {
         self.end_leaf()?;
         'blocks: for _closed in depth..self.depth() {
@@ -241,6 +251,14 @@ impl<'a> Pass<'a> {
             → IfFitted self.old.placing self.new.placing (IsLooseBefore self.new.looseness
             (take (room_depth depth frames) frames)
             (rebuilt (drop (room_depth depth frames) frames) inside))) }
+        ensures finishes { IfOk result (λ _. (s : Source) (frames : List Frame)
+            (inside : Forest Block) (b : Block) (held : Option (List SourceLine))
+            → depth ≤ length frames → MayEnd s self.old frames inside b held
+            → HasMoreTexts self.old.placing.builder self.new.placing.builder
+            → IfFitted self.old.placing self.new.placing
+            (StandsFor s self.new (take (room_depth depth frames) frames)
+            (rebuilt (drop (room_depth depth frames) frames)
+            (followed_by inside (leaf_block b))))) }
     {
         self.close_down(depth)?;
         if self.is_in_list() {
@@ -267,6 +285,12 @@ impl<'a> Pass<'a> {
         ensures ended { IfOk result (λ _. self.new.lines.items ≡ []) }
         ensures dropped { IfOk result (λ _. self.old.placing.builder.leaf ≡ true
             → self.new.blanks.items ≡ []) }
+        ensures frame { IfOk result (λ _. (s : Source) (frames : List Frame)
+            (inside : Forest Block) (b : Block) (held : Option (List SourceLine))
+            → IsUnended s self.old frames inside b held → s.options ≡ self.old.options
+            → HasMoreTexts self.old.placing.builder self.new.placing.builder
+            → IfFitted self.old.placing self.new.placing
+            (IsPlaced s self.new.placing.builder frames (followed_by inside (leaf_block b)))) }
         ensures none { IfOk result (λ _. self.old.placing.builder.leaf ≡ false
             → self.old.lines.items ≡ [] → self.new ≡ self.old) }
         ensures same { self.new ≡ record self.old {

@@ -1,13 +1,19 @@
 -- A turn closes the innermost block, which is not one of the outermost blocks that stay.
 use Rattle.std.proofs.Common.{◌≡◌, ◌∙◌, ◌<◌, suc, ap, refl, sym, subst, length, take, drop, arith, rules, ◌≤◌, List}
+use Rattle.markdown_base.specs.Forest.{Forest}
 use Rattle.markdown_builder.specs.BuilderView.{BuilderView}
+use Rattle.markdown_builder.specs.TreeLevels.{followed_by}
+use Rattle.markdown_lines.specs.BlockBeginnings.{Source}
+use Rattle.markdown_block_rules.specs.BlockGrowth.{Block}
 use Rattle.markdown_plain.specs.Closing.{MayClose}
 use Rattle.markdown_plain.specs.Fitting.{AllFitted}
-use Rattle.markdown_plain.specs.Frames.{rebuilt}
+use Rattle.markdown_plain.specs.Frames.{Frame, rebuilt}
+use Rattle.markdown_plain.specs.OpenLeaves.{leaf_block}
 use Rattle.markdown_plain.specs.declared.pass.Pass.{Pass}
 use Rattle.markdown_plain.proofs.ClosedFramesLemmas.{all_kept, kept_alike, one_less, open_containers}
 use Rattle.markdown_builder.specs.declared.open_block.OpenBlock.{OpenBlock}
 use Rattle.markdown_plain.proofs.ClosedListsLemmas.{all_closed, none_closed, one_closed}
+use Rattle.markdown_plain.proofs.ClosedLeavesLemmas.{closed_to, ended_may_close}
 use Rattle.markdown_plain.proofs.OpenBlocksLemmas.{length_of_outer, take_of_outer}
 use Rattle.markdown_plain.specs.OpenBlocks.{without_leaf}
 use Rattle.markdown_plain.specs.Settled.{AreOpen, IsLooseAs}
@@ -52,8 +58,12 @@ blocks-2-preserved c =
       least = λ fitted.
           let closed = one_less_open c fitted in
           ((before.least (fits fitted)).0, λ few. absurd (omega (arith, closed.0, closed.1, few)));
-      forgets = λ s frames inside none may fitted.
-          let stands = before.forgets s frames inside none may (fits fitted) in (
+      texts = λ fitted.
+          let done = c.close_block.ensures.closes fitted in
+          let kept = before.texts done.0 in
+          (kept.0, ap (λ (b : BuilderView). b.texts) done.1 ∙ kept.1);
+      forgets = λ s frames inside may fitted.
+          let stands = before.forgets s frames inside may (fits fitted) in (
             stands.0,
             (one_less s c.blocks-2.self c.close_block.new.self frames inside _ _ refl (one_less_open c fitted).1 stands.1
                 (c.close_block.ensures.forgets s) fitted).1,
@@ -84,14 +94,11 @@ blocks-2-init c = record {
   same = search rules;
   looseness = search rules;
   least = search rules;
-  forgets = λ s frames inside none may fitted.
-      let now = c.args.self.now in
-      let same : c.end_leaf.new.self ≡ now = c.in_ok-end_leaf.ensures.none may.stands.built.outside none in (
-        (c.in_ok-end_leaf.ensures.ends fitted).0,
-        subst (λ (p : Pass). MayClose s p (take (length p.placing.builder.blocks) frames)
-            (rebuilt (drop (length p.placing.builder.blocks) frames) inside)) (sym same)
-            (all_kept s now frames inside _ (open_containers s now frames inside may) may),
-      );
+  texts = λ fitted. (fitted, refl);
+  forgets = λ s frames inside may fitted. (
+    fitted,
+    all_kept s c.end_leaf.new.self frames inside _ (open_containers s c.end_leaf.new.self frames inside may) may,
+  );
   loose = λ texts frames inside these nested loose fitted.
       let old = c.args.self.now in
       let new = c.end_leaf.new.self in
@@ -104,21 +111,36 @@ blocks-2-init c = record {
       );
 }
 
+-- the blocks that the pass stood for after the leaf are the same
+closed_from : (c : goal.After-blocks-2) (s : Source) (frames : List Frame) (inside : Forest Block)
+    → MayClose s c.end_leaf.new.self frames inside → AllFitted c.blocks-2.self.placing
+    → MayClose s c.blocks-2.self (take c.args.depth frames) (rebuilt (drop c.args.depth frames) inside)
+closed_from c s frames inside may fitted =
+    let loop = c.blocks-2 in
+    let left = (loop.invariant.left fitted).1 in
+    let all = open_containers s c.end_leaf.new.self frames inside may in
+    closed_to s loop.self frames inside (length loop.self.placing.builder.blocks) c.args.depth
+    (omega (arith, left, c.depth-closed-end.ensures, c.blocks-2-test.false))
+    (λ few. let least = (loop.invariant.least fitted).1 few in omega (arith, least, all))
+    (loop.invariant.forgets s frames inside may fitted).1
+
 pub returns-clause-forgets : goal.returns-clause-forgets
 returns-clause-forgets c = λ s frames inside none may fitted.
     let now = c.args.self.now in
-    let depth = c.args.depth in
-    let loop = c.blocks-2 in
-    let n = length loop.self.placing.builder.blocks in
-    let stands = loop.invariant.forgets s frames inside none may fitted in
-    let left = (loop.invariant.left fitted).1 in
-    let same : c.end_leaf.new.self ≡ now = c.in_ok-end_leaf.ensures.none may.stands.built.outside none in
-    let all = ap (λ (p : Pass). length p.placing.builder.blocks) same ∙ open_containers s now frames inside may in
-    let alike = kept_alike n depth frames (omega (arith, left, c.depth-closed-end.ensures, c.blocks-2-test.false))
-    (λ few. let least = (loop.invariant.least fitted).1 few in omega (arith, least, all)) in (
-      stands.0,
-      subst (λ inner. MayClose s loop.self (take depth frames) (rebuilt inner inside)) alike.1
-          (subst (λ outer. MayClose s loop.self outer (rebuilt (drop n frames) inside)) alike.0 stands.1),
+    let same : c.end_leaf.new.self ≡ now = c.in_ok-end_leaf.ensures.none may.stands.built.outside none in (
+      (c.blocks-2.invariant.outside fitted).0,
+      closed_from c s frames inside (subst (λ (p : Pass). MayClose s p frames inside) (sym same) may) fitted,
+    )
+
+pub returns-clause-finishes : goal.returns-clause-finishes
+returns-clause-finishes c = λ s frames inside b held may more fitted.
+    let texts = c.blocks-2.invariant.texts fitted in
+    let placed = c.in_ok-end_leaf.ensures.frame s frames inside b held may.unended may.options
+    (more.0, sym texts.1 ∙ more.1) texts.0 in (
+      placed.0,
+      closed_from c s frames (followed_by inside (leaf_block b))
+          (ended_may_close s c.args.self.now c.end_leaf.new.self frames inside b held may
+          c.in_ok-end_leaf.ensures.same placed.1) fitted,
     )
 
 pub returns-clause-loose : goal.returns-clause-loose

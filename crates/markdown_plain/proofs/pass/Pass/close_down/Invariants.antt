@@ -1,5 +1,5 @@
--- The text stays, and each turn closes one of the blocks that were open without the leaf. Where there was no leaf, the
--- blocks are the same.
+-- The text stays, and each turn closes one of the blocks that were open without the leaf, which leaves the blocks
+-- of the text as they are.
 use Rattle.std.proofs.Common.{◌≡◌, ◌+◌, ◌<◌, ◌≤◌, List, [], true, false, length, take, drop, ℕ}
 use Rattle.markdown_base.specs.Forest.{Forest}
 use Rattle.markdown_lines.specs.BlockBeginnings.{Source}
@@ -35,8 +35,10 @@ invariant-blocks-2 l = record {
   };
   least : IfFitted l.fn.self.placing l.self.placing (length l.self.placing.builder.blocks < l.depth
       → length l.initial.self.placing.builder.blocks ≤ length l.self.placing.builder.blocks);
-  forgets : (s : Source) (frames : List Frame) (inside : Forest Block) → l.fn.self.lines.items ≡ []
-      → MayClose s l.fn.self frames inside → IfFitted l.fn.self.placing l.self.placing
+  texts : IfFitted l.initial.self.placing l.self.placing
+      (l.self.placing.builder.texts ≡ l.initial.self.placing.builder.texts);
+  forgets : (s : Source) (frames : List Frame) (inside : Forest Block) → MayClose s l.initial.self frames inside
+      → IfFitted l.initial.self.placing l.self.placing
       (MayClose s l.self (take (length l.self.placing.builder.blocks) frames)
       (rebuilt (drop (length l.self.placing.builder.blocks) frames) inside));
   loose : (texts : List (List ℕ)) (frames : List Frame) (inside : Forest Block)

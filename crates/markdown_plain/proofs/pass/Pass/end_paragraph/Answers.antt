@@ -1,17 +1,28 @@
 -- What is left after the definitions is placed, and where nothing is left, no tree is added.
-use Rattle.std.proofs.Common.{◌≡◌, ◌∙◌, ◌<◌, ◌≤◌, [], ap, sym, subst, rules, arith, drop, length, List, None}
-use Rattle.std.specs.Prelude.{◌==◌, if◌then◌else◌}
+use Rattle.std.proofs.Common.{◌≡◌, ◌∙◌, ◌<◌, ◌≤◌, [], true, false, ap, sym, subst, rules, arith, drop, length, List, None}
+use Rattle.std.specs.Prelude.{nat_lt, ◌==◌, if◌then◌else◌}
+use Rattle.std.proofs.lemmas.Bool.Decides.{nat_tests}
 use Rattle.markdown_builder.specs.BuilderView.{BuilderView}
-use Rattle.markdown_builder.specs.TreeLevels.{with_trees}
+use Rattle.markdown_builder.specs.TreeLevels.{followed_by, with_trees}
+use Rattle.markdown_lines.specs.BlockBeginnings.{Source}
 use Rattle.markdown_lines.specs.DefinitionRules.{divided}
+use Rattle.markdown_lines.specs.SourceLines.{SourceLine}
 use Rattle.markdown_lines.specs.declared.held_line.HeldLine.{HeldLine}
+use Rattle.markdown_scan.specs.Entity.{entity_names}
+use Rattle.markdown_block_rules.specs.BlockRules.{in_no_item}
 use Rattle.markdown_plain.proofs.EndedParagraphsLemmas.{nothing_shown, some_left_over, task_left_over}
+use Rattle.markdown_plain.proofs.ParagraphsInPlaceLemmas.{KeepsDefined, ended_at, ended_is_placed, ends_text}
+use Rattle.markdown_plain.proofs.ParagraphsInPlaceLemmas.{headed_block, headed_last, left_over, nothing_left}
+use Rattle.markdown_plain.proofs.ParagraphsInPlaceLemmas.{placed_keeps, same_keeps}
 use Rattle.markdown_plain.proofs.ParagraphTreesLemmas.{as_many, none_behind}
 use Rattle.markdown_plain.specs.Fitting.{AllFitted, IfFitted}
 use Rattle.markdown_plain.specs.HeldSources.{AreTextLines, IsParagraph}
 use Rattle.markdown_plain.specs.LeafTrees.{HasTrees}
 use Rattle.markdown_plain.specs.ParagraphItems.{AreSome}
-use Rattle.markdown_plain.specs.Paragraphs.{first_task, paragraph_end, shown_ended, source_of}
+use Rattle.markdown_plain.specs.OpenLeaves.{HoldsParagraph, IsPlaced, ended_block, leaf_block}
+use Rattle.markdown_plain.specs.OpenedFrames.{around_innermost}
+use Rattle.markdown_plain.specs.Paragraphs.{IsDivided, divided_of, end_of, first_task, paragraph_end, shown_ended}
+use Rattle.markdown_plain.specs.Paragraphs.{source_of}
 use Rattle.markdown_plain.specs.declared.pass.Pass.{Pass}
 use Rattle.markdown_plain.proofs.pass.Pass.end_paragraph.Goals.{then-left+in_ok-place_paragraph, else-left}
 use Rattle.markdown_plain.proofs.pass.Pass.end_paragraph.Goals as goal
@@ -61,3 +72,101 @@ returns-clause-tree c = λ sources marked b is task from end fitted.
                 ∙ (levels fits ∙ nothing_shown s marked b c.args.heading _ pass.placing.builder.levels none),
           )
     ]
+
+-- all calls fitted that took the definitions
+taken_fitted : (c : goal.After-clear) → AllFitted c.if-left.self.placing → AllFitted c.take_definitions.new.placing
+taken_fitted c fitted =
+    elim c.if-left.branch [
+      | then-left+in_ok-place_paragraph w ↦
+          let less : c.in_ok-taken.taken < length c.args.self.now.lines.items = search rules in
+          (w.in_ok-place_paragraph.ensures.placed less (subst (λ (p : Pass). AllFitted p.placing) w.self-is fitted)).0
+      | else-left w ↦ subst (λ (p : Pass). AllFitted p.placing) w.self-is fitted
+    ]
+
+divides : (c : goal.After-clear) (sources : List SourceLine)
+    → IsParagraph c.args.self.now.placing.builder.text c.args.self.now.lines.items sources
+    → AllFitted c.if-left.self.placing → AllFitted c.args.self.now.placing
+    × IsDivided (entity_names c.args.self.now.options) c.args.self.now.placing.builder
+    c.take_definitions.new.placing.builder sources c.in_ok-taken.taken
+divides c sources is fitted =
+    let pass = c.args.self.now in
+    subst (λ names. IfFitted pass.placing c.take_definitions.new.placing
+    (IsDivided names pass.placing.builder c.take_definitions.new.placing.builder sources c.in_ok-taken.taken))
+    c.entity_names-names.ensures
+    (c.in_ok-taken.ensures.divides sources (subst (λ (ls : List HeldLine). IsParagraph pass.placing.builder.text ls
+    sources) (sym c.deref.ensures.value) is)) (taken_fitted c fitted)
+
+pub returns-clause-left : goal.returns-clause-left
+returns-clause-left c = λ sources is fitted.
+    let pass = c.args.self.now in
+    let divided = divides c sources is fitted in
+    let count : c.len.result ≡ length pass.lines.items = search rules in (
+      divided.0,
+      left_over sources _ c.in_ok-taken.taken c.len.result
+          (as_many pass.placing.builder.text pass.lines.items sources is.are ∙ sym count) divided.1.lines,
+    )
+
+-- what was placed keeps the definitions, and where it ends
+placed : (c : goal.After-clear) → c.args.self.now.placing.builder.leaf ≡ false
+    → 0 < length c.args.self.now.lines.items → AllFitted c.if-left.self.placing
+    → KeepsDefined c.take_definitions.new.placing.builder c.if-left.self.placing.builder
+    × (c.if-left.self.placing.builder.at
+    ≡ ended_at c.args.self.now (nat_lt c.in_ok-taken.taken c.len.result) c.args.heading)
+placed c outside some fitted =
+    let pass = c.args.self.now in
+    let taken = c.in_ok-taken.taken in
+    let defined = c.take_definitions.new.placing.builder in
+    let count : c.len.result ≡ length pass.lines.items = search rules in
+    elim c.if-left.branch [
+      | then-left+in_ok-place_paragraph w ↦
+          let less : taken < length pass.lines.items = search rules in
+          let is : nat_lt taken c.len.result ≡ true = grind (arith, nat_tests, less, count) in
+          let new = (w.in_ok-place_paragraph.ensures.placed less
+          (subst (λ (p : Pass). AllFitted p.placing) w.self-is fitted)).1 in
+          let built = ap (λ (p : Pass). p.placing.builder) w.self-is in (
+            subst (KeepsDefined defined) (sym built) (placed_keeps defined w.place_paragraph.new.self.placing.builder _ new),
+            ap (λ (v : BuilderView). v.at) built
+                ∙ (ap (λ (v : BuilderView). v.at) new ∙ sym (ap (λ b. ended_at pass b c.args.heading) is)),
+          )
+      | else-left w ↦
+          let fits = subst (λ (p : Pass). AllFitted p.placing) w.self-is fitted in
+          let most : length pass.lines.items ≤ taken = search rules in
+          let within : taken ≤ length pass.lines.items =
+          subst (λ (ls : List HeldLine). taken ≤ length ls) c.deref.ensures.value c.in_ok-taken.ensures.within in
+          let is : nat_lt taken c.len.result ≡ false = grind (arith, nat_tests, most, count) in
+          let all : taken ≡ length pass.lines.items = omega (arith, most, within) in
+          let end = (c.in_ok-taken.ensures.after (omega (arith, most, some)) fits).1 in
+          let built = ap (λ (p : Pass). p.placing.builder) w.self-is in (
+            same_keeps defined c.if-left.self.placing.builder built
+                (ap (λ (v : BuilderView). v.leaf) (c.in_ok-taken.ensures.steps fits).1 ∙ outside),
+            ap (λ (v : BuilderView). v.at) built
+                ∙ (end ∙ (ap (λ (ls : List HeldLine). end_of ls taken) c.deref.ensures.value
+                ∙ (ap (end_of pass.lines.items) all ∙ sym (ap (λ b. ended_at pass b c.args.heading) is)))),
+          )
+    ]
+
+pub returns-clause-frame : goal.returns-clause-frame
+returns-clause-frame c = λ s frames inside b sources holds options more fitted.
+    let pass = c.args.self.now in
+    let new = c.if-left.self.placing.builder in
+    let heading = c.args.heading in
+    let left = nat_lt c.in_ok-taken.taken c.len.result in
+    let divided = divides c sources holds.lines fitted in
+    let is = placed c holds.built.outside holds.some fitted in
+    let count = (returns-clause-left c sources holds.lines fitted).1 in
+    let whole : s ≡ source_of pass =
+    ap (λ t. record { text = t; options = s.options }) (sym holds.built.text)
+    ∙ ap (λ o. record { text = pass.placing.builder.text; options = o }) options in (
+      divided.0,
+      subst (λ (t : Source). HoldsParagraph t pass frames inside b sources → IsPlaced t new frames
+          (followed_by inside (leaf_block (ended_block b sources left heading)))) (sym whole)
+          (λ held.
+          let c_block = headed_block b sources heading in
+          let marked = (around_innermost in_no_item frames).marked in
+          let tree = (returns-clause-tree c sources marked c_block held.lines held.task held.from
+          (headed_last pass b sources heading held.last) fitted).1 in
+          ended_is_placed pass new frames inside b sources left heading held
+          (λ none. nothing_left (divided_of pass sources).lines left none count) is.1
+          (ends_text (source_of pass) sources _ pass.placing.builder c.take_definitions.new.placing.builder new
+          (c.in_ok-taken.ensures.steps (taken_fitted c fitted)).1 divided.1.definitions is.0 tree more)) holds,
+    )

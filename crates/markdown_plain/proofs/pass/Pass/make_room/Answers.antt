@@ -1,28 +1,35 @@
 -- The blocks are the same, with a list forgotten that is in the way.
-use Rattle.std.proofs.Common.{◌∙◌, refl, sym, subst, take, drop, ◌≡◌, List, true, false, ap, rules}
-use Rattle.markdown_plain.specs.Closing.{StandsFor}
+use Rattle.std.proofs.Common.{◌∙◌, refl, sym, subst, take, drop, ◌≡◌, List, true, false, ap, rules, ◌≤◌, length}
+use Rattle.markdown_plain.specs.Closing.{StandsFor, MayClose}
+use Rattle.markdown_base.specs.Forest.{Forest}
+use Rattle.markdown_builder.specs.BuilderView.{BuilderView}
+use Rattle.markdown_builder.specs.TreeLevels.{followed_by}
+use Rattle.markdown_lines.specs.BlockBeginnings.{Source}
+use Rattle.markdown_block_rules.specs.BlockGrowth.{Block}
 use Rattle.markdown_plain.specs.Fitting.{AllFitted, IfFitted}
-use Rattle.markdown_plain.specs.Frames.{rebuilt, room_depth}
+use Rattle.markdown_plain.specs.Frames.{Frame, rebuilt, room_depth}
+use Rattle.markdown_plain.specs.OpenLeaves.{leaf_block}
 use Rattle.markdown_plain.specs.declared.pass.Pass.{Pass}
 use Rattle.markdown_plain.proofs.ClosedFramesLemmas.{list_in_the_way, no_list_closed, stands_on}
 use Rattle.markdown_plain.proofs.pass.Pass.make_room.Goals.{then-is_in_list, else-is_in_list}
 use Rattle.markdown_plain.proofs.pass.Pass.make_room.Goals as goal
-use Rattle.markdown_builder.specs.BuilderView.{BuilderView}
 use Rattle.markdown_builder.specs.declared.open_block.OpenBlock.{OpenBlock}
 use Rattle.markdown_plain.proofs.ClosedListsLemmas.{AddsBlock, AreClosedTo, IsRoom, closed_down, room_left}
 use Rattle.markdown_plain.proofs.ClosedListsLemmas.{room_made, room_there}
 use Rattle.markdown_plain.specs.OpenBlocks.{innermost_is, is_list, without_leaf}
 use Rattle.markdown_plain.specs.Settled.{BlanksKnown}
 
-pub returns-clause-forgets : goal.returns-clause-forgets
-returns-clause-forgets c = λ s frames inside none few may fitted.
+-- a list in the way is closed
+made_room : (c : goal.After-add_block) (s : Source) (frames : List Frame) (inside : Forest Block)
+    → c.args.depth ≤ length frames → IfFitted c.args.self.now.placing c.close_down.new.self.placing
+    (MayClose s c.close_down.new.self (take c.args.depth frames) (rebuilt (drop c.args.depth frames) inside))
+    → IfFitted c.args.self.now.placing c.if-is_in_list.self.placing
+    (StandsFor s c.if-is_in_list.self (take (room_depth c.args.depth frames) frames)
+    (rebuilt (drop (room_depth c.args.depth frames) frames) inside))
+made_room c s frames inside few closed fits =
     let down = c.close_down.new.self in
     let depth = c.args.depth in
-    let closed = c.in_ok-close_down.ensures.forgets s frames inside none may in
-    let room : IfFitted c.args.self.now.placing c.if-is_in_list.self.placing
-    (StandsFor s c.if-is_in_list.self (take (room_depth depth frames) frames)
-    (rebuilt (drop (room_depth depth frames) frames) inside)) =
-    λ fits. elim c.if-is_in_list.branch [
+    elim c.if-is_in_list.branch [
       | then-is_in_list w ↦
           let fitted_then = subst (λ (p : Pass). AllFitted p.placing) w.self-is fits in
           let there = closed (w.close_block.ensures.closes fitted_then).0 in
@@ -40,10 +47,33 @@ returns-clause-forgets c = λ s frames inside none few may fitted.
                 (no_list_closed s down depth frames inside few there.1
                 (sym c.is_in_list.ensures ∙ w.if-is_in_list.false)),
           )
-    ] in
-    let made = room fitted in (made.0, stands_on s c.if-is_in_list.self _ _ _ refl refl made.1)
--- What is remembered before the block is added is that of the containers which it may begin in.
+    ]
 
+-- to close it changes no text that blocks and items refer to
+texts_stay : (c : goal.After-add_block) → AllFitted c.if-is_in_list.self.placing
+    → c.if-is_in_list.self.placing.builder.texts ≡ c.close_down.new.self.placing.builder.texts
+texts_stay c fits =
+    elim c.if-is_in_list.branch [
+      | then-is_in_list w ↦
+          ap (λ (p : Pass). p.placing.builder.texts) w.self-is
+          ∙ ap (λ (v : BuilderView). v.texts)
+          (w.close_block.ensures.closes (subst (λ (p : Pass). AllFitted p.placing) w.self-is fits)).1
+      | else-is_in_list w ↦ ap (λ (p : Pass). p.placing.builder.texts) w.self-is
+    ]
+
+pub returns-clause-forgets : goal.returns-clause-forgets
+returns-clause-forgets c = λ s frames inside none few may fitted.
+    let made = made_room c s frames inside few (c.in_ok-close_down.ensures.forgets s frames inside none may) fitted in
+    (made.0, stands_on s c.if-is_in_list.self _ _ _ refl refl made.1)
+
+pub returns-clause-finishes : goal.returns-clause-finishes
+returns-clause-finishes c = λ s frames inside b held few may more fitted.
+    let made = made_room c s frames (followed_by inside (leaf_block b)) few
+    (c.in_ok-close_down.ensures.finishes s frames inside b held may
+    (more.0, sym (texts_stay c fitted) ∙ more.1)) fitted in
+    (made.0, stands_on s c.if-is_in_list.self _ _ _ refl refl made.1)
+
+-- what is remembered before the block is added is that of the containers which it may begin in
 pub returns-clause-loose : goal.returns-clause-loose
 returns-clause-loose c = λ texts frames inside these nested loose within known fitted.
     let old = c.args.self.now in

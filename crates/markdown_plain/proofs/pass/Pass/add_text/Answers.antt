@@ -1,0 +1,54 @@
+-- The line is added to the paragraph that is held back, or one begins with it where room was made.
+use Rattle.std.proofs.Common.{◌≡◌, ◌∙◌, ◌++◌, ◌∷◌, [], ap, refl, rules, subst, sym, true, false, true≢false, None}
+use Rattle.markdown_lines.specs.declared.held_line.HeldLine.{HeldLine}
+use Rattle.markdown_plain.proofs.AddedLinesLemmas.{has_held, line_added, no_leaf_open, paragraph_begun}
+use Rattle.markdown_plain.proofs.ClosedFramesLemmas.{stands_on}
+use Rattle.markdown_plain.specs.Fitting.{AllFitted}
+use Rattle.markdown_plain.specs.LeafTrees.{HasMoreTexts}
+use Rattle.markdown_plain.specs.Paragraphs.{has_paragraph, task_at}
+use Rattle.markdown_plain.specs.declared.pass.Pass.{Pass}
+use Rattle.markdown_plain.proofs.pass.Pass.add_text.Goals.{then-not-has_paragraph+in_ok-make_room}
+use Rattle.markdown_plain.proofs.pass.Pass.add_text.Goals.{else-not-has_paragraph}
+use Rattle.markdown_plain.proofs.pass.Pass.add_text.Goals as goal
+
+-- the line as it is held back
+abbrev line_of : goal.In_ok-push → HeldLine
+line_of c = record { start = c.args.start; stop = c.args.line.stop; next = c.args.line.next; owed = 0 }
+
+pub returns-clause-finishes : goal.returns-clause-finishes
+returns-clause-finishes c = λ s frames inside b few may more fitted.
+    let self = c.if-not-has_paragraph.self in
+    elim c.if-not-has_paragraph.branch [
+      | then-not-has_paragraph+in_ok-make_room w ↦
+          let placing = ap (λ (p : Pass). p.placing) w.self-is in
+          let placed = ap (λ (p : Pass). p.placed) w.self-is in
+          let made = w.in_ok-make_room.ensures.finishes s frames inside b None few may
+          (subst (λ p. HasMoreTexts c.args.self.now.placing.builder p.builder) placing more)
+          (subst AllFitted placing fitted) in
+          (made.0, stands_on s w.make_room.new.self _ _ _ placing placed made.1)
+      | else-not-has_paragraph w ↦
+          let held : has_paragraph c.args.self.now ≡ true = search rules in
+          absurd (true≢false (sym may.unended.1.leaf ∙ no_leaf_open c.args.self.now held))
+    ]
+
+pub returns-clause-first : goal.returns-clause-first
+returns-clause-first c = λ none s frames inside b source built options begins opened.
+    let self = c.if-not-has_paragraph.self in
+    let lines : c.push.new.self.items ≡ line_of c ∷ [] = search (rules, none) in
+    let task : self.task ≡ task_at self c.args.line c.args.start = search (rules, none) in
+    let same : self.options ≡ c.args.self.now.options = search (rules, none) in
+    paragraph_begun s _ frames inside b c.args.line (line_of c) source refl refl lines task built (options ∙ sym same)
+    begins opened
+
+pub returns-clause-further : goal.returns-clause-further
+returns-clause-further c = λ s frames inside b sources source holds comes.
+    let now = c.args.self.now in
+    let held = has_held s now frames inside b sources holds in
+    elim c.if-not-has_paragraph.branch [
+      | then-not-has_paragraph+in_ok-make_room w ↦
+          let none : has_paragraph now ≡ false = search rules in absurd (true≢false (sym held ∙ none))
+      | else-not-has_paragraph w ↦
+          let lines : c.push.new.self.items ≡ now.lines.items ++ line_of c ∷ [] = search rules in
+          line_added s now _ frames inside b sources (line_of c) source
+          (ap (λ (p : Pass). record p { lines = c.push.new.self }) w.self-is) lines holds comes
+    ]
