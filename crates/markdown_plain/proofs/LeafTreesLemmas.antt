@@ -62,7 +62,7 @@ closed_tree (l ∷ m ∷ n ∷ outer) inside a some =
     ap (λ ls. l ∷ ls) (closed_tree (m ∷ n ∷ outer) inside a (λ e. cc (e)))
 
 -- a block that is no tight list keeps what is in it
-settled_leaf : (a : Shown) (inside : Forest Shown) → is_tight_list a.item.body ≡ false → settled_below a inside ≡ inside
+pub settled_leaf : (a : Shown) (inside : Forest Shown) → is_tight_list a.item.body ≡ false → settled_below a inside ≡ inside
 settled_leaf a inside e = ap (λ b. cond b (items_changed tight_shown inside) inside) e
 
 -- a leaf that was opened, filled and closed is put into the innermost level
@@ -75,7 +75,7 @@ put_leaf levels items a some e =
     ∙ ap (λ f. with_trees levels (node a f nil)) (settled_leaf a (chain_of items) e))
 
 -- the innermost block is the last
-same_block : (blocks outer others : List OpenBlock) (a b : OpenBlock) → blocks ≡ outer ++ a ∷ []
+pub same_block : (blocks outer others : List OpenBlock) (a b : OpenBlock) → blocks ≡ outer ++ a ∷ []
     → blocks ≡ others ++ b ∷ [] → a ≡ b
 same_block blocks outer others a b e f =
     same_Some a b (sym (innermost_of_opened outer a) ∙ (ap innermost_block (sym e ∙ f) ∙ innermost_of_opened others b))

@@ -19,3 +19,6 @@ pub mod OpenedFramesLemmas
 -- on open containers that are closed
 pub mod TightBlocksLemmas
 pub mod ClosedFramesLemmas
+-- on leaves in open containers
+pub mod LeavesInPlaceLemmas
+pub mod LeafKindsLemmas

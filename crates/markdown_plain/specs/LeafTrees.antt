@@ -1,5 +1,5 @@
 -- What the calls for leaves make of the closed trees: items in an open leaf, and whole leaves.
-use Rattle.std.specs.Prelude.{◌≡◌, List, [], ◌∷◌, ◌++◌}
+use Rattle.std.specs.Prelude.{◌≡◌, ℕ, List, [], ◌∷◌, ◌++◌}
 use Rattle.markdown_base.specs.Forest.{Forest, nil}
 use Rattle.markdown_builder.specs.BuilderView.{BuilderView, with_items}
 use Rattle.markdown_builder.specs.Shown.{Shown}
@@ -12,6 +12,10 @@ HasItems old new items = new.levels ≡ with_items old.levels items
 -- a leaf was opened, and items were appended to it
 abbrev pub OpensWith : BuilderView → BuilderView → List Shown → Type 0
 OpensWith old new items = new.levels ≡ with_items (old.levels ++ nil ∷ []) items
+
+-- texts may follow those that there were
+abbrev pub HasMoreTexts : BuilderView → BuilderView → Type 0
+HasMoreTexts old new = (more : List (List ℕ)) × (new.texts ≡ old.texts ++ more)
 
 -- whole leaves were put into the innermost level
 abbrev pub HasTrees : BuilderView → BuilderView → Forest Shown → Type 0

@@ -22,6 +22,18 @@ use Rattle.markdown_plain.specs.Settled.{IsBuilt, placed_end}
 abbrev pub leaf_block : Block → Forest Block
 leaf_block b = node b nil nil
 
+-- a block of this kind is no container, and defines nothing
+abbrev pub is_leaf : Kind → Bool
+is_leaf was.blank_line = false
+is_leaf (was.paragraph_leaf lines) = false
+is_leaf (was.underlined_leaf level lines) = false
+is_leaf was.quote_container = false
+is_leaf (was.alert_container kind) = false
+is_leaf (was.list_container marker) = false
+is_leaf (was.item_container indent) = false
+is_leaf (was.footnote_container label) = false
+is_leaf other = true
+
 -- a builder has made these blocks, and is where the last of them ends
 pub record IsPlaced (s : Source) (view : BuilderView) (frames : List Frame) (inside : Forest Block) : Type 0 where
   pub built : IsBuilt s view frames inside
@@ -29,7 +41,7 @@ pub record IsPlaced (s : Source) (view : BuilderView) (frames : List Frame) (ins
 
 -- A block that is no container is open in the innermost container, after these blocks: if it is closed here, it is this
 -- one. It is a leaf of the builder, or a table.
-pub record IsOpenIn (s : Source) (view : BuilderView) (frames : List Frame) (inside : Forest Block) (leaf : Bool)
+pub record IsOpenIn (s : Source) (view : BuilderView) (frames : List Frame) (inside : Forest Block) (in_leaf : Bool)
     (b : Block) : Type 0 where
   pub outer : List OpenBlock
   pub block : OpenBlock
@@ -37,7 +49,7 @@ pub record IsOpenIn (s : Source) (view : BuilderView) (frames : List Frame) (ins
   pub below : Forest Shown
   pub around : IsBuilt s (record view { blocks = outer; leaf = false; levels = levels }) frames inside
   pub blocks : view.blocks ≡ outer ++ block ∷ []
-  pub leaf : view.leaf ≡ leaf
+  pub leaf : view.leaf ≡ in_leaf
   pub trees : view.levels ≡ levels ++ below ∷ []
   pub shown : node (shown_item (parts_of view) (record { start = block.start; end = view.at; body = block.body })) below nil
       ≡ shown_blocks s (around_innermost in_no_item frames) (leaf_block b)

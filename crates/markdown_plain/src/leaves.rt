@@ -8,10 +8,13 @@ ghost use Rattle.markdown_lines.specs.LineBytes.{IsPartOf};
 ghost use Rattle.markdown_lines.specs.Lines.{IsNextContent};
 ghost use Rattle.markdown_lines.specs.MetadataBlocks.{closes_metadata};
 ghost use Rattle.markdown_plain.specs.declared.pass.LeafKind.TheVariants as leaf_kind;
-ghost use Rattle.markdown_base.specs.Forest.{nil};
+ghost use Rattle.markdown_base.specs.Forest.{Forest, nil};
 ghost use Rattle.markdown_builder.specs.BuilderView.{BuilderView};
 ghost use Rattle.markdown_builder.specs.Shown.{chain_of};
+ghost use Rattle.markdown_builder.specs.TreeLevels.{followed_by};
+ghost use Rattle.markdown_lines.specs.BlockBeginnings.{Source};
 ghost use Rattle.markdown_lines.specs.SourceLines.{SourceLine, cut};
+ghost use Rattle.markdown_block_rules.specs.BlockGrowth.{Block, break_leaf};
 ghost use Rattle.markdown_block_rules.specs.BlockRules.{shown_heading, shown_over};
 ghost use Rattle.markdown_items.specs.ContentItems.{content_items};
 ghost use Rattle.markdown_items.specs.LineItems.{item_extensions};
@@ -19,9 +22,12 @@ ghost use Rattle.markdown_block_rules.specs.LineContents.{source_line, source_li
 ghost use Rattle.markdown_plain.specs.CodeLines.{after_line, code_after, ends_html_at, held, is_closed_at, whole_of};
 ghost use Rattle.markdown_plain.specs.Fitting.{IfFitted, GoesOn, OpensFenced, OpensHeading, OpensHtml, closed, extended, opened};
 ghost use Rattle.markdown_plain.specs.Fitting.{BracesStand, OpensHeadingOf, PutsBlock, stepped};
+ghost use Rattle.markdown_plain.specs.Frames.{Frame};
 ghost use Rattle.markdown_plain.specs.HeldSources.{AreHeld, IsHeld, IsRest};
 ghost use Rattle.markdown_plain.specs.LeafTrees.{HasItems, HasTrees, OpensWith};
+ghost use Rattle.markdown_plain.specs.OpenLeaves.{IsPlaced, leaf_block};
 ghost use Rattle.markdown_plain.specs.Paragraphs.{source_of, IsPlacedTo};
+ghost use Rattle.markdown_plain.specs.Settled.{IsBuilt};
 
 use crate::pass::{LeafKind, Pass};
 use crate::placing::Placing;
@@ -135,6 +141,11 @@ impl<'a> Pass<'a> {
         ensures tree { IfOk result (λ _. IfFitted self.old.placing self.new.placing
             (HasTrees self.old.placing.builder self.new.placing.builder
             (shown_over self.old.placing.builder.at line.next body.Rule None nil))) }
+        ensures leaf { IfOk result (λ _. (s : Source) (frames : List Frame) (inside : Forest Block)
+            (b : Block) → IsBuilt s self.old.placing.builder frames inside → b.kind ≡ break_leaf
+            → b.start ≡ self.old.placing.builder.at → b.last ≡ line.next
+            → IfFitted self.old.placing self.new.placing
+            (IsPlaced s self.new.placing.builder frames (followed_by inside (leaf_block b)))) }
         ensures same { self.new ≡ record self.old { placing = self.new.placing } }
     {
         self.placing.add_rule(line.next)
