@@ -14,6 +14,7 @@ use Rattle.markdown_plain.specs.OpenedFrames.{around_innermost}
 use Rattle.markdown_plain.specs.OpenLeaves.{IsPlaced, is_leaf, leaf_block}
 use Rattle.markdown_plain.specs.Paragraphs.{IsPlacedTo}
 use Rattle.markdown_plain.specs.Settled.{IsBuilt}
+use Rattle.markdown_plain.proofs.LeafTreesLemmas.{no_text}
 use Rattle.markdown_plain.proofs.LeavesInPlaceLemmas.{shown_alone, whole_leaf}
 
 -- this is a leaf, by its kind
@@ -43,7 +44,7 @@ break_placed s old new frames inside b to built appends kind start last =
     }) appends)) in
     whole_leaf s old new frames inside b (kind_is_leaf b was.break_leaf kind refl) built
     (subst (IsPlacedTo old new) end placed)
-    ([], ap (λ (v : BuilderView). v.texts) appends ∙ sym (append-nil old.texts))
+    (no_text old new (ap (λ (v : BuilderView). v.texts) appends))
     (λ some. ap (λ (v : BuilderView). v.levels) appends ∙ (ap (λ n. rule n to) (sym start)
     ∙ (ap (rule b.start) (sym last)
     ∙ ap (with_trees old.levels)

@@ -94,12 +94,12 @@ pub whole_leaf : (s : Source) (old new : BuilderView) (frames : List Frame) (ins
     → HasTrees old new (shown_leaf s frames b) → IsPlaced s new frames (followed_by inside (leaf_block b))
 whole_leaf s old new frames inside b leaf built placed grown trees = record {
   built = appended_is_built s frames inside (leaf_block b) old new (record {
-    more = grown.0;
+    more = grown.more;
     text = ap (λ (v : BuilderView). v.text) placed;
     blocks = ap (λ (v : BuilderView). v.blocks) placed;
     outside = ap (λ (v : BuilderView). v.leaf) placed;
     levels = trees (some_level s old frames inside built);
-    texts = grown.1;
+    texts = grown.are;
     definitions = ap (λ (v : BuilderView). v.definitions) placed ∙ sym (ap (λ ds. old.definitions ++ ds)
         (nothing_defined s b leaf) ∙ append-nil old.definitions);
     footnotes = ap (λ (v : BuilderView). v.footnotes) placed ∙ sym (ap (λ ls. old.footnotes ++ ls)
@@ -138,8 +138,8 @@ opened_leaf s old new frames inside b leaf built opens = record {
   below = chain_of opens.items;
   around = record {
     text = ap (λ (v : BuilderView). v.text) opens.same ∙ built.text;
-    blocks = subst (λ texts. AreOpen texts old.blocks frames) (sym opens.texts.1)
-        (open_after old.texts opens.texts.0 old.blocks frames built.blocks);
+    blocks = subst (λ texts. AreOpen texts old.blocks frames) (sym opens.texts.are)
+        (open_after old.texts opens.texts.more old.blocks frames built.blocks);
     nested = built.nested;
     outside = refl;
     levels = built.levels;
@@ -207,8 +207,8 @@ filled_leaf s old new frames inside leaf b c is fills is_open =
     let around = is_open.around in
     let same = fills.goes_on in
     let text : text_shown new.texts block.body ≡ text_shown old.texts block.body =
-    ap (λ texts. text_shown texts block.body) fills.texts.1
-    ∙ text_stays old.texts fills.texts.0 block.body (ap has_its_text is_open.shown ∙ fills.named) in
+    ap (λ texts. text_shown texts block.body) fills.texts.are
+    ∙ text_stays old.texts fills.texts.more block.body (ap has_its_text is_open.shown ∙ fills.named) in
     record {
       outer = is_open.outer;
       block = block;
@@ -216,8 +216,8 @@ filled_leaf s old new frames inside leaf b c is fills is_open =
       below = followed_by is_open.below (chain_of fills.items);
       around = record {
         text = ap (λ (v : BuilderView). v.text) same ∙ around.text;
-        blocks = subst (λ texts. AreOpen texts is_open.outer frames) (sym fills.texts.1)
-            (open_after old.texts fills.texts.0 is_open.outer frames around.blocks);
+        blocks = subst (λ texts. AreOpen texts is_open.outer frames) (sym fills.texts.are)
+            (open_after old.texts fills.texts.more is_open.outer frames around.blocks);
         nested = around.nested;
         outside = refl;
         levels = around.levels;

@@ -24,7 +24,7 @@ ghost use Rattle.markdown_plain.specs.Fitting.{IfFitted, GoesOn, OpensFenced, Op
 ghost use Rattle.markdown_plain.specs.Fitting.{BracesStand, OpensHeadingOf, PutsBlock, stepped};
 ghost use Rattle.markdown_plain.specs.Frames.{Frame};
 ghost use Rattle.markdown_plain.specs.HeldSources.{AreHeld, IsHeld, IsRest};
-ghost use Rattle.markdown_plain.specs.LeafTrees.{HasItems, HasTrees, OpensWith};
+ghost use Rattle.markdown_plain.specs.LeafTrees.{HasItems, HasMoreTexts, HasTrees, OpensWith};
 ghost use Rattle.markdown_plain.specs.OpenLeaves.{IsPlaced, leaf_block};
 ghost use Rattle.markdown_plain.specs.Paragraphs.{source_of, IsPlacedTo};
 ghost use Rattle.markdown_plain.specs.Settled.{IsBuilt};
@@ -53,6 +53,8 @@ fn add_code(placing: &mut Placing<'_>, line: HeldLine) -> Result<(), AllocError>
     ensures text { IfOk result (λ _. placing.new.builder.text ≡ placing.old.builder.text) }
     ensures goes_on { IfOk result (λ _. IfFitted placing.old placing.new
         (GoesOn placing.old.builder placing.new.builder (after_line line.start line.next))) }
+    ensures texts { IfOk result (λ _. IfFitted placing.old placing.new
+        (HasMoreTexts placing.old.builder placing.new.builder)) }
     ensures items { IfOk result (λ _. (source : SourceLine) → IsHeld line source
         → IfFitted placing.old placing.new (HasItems placing.old.builder placing.new.builder
         (source_line (body.Text false) source))) }
@@ -73,6 +75,8 @@ fn add_codes(placing: &mut Placing<'_>, lines: &[HeldLine]) -> Result<(), AllocE
     ensures text { IfOk result (λ _. placing.new.builder.text ≡ placing.old.builder.text) }
     ensures goes_on { IfOk result (λ _. IfFitted placing.old placing.new
         (GoesOn placing.old.builder placing.new.builder placing.new.builder.at)) }
+    ensures texts { IfOk result (λ _. IfFitted placing.old placing.new
+        (HasMoreTexts placing.old.builder placing.new.builder)) }
     ensures items { IfOk result (λ _. (sources : List SourceLine) → AreHeld lines.now sources
         → IfFitted placing.old placing.new (HasItems placing.old.builder placing.new.builder
         (source_lines (body.Text false) sources))) }
@@ -400,6 +404,8 @@ impl<'a> Pass<'a> {
         ensures goes_on { IfOk result (λ _. IfFitted self.old.placing self.new.placing
             (GoesOn self.old.placing.builder self.new.placing.builder
             (after_line position.at line.next))) }
+        ensures texts { IfOk result (λ _. IfFitted self.old.placing self.new.placing
+            (HasMoreTexts self.old.placing.builder self.new.placing.builder)) }
         ensures items { IfOk result (λ _. (source : SourceLine)
             → IsRest self.old.placing.builder.text position line source
             → IfFitted self.old.placing self.new.placing
