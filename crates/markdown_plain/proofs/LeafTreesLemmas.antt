@@ -119,7 +119,7 @@ put_begun old opened filled begun new from items opens blocks levels begins kept
 -- ---- headings
 
 -- the last of some, by their number
-get_last : {A : Type 0} (xs : List A) (x : A) → slice_get (xs ++ x ∷ []) (length xs) ≡ Some x
+pub get_last : {A : Type 0} (xs : List A) (x : A) → slice_get (xs ++ x ∷ []) (length xs) ≡ Some x
 get_last [] x = refl
 get_last (y ∷ xs) x = get_last xs x
 
@@ -195,7 +195,7 @@ owed_is (suc (suc (suc zero))) some few = refl
 owed_is (suc (suc (suc (suc n)))) some few = absurd (omega (arith, few))
 
 -- what holds of either value of a test
-on_test : {A : Type 0} (P : A → Type 0) (test : Bool) (x y : A) → (test ≡ true → P x) → (test ≡ false → P y)
+pub on_test : {A : Type 0} (P : A → Type 0) (test : Bool) (x y : A) → (test ≡ true → P x) → (test ≡ false → P y)
     → P (if test then x else y)
 on_test P true x y first second = first refl
 on_test P false x y first second = second refl

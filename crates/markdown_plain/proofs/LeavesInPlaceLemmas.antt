@@ -154,13 +154,13 @@ opened_leaf s old new frames inside b leaf built opens = record {
 }
 
 -- a body refers to a text
-abbrev names_text : ItemBody → Bool
+abbrev pub names_text : ItemBody → Bool
 names_text (body.SynthesizeText ix) = true
 names_text (body.FencedCodeBlock ix) = true
 names_text (body.FootnoteDefinition ix) = true
 names_text other = false
 
-abbrev is_some : {A : Type 0} → Option A → Bool
+abbrev pub is_some : {A : Type 0} → Option A → Bool
 is_some None = false
 is_some (Some a) = true
 
