@@ -36,3 +36,5 @@ pub mod BlanksKnownLemmas
 pub mod ParagraphsInPlaceLemmas
 pub mod ClosedLeavesLemmas
 pub mod AddedLinesLemmas
+pub mod LeavesInPlaceLemmas
+pub mod LeafKindsLemmas

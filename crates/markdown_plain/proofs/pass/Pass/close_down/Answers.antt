@@ -136,7 +136,7 @@ pub returns-clause-finishes : goal.returns-clause-finishes
 returns-clause-finishes c = λ s frames inside b held may more fitted.
     let texts = c.blocks-2.invariant.texts fitted in
     let placed = c.in_ok-end_leaf.ensures.frame s frames inside b held may.unended may.options
-    (more.0, sym texts.1 ∙ more.1) texts.0 in (
+    (record { more = more.more; are = sym texts.1 ∙ more.are }) texts.0 in (
       placed.0,
       closed_from c s frames (followed_by inside (leaf_block b))
           (ended_may_close s c.args.self.now c.end_leaf.new.self frames inside b held may

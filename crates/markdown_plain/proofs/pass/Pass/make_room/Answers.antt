@@ -70,7 +70,7 @@ pub returns-clause-finishes : goal.returns-clause-finishes
 returns-clause-finishes c = λ s frames inside b held few may more fitted.
     let made = made_room c s frames (followed_by inside (leaf_block b)) few
     (c.in_ok-close_down.ensures.finishes s frames inside b held may
-    (more.0, sym (texts_stay c fitted) ∙ more.1)) fitted in
+    (record { more = more.more; are = sym (texts_stay c fitted) ∙ more.are })) fitted in
     (made.0, stands_on s c.if-is_in_list.self _ _ _ refl refl made.1)
 
 -- what is remembered before the block is added is that of the containers which it may begin in
