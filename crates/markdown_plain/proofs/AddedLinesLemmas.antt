@@ -130,9 +130,11 @@ item_is_marked texts line b kind block start is opened some = by_kind kind is op
   where
     nowhere : false ≡ (line.next == 0)
     nowhere = grind (arith, nat_tests, some)
+
     no_item : (bd : ItemBody) → own.is_item bd ≡ false → block.body ≡ bd → is_item_in block line ≡ (line.next == 0)
     no_item bd other e = ap (λ x. own.is_item x && nat_le line.start block.start) e
         ∙ (ap (λ x. x && nat_le line.start block.start) other ∙ nowhere)
+
     by_kind : (kind : Kind) → IsBodyOf texts kind block.body → (is_item kind ≡ true → IsOpenedIn line b)
         → is_item_in block line ≡ (line.next == (around_in b kind).marked)
     by_kind was.quote_container is opened = no_item _ refl is

@@ -27,7 +27,6 @@ use Rattle.markdown_plain.specs.Settled.{IsBuilt, levels_shown, placed_end}
 use Rattle.markdown_plain.proofs.AppendedBlocksLemmas.{appended_is_built, end_appended}
 use Rattle.markdown_plain.proofs.LeafTreesLemmas.{closed_tree, same_block, settled_leaf}
 use Rattle.markdown_plain.proofs.OpenBlocksLemmas.{outer_of_these}
-
 use Rattle.markdown_lines.specs.SourceLines.{SourceLine}
 use Rattle.markdown_plain.specs.declared.pass.Pass.{Pass}
 use Rattle.markdown_plain.specs.Closing.{MayClose, MayEnd}

@@ -240,6 +240,6 @@ left_over sources rest taken count many is =
 
 pub nothing_left : (rest : List SourceLine) (left : Bool) → left ≡ false → left ≡ not (length rest == 0) → rest ≡ []
 nothing_left [] left none is = refl
-nothing_left (l ∷ rest) left none is = 
+nothing_left (l ∷ rest) left none is =
     let some : (length (l ∷ rest) == 0) ≡ false = grind (arith, nat_tests) in
     absurd (true≢false (sym (ap not some) ∙ (sym is ∙ none)))

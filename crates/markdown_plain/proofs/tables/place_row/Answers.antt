@@ -27,7 +27,7 @@ cells-preserved c = record {
   all = elim c.match-next_cell.branch [
     | in-Some+in_ok-place_cell-in-Some w ↦
         let more : length (cells_left c.text-text.result.now c.cells.start c.args.line.stop)
-            ≡ length (cells_left c.text-text.result.now (w.in-Some.cell.end + 1) c.args.line.stop) + 1 =
+        ≡ length (cells_left c.text-text.result.now (w.in-Some.cell.end + 1) c.args.line.stop) + 1 =
         ap length w.in-Some.ensures.value ∙ omega arith in
         let same = none_lacking c.cells.found c.cells.count _ _ c.cells.invariant.few c.cells.invariant.lacking more in
         rw (w.found-is, w.start-is) (omega (arith, c.cells.invariant.all, more, same))

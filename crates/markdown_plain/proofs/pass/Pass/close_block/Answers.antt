@@ -53,6 +53,7 @@ returns-in_default-clause-forgets c = λ s frames f inside may fitted.
         placed = refl;
       }),
     )
+
 -- A list takes its flag with it, and nothing else is remembered of a container that is closed.
 
 pub returns-in-Some-List-clause-loose : goal.returns-in-Some-List-clause-loose
