@@ -21,4 +21,5 @@ pub mod TightBlocksLemmas
 pub mod ClosedFramesLemmas
 -- on leaves in open containers
 pub mod LeavesInPlaceLemmas
+pub mod LinedLeavesLemmas
 pub mod LeafKindsLemmas
