@@ -37,4 +37,5 @@ pub mod ParagraphsInPlaceLemmas
 pub mod ClosedLeavesLemmas
 pub mod AddedLinesLemmas
 pub mod LeavesInPlaceLemmas
+pub mod LinedLeavesLemmas
 pub mod LeafKindsLemmas
