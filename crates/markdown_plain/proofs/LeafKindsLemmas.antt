@@ -74,7 +74,8 @@ pub fenced_lined : (s : Source) (opening : OpeningFence) (ended : Bool) (lines :
 fenced_lined s opening ended lines =
     record { leaf = refl; named = refl; end = λ b. refl; shown = λ around b. refl }
 
-pub closes_alike : (s : Source) (text : List ℕ) (position : Position) (line : Line) (source : SourceLine) (fence : Fence)
+pub closes_alike : (s : Source) (text : List ℕ) (position : Position) (line : Line) (source : SourceLine)
+    (fence : Fence)
     → text ≡ s.text → IsLineRest text position line source
     → is_closed_at text position line fence ≡ closes s source fence
 closes_alike s text position line source fence same is =
@@ -189,7 +190,8 @@ metadata_opened s old new frames inside b kind at to built same start last opens
       same = opens ∙ sym (ap (opened_as old at to (body.MetadataBlock kind)) opens);
       levels = ap (λ (v : BuilderView). v.levels) opens ∙ sym (no_items (old.levels ++ nil ∷ []));
       texts = no_text old new (ap (λ (v : BuilderView). v.texts) opens);
-      shown = lined_shown s frames b kind_of (body.MetadataBlock kind) None (body.Text false) [] at to lined same start last;
+      shown = lined_shown s frames b kind_of (body.MetadataBlock kind) None (body.Text false) [] at to lined same
+          start last;
       end = ends_with_line b kind_of to same refl last;
     })
 

@@ -1,4 +1,5 @@
--- Blocks in the innermost open container: one that is put there whole, one that is open, and a paragraph whose lines are
+-- Blocks in the innermost open container: one that is put there whole, one that is open, and a paragraph whose lines
+-- are
 -- held back.
 use Rattle.std.specs.Prelude.{◌≡◌, ℕ, ◌<◌, ◌≤◌, ◌==◌, nat_le, Bool, true, false, List, [], ◌∷◌, ◌++◌, Option, Some}
 use Rattle.std.specs.Prelude.{None, length, if◌then◌else◌}
@@ -71,7 +72,8 @@ pub record IsOpenIn (s : Source) (view : BuilderView) (frames : List Frame) (ins
   pub blocks : view.blocks ≡ outer ++ block ∷ []
   pub leaf : view.leaf ≡ in_leaf
   pub trees : view.levels ≡ levels ++ below ∷ []
-  pub shown : node (shown_item (parts_of view) (record { start = block.start; end = view.at; body = block.body })) below nil
+  pub shown : node (shown_item (parts_of view) (record { start = block.start; end = view.at; body = block.body }))
+      below nil
       ≡ shown_blocks s (around_innermost in_no_item frames) (leaf_block b)
   pub end : view.at ≡ placed_end 0 frames (followed_by inside (leaf_block b))
 

@@ -65,7 +65,8 @@ blocks-2-preserved c =
       forgets = λ s frames inside may fitted.
           let stands = before.forgets s frames inside may (fits fitted) in (
             stands.0,
-            (one_less s c.blocks-2.self c.close_block.new.self frames inside _ _ refl (one_less_open c fitted).1 stands.1
+            (one_less s c.blocks-2.self c.close_block.new.self frames inside _ _ refl (one_less_open c fitted).1
+                stands.1
                 (c.close_block.ensures.forgets s) fitted).1,
           );
       loose = λ texts frames inside these nested loose fitted.

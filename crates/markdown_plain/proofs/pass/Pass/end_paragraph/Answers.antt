@@ -1,5 +1,6 @@
 -- What is left after the definitions is placed, and where nothing is left, no tree is added.
-use Rattle.std.proofs.Common.{◌≡◌, ◌∙◌, ◌<◌, ◌≤◌, [], true, false, ap, sym, subst, rules, arith, drop, length, List, None}
+use Rattle.std.proofs.Common.{◌≡◌, ◌∙◌, ◌<◌, ◌≤◌, [], true, false, ap, sym, subst, rules, arith, drop, length, List}
+use Rattle.std.proofs.Common.{None}
 use Rattle.std.specs.Prelude.{nat_lt, ◌==◌, if◌then◌else◌}
 use Rattle.std.proofs.lemmas.Bool.Decides.{nat_tests}
 use Rattle.markdown_builder.specs.BuilderView.{BuilderView}
@@ -124,7 +125,8 @@ placed c outside some fitted =
           let new = (w.in_ok-place_paragraph.ensures.placed less
           (subst (λ (p : Pass). AllFitted p.placing) w.self-is fitted)).1 in
           let built = ap (λ (p : Pass). p.placing.builder) w.self-is in (
-            subst (KeepsDefined defined) (sym built) (placed_keeps defined w.place_paragraph.new.self.placing.builder _ new),
+            subst (KeepsDefined defined) (sym built)
+                (placed_keeps defined w.place_paragraph.new.self.placing.builder _ new),
             ap (λ (v : BuilderView). v.at) built
                 ∙ (ap (λ (v : BuilderView). v.at) new ∙ sym (ap (λ b. ended_at pass b c.args.heading) is)),
           )
