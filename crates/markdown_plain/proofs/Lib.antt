@@ -21,6 +21,7 @@ pub mod TightBlocksLemmas
 pub mod ClosedFramesLemmas
 pub mod ItemsInListsLemmas
 -- on leaves in the innermost open container
+pub mod MoreTextsLemmas
 pub mod ParagraphsInPlaceLemmas
 pub mod ClosedLeavesLemmas
 pub mod AddedLinesLemmas

@@ -53,10 +53,7 @@ blocks-2-preserved c =
       least = λ fitted.
           let closed = one_closed c fitted in
           ((before.least (fits fitted)).0, λ few. absurd (omega (arith, closed.0, closed.1, few)));
-      texts = λ fitted.
-          let done = c.close_block.ensures.closes fitted in
-          let kept = before.texts done.0 in
-          (kept.0, ap (λ (b : BuilderView). b.texts) done.1 ∙ kept.1);
+      fitted = λ fitted. before.fitted (fits fitted);
       forgets = λ s frames inside may fitted.
           let stands = before.forgets s frames inside may (fits fitted) in (
             stands.0,
@@ -76,7 +73,7 @@ blocks-2-init c = record {
   same = search rules;
   looseness = search rules;
   least = search rules;
-  texts = λ fitted. (fitted, refl);
+  fitted = λ fitted. fitted;
   forgets = λ s frames inside may fitted. (
     fitted,
     all_kept s c.end_leaf.new.self frames inside _ (open_containers s c.end_leaf.new.self frames inside may) may,
@@ -105,10 +102,9 @@ returns-clause-forgets c = λ s frames inside none may fitted.
     )
 
 pub returns-clause-finishes : goal.returns-clause-finishes
-returns-clause-finishes c = λ s frames inside b held may more fitted.
-    let texts = c.blocks-2.invariant.texts fitted in
+returns-clause-finishes c = λ s frames inside b held may fitted.
     let placed = c.in_ok-end_leaf.ensures.frame s frames inside b held may.unended may.options
-    (more.0, sym texts.1 ∙ more.1) texts.0 in (
+    (c.blocks-2.invariant.fitted fitted) in (
       placed.0,
       closed_from c s frames (followed_by inside (leaf_block b))
           (ended_may_close s c.args.self.now c.end_leaf.new.self frames inside b held may

@@ -44,26 +44,13 @@ room_made c s frames inside few closed fits =
           )
     ]
 
--- to close it changes no text that blocks and items refer to
-texts_stay : (c : goal.After-add_block) → AllFitted c.if-is_in_list.self.placing
-    → c.if-is_in_list.self.placing.builder.texts ≡ c.close_down.new.self.placing.builder.texts
-texts_stay c fits =
-    elim c.if-is_in_list.branch [
-      | then-is_in_list w ↦
-          ap (λ (p : Pass). p.placing.builder.texts) w.self-is
-          ∙ ap (λ (v : BuilderView). v.texts)
-          (w.close_block.ensures.closes (subst (λ (p : Pass). AllFitted p.placing) w.self-is fits)).1
-      | else-is_in_list w ↦ ap (λ (p : Pass). p.placing.builder.texts) w.self-is
-    ]
-
 pub returns-clause-forgets : goal.returns-clause-forgets
 returns-clause-forgets c = λ s frames inside none few may fitted.
     let made = room_made c s frames inside few (c.in_ok-close_down.ensures.forgets s frames inside none may) fitted in
     (made.0, stands_on s c.if-is_in_list.self _ _ _ refl refl made.1)
 
 pub returns-clause-finishes : goal.returns-clause-finishes
-returns-clause-finishes c = λ s frames inside b held few may more fitted.
+returns-clause-finishes c = λ s frames inside b held few may fitted.
     let made = room_made c s frames (followed_by inside (leaf_block b)) few
-    (c.in_ok-close_down.ensures.finishes s frames inside b held may
-    (more.0, sym (texts_stay c fitted) ∙ more.1)) fitted in
+    (c.in_ok-close_down.ensures.finishes s frames inside b held may) fitted in
     (made.0, stands_on s c.if-is_in_list.self _ _ _ refl refl made.1)
