@@ -1,7 +1,7 @@
 -- Blocks in the innermost open container: one that is put there whole, one that is open, and a paragraph whose lines are
 -- held back.
-use Rattle.std.specs.Prelude.{◌≡◌, ℕ, ◌<◌, ◌≤◌, ◌==◌, nat_le, Bool, true, false, List, [], ◌∷◌, ◌++◌, Option, Some, None, length}
-use Rattle.std.specs.Prelude.{if◌then◌else◌}
+use Rattle.std.specs.Prelude.{◌≡◌, ℕ, ◌<◌, ◌≤◌, Bool, true, false, List, [], ◌∷◌, ◌++◌, Option, Some, None, length}
+use Rattle.std.specs.Prelude.{◌==◌, nat_le, if◌then◌else◌}
 use Rattle.markdown_base.specs.Forest.{Forest, nil, node}
 use Rattle.markdown_base.specs.declared.tag.HeadingLevel.{HeadingLevel}
 use Rattle.markdown_builder.specs.declared.open_block.OpenBlock.{OpenBlock}
@@ -56,7 +56,8 @@ pub record IsOpenIn (s : Source) (view : BuilderView) (frames : List Frame) (ins
   pub blocks : view.blocks ≡ outer ++ block ∷ []
   pub leaf : view.leaf ≡ in_leaf
   pub trees : view.levels ≡ levels ++ below ∷ []
-  pub shown : node (shown_item (parts_of view) (record { start = block.start; end = view.at; body = block.body })) below nil
+  pub shown : node (shown_item (parts_of view) (record { start = block.start; end = view.at; body = block.body }))
+      below nil
       ≡ shown_blocks s (around_innermost in_no_item frames) (leaf_block b)
   pub end : view.at ≡ placed_end 0 frames (followed_by inside (leaf_block b))
 

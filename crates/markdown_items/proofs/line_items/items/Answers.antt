@@ -1,5 +1,6 @@
 -- What is made of the line so far, with what is still to be read of it, is all of it.
-use Rattle.std.proofs.Common.{rules, ◌≡◌, ℕ, ◌≤◌, List, [], append-nil, true, refl, sym, ap, ◌∙◌, subst, arith, slice_index}
+use Rattle.std.proofs.Common.{rules, ◌≡◌, ℕ, ◌≤◌, List, [], true, refl, sym, ap, ◌∙◌, subst, append-nil, arith}
+use Rattle.std.proofs.Common.{slice_index}
 use Rattle.std.proofs.lemmas.Bool.Decides.{nat_tests}
 use Rattle.markdown_base.specs.Forest.{Forest}
 use Rattle.markdown_builder.specs.BuilderView.{BuilderView, with_items}

@@ -1,5 +1,6 @@
 -- What is left after the definitions is placed, and where nothing is left, no tree is added.
-use Rattle.std.proofs.Common.{◌≡◌, ◌∙◌, ◌<◌, ◌≤◌, [], true, false, ap, sym, subst, rules, arith, drop, length, List, None}
+use Rattle.std.proofs.Common.{◌≡◌, ◌∙◌, ◌<◌, ◌≤◌, [], ap, sym, subst, rules, arith, drop, length, List, None}
+use Rattle.std.proofs.Common.{true, false}
 use Rattle.std.specs.Prelude.{nat_lt, ◌==◌, if◌then◌else◌}
 use Rattle.std.proofs.lemmas.Bool.Decides.{nat_tests}
 use Rattle.markdown_builder.specs.BuilderView.{BuilderView}
@@ -125,7 +126,8 @@ placed c outside some fitted =
           let new = (w.in_ok-place_paragraph.ensures.placed less
           (subst (λ (p : Pass). AllFitted p.placing) w.self-is fitted)).1 in
           let built = ap (λ (p : Pass). p.placing.builder) w.self-is in (
-            subst (KeepsDefined defined) (sym built) (placed_keeps defined w.place_paragraph.new.self.placing.builder _ new),
+            subst (KeepsDefined defined) (sym built)
+                (placed_keeps defined w.place_paragraph.new.self.placing.builder _ new),
             ap (λ (v : BuilderView). v.at) built
                 ∙ (ap (λ (v : BuilderView). v.at) new ∙ sym (ap (λ b. ended_at pass b c.args.heading) is)),
           )
@@ -153,7 +155,8 @@ texts_after c fitted =
     let before = c.args.self.now.placing.builder in
     elim c.if-left.branch [
       | then-left+in_ok-place_paragraph w ↦
-          let placed = w.in_ok-place_paragraph.ensures.texts (subst (λ (p : Pass). AllFitted p.placing) w.self-is fitted) in
+          let placed = w.in_ok-place_paragraph.ensures.texts
+          (subst (λ (p : Pass). AllFitted p.placing) w.self-is fitted) in
           let steps = c.in_ok-taken.ensures.steps placed.0 in
           subst (λ (p : Pass). HasMoreTexts before p.placing.builder) (sym w.self-is)
           (more_after _ _ _ (same_texts (ap (λ (v : BuilderView). v.texts) steps.1)) placed.1)

@@ -1,7 +1,6 @@
 -- The blocks are the same, with a list forgotten that is in the way.
-use Rattle.std.proofs.Common.{◌≡◌, ◌∙◌, ◌≤◌, List, ap, length, refl, sym, subst, take, drop}
+use Rattle.std.proofs.Common.{◌∙◌, ◌≤◌, List, length, refl, sym, subst, take, drop}
 use Rattle.markdown_base.specs.Forest.{Forest}
-use Rattle.markdown_builder.specs.BuilderView.{BuilderView}
 use Rattle.markdown_builder.specs.TreeLevels.{followed_by}
 use Rattle.markdown_lines.specs.BlockBeginnings.{Source}
 use Rattle.markdown_block_rules.specs.BlockGrowth.{Block}

@@ -189,7 +189,8 @@ returns-clause-texts c = λ fitted.
     let filled = c.in_ok-add_lines.ensures.texts over.0 in
     let opens = c.in_ok-open_text.ensures.opens filled.0 in
     let begun = begun_texts c opens.0 in
-    let same = opens_no_text c.match-get.self.placing.builder c.open_text.new.placing.builder c.args.heading opens.1 in (
+    let same = opens_no_text c.match-get.self.placing.builder c.open_text.new.placing.builder c.args.heading
+    opens.1 in (
       begun.0,
       more_after _ _ _ (more_after _ _ _ (same_texts (same ∙ begun.1)) filled.1)
           (same_texts (ap (λ (v : BuilderView). v.texts) closed.1 ∙ over.1)),
