@@ -37,7 +37,7 @@ use Rattle.markdown_block_rules.specs.BlockRules.{shown_heading, shown_over}
 use Rattle.markdown_block_rules.specs.LineContents.{source_line, source_lines}
 use Rattle.markdown_plain.specs.declared.placing.Placing.{Placing}
 use Rattle.markdown_plain.specs.Fitting.{AllFitted, BeginsAtContent, IfFitted, OpensHeadingOf, PutsBlock, stepped}
-use Rattle.markdown_plain.specs.LeafTrees.{HasTrees}
+use Rattle.markdown_plain.specs.LeafTrees.{HasMoreTexts, HasTrees}
 use Rattle.markdown_plain.specs.OpenBlocks.{outer_of}
 use Rattle.markdown_plain.proofs.OpenBlocksLemmas.{innermost_of_opened}
 use Rattle.markdown_plain.specs.CodeLines.{owed_spaces}
@@ -196,7 +196,7 @@ owed_is (suc (suc (suc zero))) some few = refl
 owed_is (suc (suc (suc (suc n)))) some few = absurd (omega (arith, few))
 
 -- what holds of either value of a test
-on_test : {A : Type 0} (P : A → Type 0) (test : Bool) (x y : A) → (test ≡ true → P x) → (test ≡ false → P y)
+pub on_test : {A : Type 0} (P : A → Type 0) (test : Bool) (x y : A) → (test ≡ true → P x) → (test ≡ false → P y)
     → P (if test then x else y)
 on_test P true x y first second = first refl
 on_test P false x y first second = second refl
@@ -280,6 +280,40 @@ owed_added old here new start (suc owed) step some none fitted =
             ∙ (ap (λ ls. with_items ls (synthesized_item here.builder.at here.builder.at (owed_spaces (suc owed)) ∷ []))
             (ap (λ (b : BuilderView). b.levels) done.1)
             ∙ ap (λ n. with_items old.builder.levels (synthesized_item n n (owed_spaces (suc owed)) ∷ [])) at);
+      },
+    )
+
+-- texts after more texts
+pub texts_after : (old now new : BuilderView) → HasMoreTexts old now → HasMoreTexts now new → HasMoreTexts old new
+texts_after old now new first second = record {
+  more = first.more ++ second.more;
+  are = second.are ∙ (ap (λ ts. ts ++ second.more) first.are ∙ append_assoc old.texts first.more second.more);
+}
+
+-- no text was added
+pub no_text : (old new : BuilderView) → new.texts ≡ old.texts → HasMoreTexts old new
+no_text old new same = record { more = []; are = same ∙ sym (append-nil old.texts) }
+
+-- the text that a tab owes follows the others
+pub owed_text : (old here new : Placing) (start owed : ℕ)
+    → IfFitted old here (here.builder ≡ stepped old.builder start)
+    → (0 < owed → IfFitted here new (AppendsText here.builder new.builder here.builder.at (owed_spaces owed)))
+    → (owed ≡ 0 → new ≡ here) → IfFitted old new (HasMoreTexts old.builder new.builder)
+owed_text old here new start zero step some none fitted =
+    let same = none refl in
+    let done = step (subst (λ (p : Placing). AllFitted p) same fitted) in (
+      done.0,
+      no_text old.builder new.builder (ap (λ (p : Placing). p.builder.texts) same
+          ∙ ap (λ (b : BuilderView). b.texts) done.1),
+    )
+owed_text old here new start (suc owed) step some none fitted =
+    let more = some (omega arith) fitted in
+    let done = step more.0 in (
+      done.0,
+      record {
+        more = owed_spaces (suc owed) ∷ [];
+        are = ap (λ (b : BuilderView). b.texts) more.1
+            ∙ ap (λ (b : BuilderView). b.texts ++ owed_spaces (suc owed) ∷ []) done.1;
       },
     )
 

@@ -20,8 +20,10 @@ pub mod OpenedFramesLemmas
 pub mod TightBlocksLemmas
 pub mod ClosedFramesLemmas
 pub mod ItemsInListsLemmas
--- on leaves in the innermost open container
+-- on leaves in open containers
 pub mod MoreTextsLemmas
+pub mod LeavesInPlaceLemmas
+pub mod LeafKindsLemmas
 pub mod ParagraphsInPlaceLemmas
-pub mod ClosedLeavesLemmas
+pub mod EndedLeavesLemmas
 pub mod AddedLinesLemmas

@@ -6,19 +6,17 @@ use Rattle.markdown_base.specs.declared.tag.HeadingLevel.{HeadingLevel}
 use Rattle.markdown_builder.specs.BuilderView.{BuilderView, Opens}
 use Rattle.markdown_lines.specs.declared.line.Line.{Line}
 use Rattle.markdown_plain.specs.Fitting.{OpensHeading}
+use Rattle.markdown_plain.specs.LeafTrees.{HasMoreTexts}
 
--- the latter texts are the former, and perhaps others after them
-abbrev pub AreMore : List (List ℕ) → List (List ℕ) → Type 0
-AreMore old new = (more : List (List ℕ)) × (new ≡ old ++ more)
+pub same_texts : (old new : BuilderView) → new.texts ≡ old.texts → HasMoreTexts old new
+same_texts old new same = record { more = []; are = same ∙ sym (append-nil old.texts) }
 
-pub same_texts : {old new : List (List ℕ)} → new ≡ old → AreMore old new
-same_texts {old} same = ([], same ∙ sym (append-nil old))
-
-pub more_after : (old view new : List (List ℕ)) → AreMore old view → AreMore view new → AreMore old new
-more_after old view new before after = (
-  before.0 ++ after.0,
-  after.1 ∙ (ap (λ texts. texts ++ after.0) before.1 ∙ append_assoc old before.0 after.0),
-)
+pub more_after : (old view new : BuilderView) → HasMoreTexts old view → HasMoreTexts view new → HasMoreTexts old new
+more_after old view new before after = record {
+  more = before.more ++ after.more;
+  are = after.are ∙ (ap (λ (texts : List (List ℕ)). texts ++ after.more) before.are
+      ∙ append_assoc old.texts before.more after.more);
+}
 
 -- to open a paragraph or a heading appends none
 pub opens_no_text : (old new : BuilderView) (heading : Option (HeadingLevel × Line))

@@ -166,13 +166,13 @@ text_is_placed : (s : Source) (sources : List SourceLine) (trees : Forest Shown)
     → IsPlaced s new frames (followed_by inside (leaf_block b))
 text_is_placed s sources trees old new frames inside b shown is at ends built = record {
   built = appended_is_built s frames inside (leaf_block b) old new (record {
-    more = ends.texts.0;
+    more = ends.texts.more;
     text = ends.text;
     blocks = ends.blocks;
     outside = ends.outside;
     levels = ends.shown (λ none. some_level s in_no_item frames inside (sym built.levels ∙ none))
         ∙ ap (with_trees old.levels) shown;
-    texts = ends.texts.1;
+    texts = ends.texts.are;
     definitions = ends.definitions ∙ ap (λ ds. old.definitions ++ ds) (sym (text_defines s b sources is.lines));
     footnotes = ends.footnotes ∙ (sym (append-nil old.footnotes)
         ∙ ap (λ ls. old.footnotes ++ ls) (sym (nothing_named b is.unnamed)));

@@ -14,8 +14,9 @@ abbrev pub OpensWith : BuilderView → BuilderView → List Shown → Type 0
 OpensWith old new items = new.levels ≡ with_items (old.levels ++ nil ∷ []) items
 
 -- texts may follow those that there were
-abbrev pub HasMoreTexts : BuilderView → BuilderView → Type 0
-HasMoreTexts old new = (more : List (List ℕ)) × (new.texts ≡ old.texts ++ more)
+pub record HasMoreTexts (old new : BuilderView) : Type 0 where
+  pub more : List (List ℕ)
+  pub are : new.texts ≡ old.texts ++ more
 
 -- whole leaves were put into the innermost level
 abbrev pub HasTrees : BuilderView → BuilderView → Forest Shown → Type 0

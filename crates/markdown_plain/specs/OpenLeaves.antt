@@ -2,6 +2,7 @@
 -- held back.
 use Rattle.std.specs.Prelude.{◌≡◌, ℕ, ◌<◌, ◌≤◌, Bool, true, false, List, [], ◌∷◌, ◌++◌, Option, Some, None, length}
 use Rattle.std.specs.Prelude.{◌==◌, nat_le, if◌then◌else◌}
+use Rattle.std.specs.Str.{IsCharBoundary}
 use Rattle.markdown_base.specs.Forest.{Forest, nil, node}
 use Rattle.markdown_base.specs.declared.tag.HeadingLevel.{HeadingLevel}
 use Rattle.markdown_builder.specs.declared.open_block.OpenBlock.{OpenBlock}
@@ -10,15 +11,17 @@ use Rattle.markdown_builder.specs.Shown.{Shown, shown_item}
 use Rattle.markdown_builder.specs.TreeLevels.{followed_by}
 use Rattle.markdown_lines.specs.BlockBeginnings.{Source}
 use Rattle.markdown_lines.specs.HeldLines.{IsHeldLine}
+use Rattle.markdown_lines.specs.SourceLines.{SourceLine, stop_of}
+use Rattle.markdown_lines.specs.declared.fence.OpeningFence.{OpeningFence}
 use Rattle.markdown_lines.specs.declared.held_line.HeldLine.{HeldLine}
 use Rattle.markdown_lines.specs.declared.line.Line.{Line}
-use Rattle.markdown_lines.specs.SourceLines.{SourceLine}
+use Rattle.markdown_lines.specs.declared.position.Position.{Position}
 use Rattle.markdown_block_rules.specs.BlockGrowth as was
 use Rattle.markdown_block_rules.specs.BlockGrowth.{Block, Kind}
 use Rattle.markdown_block_rules.specs.BlockRules.{in_no_item, shown_blocks}
 use Rattle.markdown_plain.specs.declared.pass.Pass.{Pass}
 use Rattle.markdown_plain.specs.Frames.{Frame, is_item}
-use Rattle.markdown_plain.specs.HeldSources.{AreInParagraph, IsParagraph, IsTextLine}
+use Rattle.markdown_plain.specs.HeldSources.{AreInParagraph, IsParagraph, IsRest, IsTextLine}
 use Rattle.markdown_plain.specs.Paragraphs.{EndsFrom, first_task, lines_end}
 use Rattle.markdown_plain.specs.OpenedFrames.{around_innermost}
 use Rattle.markdown_plain.specs.Settled.{IsBuilt, placed_end}
@@ -38,6 +41,18 @@ is_leaf (was.list_container marker) = false
 is_leaf (was.item_container indent) = false
 is_leaf (was.footnote_container label) = false
 is_leaf other = true
+
+-- the rest of a line from a place on is this line of the definition, and ends where that does
+pub record IsLineRest (text : List ℕ) (position : Position) (line : Line) (source : SourceLine) : Type 0 where
+  pub rest : IsRest text position line source
+  pub stop : line.stop ≡ stop_of source
+  pub ends : line.stop ≤ line.next
+
+-- the info string after an opening fence is between characters
+pub record InfoStands (text : List ℕ) (opening : OpeningFence) : Type 0 where
+  pub ordered : opening.from ≤ opening.to
+  pub from : IsCharBoundary text opening.from
+  pub to : IsCharBoundary text opening.to
 
 -- a builder has made these blocks, and is where the last of them ends
 pub record IsPlaced (s : Source) (view : BuilderView) (frames : List Frame) (inside : Forest Block) : Type 0 where

@@ -8,10 +8,13 @@ ghost use Rattle.markdown_lines.specs.LineBytes.{IsPartOf};
 ghost use Rattle.markdown_lines.specs.Lines.{IsNextContent};
 ghost use Rattle.markdown_lines.specs.MetadataBlocks.{closes_metadata};
 ghost use Rattle.markdown_plain.specs.declared.pass.LeafKind.TheVariants as leaf_kind;
-ghost use Rattle.markdown_base.specs.Forest.{nil};
+ghost use Rattle.markdown_base.specs.Forest.{Forest, nil};
 ghost use Rattle.markdown_builder.specs.BuilderView.{BuilderView};
 ghost use Rattle.markdown_builder.specs.Shown.{chain_of};
+ghost use Rattle.markdown_builder.specs.TreeLevels.{followed_by};
+ghost use Rattle.markdown_lines.specs.BlockBeginnings.{Source};
 ghost use Rattle.markdown_lines.specs.SourceLines.{SourceLine, cut};
+ghost use Rattle.markdown_block_rules.specs.BlockGrowth.{Block, Kind, break_leaf, fenced_leaf, heading_leaf, leaf_with};
 ghost use Rattle.markdown_block_rules.specs.BlockRules.{shown_heading, shown_over};
 ghost use Rattle.markdown_items.specs.ContentItems.{content_items};
 ghost use Rattle.markdown_items.specs.LineItems.{item_extensions};
@@ -19,9 +22,12 @@ ghost use Rattle.markdown_block_rules.specs.LineContents.{source_line, source_li
 ghost use Rattle.markdown_plain.specs.CodeLines.{after_line, code_after, ends_html_at, held, is_closed_at, whole_of};
 ghost use Rattle.markdown_plain.specs.Fitting.{IfFitted, GoesOn, OpensFenced, OpensHeading, OpensHtml, closed, extended, opened};
 ghost use Rattle.markdown_plain.specs.Fitting.{BracesStand, OpensHeadingOf, PutsBlock, stepped};
+ghost use Rattle.markdown_plain.specs.Frames.{Frame};
 ghost use Rattle.markdown_plain.specs.HeldSources.{AreHeld, IsHeld, IsRest};
-ghost use Rattle.markdown_plain.specs.LeafTrees.{HasItems, HasTrees, OpensWith};
+ghost use Rattle.markdown_plain.specs.LeafTrees.{HasItems, HasMoreTexts, HasTrees, OpensWith};
+ghost use Rattle.markdown_plain.specs.OpenLeaves.{InfoStands, IsLeafIn, IsLineRest, IsPlaced, has_ended, leaf_block};
 ghost use Rattle.markdown_plain.specs.Paragraphs.{source_of, IsPlacedTo};
+ghost use Rattle.markdown_plain.specs.Settled.{IsBuilt};
 
 use crate::pass::{LeafKind, Pass};
 use crate::placing::Placing;
@@ -47,6 +53,8 @@ fn add_code(placing: &mut Placing<'_>, line: HeldLine) -> Result<(), AllocError>
     ensures text { IfOk result (λ _. placing.new.builder.text ≡ placing.old.builder.text) }
     ensures goes_on { IfOk result (λ _. IfFitted placing.old placing.new
         (GoesOn placing.old.builder placing.new.builder (after_line line.start line.next))) }
+    ensures texts { IfOk result (λ _. IfFitted placing.old placing.new
+        (HasMoreTexts placing.old.builder placing.new.builder)) }
     ensures items { IfOk result (λ _. (source : SourceLine) → IsHeld line source
         → IfFitted placing.old placing.new (HasItems placing.old.builder placing.new.builder
         (source_line (body.Text false) source))) }
@@ -67,6 +75,8 @@ fn add_codes(placing: &mut Placing<'_>, lines: &[HeldLine]) -> Result<(), AllocE
     ensures text { IfOk result (λ _. placing.new.builder.text ≡ placing.old.builder.text) }
     ensures goes_on { IfOk result (λ _. IfFitted placing.old placing.new
         (GoesOn placing.old.builder placing.new.builder placing.new.builder.at)) }
+    ensures texts { IfOk result (λ _. IfFitted placing.old placing.new
+        (HasMoreTexts placing.old.builder placing.new.builder)) }
     ensures items { IfOk result (λ _. (sources : List SourceLine) → AreHeld lines.now sources
         → IfFitted placing.old placing.new (HasItems placing.old.builder placing.new.builder
         (source_lines (body.Text false) sources))) }
@@ -135,6 +145,11 @@ impl<'a> Pass<'a> {
         ensures tree { IfOk result (λ _. IfFitted self.old.placing self.new.placing
             (HasTrees self.old.placing.builder self.new.placing.builder
             (shown_over self.old.placing.builder.at line.next body.Rule None nil))) }
+        ensures leaf { IfOk result (λ _. (s : Source) (frames : List Frame) (inside : Forest Block)
+            (b : Block) → IsBuilt s self.old.placing.builder frames inside → b.kind ≡ break_leaf
+            → b.start ≡ self.old.placing.builder.at → b.last ≡ line.next
+            → IfFitted self.old.placing self.new.placing
+            (IsPlaced s self.new.placing.builder frames (followed_by inside (leaf_block b)))) }
         ensures same { self.new ≡ record self.old { placing = self.new.placing } }
     {
         self.placing.add_rule(line.next)
@@ -154,6 +169,14 @@ impl<'a> Pass<'a> {
             heading.braces
             (chain_of (content_items self.old.placing.builder.text
             (item_extensions self.old.options) heading.from heading.to))))) }
+        ensures leaf { IfOk result (λ _. (s : Source) (frames : List Frame) (inside : Forest Block)
+            (b : Block) → IsBuilt s self.old.placing.builder frames inside
+            → s.options ≡ self.old.options → b.kind ≡ heading_leaf heading
+            → b.start ≡ self.old.placing.builder.at → b.last ≡ line.next
+            → BracesStand self.old.placing.builder.text heading.braces
+            → HasMoreTexts self.old.placing.builder self.new.placing.builder
+            → IfFitted self.old.placing self.new.placing
+            (IsPlaced s self.new.placing.builder frames (followed_by inside (leaf_block b)))) }
         ensures same { self.new ≡ record self.old { placing = self.new.placing } }
     {
         open_heading(self.alloc, &mut self.placing, heading.level, heading.braces)?;
@@ -178,6 +201,12 @@ impl<'a> Pass<'a> {
             × IfFitted self.old.placing self.new.placing
             (OpensFenced self.old.placing.builder self.new.placing.builder
             at line.next (unescaped (entity_names self.old.options) false info))) }
+        ensures leaf { IfOk result (λ _. (s : Source) (frames : List Frame) (inside : Forest Block)
+            (b : Block) → IsBuilt s self.old.placing.builder frames inside
+            → s.options ≡ self.old.options → InfoStands self.old.placing.builder.text opening
+            → b.kind ≡ fenced_leaf opening false [] → b.start ≡ at → b.last ≡ line.next
+            → IfFitted self.old.placing self.new.placing
+            (IsLeafIn s self.new.placing.builder frames inside b false)) }
         ensures kind { IfOk result (λ _. self.new.leaf ≡ leaf_kind.Fenced opening.fence) }
         ensures same { self.new
             ≡ record self.old { placing = self.new.placing; leaf = self.new.leaf } }
@@ -223,6 +252,14 @@ impl<'a> Pass<'a> {
             (after_line (code_after self.old.placing.builder.text position
             line fence.indent).scanned
             line.next))) }
+        ensures leaf { IfOk result (λ _. (s : Source) (frames : List Frame) (inside : Forest Block)
+            (b : Block) (opening : OpeningFence) (lines : List SourceLine) (source : SourceLine)
+            (kind : Kind) → IsLeafIn s self.old.placing.builder frames inside b false
+            → b.kind ≡ fenced_leaf opening false lines → opening.fence ≡ fence
+            → IsLineRest self.old.placing.builder.text position line source
+            → leaf_with s source b.kind ≡ Some kind → IfFitted self.old.placing self.new.placing
+            (IsLeafIn s self.new.placing.builder frames inside
+            (record b { last = source.next; kind = kind }) (has_ended kind))) }
         ensures same { self.new ≡ record self.old { placing = self.new.placing } }
     {
         let text = self.placing.text();
@@ -389,6 +426,8 @@ impl<'a> Pass<'a> {
         ensures goes_on { IfOk result (λ _. IfFitted self.old.placing self.new.placing
             (GoesOn self.old.placing.builder self.new.placing.builder
             (after_line position.at line.next))) }
+        ensures texts { IfOk result (λ _. IfFitted self.old.placing self.new.placing
+            (HasMoreTexts self.old.placing.builder self.new.placing.builder)) }
         ensures items { IfOk result (λ _. (source : SourceLine)
             → IsRest self.old.placing.builder.text position line source
             → IfFitted self.old.placing self.new.placing

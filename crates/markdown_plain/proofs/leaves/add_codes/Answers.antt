@@ -5,13 +5,14 @@ use Rattle.markdown_base.specs.declared.item.ItemBody.TheVariants as body
 use Rattle.markdown_block_rules.specs.LineContents.{source_lines}
 use Rattle.markdown_builder.specs.BuilderView.{with_items}
 use Rattle.markdown_items.proofs.RestOfLineLemmas.{no_items}
-use Rattle.markdown_plain.proofs.LeafTreesLemmas.{more_lines, takes_all}
+use Rattle.markdown_plain.proofs.LeafTreesLemmas.{more_lines, no_text, takes_all, texts_after}
 use Rattle.markdown_plain.proofs.leaves.add_codes.Goals as goal
 
 pub lines-init : goal.lines-init
 lines-init c = record {
   text = refl;
   goes_on = λ fitted. (fitted, refl);
+  texts = λ fitted. (fitted, no_text _ _ refl);
   items = λ sources are fitted. (fitted, sym (no_items c.args.placing.now.builder.levels));
 }
 
@@ -21,6 +22,10 @@ lines-preserved c =
     record {
       text = c.in_ok-add_code.ensures.text ∙ before.text;
       goes_on = search rules;
+      texts = λ fitted.
+          let more = c.in_ok-add_code.ensures.texts fitted in
+          let kept = before.texts more.0 in
+          (kept.0, texts_after _ c.lines.placing.builder _ kept.1 more.1);
       items = λ sources are fitted.
           let line = slice_get-get_or c.args.lines.now c.lines.line-index _ c.lines-test.true in
           let kept = before.items sources are (c.in_ok-add_code.ensures.goes_on fitted).0 in (

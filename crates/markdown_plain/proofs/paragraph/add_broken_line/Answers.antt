@@ -47,7 +47,7 @@ returns-clause-items c =
 pub returns-then-line-clause-texts : goal.returns-then-line-clause-texts
 returns-then-line-clause-texts c = λ fitted.
     let stepped = c.step_to.ensures.steps fitted in
-    (stepped.0, same_texts (ap (λ (b : BuilderView). b.texts) stepped.1))
+    (stepped.0, same_texts _ _ (ap (λ (b : BuilderView). b.texts) stepped.1))
 
 pub returns-clause-texts : goal.returns-clause-texts
 returns-clause-texts c =
@@ -56,6 +56,6 @@ returns-clause-texts c =
     let stepped = c.step_to-2.ensures.steps added.0 in
     let read = c.in_ok-add_items.ensures.texts stepped.0 in (
       read.0,
-      more_after _ _ _ read.1 (same_texts (ap (λ (b : BuilderView). b.texts) added.1
+      more_after _ _ _ read.1 (same_texts _ _ (ap (λ (b : BuilderView). b.texts) added.1
           ∙ ap (λ (b : BuilderView). b.texts) stepped.1)),
     )) c.add_inline.ensures.appends

@@ -6,7 +6,9 @@ use Rattle.markdown_builder.specs.Shown.{chain_of}
 use Rattle.markdown_builder.specs.TreeLevels.{with_trees}
 use Rattle.markdown_items.specs.ContentItems.{content_items}
 use Rattle.markdown_items.specs.LineItems.{item_extensions}
-use Rattle.markdown_plain.specs.Paragraphs.{source_of}
+use Rattle.markdown_plain.specs.Paragraphs.{IsPlacedTo, source_of}
+use Rattle.markdown_plain.proofs.LeafKindsLemmas.{heading_placed}
+use Rattle.markdown_plain.proofs.OpenBlocksLemmas.{outer_of_opened}
 use Rattle.markdown_plain.proofs.LeafTreesLemmas.{put_heading}
 use Rattle.markdown_plain.proofs.pass.Pass.add_heading.Goals as goal
 
@@ -42,4 +44,14 @@ returns-clause-tree c = λ stand fitted.
           c.args.heading.braces items refl opens.1 blocks headings levels put.1 some
           ∙ ap (λ n. with_trees c.args.self.now.placing.builder.levels (shown_heading (source_of c.args.self.now)
           c.args.self.now.placing.builder.at n c.args.heading.level c.args.heading.braces (chain_of items))) at,
+    )
+
+pub returns-clause-leaf : goal.returns-clause-leaf
+returns-clause-leaf c = λ s frames inside b built options kind start last stand texts fitted.
+    let old = c.args.self.now.placing.builder in
+    let made = returns-clause-tree c stand fitted in
+    let placed : IsPlacedTo old c.close.new.self.builder c.args.line.next = search (rules, outer_of_opened) in (
+      made.0,
+      heading_placed s old c.close.new.self.builder c.args.self.now.options frames inside b c.args.heading
+          c.args.line.next built options kind start last placed texts made.1,
     )

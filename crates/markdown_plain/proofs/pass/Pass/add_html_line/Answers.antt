@@ -1,8 +1,10 @@
 -- What a tab owes, and then the line, are the items of a line of HTML.
-use Rattle.std.proofs.Common.{arith}
+use Rattle.std.proofs.Common.{ap, arith}
 use Rattle.std.proofs.lemmas.Bool.Decides.{nat_tests}
 use Rattle.markdown_base.specs.declared.item.ItemBody.TheVariants as body
-use Rattle.markdown_plain.proofs.LeafTreesLemmas.{line_added, line_over, owed_added, rest_from, rest_held}
+use Rattle.markdown_builder.specs.BuilderView.{BuilderView}
+use Rattle.markdown_plain.proofs.LeafTreesLemmas.{line_added, line_over, no_text, owed_added, owed_text}
+use Rattle.markdown_plain.proofs.LeafTreesLemmas.{rest_from, rest_held, texts_after}
 use Rattle.markdown_plain.proofs.pass.Pass.add_html_line.Goals as goal
 
 pub returns-in_ok-add_inline-clause-items : goal.returns-in_ok-add_inline-clause-items
@@ -29,3 +31,19 @@ returns-else-position-line-clause-items c = λ source is fitted.
           (rest_held c.args.self.now.placing.builder.text c.args.position c.args.line source is) o.1
           (grind (arith, nat_tests, c.if-position-line.false)),
     )
+
+pub returns-in_ok-add_inline-clause-texts : goal.returns-in_ok-add_inline-clause-texts
+returns-in_ok-add_inline-clause-texts c = λ fitted.
+    let added = c.in_ok-add_inline.ensures.appends fitted in
+    let o = owed_text c.args.self.now.placing c.step_to.new.self c.add_owed.new.self c.args.position.at
+    c.args.position.owed
+    c.step_to.ensures.steps c.in_ok-add_owed.ensures.owed c.in_ok-add_owed.ensures.nothing added.0 in (
+      o.0,
+      texts_after c.args.self.now.placing.builder c.add_owed.new.self.builder c.add_inline.new.self.builder o.1
+          (no_text _ _ (ap (λ (b : BuilderView). b.texts) added.1)),
+    )
+
+pub returns-else-position-line-clause-texts : goal.returns-else-position-line-clause-texts
+returns-else-position-line-clause-texts c = λ fitted.
+    owed_text c.args.self.now.placing c.step_to.new.self c.add_owed.new.self c.args.position.at c.args.position.owed
+    c.step_to.ensures.steps c.in_ok-add_owed.ensures.owed c.in_ok-add_owed.ensures.nothing fitted

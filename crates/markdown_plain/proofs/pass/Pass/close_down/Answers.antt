@@ -11,7 +11,7 @@ use Rattle.markdown_plain.specs.Frames.{Frame, rebuilt}
 use Rattle.markdown_plain.specs.OpenLeaves.{leaf_block}
 use Rattle.markdown_plain.specs.declared.pass.Pass.{Pass}
 use Rattle.markdown_plain.proofs.ClosedFramesLemmas.{all_kept, one_less, open_containers}
-use Rattle.markdown_plain.proofs.ClosedLeavesLemmas.{closed_to, ended_may_close}
+use Rattle.markdown_plain.proofs.EndedLeavesLemmas.{closed_to, ended_may_close}
 use Rattle.markdown_plain.proofs.OpenBlocksLemmas.{length_of_outer, take_of_outer}
 use Rattle.markdown_plain.proofs.pass.Pass.close_down.Goals as goal
 

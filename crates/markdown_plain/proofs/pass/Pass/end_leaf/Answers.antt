@@ -5,7 +5,7 @@ use Rattle.markdown_builder.specs.TreeLevels.{followed_by}
 use Rattle.markdown_lines.specs.BlockBeginnings.{Source}
 use Rattle.markdown_lines.specs.SourceLines.{SourceLine}
 use Rattle.markdown_block_rules.specs.BlockGrowth.{Block}
-use Rattle.markdown_plain.proofs.ClosedLeavesLemmas.{closed_leaf}
+use Rattle.markdown_plain.proofs.LeavesInPlaceLemmas.{closed_leaf}
 use Rattle.markdown_plain.specs.Fitting.{AllFitted, IfFitted}
 use Rattle.markdown_plain.specs.Frames.{Frame}
 use Rattle.markdown_plain.specs.OpenLeaves.{IsPlaced, IsUnended, leaf_block}

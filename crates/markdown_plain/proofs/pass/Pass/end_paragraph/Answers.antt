@@ -159,11 +159,11 @@ texts_after c fitted =
           (subst (λ (p : Pass). AllFitted p.placing) w.self-is fitted) in
           let steps = c.in_ok-taken.ensures.steps placed.0 in
           subst (λ (p : Pass). HasMoreTexts before p.placing.builder) (sym w.self-is)
-          (more_after _ _ _ (same_texts (ap (λ (v : BuilderView). v.texts) steps.1)) placed.1)
+          (more_after _ _ _ (same_texts _ _ (ap (λ (v : BuilderView). v.texts) steps.1)) placed.1)
       | else-left w ↦
           let steps = c.in_ok-taken.ensures.steps (subst (λ (p : Pass). AllFitted p.placing) w.self-is fitted) in
           subst (λ (p : Pass). HasMoreTexts before p.placing.builder) (sym w.self-is)
-          (same_texts (ap (λ (v : BuilderView). v.texts) steps.1))
+          (same_texts _ _ (ap (λ (v : BuilderView). v.texts) steps.1))
     ]
 
 pub returns-clause-frame : goal.returns-clause-frame

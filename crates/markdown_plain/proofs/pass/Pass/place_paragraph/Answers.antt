@@ -192,6 +192,6 @@ returns-clause-texts c = λ fitted.
     let same = opens_no_text c.match-get.self.placing.builder c.open_text.new.placing.builder c.args.heading
     opens.1 in (
       begun.0,
-      more_after _ _ _ (more_after _ _ _ (same_texts (same ∙ begun.1)) filled.1)
-          (same_texts (ap (λ (v : BuilderView). v.texts) closed.1 ∙ over.1)),
+      more_after _ _ _ (more_after _ _ _ (same_texts _ _ (same ∙ begun.1)) filled.1)
+          (same_texts _ _ (ap (λ (v : BuilderView). v.texts) closed.1 ∙ over.1)),
     )
