@@ -21,7 +21,6 @@ pub mod TightBlocksLemmas
 pub mod ClosedFramesLemmas
 pub mod ItemsInListsLemmas
 -- on leaves in open containers
-pub mod MoreTextsLemmas
 pub mod LeavesInPlaceLemmas
 pub mod LeafKindsLemmas
 pub mod ParagraphsInPlaceLemmas

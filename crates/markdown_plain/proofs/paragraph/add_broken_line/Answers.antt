@@ -7,7 +7,7 @@ use Rattle.markdown_items.specs.ContentItems.{content_items}
 use Rattle.markdown_items.specs.LineItems.{item_extensions}
 use Rattle.markdown_lines.specs.BlockBeginnings.{Source}
 use Rattle.markdown_plain.proofs.ParagraphLinesLemmas.{empty_line, line_and_break}
-use Rattle.markdown_plain.proofs.MoreTextsLemmas.{more_after, same_texts}
+use Rattle.markdown_plain.proofs.LeafTreesLemmas.{no_text, texts_after}
 use Rattle.markdown_plain.proofs.paragraph.add_broken_line.Goals as goal
 
 pub returns-then-line-clause-items : goal.returns-then-line-clause-items
@@ -47,7 +47,7 @@ returns-clause-items c =
 pub returns-then-line-clause-texts : goal.returns-then-line-clause-texts
 returns-then-line-clause-texts c = λ fitted.
     let stepped = c.step_to.ensures.steps fitted in
-    (stepped.0, same_texts _ _ (ap (λ (b : BuilderView). b.texts) stepped.1))
+    (stepped.0, no_text _ _ (ap (λ (b : BuilderView). b.texts) stepped.1))
 
 pub returns-clause-texts : goal.returns-clause-texts
 returns-clause-texts c =
@@ -56,6 +56,6 @@ returns-clause-texts c =
     let stepped = c.step_to-2.ensures.steps added.0 in
     let read = c.in_ok-add_items.ensures.texts stepped.0 in (
       read.0,
-      more_after _ _ _ read.1 (same_texts _ _ (ap (λ (b : BuilderView). b.texts) added.1
+      texts_after _ _ _ read.1 (no_text _ _ (ap (λ (b : BuilderView). b.texts) added.1
           ∙ ap (λ (b : BuilderView). b.texts) stepped.1)),
     )) c.add_inline.ensures.appends

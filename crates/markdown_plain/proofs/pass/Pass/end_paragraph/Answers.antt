@@ -15,7 +15,7 @@ use Rattle.markdown_plain.proofs.EndedParagraphsLemmas.{nothing_shown, some_left
 use Rattle.markdown_plain.proofs.ParagraphsInPlaceLemmas.{KeepsDefined, ended_at, ended_is_placed, ends_text}
 use Rattle.markdown_plain.proofs.ParagraphsInPlaceLemmas.{headed_block, headed_last, left_over, nothing_left}
 use Rattle.markdown_plain.proofs.ParagraphsInPlaceLemmas.{placed_keeps, same_keeps}
-use Rattle.markdown_plain.proofs.MoreTextsLemmas.{more_after, same_texts}
+use Rattle.markdown_plain.proofs.LeafTreesLemmas.{no_text, texts_after}
 use Rattle.markdown_plain.proofs.ParagraphTreesLemmas.{as_many, none_behind}
 use Rattle.markdown_plain.specs.Fitting.{AllFitted, IfFitted}
 use Rattle.markdown_plain.specs.HeldSources.{AreTextLines, IsParagraph}
@@ -149,9 +149,9 @@ placed c outside some fitted =
     ]
 
 -- texts are only appended
-texts_after : (c : goal.After-clear) → AllFitted c.if-left.self.placing
+more_texts : (c : goal.After-clear) → AllFitted c.if-left.self.placing
     → HasMoreTexts c.args.self.now.placing.builder c.if-left.self.placing.builder
-texts_after c fitted =
+more_texts c fitted =
     let before = c.args.self.now.placing.builder in
     elim c.if-left.branch [
       | then-left+in_ok-place_paragraph w ↦
@@ -159,11 +159,11 @@ texts_after c fitted =
           (subst (λ (p : Pass). AllFitted p.placing) w.self-is fitted) in
           let steps = c.in_ok-taken.ensures.steps placed.0 in
           subst (λ (p : Pass). HasMoreTexts before p.placing.builder) (sym w.self-is)
-          (more_after _ _ _ (same_texts _ _ (ap (λ (v : BuilderView). v.texts) steps.1)) placed.1)
+          (texts_after _ _ _ (no_text _ _ (ap (λ (v : BuilderView). v.texts) steps.1)) placed.1)
       | else-left w ↦
           let steps = c.in_ok-taken.ensures.steps (subst (λ (p : Pass). AllFitted p.placing) w.self-is fitted) in
           subst (λ (p : Pass). HasMoreTexts before p.placing.builder) (sym w.self-is)
-          (same_texts _ _ (ap (λ (v : BuilderView). v.texts) steps.1))
+          (no_text _ _ (ap (λ (v : BuilderView). v.texts) steps.1))
     ]
 
 pub returns-clause-frame : goal.returns-clause-frame
@@ -190,5 +190,5 @@ returns-clause-frame c = λ s frames inside b sources holds options fitted.
           (λ none. nothing_left (divided_of pass sources).lines left none count) is.1
           (ends_text (source_of pass) sources _ pass.placing.builder c.take_definitions.new.placing.builder new
           (c.in_ok-taken.ensures.steps (taken_fitted c fitted)).1 divided.1.definitions is.0 tree
-          (texts_after c fitted))) holds,
+          (more_texts c fitted))) holds,
     )

@@ -10,7 +10,7 @@ use Rattle.markdown_lines.specs.declared.held_line.HeldLine.{HeldLine}
 use Rattle.markdown_block_rules.specs.BlockRules.{before_braces}
 use Rattle.markdown_plain.proofs.ParagraphBracesLemmas.{begin_first, heading_open}
 use Rattle.markdown_plain.proofs.ParagraphTreesLemmas.{any_default, takes_line}
-use Rattle.markdown_plain.proofs.PlacedParagraphsLemmas.{IsAtEnd, moved_to, none_run, placed_tree}
+use Rattle.markdown_plain.proofs.PlacedParagraphsLemmas.{IsAtEnd, moved_to, none_run, opens_no_text, placed_tree}
 use Rattle.markdown_plain.specs.Fitting.{AllFitted, stepped}
 use Rattle.markdown_plain.specs.HeldSources.{AreTextLines}
 use Rattle.markdown_plain.specs.ParagraphItems.{HaveEnds, OpenInLast, heading_braces, text_items}
@@ -19,7 +19,7 @@ use Rattle.markdown_plain.specs.LeafTrees.{HasTrees}
 use Rattle.markdown_plain.specs.declared.pass.Pass.{Pass}
 use Rattle.markdown_plain.proofs.pass.Pass.place_paragraph.Goals.{in-Some, in_default, then-from-eq0, else-from-eq0}
 use Rattle.markdown_plain.proofs.pass.Pass.place_paragraph.Goals.{in-Some-heading, in_default-heading}
-use Rattle.markdown_plain.proofs.MoreTextsLemmas.{more_after, opens_no_text, same_texts}
+use Rattle.markdown_plain.proofs.LeafTreesLemmas.{no_text, texts_after}
 use Rattle.markdown_plain.proofs.pass.Pass.place_paragraph.Goals as goal
 
 same : (c : goal.After-close) → c.match-get.self ≡ record c.args.self.now { placing = c.match-get.self.placing }
@@ -192,6 +192,6 @@ returns-clause-texts c = λ fitted.
     let same = opens_no_text c.match-get.self.placing.builder c.open_text.new.placing.builder c.args.heading
     opens.1 in (
       begun.0,
-      more_after _ _ _ (more_after _ _ _ (same_texts _ _ (same ∙ begun.1)) filled.1)
-          (same_texts _ _ (ap (λ (v : BuilderView). v.texts) closed.1 ∙ over.1)),
+      texts_after _ _ _ (texts_after _ _ _ (no_text _ _ (same ∙ begun.1)) filled.1)
+          (no_text _ _ (ap (λ (v : BuilderView). v.texts) closed.1 ∙ over.1)),
     )
