@@ -1,4 +1,4 @@
--- Leaves of each kind in the innermost open container.
+-- Fenced code, metadata, HTML and indented code in the innermost open container, line by line.
 use Rattle.std.proofs.Common.{◌≡◌, ℕ, Bool, true, false, List, [], ◌∷◌, ◌++◌, Option, Some, None, length, slice_range}
 use Rattle.std.proofs.Common.{refl, sym, ap, ◌∙◌, subst, not}
 use Rattle.std.specs.Prelude.{◌||◌}
@@ -48,200 +48,21 @@ use Rattle.markdown_block_rules.specs.BlockRules.{Around}
 use Rattle.markdown_block_rules.specs.LineContents.{source_line}
 use Rattle.markdown_plain.specs.CodeLines.{after_line, is_closed_at}
 use Rattle.markdown_plain.specs.Fitting.{PutsBlock, closed, stepped}
-use Rattle.markdown_plain.specs.OpenLeaves.{IsLineRest}
+use Rattle.markdown_plain.specs.OpenLeaves.{IsLeafIn, IsLineRest, has_ended}
+use Rattle.markdown_plain.specs.HeldSources.{IsHeld}
+use Rattle.markdown_lines.specs.declared.held_line.HeldLine.{HeldLine}
+use Rattle.std.specs.Prelude.{IfOk, Result, Ok, Err}
 use Rattle.markdown_plain.proofs.LeafTreesLemmas.{on_test}
 use Rattle.markdown_plain.proofs.LeavesInPlaceLemmas.{closed_leaf, shown_of_kind}
 use Rattle.markdown_plain.proofs.LeavesInPlaceLemmas.{filled_leaf, has_its_text, is_some, more_in_first, names_text}
 use Rattle.markdown_plain.proofs.LeavesInPlaceLemmas.{opened_leaf, shown_alone, shown_leaf, whole_leaf}
-
--- this is a leaf, by its kind
-pub kind_is_leaf : (b : Block) (kind : Kind) → b.kind ≡ kind → is_leaf kind ≡ true → is_leaf b.kind ≡ true
-kind_is_leaf b kind is leaf = ap is_leaf is ∙ leaf
-
--- and it ends with its last line
-pub ends_with_line : (b : Block) (kind : Kind) (to : ℕ) → b.kind ≡ kind → block_end b b.first kind ≡ b.last → b.last ≡ to
-    → to ≡ block_end b b.first b.kind
-ends_with_line b kind to is end last = sym last ∙ (sym end ∙ sym (ap (block_end b b.first) is))
-
-pub break_placed : (s : Source) (old new : BuilderView) (frames : List Frame) (inside : Forest Block) (b : Block)
-    (to : ℕ) → IsBuilt s old frames inside → AppendsItem old new body.Rule to → b.kind ≡ was.break_leaf
-    → b.start ≡ old.at → b.last ≡ to → IsPlaced s new frames (followed_by inside (leaf_block b))
-break_placed s old new frames inside b to built appends kind start last =
-    let end = ends_with_line b was.break_leaf to kind refl last in
-    let rule = λ (at : ℕ) (end : ℕ). with_trees old.levels (shown_over at end body.Rule None nil) in
-    let placed : IsPlacedTo old new to =
-    appends ∙ (ap (λ flag. record old { at = to; leaf = flag; run = None; levels = rule old.at to }) built.outside
-    ∙ sym (ap (λ (v : BuilderView). record old {
-      at = to;
-      leaf = false;
-      run = None;
-      levels = v.levels;
-      texts = v.texts;
-      headings = v.headings;
-    }) appends)) in
-    whole_leaf s old new frames inside b (kind_is_leaf b was.break_leaf kind refl) built
-    (subst (IsPlacedTo old new) end placed)
-    (no_text old new (ap (λ (v : BuilderView). v.texts) appends))
-    (λ some. ap (λ (v : BuilderView). v.levels) appends ∙ (ap (λ n. rule n to) (sym start)
-    ∙ (ap (rule b.start) (sym last)
-    ∙ ap (with_trees old.levels)
-    (sym (shown_alone s (around_innermost in_no_item frames) b was.break_leaf kind)))))
-
--- ---- headings
-
-pub heading_placed : (s : Source) (old new : BuilderView) (options : Options) (frames : List Frame)
-    (inside : Forest Block) (b : Block) (heading : AtxHeading) (to : ℕ)
-    → IsBuilt s old frames inside → s.options ≡ options → b.kind ≡ was.heading_leaf heading
-    → b.start ≡ old.at → b.last ≡ to → IsPlacedTo old new to → HasMoreTexts old new
-    → HasTrees old new (shown_heading (record { text = old.text; options = options }) old.at to heading.level
-    heading.braces (chain_of (content_items old.text (item_extensions options) heading.from heading.to)))
-    → IsPlaced s new frames (followed_by inside (leaf_block b))
-heading_placed s old new options frames inside b heading to built same kind start last placed texts trees =
-    let shown = λ (t : List ℕ) (o : Options) (at : ℕ) (end : ℕ). with_trees old.levels
-    (shown_heading (record { text = t; options = o }) at end heading.level heading.braces
-    (chain_of (content_items t (item_extensions o) heading.from heading.to))) in
-    whole_leaf s old new frames inside b (kind_is_leaf b (was.heading_leaf heading) kind refl) built
-    (subst (IsPlacedTo old new) (ends_with_line b (was.heading_leaf heading) to kind refl last) placed) texts
-    (λ some. trees some ∙ (ap (λ t. shown t options old.at to) built.text ∙ (ap (λ o. shown s.text o old.at to) (sym same)
-    ∙ (ap (λ n. shown s.text s.options n to) (sym start) ∙ (ap (shown s.text s.options b.start) (sym last)
-    ∙ ap (with_trees old.levels) (sym (shown_alone s (around_innermost in_no_item frames) b (was.heading_leaf heading) kind
-    ∙ followed_by-nil _)))))))
-
--- ---- lines that are added
-
-chain_of_both : {A : Type 0} (xs ys : List A) → followed_by (chain_of xs) (chain_of ys) ≡ chain_of (xs ++ ys)
-chain_of_both [] ys = refl
-chain_of_both (x ∷ xs) ys = ap (node x nil) (chain_of_both xs ys)
-
--- lines were added to the open leaf, which had lines before
-pub record AddsLines (s : Source) (frames : List Frame) (old new : BuilderView) (b c : Block) : Type 0 where
-  pub body : ItemBody
-  pub text : Option (List ℕ)
-  pub line : ItemBody
-  pub before : List SourceLine
-  pub lines : List SourceLine
-  pub from : ℕ
-  pub start : b.start ≡ c.start
-  pub was : shown_leaf s frames b ≡ shown_over b.start from body text (chain_of (source_lines line before))
-  pub shown : shown_leaf s frames c ≡ shown_over c.start new.at body text (chain_of (source_lines line (before ++ lines)))
-  pub named : (not (names_text body) || is_some text) ≡ true
-  pub goes_on : GoesOn old new new.at
-  pub texts : HasMoreTexts old new
-  pub added : HasItems old new (source_lines line lines)
-  pub end : new.at ≡ block_end c c.first c.kind
-
-pub lines_added : (s : Source) (old new : BuilderView) (frames : List Frame) (inside : Forest Block) (in_leaf : Bool)
-    (b c : Block) → is_leaf c.kind ≡ true → AddsLines s frames old new b c → IsOpenIn s old frames inside in_leaf b
-    → IsOpenIn s new frames inside in_leaf c
-lines_added s old new frames inside in_leaf b c leaf adds is_open =
-    filled_leaf s old new frames inside in_leaf b c leaf (record {
-      items = source_lines adds.line adds.lines;
-      goes_on = adds.goes_on;
-      texts = adds.texts;
-      added = adds.added;
-      named = ap has_its_text adds.was ∙ adds.named;
-      shown = ap (more_in_first new.at (source_lines adds.line adds.lines)) adds.was
-          ∙ (ap (λ n. shown_over n new.at adds.body adds.text (followed_by (chain_of (source_lines adds.line adds.before))
-          (chain_of (source_lines adds.line adds.lines)))) adds.start
-          ∙ (ap (shown_over c.start new.at adds.body adds.text)
-          (chain_of_both (source_lines adds.line adds.before) (source_lines adds.line adds.lines)
-          ∙ ap chain_of (sym (lines_append adds.line adds.before adds.lines))) ∙ sym adds.shown));
-      end = adds.end;
-    }) is_open
-
--- ---- leaves that consist of lines, and end with the last of them
-
--- a leaf of a kind is shown with this body, and consists of these lines
-pub record IsLined (s : Source) (kind : Kind) (body : ItemBody) (text : Option (List ℕ)) (line : ItemBody)
-    (lines : List SourceLine) : Type 0 where
-  pub leaf : is_leaf kind ≡ true
-  pub named : (not (names_text body) || is_some text) ≡ true
-  pub end : (b : Block) → block_end b b.first kind ≡ b.last
-  pub shown : (around : Around) (b : Block)
-      → shown_of_kind s around b kind ≡ shown_over b.start b.last body text (chain_of (source_lines line lines))
-
-abbrev pub grown_to : Block → ℕ → Kind → Block
-grown_to b to kind = record b { last = to; kind = kind }
-
-pub more_lines_added : (s : Source) (old new : BuilderView) (frames : List Frame) (inside : Forest Block) (b : Block)
-    (kind now : Kind) (body : ItemBody) (text : Option (List ℕ)) (line : ItemBody) (before lines : List SourceLine)
-    → IsLined s kind body text line before → IsLined s now body text line (before ++ lines) → b.kind ≡ kind
-    → GoesOn old new new.at → HasMoreTexts old new → HasItems old new (source_lines line lines)
-    → IsOpenIn s old frames inside true b → IsOpenIn s new frames inside true (grown_to b new.at now)
-more_lines_added s old new frames inside b kind now body text line before lines is grown same goes_on texts added
-    is_open =
-    let around = around_innermost in_no_item frames in
-    lines_added s old new frames inside true b (grown_to b new.at now) grown.leaf (record {
-      body = body;
-      text = text;
-      line = line;
-      before = before;
-      lines = lines;
-      from = b.last;
-      start = refl;
-      was = shown_alone s around b kind same ∙ is.shown around b;
-      shown = shown_alone s around (grown_to b new.at now) now refl ∙ grown.shown around (grown_to b new.at now);
-      named = is.named;
-      goes_on = goes_on;
-      texts = texts;
-      added = added;
-      end = sym (grown.end (grown_to b new.at now));
-    }) is_open
-
-pub line_added_to : (s : Source) (old new : BuilderView) (frames : List Frame) (inside : Forest Block) (b : Block)
-    (kind now : Kind) (to : ℕ) (body : ItemBody) (text : Option (List ℕ)) (line : ItemBody) (before : List SourceLine)
-    (source : SourceLine)
-    → IsLined s kind body text line before → IsLined s now body text line (before ++ source ∷ []) → b.kind ≡ kind
-    → GoesOn old new to → HasMoreTexts old new → HasItems old new (source_line line source)
-    → IsOpenIn s old frames inside true b → IsOpenIn s new frames inside true (grown_to b to now)
-line_added_to s old new frames inside b kind now to body text line before source is grown same goes_on texts added
-    is_open =
-    let at = ap (λ (v : BuilderView). v.at) goes_on in
-    subst (λ n. IsOpenIn s new frames inside true (grown_to b n now)) at
-    (more_lines_added s old new frames inside b kind now body text line before (source ∷ []) is grown same
-    (subst (GoesOn old new) (sym at) goes_on) texts
-    (added ∙ ap (with_items old.levels) (sym (append-nil (source_line line source)))) is_open)
-
--- the open leaf is closed with a line that is not one of its own
-pub closed_by_line : (s : Source) (old new : BuilderView) (frames : List Frame) (inside : Forest Block) (b : Block)
-    (kind now : Kind) (to : ℕ) (body : ItemBody) (text : Option (List ℕ)) (line : ItemBody) (lines : List SourceLine)
-    → IsLined s kind body text line lines → IsLined s now body text line lines → b.kind ≡ kind
-    → new ≡ record (closed old new.levels) { at = to } → PutsBlock (stepped old to) new
-    → IsOpenIn s old frames inside true b
-    → IsPlaced s new frames (followed_by inside (leaf_block (grown_to b to now)))
-closed_by_line s old new frames inside b kind now to body text line lines is ended same closes put is_open =
-    closed_leaf s (stepped old to) new frames inside true (grown_to b to now) ended.leaf closes put
-    (more_lines_added s old (stepped old to) frames inside b kind now body text line lines [] is
-    (subst (IsLined s now body text line) (sym (append-nil lines)) ended) same refl
-    (no_text old (stepped old to) refl) (sym (no_items old.levels)) is_open)
-
--- ---- where lines end
-
-space_within : (n scanned column : ℕ) (bytes : List ℕ)
-    → (space_from n scanned column bytes).after.scanned ≤ scanned + length bytes
-space_within n scanned column [] = omega arith
-space_within n scanned column (b ∷ bytes) =
-    on_test (λ (sp : Space). sp.after.scanned ≤ scanned + length (b ∷ bytes)) ((n == 0) || (space_width column b == 0))
-    _ _ (λ e. omega arith)
-    (λ some. on_test (λ (sp : Space). sp.after.scanned ≤ scanned + length (b ∷ bytes))
-    (nat_lt n (space_width column b)) _ _ (λ e. omega arith)
-    (λ e. let rest = space_within (n - space_width column b) (scanned + 1) (column_after column b) bytes in
-    omega (arith, rest)))
-
--- what is left of a line after some space begins before its content ends
-pub cut_within : (columns : ℕ) (l : SourceLine) → (cut columns l).left.scanned ≤ stop_of l
-cut_within columns l =
-    on_test (λ (sp : Space). sp.after.scanned ≤ stop_of l) (nat_le columns l.left.owed) _ _ (λ e. omega arith)
-    (λ e. space_within (columns - l.left.owed) l.left.scanned l.left.column l.left.bytes)
-
--- the place after a line that begins before its end
-pub after_its_line : (from : ℕ) (text : List ℕ) (position : Position) (line : Line) (source : SourceLine)
-    → IsLineRest text position line source → from ≤ stop_of source → after_line from line.next ≡ source.next
-after_its_line from text position line source is less =
-    max_of from line.next (subst (λ n. n ≤ line.next) is.stop is.ends) ∙ is.rest.next
-  where
-    max_of : (m n : ℕ) → stop_of source ≤ n → max m n ≡ n
-    max_of m n ends = omega (arith, ends, less)
+use Rattle.markdown_base.specs.declared.tag.MetadataBlockKind.{MetadataBlockKind}
+use Rattle.markdown_lines.specs.MetadataBlocks.{closes_metadata}
+use Rattle.markdown_builder.specs.Shown.{Parts, plain_item}
+use Rattle.markdown_plain.specs.Fitting.{opened}
+use Rattle.markdown_plain.specs.LeafTrees.{OpensWith}
+use Rattle.markdown_plain.proofs.LinedLeavesLemmas.{IsLined, closed_by_line, ends_with_line, grown_to, kind_is_leaf}
+use Rattle.markdown_plain.proofs.LinedLeavesLemmas.{line_added_to, lined_shown, opened_as, plain_leaf_opened}
 
 -- ---- fenced code
 
@@ -279,6 +100,37 @@ fenced_with s source b kind opening lines false same grown e =
     else Some (was.fenced_leaf opening false (lines ++ cut opening.fence.indent source ∷ []))) e)
     ∙ (sym (ap (leaf_with s source) same) ∙ grown))
 
+pub fenced_closed : (s : Source) (old new : BuilderView) (frames : List Frame) (inside : Forest Block) (b : Block)
+    (opening : OpeningFence) (lines : List SourceLine) (source : SourceLine) (kind : Kind) (next : ℕ)
+    → next ≡ source.next → IsOpenIn s old frames inside true b → b.kind ≡ was.fenced_leaf opening false lines
+    → leaf_with s source b.kind ≡ Some kind → closes s source opening.fence ≡ true
+    → new ≡ record (closed old new.levels) { at = next } → PutsBlock (stepped old next) new
+    → IsLeafIn s new frames inside (grown_to b source.next kind) (has_ended kind)
+fenced_closed s old new frames inside b opening lines source kind next to is_open same grown ends closes put =
+    subst (λ k. IsLeafIn s new frames inside (grown_to b source.next k) (has_ended k))
+    (fenced_with s source b kind opening lines true same grown ends)
+    (subst (λ n. IsPlaced s new frames (followed_by inside
+    (leaf_block (grown_to b n (was.fenced_leaf opening true lines))))) to
+    (closed_by_line s old new frames inside b (was.fenced_leaf opening false lines) (was.fenced_leaf opening true lines)
+    next fenced_body (Some (info_of s opening)) (body.Text false) lines (fenced_lined s opening false lines)
+    (fenced_lined s opening true lines) same closes put is_open))
+
+pub fenced_added : (s : Source) (old new : BuilderView) (frames : List Frame) (inside : Forest Block) (b : Block)
+    (opening : OpeningFence) (lines : List SourceLine) (source : SourceLine) (kind : Kind)
+    → IsOpenIn s old frames inside true b → b.kind ≡ was.fenced_leaf opening false lines
+    → leaf_with s source b.kind ≡ Some kind → closes s source opening.fence ≡ false
+    → GoesOn old new source.next → HasMoreTexts old new
+    → HasItems old new (source_line (body.Text false) (cut opening.fence.indent source))
+    → IsLeafIn s new frames inside (grown_to b source.next kind) (has_ended kind)
+fenced_added s old new frames inside b opening lines source kind is_open same grown goes goes_on texts added =
+    let one = cut opening.fence.indent source in
+    subst (λ k. IsLeafIn s new frames inside (grown_to b source.next k) (has_ended k))
+    (fenced_with s source b kind opening lines false same grown goes)
+    (line_added_to s old new frames inside b (was.fenced_leaf opening false lines)
+    (was.fenced_leaf opening false (lines ++ one ∷ [])) source.next fenced_body (Some (info_of s opening))
+    (body.Text false) lines one (fenced_lined s opening false lines)
+    (fenced_lined s opening false (lines ++ one ∷ [])) same goes_on texts added is_open)
+
 pub fenced_opened : (s : Source) (old new : BuilderView) (options : Options) (frames : List Frame)
     (inside : Forest Block) (b : Block) (opening : OpeningFence) (at to : ℕ) (info : List ℕ)
     → IsBuilt s old frames inside → s.options ≡ options → InfoStands old.text opening
@@ -315,3 +167,70 @@ fenced_opened s old new options frames inside b opening at to info built same st
           ∙ sym (shown_alone s (around_innermost in_no_item frames) b kind_of kind))));
       end = ap (λ (v : BuilderView). v.at) opens ∙ ends_with_line b kind_of to kind refl last;
     })
+
+-- ---- metadata
+
+pub metadata_lined : (s : Source) (kind : MetadataBlockKind) (ended : Bool) (lines : List SourceLine)
+    → IsLined s (was.metadata_leaf kind ended lines) (body.MetadataBlock kind) None (body.Text false) lines
+metadata_lined s kind ended lines =
+    record { leaf = refl; named = refl; end = λ b. refl; shown = λ around b. refl }
+
+-- metadata is opened, whose lines are to come
+pub metadata_opened : (s : Source) (old new : BuilderView) (frames : List Frame) (inside : Forest Block) (b : Block)
+    (kind : MetadataBlockKind) (at to : ℕ) → IsBuilt s old frames inside → b.kind ≡ was.metadata_leaf kind false []
+    → b.start ≡ at → b.last ≡ to → new ≡ record (opened old at (body.MetadataBlock kind)) { at = to }
+    → IsOpenIn s new frames inside true b
+metadata_opened s old new frames inside b kind at to built same start last opens =
+    let kind_of = was.metadata_leaf kind false [] in
+    let lined = metadata_lined s kind false [] in
+    plain_leaf_opened s old new frames inside b at to (body.MetadataBlock kind) (body.Text false) [] built (record {
+      plain = λ parts start end. refl;
+      leaf = kind_is_leaf b kind_of same refl;
+      same = opens ∙ sym (ap (opened_as old at to (body.MetadataBlock kind)) opens);
+      levels = ap (λ (v : BuilderView). v.levels) opens ∙ sym (no_items (old.levels ++ nil ∷ []));
+      texts = no_text old new (ap (λ (v : BuilderView). v.texts) opens);
+      shown = lined_shown s frames b kind_of (body.MetadataBlock kind) None (body.Text false) [] at to lined same start last;
+      end = ends_with_line b kind_of to same refl last;
+    })
+
+pub metadata_with : (s : Source) (source : SourceLine) (b : Block) (now : Kind) (kind : MetadataBlockKind)
+    (lines : List SourceLine) (ends : Bool) → b.kind ≡ was.metadata_leaf kind false lines
+    → leaf_with s source b.kind ≡ Some now → closes_metadata kind source.left.bytes ≡ ends
+    → (if ends then was.metadata_leaf kind true lines else was.metadata_leaf kind false (lines ++ source ∷ [])) ≡ now
+metadata_with s source b now kind lines true same grown e =
+    same_Some _ now (sym (ap (λ t. if t then Some (was.metadata_leaf kind true lines)
+    else Some (was.metadata_leaf kind false (lines ++ source ∷ []))) e)
+    ∙ (sym (ap (leaf_with s source) same) ∙ grown))
+metadata_with s source b now kind lines false same grown e =
+    same_Some _ now (sym (ap (λ t. if t then Some (was.metadata_leaf kind true lines)
+    else Some (was.metadata_leaf kind false (lines ++ source ∷ []))) e)
+    ∙ (sym (ap (leaf_with s source) same) ∙ grown))
+
+pub metadata_closed : (s : Source) (old new : BuilderView) (frames : List Frame) (inside : Forest Block) (b : Block)
+    (kind : MetadataBlockKind) (lines : List SourceLine) (source : SourceLine) (now : Kind) (next : ℕ)
+    → next ≡ source.next → IsOpenIn s old frames inside true b → b.kind ≡ was.metadata_leaf kind false lines
+    → leaf_with s source b.kind ≡ Some now → closes_metadata kind source.left.bytes ≡ true
+    → new ≡ record (closed old new.levels) { at = next } → PutsBlock (stepped old next) new
+    → IsLeafIn s new frames inside (grown_to b source.next now) (has_ended now)
+metadata_closed s old new frames inside b kind lines source now next to is_open same grown ends closes put =
+    subst (λ k. IsLeafIn s new frames inside (grown_to b source.next k) (has_ended k))
+    (metadata_with s source b now kind lines true same grown ends)
+    (subst (λ n. IsPlaced s new frames (followed_by inside
+    (leaf_block (grown_to b n (was.metadata_leaf kind true lines))))) to
+    (closed_by_line s old new frames inside b (was.metadata_leaf kind false lines) (was.metadata_leaf kind true lines)
+    next (body.MetadataBlock kind) None (body.Text false) lines (metadata_lined s kind false lines)
+    (metadata_lined s kind true lines) same closes put is_open))
+
+pub metadata_added : (s : Source) (old new : BuilderView) (frames : List Frame) (inside : Forest Block) (b : Block)
+    (kind : MetadataBlockKind) (lines : List SourceLine) (source : SourceLine) (now : Kind)
+    → IsOpenIn s old frames inside true b → b.kind ≡ was.metadata_leaf kind false lines
+    → leaf_with s source b.kind ≡ Some now → closes_metadata kind source.left.bytes ≡ false
+    → GoesOn old new source.next → HasMoreTexts old new → HasItems old new (source_line (body.Text false) source)
+    → IsLeafIn s new frames inside (grown_to b source.next now) (has_ended now)
+metadata_added s old new frames inside b kind lines source now is_open same grown goes goes_on texts added =
+    subst (λ k. IsLeafIn s new frames inside (grown_to b source.next k) (has_ended k))
+    (metadata_with s source b now kind lines false same grown goes)
+    (line_added_to s old new frames inside b (was.metadata_leaf kind false lines)
+    (was.metadata_leaf kind false (lines ++ source ∷ [])) source.next (body.MetadataBlock kind) None (body.Text false)
+    lines source (metadata_lined s kind false lines) (metadata_lined s kind false (lines ++ source ∷ [])) same goes_on
+    texts added is_open)

@@ -22,6 +22,7 @@ pub mod ClosedFramesLemmas
 pub mod ItemsInListsLemmas
 -- on leaves in open containers
 pub mod LeavesInPlaceLemmas
+pub mod LinedLeavesLemmas
 pub mod LeafKindsLemmas
 pub mod ParagraphsInPlaceLemmas
 pub mod EndedLeavesLemmas

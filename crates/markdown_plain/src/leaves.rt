@@ -14,7 +14,8 @@ ghost use Rattle.markdown_builder.specs.Shown.{chain_of};
 ghost use Rattle.markdown_builder.specs.TreeLevels.{followed_by};
 ghost use Rattle.markdown_lines.specs.BlockBeginnings.{Source};
 ghost use Rattle.markdown_lines.specs.SourceLines.{SourceLine, cut};
-ghost use Rattle.markdown_block_rules.specs.BlockGrowth.{Block, Kind, break_leaf, fenced_leaf, heading_leaf, leaf_with};
+ghost use Rattle.markdown_block_rules.specs.BlockGrowth.{Block, Kind, break_leaf, fenced_leaf, heading_leaf};
+ghost use Rattle.markdown_block_rules.specs.BlockGrowth.{leaf_with, metadata_leaf};
 ghost use Rattle.markdown_block_rules.specs.BlockRules.{shown_heading, shown_over};
 ghost use Rattle.markdown_items.specs.ContentItems.{content_items};
 ghost use Rattle.markdown_items.specs.LineItems.{item_extensions};
@@ -281,6 +282,11 @@ impl<'a> Pass<'a> {
             (self.new.placing.builder
             ≡ record (opened self.old.placing.builder line.start (body.MetadataBlock kind))
             { at = line.next })) }
+        ensures leaf { IfOk result (λ _. (s : Source) (frames : List Frame) (inside : Forest Block)
+            (b : Block) → IsBuilt s self.old.placing.builder frames inside
+            → b.kind ≡ metadata_leaf kind false [] → b.start ≡ line.start → b.last ≡ line.next
+            → IfFitted self.old.placing self.new.placing
+            (IsLeafIn s self.new.placing.builder frames inside b false)) }
         ensures kind { IfOk result (λ _. self.new.leaf ≡ leaf_kind.Metadata kind) }
         ensures same { self.new
             ≡ record self.old { placing = self.new.placing; leaf = self.new.leaf } }
@@ -316,6 +322,14 @@ impl<'a> Pass<'a> {
             IfFitted self.old.placing self.new.placing
             (GoesOn self.old.placing.builder self.new.placing.builder
             (after_line line.start line.next))) }
+        ensures leaf { IfOk result (λ _. (s : Source) (frames : List Frame) (inside : Forest Block)
+            (b : Block) (lines : List SourceLine) (position : Position) (source : SourceLine)
+            (now : Kind) → IsLeafIn s self.old.placing.builder frames inside b false
+            → b.kind ≡ metadata_leaf kind false lines → position.at ≡ line.start
+            → position.owed ≡ 0 → IsLineRest self.old.placing.builder.text position line source
+            → leaf_with s source b.kind ≡ Some now → IfFitted self.old.placing self.new.placing
+            (IsLeafIn s self.new.placing.builder frames inside
+            (record b { last = source.next; kind = now }) (has_ended now))) }
         ensures same { self.new ≡ record self.old { placing = self.new.placing } }
     {
         let content = bytes_of(self.placing.text(), line.start, line.stop);

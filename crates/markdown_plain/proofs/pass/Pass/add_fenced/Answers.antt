@@ -1,9 +1,20 @@
 -- The line is the line of the definition without the fence's indentation.
-use Rattle.std.proofs.Common.{sym, subst, rules}
+use Rattle.std.proofs.Common.{◌≡◌, ◌∙◌, Some, ap, arith, sym, subst, rules, true, false}
+use Rattle.std.proofs.lemmas.Bool.{true≢false}
 use Rattle.std.proofs.lemmas.Result.{IfOk-weaker}
 use Rattle.markdown_lines.specs.SourceLines.{cut}
 use Rattle.markdown_plain.specs.HeldSources.{IsHeld}
 use Rattle.markdown_plain.proofs.LeafTreesLemmas.{cut_held}
+use Rattle.markdown_builder.specs.BuilderView.{BuilderView}
+use Rattle.markdown_block_rules.specs.BlockGrowth.{closes}
+use Rattle.markdown_plain.specs.CodeLines.{is_closed_at}
+use Rattle.markdown_plain.specs.Fitting.{GoesOn, PutsBlock, closed, stepped}
+use Rattle.markdown_plain.specs.LeafTrees.{HasItems}
+use Rattle.markdown_base.specs.declared.item.ItemBody.TheVariants as body
+use Rattle.markdown_block_rules.specs.LineContents.{source_line}
+use Rattle.markdown_lines.specs.declared.fence.Fence.{Fence}
+use Rattle.markdown_plain.proofs.LeafKindsLemmas.{closes_alike, fenced_added, fenced_closed}
+use Rattle.markdown_plain.proofs.LinedLeavesLemmas.{after_held, cut_within, ok_three, rest_ends}
 use Rattle.markdown_plain.proofs.pass.Pass.add_fenced.Goals as goal
 
 pub returns-clause-items : goal.returns-clause-items
@@ -13,3 +24,57 @@ returns-clause-items c =
     (sym c.rest_of.ensures)
     (cut_held c.args.self.now.placing.builder.text c.args.position c.read_space.result.after c.args.line source
     c.args.fence.indent (search rules) is))) c.add_code.ensures.items
+
+-- the line does not close the block
+goes_on : (c : goal.After-add_code)
+    → is_closed_at c.args.self.now.placing.builder.text c.args.position c.args.line c.args.fence ≡ false
+goes_on c = search rules
+
+pub returns-clause-tree : goal.returns-clause-tree
+returns-clause-tree c =
+    IfOk-weaker c.add_code.result _ _ (λ done text ends. absurd (true≢false (sym ends ∙ goes_on c)))
+    c.add_code.ensures.text
+
+pub returns-then-is_closing_fence-clause-leaf : goal.returns-then-is_closing_fence-clause-leaf
+returns-then-is_closing_fence-clause-leaf c = λ s frames inside b opening lines source kind is_open same fence is grown
+    fitted.
+    let old = c.args.self.now.placing.builder in
+    let new = c.close.new.self.builder in
+    let next = c.args.line.next in
+    let ends : is_closed_at old.text c.args.position c.args.line c.args.fence ≡ true = search rules in
+    let closes_now = sym (closes_alike s old.text c.args.position c.args.line source c.args.fence is_open.around.text is)
+    ∙ ends in
+    let close = c.close.ensures.closes fitted in
+    let step = c.step_to.ensures.steps close.0 in
+    let is_closed : new ≡ record (closed old new.levels) { at = next } =
+    close.1 ∙ ap (λ (v : BuilderView). closed v new.levels) step.1 in
+    let put : PutsBlock (stepped old next) new =
+    subst (λ (v : BuilderView). PutsBlock v new) step.1 (c.close.ensures.tree fitted).1 in (
+      step.0,
+      fenced_closed s old new frames inside b opening lines source kind next is.rest.next is_open same grown
+          (ap (closes s source) fence ∙ closes_now) is_closed put,
+    )
+
+pub returns-clause-leaf : goal.returns-clause-leaf
+returns-clause-leaf c =
+    IfOk-weaker c.add_code.result _ _ (λ done all s frames inside b opening lines source kind is_open same fence is grown
+    fitted.
+    let old = c.args.self.now.placing.builder in
+    let new = c.add_code.new.placing.builder in
+    let one = cut c.args.fence.indent source in
+    let closes_not = sym (closes_alike s old.text c.args.position c.args.line source c.args.fence is_open.around.text is)
+    ∙ goes_on c in
+    let held = subst (λ line. IsHeld line one) (sym c.rest_of.ensures)
+    (cut_held old.text c.args.position c.read_space.result.after c.args.line source c.args.fence.indent
+    (search rules) is.rest) in
+    let within = cut_within c.args.fence.indent source in
+    let ends = rest_ends old.text c.args.position c.args.line source is in
+    let goes = all.first fitted in (
+      goes.0,
+      fenced_added s old new frames inside b opening lines source kind is_open same grown
+          (ap (closes s source) fence ∙ closes_not)
+          (subst (GoesOn old new) (after_held c.rest_of.result one held (omega (arith, within, ends))) goes.1)
+          (all.second fitted).1
+          (subst (λ (f : Fence). HasItems old new (source_line (body.Text false) (cut f.indent source))) (sym fence)
+          (all.third one held fitted).1),
+    )) (ok_three c.add_code.result _ _ _ c.add_code.ensures.goes_on c.add_code.ensures.texts c.add_code.ensures.items)

@@ -8,7 +8,7 @@ use Rattle.markdown_items.specs.ContentItems.{content_items}
 use Rattle.markdown_items.specs.LineItems.{item_extensions}
 use Rattle.markdown_plain.specs.LeafTrees.{HasMoreTexts}
 use Rattle.markdown_plain.specs.Paragraphs.{IsPlacedTo, source_of}
-use Rattle.markdown_plain.proofs.LeafKindsLemmas.{heading_placed}
+use Rattle.markdown_plain.proofs.LinedLeavesLemmas.{heading_placed}
 use Rattle.markdown_plain.proofs.OpenBlocksLemmas.{outer_of_opened}
 use Rattle.markdown_plain.proofs.LeafTreesLemmas.{no_text, put_heading, texts_after}
 use Rattle.markdown_plain.proofs.pass.Pass.add_heading.Goals as goal

@@ -1,6 +1,6 @@
 -- The thematic break is put there whole.
 use Rattle.std.proofs.lemmas.Result.{IfOk-weaker}
-use Rattle.markdown_plain.proofs.LeafKindsLemmas.{break_placed}
+use Rattle.markdown_plain.proofs.LinedLeavesLemmas.{break_placed}
 use Rattle.markdown_plain.proofs.pass.Pass.add_thematic_break.Goals as goal
 
 pub returns-clause-leaf : goal.returns-clause-leaf
