@@ -1,6 +1,6 @@
 -- What is made of a line so far, with what is still to be read of it, is the same after each step.
 use Rattle.std.proofs.Common.{◌≡◌, ◌≢◌, ℕ, zero, suc, ◌+◌, ◌-◌, ◌<◌, ◌≤◌, List, [], ◌∷◌, ◌++◌, Option, Some, None}
-use Rattle.std.proofs.Common.{Bool, true, false, refl, sym, ap, ◌∙◌, arith}
+use Rattle.std.proofs.Common.{Bool, true, false, append_assoc, append-nil, refl, sym, ap, ◌∙◌, arith}
 use Rattle.std.specs.Prelude.{slice_index, nat_lt, if◌then◌else◌}
 use Rattle.std.proofs.lemmas.Bool.Decides.{nat_tests}
 use Rattle.std.proofs.lemmas.Option.{same_Some}
@@ -13,7 +13,7 @@ use Rattle.markdown_items.specs.declared.extensions.Extensions.{Extensions}
 use Rattle.markdown_items.specs.declared.found.Found.{Found}
 use Rattle.markdown_items.specs.declared.found.Found.TheVariants as found
 use Rattle.markdown_items.specs.declared.found.Line.{Line}
-use Rattle.markdown_items.specs.ContentItems.{AddsItems, content_items, items_read_from, text_between}
+use Rattle.markdown_items.specs.ContentItems.{AddsItems, AddsTexts, content_items, items_read_from, text_between}
 use Rattle.markdown_items.specs.Found.{found_at}
 use Rattle.markdown_items.specs.FoundFits.{FoundFits, levels_after, next_after, run_after_text}
 use Rattle.markdown_items.specs.FoundFits.{view_after}
@@ -327,3 +327,27 @@ adds_found view line at (found.Run stop flags) =
 adds_found view line at (found.Entity stop characters) = (_, refl)
 adds_found view line at (found.Dashes stop) = (_, refl)
 adds_found view line at found.Ellipsis = (_, refl)
+
+-- ---- texts that items refer to
+
+pub no_texts : (view : BuilderView) → AddsTexts view view
+no_texts view = ([], sym (append-nil view.texts))
+
+pub more_texts : (old view new : BuilderView) → AddsTexts old view → AddsTexts view new → AddsTexts old new
+more_texts old view new before after = (
+  before.0 ++ after.0,
+  after.1 ∙ (ap (λ (texts : List (List ℕ)). texts ++ after.0) before.1 ∙ append_assoc old.texts before.0 after.0),
+)
+
+pub texts_found : (view : BuilderView) (line : Line) (at : ℕ) (f : Found) → AddsTexts view (view_after view line at f)
+texts_found view line at (found.Entity stop characters) = (_, refl)
+texts_found view line at (found.Dashes stop) = (_, refl)
+texts_found view line at found.Ellipsis = (_, refl)
+texts_found view line at (found.Run stop flags) =
+    by_run (follows_run (run_after_text view at) (slice_index view.text at)) refl
+  where
+    by_run : (follows : Bool) → follows_run (run_after_text view at) (slice_index view.text at) ≡ follows
+        → AddsTexts view (view_after view line at (found.Run stop flags))
+    by_run true is = rw is (no_texts view)
+    by_run false is = rw is ([], sym (append-nil view.texts))
+texts_found view line at other = ([], sym (append-nil view.texts))

@@ -58,3 +58,7 @@ content_items text extensions start end =
 -- items were appended to the open leaf, and nothing else was made of the closed trees
 abbrev pub AddsItems : BuilderView → BuilderView → Type 0
 AddsItems old new = (items : List Shown) × (new.levels ≡ with_items old.levels items)
+
+-- texts may follow those that blocks and items referred to
+abbrev pub AddsTexts : BuilderView → BuilderView → Type 0
+AddsTexts old new = (texts : List (List ℕ)) × (new.texts ≡ old.texts ++ texts)

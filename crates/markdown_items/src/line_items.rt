@@ -5,7 +5,7 @@ ghost use Rattle.markdown_scan.specs.Entity.{text_in_utf8};
 ghost use Rattle.markdown_items.specs.Dashes.{dashes_for, dashes_in_utf8, ellipsis};
 ghost use Rattle.markdown_builder.specs.BuilderView.{with_items};
 ghost use Rattle.markdown_builder.specs.Shown.{synthesized_item};
-ghost use Rattle.markdown_items.specs.ContentItems.{AddsItems, content_items, text_between};
+ghost use Rattle.markdown_items.specs.ContentItems.{AddsItems, AddsTexts, content_items, text_between};
 ghost use Rattle.markdown_items.specs.LineItems.{is_after_backslash, item_extensions};
 ghost use Rattle.markdown_items.specs.Found.{found_at};
 ghost use Rattle.markdown_items.specs.FoundView.{found_view};
@@ -274,6 +274,7 @@ pub fn items(
         ≡ with_items builder.old.levels
         (content_items builder.old.text (item_extensions options) builder.old.at end)) }
     ensures inside { IfOk result (λ _. AddsItems builder.old builder.new) }
+    ensures texts { IfOk result (λ _. AddsTexts builder.old builder.new) }
 {
     let line = Line {
         start: builder.at(),

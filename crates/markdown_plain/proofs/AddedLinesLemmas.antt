@@ -188,8 +188,8 @@ paragraph_begun s new frames inside b line held source stop next lines task buil
     let marked = (around_innermost in_no_item frames).marked in
     let ends : line.next ≡ source.next = sym next ∙ begins.is.next in
     let some : 0 < line.next = subst (λ n. 0 < n) next begins.some in
-    let read = λ (test : Bool). if test then task_read new.options (slice_range view.text held.start line.stop) else
-    None in
+    let bytes = slice_range view.text held.start line.stop in
+    let read = λ (test : Bool). if test then task_read new.options bytes else None in
     record {
       built = built;
       some = subst (λ (ls : List HeldLine). 0 < length ls) (sym lines) (omega arith);

@@ -32,10 +32,10 @@ pub mod LooseFramesLemmas
 pub mod OpenListsLemmas
 pub mod ClosedListsLemmas
 pub mod BlanksKnownLemmas
--- on leaves in the innermost open container
-pub mod ParagraphsInPlaceLemmas
-pub mod ClosedLeavesLemmas
-pub mod AddedLinesLemmas
+-- on leaves in open containers
 pub mod LeavesInPlaceLemmas
 pub mod LinedLeavesLemmas
 pub mod LeafKindsLemmas
+pub mod ParagraphsInPlaceLemmas
+pub mod EndedLeavesLemmas
+pub mod AddedLinesLemmas

@@ -14,7 +14,7 @@ use Rattle.markdown_block_rules.specs.BlockGrowth.{Block}
 use Rattle.markdown_block_rules.specs.BlockRules.{before_braces, last_braces, paragraph_items, shown_heading}
 use Rattle.markdown_plain.proofs.LeafTreesLemmas.{put_heading, put_opened}
 use Rattle.markdown_plain.proofs.ParagraphBracesLemmas.{heading_open, items_before_braces, not_cut}
-use Rattle.markdown_plain.specs.Fitting.{OpensHeadingOf, PutsBlock, stepped}
+use Rattle.markdown_plain.specs.Fitting.{OpensHeading, OpensHeadingOf, PutsBlock, stepped}
 use Rattle.markdown_plain.specs.LeafTrees.{HasTrees}
 use Rattle.markdown_plain.specs.ParagraphItems.{heading_braces, text_items}
 use Rattle.markdown_plain.specs.Paragraphs.{first_task, shown_ended}
@@ -71,6 +71,12 @@ pub none_run : (begun opened : BuilderView) (heading : Option (HeadingLevel × L
 none_run begun opened None braces opens = ap (λ (v : BuilderView). v.run) opens
 none_run begun opened (Some heading) None opens = ap (λ (v : BuilderView). v.run) opens
 none_run begun opened (Some heading) (Some braces) opens = ap (λ (v : BuilderView). v.run) opens.2.2
+
+-- to open one appends no text that items refer to
+pub opens_no_text : (old new : BuilderView) (heading : Option (HeadingLevel × Line))
+    → MatchOption heading (Opens old new body.Paragraph) (λ h. OpensHeading old new h.0) → new.texts ≡ old.texts
+opens_no_text old new None opens = ap (λ (v : BuilderView). v.texts) opens
+opens_no_text old new (Some heading) opens = ap (λ (v : BuilderView). v.texts) opens.1
 
 -- a builder has moved to the end of a paragraph
 pub record IsAtEnd (filled now : BuilderView) (end : ℕ) : Type 0 where

@@ -175,7 +175,6 @@ impl<'a> Pass<'a> {
             → s.options ≡ self.old.options → b.kind ≡ heading_leaf heading
             → b.start ≡ self.old.placing.builder.at → b.last ≡ line.next
             → BracesStand self.old.placing.builder.text heading.braces
-            → HasMoreTexts self.old.placing.builder self.new.placing.builder
             → IfFitted self.old.placing self.new.placing
             (IsPlaced s self.new.placing.builder frames (followed_by inside (leaf_block b)))) }
         ensures same { self.new ≡ record self.old { placing = self.new.placing } }

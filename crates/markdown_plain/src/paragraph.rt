@@ -139,6 +139,8 @@ fn add_broken_line(
     ensures text { IfOk result (λ _. placing.new.builder.text ≡ placing.old.builder.text) }
     ensures goes_on { IfOk result (λ _. IfFitted placing.old placing.new
         (GoesOn placing.old.builder placing.new.builder line.next)) }
+    ensures texts { IfOk result (λ _. IfFitted placing.old placing.new
+        (HasMoreTexts placing.old.builder placing.new.builder)) }
     ensures over { IfOk result (λ _. IfFitted placing.old placing.new
         (placing.old.builder.run ≡ None → placing.new.builder.run ≡ None)) }
     ensures items { IfOk result (λ _. (source : SourceLine)
@@ -171,6 +173,8 @@ fn add_last_line(
     ensures text { IfOk result (λ _. placing.new.builder.text ≡ placing.old.builder.text) }
     ensures goes_on { IfOk result (λ _. IfFitted placing.old placing.new
         (GoesOn placing.old.builder placing.new.builder line.next)) }
+    ensures texts { IfOk result (λ _. IfFitted placing.old placing.new
+        (HasMoreTexts placing.old.builder placing.new.builder)) }
     ensures items { IfOk result (λ _. (source : SourceLine)
         → IsTextLine placing.old.builder.text line source → IfFitted placing.old placing.new
         (placing.old.builder.run ≡ None → placing.old.builder.at ≡ line.start
@@ -202,6 +206,8 @@ fn begin_line(
     ensures text { IfOk result (λ _. placing.new.builder.text ≡ placing.old.builder.text) }
     ensures goes_on { IfOk result (λ rest. IfFitted placing.old placing.new
         (GoesOn placing.old.builder placing.new.builder rest.start)) }
+    ensures texts { IfOk result (λ _. IfFitted placing.old placing.new
+        (HasMoreTexts placing.old.builder placing.new.builder)) }
     ensures rest { IfOk result (λ rest. rest ≡ record line { start = rest.start }) }
     ensures over { IfOk result (λ _. IfFitted placing.old placing.new
         (placing.old.builder.run ≡ None → placing.new.builder.run ≡ None)) }
@@ -252,6 +258,8 @@ fn add_line(
     ensures goes_on { IfOk result (λ _. IfFitted placing.old placing.new
         (GoesOn placing.old.builder placing.new.builder
         (option_map_or (λ line. line.next) (slice_get lines.now number) 0))) }
+    ensures texts { IfOk result (λ _. IfFitted placing.old placing.new
+        (HasMoreTexts placing.old.builder placing.new.builder)) }
     ensures over { IfOk result (λ _. IfFitted placing.old placing.new
         (placing.old.builder.run ≡ None → number + 1 < length lines.now
         → placing.new.builder.run ≡ None)) }
@@ -283,6 +291,8 @@ fn add_lines(
     ensures text { IfOk result (λ _. placing.new.builder.text ≡ placing.old.builder.text) }
     ensures goes_on { IfOk result (λ _. from < length lines.now → IfFitted placing.old placing.new
         (GoesOn placing.old.builder placing.new.builder (lines_end lines.now))) }
+    ensures texts { IfOk result (λ _. IfFitted placing.old placing.new
+        (HasMoreTexts placing.old.builder placing.new.builder)) }
     ensures items { IfOk result (λ _. (sources : List SourceLine)
         → AreTextLines placing.old.builder.text lines.now sources
         → HaveEnds (drop from sources) ends → IfFitted placing.old placing.new
@@ -374,7 +384,6 @@ impl<'a> Pass<'a> {
         ensures finishes { IfOk result (λ _. (s : Source) (frames : List Frame)
             (inside : Forest Block) (b : Block) → depth ≤ length frames
             → MayEnd s self.old frames inside b None
-            → HasMoreTexts self.old.placing.builder self.new.placing.builder
             → IfFitted self.old.placing self.new.placing
             (StandsFor s self.new (take (room_depth depth frames) frames)
             (rebuilt (drop (room_depth depth frames) frames)
@@ -440,6 +449,8 @@ impl<'a> Pass<'a> {
             → IfFitted self.old.placing self.new.placing
             (IsPlacedTo self.old.placing.builder self.new.placing.builder
             (paragraph_end self.old.lines.items heading))) }
+        ensures texts { IfOk result (λ _. IfFitted self.old.placing self.new.placing
+            (HasMoreTexts self.old.placing.builder self.new.placing.builder)) }
         ensures tree { IfOk result (λ _. (sources : List SourceLine) (marked : ℕ) (b : Block)
             → AreTextLines self.old.placing.builder.text self.old.lines.items sources
             → from < length self.old.lines.items → AreSome (drop from sources)
@@ -508,7 +519,6 @@ impl<'a> Pass<'a> {
         ensures frame { IfOk result (λ left. (s : Source) (frames : List Frame)
             (inside : Forest Block) (b : Block) (sources : List SourceLine)
             → HoldsParagraph s self.old frames inside b sources → s.options ≡ self.old.options
-            → HasMoreTexts self.old.placing.builder self.new.placing.builder
             → IfFitted self.old.placing self.new.placing
             (IsPlaced s self.new.placing.builder frames (followed_by inside
             (leaf_block (ended_block b sources left heading))))) }

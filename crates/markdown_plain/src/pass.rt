@@ -12,7 +12,6 @@ ghost use Rattle.markdown_plain.specs.Closing.{MayClose, StandsFor, MayEnd};
 ghost use Rattle.markdown_plain.specs.Frames.{Frame, forgotten, rebuilt, room_depth, AreNested};
 ghost use Rattle.markdown_builder.specs.TreeLevels.{followed_by};
 ghost use Rattle.markdown_lines.specs.SourceLines.{SourceLine};
-ghost use Rattle.markdown_plain.specs.LeafTrees.{HasMoreTexts};
 ghost use Rattle.markdown_plain.specs.OpenLeaves.{IsPlaced, IsUnended, leaf_block};
 ghost use Rattle.markdown_plain.specs.Fitting.{AllFitted, HasBody, IfFitted, PutsBlock, closed};
 ghost use Rattle.markdown_plain.specs.OpenBlocks.{innermost_is, is_list, room_in, without_leaf};
@@ -198,7 +197,6 @@ impl<'a> Pass<'a> {
         ensures finishes { IfOk result (λ _. (s : Source) (frames : List Frame)
             (inside : Forest Block) (b : Block) (held : Option (List SourceLine))
             → MayEnd s self.old frames inside b held
-            → HasMoreTexts self.old.placing.builder self.new.placing.builder
             → IfFitted self.old.placing self.new.placing (MayClose s self.new (take depth frames)
             (rebuilt (drop depth frames) (followed_by inside (leaf_block b))))) }
     {
@@ -254,7 +252,6 @@ impl<'a> Pass<'a> {
         ensures finishes { IfOk result (λ _. (s : Source) (frames : List Frame)
             (inside : Forest Block) (b : Block) (held : Option (List SourceLine))
             → depth ≤ length frames → MayEnd s self.old frames inside b held
-            → HasMoreTexts self.old.placing.builder self.new.placing.builder
             → IfFitted self.old.placing self.new.placing
             (StandsFor s self.new (take (room_depth depth frames) frames)
             (rebuilt (drop (room_depth depth frames) frames)
@@ -288,7 +285,6 @@ impl<'a> Pass<'a> {
         ensures frame { IfOk result (λ _. (s : Source) (frames : List Frame)
             (inside : Forest Block) (b : Block) (held : Option (List SourceLine))
             → IsUnended s self.old frames inside b held → s.options ≡ self.old.options
-            → HasMoreTexts self.old.placing.builder self.new.placing.builder
             → IfFitted self.old.placing self.new.placing
             (IsPlaced s self.new.placing.builder frames (followed_by inside (leaf_block b)))) }
         ensures none { IfOk result (λ _. self.old.placing.builder.leaf ≡ false

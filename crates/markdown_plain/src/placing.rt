@@ -52,6 +52,7 @@ impl<'a> Placing<'a> {
     ghost use Rattle.markdown_lines.specs.Lines.{IsNextContent};
     ghost use Rattle.markdown_plain.specs.Fitting.{AllFitted, IfFitted, IsAhead, IsWhiteOutside};
     ghost use Rattle.markdown_plain.specs.Fitting.{BeginsAtContent, GoesOn, HasBody, PutsBlock, closed, defining, stepped};
+    ghost use Rattle.markdown_plain.specs.LeafTrees.{HasMoreTexts};
     ghost use Rattle.markdown_builder.specs.EvenRows.{is_in_row};
     ghost use Rattle.markdown_items.specs.ContentItems.{AddsItems};
 
@@ -389,6 +390,8 @@ impl<'a> Placing<'a> {
             self.old.builder.at end))) }
         ensures inside { IfOk result (λ _. IfFitted self.old self.new
             (AddsItems self.old.builder self.new.builder)) }
+        ensures texts { IfOk result (λ _. IfFitted self.old self.new
+            (HasMoreTexts self.old.builder self.new.builder)) }
         ensures fits { IfOk result (λ _. self.old.builder.leaf ≡ true → IsAhead self.old.builder end
             → self.new.misfits ≡ self.old.misfits) }
     {

@@ -1,16 +1,18 @@
 -- What is made of the line so far, with what is still to be read of it, is all of it.
-use Rattle.std.proofs.Common.{rules, ◌≡◌, ℕ, ◌≤◌, List, true, refl, sym, ap, ◌∙◌, subst, arith, slice_index}
+use Rattle.std.proofs.Common.{rules, ◌≡◌, ℕ, ◌≤◌, List, [], true, refl, sym, ap, ◌∙◌, subst, append-nil, arith}
+use Rattle.std.proofs.Common.{slice_index}
 use Rattle.std.proofs.lemmas.Bool.Decides.{nat_tests}
 use Rattle.markdown_base.specs.Forest.{Forest}
 use Rattle.markdown_builder.specs.BuilderView.{BuilderView, with_items}
 use Rattle.markdown_builder.specs.Shown.{Shown}
 use Rattle.markdown_items.specs.declared.found.Line.{Line}
-use Rattle.markdown_items.specs.ContentItems.{AddsItems, content_items}
+use Rattle.markdown_items.specs.ContentItems.{AddsItems, AddsTexts, content_items}
 use Rattle.markdown_items.specs.FoundFits.{AppendsFound, next_after, view_after}
 use Rattle.markdown_items.specs.LineItems.{is_special, IsFirstSpecial}
 use Rattle.markdown_items.specs.RestOfLine.{AwaitsRest}
 use Rattle.markdown_items.proofs.RestOfLineLemmas.{past_plain, at_start, at_end, at_found, placed_after, begun_after}
-use Rattle.markdown_items.proofs.RestOfLineLemmas.{adds_found, adds_more, adds_none, text_after}
+use Rattle.markdown_items.proofs.RestOfLineLemmas.{adds_found, adds_more, adds_none, more_texts, no_texts}
+use Rattle.markdown_items.proofs.RestOfLineLemmas.{text_after, texts_found}
 use Rattle.markdown_items.proofs.line_items.items.Goals as goal
 
 pub line-init : goal.line-init
@@ -26,6 +28,7 @@ line-init c =
     record {
       same = refl;
       inside = adds_none view;
+      texts = no_texts view;
       begun = omega arith;
       placed = first.low;
       within = first.high;
@@ -68,6 +71,9 @@ line-preserved c =
       inside = subst (λ (v : BuilderView). AddsItems old v) (sym after)
           (adds_more old view (view_after view line at found) c.line.invariant.inside
           (adds_found view line at found));
+      texts = subst (λ (v : BuilderView). AddsTexts old v) (sym after)
+          (more_texts old view (view_after view line at found) c.line.invariant.texts
+          (texts_found view line at found));
       begun = omega (arith, c.line.invariant.begun, further);
       placed = search rules;
       within = search rules;
@@ -104,3 +110,8 @@ pub returns-clause-inside : goal.returns-clause-inside
 returns-clause-inside c =
     adds_more c.args.builder.now c.line.builder c.append_text.new.builder c.line.invariant.inside
     (_, ap (λ (v : BuilderView). v.levels) c.in_ok-append_text.ensures)
+
+pub returns-clause-texts : goal.returns-clause-texts
+returns-clause-texts c =
+    more_texts c.args.builder.now c.line.builder c.append_text.new.builder c.line.invariant.texts
+    ([], ap (λ (v : BuilderView). v.texts) c.in_ok-append_text.ensures ∙ sym (append-nil c.line.builder.texts))

@@ -1,7 +1,7 @@
 -- The items up to here are appended but for a text, and a special byte comes next.
 use Rattle.std.proofs.Common.{◌≡◌, ◌-◌, ◌<◌, ◌≤◌, true, None, slice_index}
 use Rattle.markdown_builder.specs.BuilderView.{with_items}
-use Rattle.markdown_items.specs.ContentItems.{AddsItems, content_items}
+use Rattle.markdown_items.specs.ContentItems.{AddsItems, AddsTexts, content_items}
 use Rattle.markdown_items.specs.LineItems.{is_special}
 use Rattle.markdown_items.specs.RestOfLine.{AwaitsRest}
 use Rattle.markdown_items.proofs.line_items.items.Given as goal
@@ -15,6 +15,7 @@ invariant-line l = record {
     texts = l.builder.texts;
   };
   inside : AddsItems l.fn.builder l.builder;
+  texts : AddsTexts l.fn.builder l.builder;
   begun : l.fn.builder.at ≤ l.builder.at;
   placed : l.builder.at ≤ l.at;
   within : l.at ≤ l.end;

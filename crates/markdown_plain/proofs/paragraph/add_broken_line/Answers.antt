@@ -7,6 +7,7 @@ use Rattle.markdown_items.specs.ContentItems.{content_items}
 use Rattle.markdown_items.specs.LineItems.{item_extensions}
 use Rattle.markdown_lines.specs.BlockBeginnings.{Source}
 use Rattle.markdown_plain.proofs.ParagraphLinesLemmas.{empty_line, line_and_break}
+use Rattle.markdown_plain.proofs.LeafTreesLemmas.{no_text, texts_after}
 use Rattle.markdown_plain.proofs.paragraph.add_broken_line.Goals as goal
 
 pub returns-then-line-clause-items : goal.returns-then-line-clause-items
@@ -41,4 +42,20 @@ returns-clause-items c =
           line_and_break c.args.placing.now.builder.levels c.add_items.new.self.builder.levels
           c.add_inline.new.self.builder.levels s c.args.line source c.line_break-between.result is
           (search rules) (search rules) (search rules) first second,
+    )) c.add_inline.ensures.appends
+
+pub returns-then-line-clause-texts : goal.returns-then-line-clause-texts
+returns-then-line-clause-texts c = λ fitted.
+    let stepped = c.step_to.ensures.steps fitted in
+    (stepped.0, no_text _ _ (ap (λ (b : BuilderView). b.texts) stepped.1))
+
+pub returns-clause-texts : goal.returns-clause-texts
+returns-clause-texts c =
+    IfOk-weaker c.add_inline.result _ _ (λ done appends fitted.
+    let added = appends fitted in
+    let stepped = c.step_to-2.ensures.steps added.0 in
+    let read = c.in_ok-add_items.ensures.texts stepped.0 in (
+      read.0,
+      texts_after _ _ _ read.1 (no_text _ _ (ap (λ (b : BuilderView). b.texts) added.1
+          ∙ ap (λ (b : BuilderView). b.texts) stepped.1)),
     )) c.add_inline.ensures.appends

@@ -14,6 +14,7 @@ use Rattle.markdown_plain.proofs.ParagraphTreesLemmas.{as_many, broken_line_left
 use Rattle.markdown_plain.proofs.ParagraphTreesLemmas.{none_behind, some_behind, takes_line}
 use Rattle.markdown_plain.specs.HeldSources.{IsTextLine}
 use Rattle.markdown_plain.specs.ParagraphItems.{IsLeft, after_task, line_or_nothing}
+use Rattle.markdown_plain.proofs.LeafTreesLemmas.{texts_after}
 use Rattle.markdown_plain.proofs.paragraph.add_line.Goals as goal
 
 pub returns-then-number-lines-clause-left : goal.returns-then-number-lines-clause-left
@@ -91,3 +92,17 @@ returns-else-number-lines-clause-left c =
           (sym behind.are) (broken_line_left s ends.task ends.braces t.source behind.first behind.more levels
           c.begin_line.new.placing.builder.levels c.add_broken_line.new.placing.builder.levels all whole begun.1 line),
     )) c.add_broken_line.ensures.items
+
+pub returns-then-number-lines-clause-texts : goal.returns-then-number-lines-clause-texts
+returns-then-number-lines-clause-texts c =
+    IfOk-weaker c.add_last_line.result _ _ (λ done texts fitted.
+    let added = texts fitted in
+    let begun = c.in_ok-line.ensures.texts added.0 in
+    (begun.0, texts_after _ _ _ begun.1 added.1)) c.add_last_line.ensures.texts
+
+pub returns-else-number-lines-clause-texts : goal.returns-else-number-lines-clause-texts
+returns-else-number-lines-clause-texts c =
+    IfOk-weaker c.add_broken_line.result _ _ (λ done texts fitted.
+    let added = texts fitted in
+    let begun = c.in_ok-line.ensures.texts added.0 in
+    (begun.0, texts_after _ _ _ begun.1 added.1)) c.add_broken_line.ensures.texts

@@ -6,6 +6,7 @@ use Rattle.markdown_plain.proofs.ParagraphLinesLemmas.{on_false}
 use Rattle.markdown_plain.proofs.ParagraphTreesLemmas.{as_many, left_of_same, none_behind, nothing_left}
 use Rattle.markdown_plain.specs.HeldSources.{AreTextLines}
 use Rattle.markdown_plain.proofs.paragraph.add_lines.Goals.{then-number-from, else-number-from}
+use Rattle.markdown_plain.proofs.LeafTreesLemmas.{texts_after}
 use Rattle.markdown_plain.proofs.paragraph.add_lines.Goals as goal
 
 task_is : (c : goal.In_ok-add_line)
@@ -23,6 +24,10 @@ lines-preserved c =
       none = search rules;
       goes_on = search rules;
       over = search rules;
+      texts = λ fitted.
+          let added = c.in_ok-add_line.ensures.texts fitted in
+          let before = c.lines.invariant.texts added.0 in
+          (before.0, texts_after _ _ _ before.1 added.1);
       left = λ sources are fit fitted.
           let text = c.args.placing.now.builder.text in
           let same = c.lines.invariant.text in

@@ -7,6 +7,7 @@ use Rattle.markdown_lines.specs.SourceLines.{SourceLine}
 use Rattle.markdown_block_rules.specs.BlockRules.{before_braces}
 use Rattle.markdown_plain.specs.Fitting.{IfFitted, GoesOn}
 use Rattle.markdown_plain.specs.HeldSources.{AreTextLines}
+use Rattle.markdown_plain.specs.LeafTrees.{HasMoreTexts}
 use Rattle.markdown_plain.specs.ParagraphItems.{HaveEnds, IsLeft, text_items}
 use Rattle.markdown_plain.proofs.paragraph.add_lines.Given as goal
 
@@ -18,6 +19,7 @@ invariant-lines l = record {
       (option_map_or (λ line. line.next) (slice_get l.lines (l.number - 1)) 0));
   over : IfFitted l.fn.placing l.placing (l.fn.placing.builder.run ≡ None → l.number < length l.lines
       → l.placing.builder.run ≡ None);
+  texts : IfFitted l.fn.placing l.placing (HasMoreTexts l.fn.placing.builder l.placing.builder);
   left : (sources : List SourceLine) → AreTextLines l.fn.placing.builder.text l.lines sources
       → HaveEnds (drop l.from sources) l.ends → IfFitted l.fn.placing l.placing (l.fn.placing.builder.run ≡ None
       → IsLeft (record { text = l.fn.placing.builder.text; options = l.options })

@@ -8,6 +8,7 @@ use Rattle.markdown_plain.proofs.ParagraphLinesLemmas.{line_past_task, marked_li
 use Rattle.markdown_lines.specs.TaskMarkers.{task_length}
 use Rattle.markdown_plain.specs.HeldSources.{IsTextLine}
 use Rattle.markdown_plain.specs.ParagraphItems.{BeginsWithTask, after_task, task_items}
+use Rattle.markdown_plain.proofs.LeafTreesLemmas.{no_text}
 use Rattle.markdown_plain.proofs.paragraph.begin_line.Goals as goal
 
 pub returns-in_default-clause-items : goal.returns-in_default-clause-items
@@ -53,3 +54,18 @@ returns-clause-source c = λ source is task.
     (record c.args.line { start = c.saturating_add-start.result })
     (after_task t source)) (sym c.in-Some.is) (line_past_task c.args.placing.now.builder.text c.args.line source
     c.in-Some.done _ is marker start)
+
+pub returns-in_default-clause-texts : goal.returns-in_default-clause-texts
+returns-in_default-clause-texts c = λ fitted.
+    let stepped = c.step_to.ensures.steps fitted in
+    (stepped.0, no_text _ _ (ap (λ (b : BuilderView). b.texts) stepped.1))
+
+pub returns-clause-texts : goal.returns-clause-texts
+returns-clause-texts c = λ fitted.
+    let after = c.step_to-2.ensures.steps fitted in
+    let marked = c.in_ok-add_inline.ensures.appends after.0 in
+    let before = c.step_to.ensures.steps marked.0 in (
+      before.0,
+      no_text _ _ (ap (λ (b : BuilderView). b.texts) after.1 ∙ (ap (λ (b : BuilderView). b.texts) marked.1
+          ∙ ap (λ (b : BuilderView). b.texts) before.1)),
+    )

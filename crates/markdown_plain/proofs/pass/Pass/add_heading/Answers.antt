@@ -1,15 +1,16 @@
 -- The heading is opened, filled with the items of its content, and closed.
 use Rattle.std.proofs.Common.{◌≡◌, ap, ◌∙◌, refl, rules, None}
 use Rattle.markdown_block_rules.specs.BlockRules.{shown_heading}
-use Rattle.markdown_builder.specs.BuilderView.{with_items}
+use Rattle.markdown_builder.specs.BuilderView.{BuilderView, with_items}
 use Rattle.markdown_builder.specs.Shown.{chain_of}
 use Rattle.markdown_builder.specs.TreeLevels.{with_trees}
 use Rattle.markdown_items.specs.ContentItems.{content_items}
 use Rattle.markdown_items.specs.LineItems.{item_extensions}
+use Rattle.markdown_plain.specs.LeafTrees.{HasMoreTexts}
 use Rattle.markdown_plain.specs.Paragraphs.{IsPlacedTo, source_of}
 use Rattle.markdown_plain.proofs.LinedLeavesLemmas.{heading_placed}
 use Rattle.markdown_plain.proofs.OpenBlocksLemmas.{outer_of_opened}
-use Rattle.markdown_plain.proofs.LeafTreesLemmas.{put_heading}
+use Rattle.markdown_plain.proofs.LeafTreesLemmas.{no_text, put_heading, texts_after}
 use Rattle.markdown_plain.proofs.pass.Pass.add_heading.Goals as goal
 
 pub returns-clause-tree : goal.returns-clause-tree
@@ -47,9 +48,19 @@ returns-clause-tree c = λ stand fitted.
     )
 
 pub returns-clause-leaf : goal.returns-clause-leaf
-returns-clause-leaf c = λ s frames inside b built options kind start last stand texts fitted.
+returns-clause-leaf c = λ s frames inside b built options kind start last stand fitted.
     let old = c.args.self.now.placing.builder in
     let made = returns-clause-tree c stand fitted in
+    let closed = c.close.ensures.closes fitted in
+    let over = c.step_to-2.ensures.steps closed.0 in
+    let filled = c.in_ok-add_items.ensures.texts over.0 in
+    let first = c.step_to.ensures.steps filled.0 in
+    let opened = (c.in_ok-open_heading.ensures.opens first.0).1 in
+    let texts : HasMoreTexts old c.close.new.self.builder =
+    texts_after _ _ _ (no_text _ _ (ap (λ (v : BuilderView). v.texts) first.1
+    ∙ ap (λ (v : BuilderView). v.texts) opened.1))
+    (texts_after _ _ _ filled.1 (no_text _ _ (ap (λ (v : BuilderView). v.texts) closed.1
+    ∙ ap (λ (v : BuilderView). v.texts) over.1))) in
     let placed : IsPlacedTo old c.close.new.self.builder c.args.line.next = search (rules, outer_of_opened) in (
       made.0,
       heading_placed s old c.close.new.self.builder c.args.self.now.options frames inside b c.args.heading

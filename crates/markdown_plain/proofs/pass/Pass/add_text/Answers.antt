@@ -4,7 +4,6 @@ use Rattle.markdown_lines.specs.declared.held_line.HeldLine.{HeldLine}
 use Rattle.markdown_plain.proofs.AddedLinesLemmas.{has_held, line_added, no_leaf_open, paragraph_begun}
 use Rattle.markdown_plain.proofs.ClosedFramesLemmas.{stands_on}
 use Rattle.markdown_plain.specs.Fitting.{AllFitted}
-use Rattle.markdown_plain.specs.LeafTrees.{HasMoreTexts}
 use Rattle.markdown_plain.specs.Paragraphs.{has_paragraph, task_at}
 use Rattle.markdown_plain.specs.declared.pass.Pass.{Pass}
 use Rattle.markdown_plain.proofs.pass.Pass.add_text.Goals.{then-not-has_paragraph+in_ok-make_room}
@@ -16,14 +15,13 @@ abbrev line_of : goal.In_ok-push → HeldLine
 line_of c = record { start = c.args.start; stop = c.args.line.stop; next = c.args.line.next; owed = 0 }
 
 pub returns-clause-finishes : goal.returns-clause-finishes
-returns-clause-finishes c = λ s frames inside b few may more fitted.
+returns-clause-finishes c = λ s frames inside b few may fitted.
     let self = c.if-not-has_paragraph.self in
     elim c.if-not-has_paragraph.branch [
       | then-not-has_paragraph+in_ok-make_room w ↦
           let placing = ap (λ (p : Pass). p.placing) w.self-is in
           let placed = ap (λ (p : Pass). p.placed) w.self-is in
           let made = w.in_ok-make_room.ensures.finishes s frames inside b None few may
-          (subst (λ p. HasMoreTexts c.args.self.now.placing.builder p.builder) placing more)
           (subst AllFitted placing fitted) in
           (made.0, stands_on s w.make_room.new.self _ _ _ placing placed made.1)
       | else-not-has_paragraph w ↦

@@ -13,7 +13,7 @@ use Rattle.markdown_plain.specs.declared.pass.Pass.{Pass}
 use Rattle.markdown_plain.proofs.ClosedFramesLemmas.{all_kept, one_less, open_containers}
 use Rattle.markdown_builder.specs.declared.open_block.OpenBlock.{OpenBlock}
 use Rattle.markdown_plain.proofs.ClosedListsLemmas.{all_closed, none_closed, one_closed}
-use Rattle.markdown_plain.proofs.ClosedLeavesLemmas.{closed_to, ended_may_close}
+use Rattle.markdown_plain.proofs.EndedLeavesLemmas.{closed_to, ended_may_close}
 use Rattle.markdown_plain.proofs.OpenBlocksLemmas.{length_of_outer, take_of_outer}
 use Rattle.markdown_plain.specs.OpenBlocks.{without_leaf}
 use Rattle.markdown_plain.specs.Settled.{AreOpen, IsLooseAs}
@@ -58,10 +58,7 @@ blocks-2-preserved c =
       least = λ fitted.
           let closed = one_less_open c fitted in
           ((before.least (fits fitted)).0, λ few. absurd (omega (arith, closed.0, closed.1, few)));
-      texts = λ fitted.
-          let done = c.close_block.ensures.closes fitted in
-          let kept = before.texts done.0 in
-          (kept.0, ap (λ (b : BuilderView). b.texts) done.1 ∙ kept.1);
+      fitted = λ fitted. before.fitted (fits fitted);
       forgets = λ s frames inside may fitted.
           let stands = before.forgets s frames inside may (fits fitted) in (
             stands.0,
@@ -95,7 +92,7 @@ blocks-2-init c = record {
   same = search rules;
   looseness = search rules;
   least = search rules;
-  texts = λ fitted. (fitted, refl);
+  fitted = λ fitted. fitted;
   forgets = λ s frames inside may fitted. (
     fitted,
     all_kept s c.end_leaf.new.self frames inside _ (open_containers s c.end_leaf.new.self frames inside may) may,
@@ -134,10 +131,9 @@ returns-clause-forgets c = λ s frames inside none may fitted.
     )
 
 pub returns-clause-finishes : goal.returns-clause-finishes
-returns-clause-finishes c = λ s frames inside b held may more fitted.
-    let texts = c.blocks-2.invariant.texts fitted in
+returns-clause-finishes c = λ s frames inside b held may fitted.
     let placed = c.in_ok-end_leaf.ensures.frame s frames inside b held may.unended may.options
-    (record { more = more.more; are = sym texts.1 ∙ more.are }) texts.0 in (
+    (c.blocks-2.invariant.fitted fitted) in (
       placed.0,
       closed_from c s frames (followed_by inside (leaf_block b))
           (ended_may_close s c.args.self.now c.end_leaf.new.self frames inside b held may

@@ -7,7 +7,7 @@ use Rattle.markdown_block_rules.specs.BlockGrowth.{Block}
 use Rattle.markdown_plain.specs.Closing.{MayClose}
 use Rattle.markdown_plain.specs.Frames.{Frame, rebuilt, AreNested}
 use Rattle.markdown_plain.proofs.ClosedListsLemmas.{AreClosedTo}
-use Rattle.markdown_plain.specs.Fitting.{IfFitted}
+use Rattle.markdown_plain.specs.Fitting.{IfFitted, AllFitted}
 use Rattle.markdown_plain.specs.OpenBlocks.{without_leaf}
 use Rattle.markdown_plain.specs.Settled.{AreOpen, IsLooseAs}
 use Rattle.markdown_plain.proofs.pass.Pass.close_down.Given as goal
@@ -35,8 +35,7 @@ invariant-blocks-2 l = record {
   };
   least : IfFitted l.fn.self.placing l.self.placing (length l.self.placing.builder.blocks < l.depth
       → length l.initial.self.placing.builder.blocks ≤ length l.self.placing.builder.blocks);
-  texts : IfFitted l.initial.self.placing l.self.placing
-      (l.self.placing.builder.texts ≡ l.initial.self.placing.builder.texts);
+  fitted : AllFitted l.self.placing → AllFitted l.initial.self.placing;
   forgets : (s : Source) (frames : List Frame) (inside : Forest Block) → MayClose s l.initial.self frames inside
       → IfFitted l.initial.self.placing l.self.placing
       (MayClose s l.self (take (length l.self.placing.builder.blocks) frames)

@@ -1,6 +1,6 @@
 -- What is left after the definitions is placed, and where nothing is left, no tree is added.
-use Rattle.std.proofs.Common.{◌≡◌, ◌∙◌, ◌<◌, ◌≤◌, [], true, false, ap, sym, subst, rules, arith, drop, length, List}
-use Rattle.std.proofs.Common.{None}
+use Rattle.std.proofs.Common.{◌≡◌, ◌∙◌, ◌<◌, ◌≤◌, [], ap, sym, subst, rules, arith, drop, length, List, None}
+use Rattle.std.proofs.Common.{true, false}
 use Rattle.std.specs.Prelude.{nat_lt, ◌==◌, if◌then◌else◌}
 use Rattle.std.proofs.lemmas.Bool.Decides.{nat_tests}
 use Rattle.markdown_builder.specs.BuilderView.{BuilderView}
@@ -15,10 +15,11 @@ use Rattle.markdown_plain.proofs.EndedParagraphsLemmas.{nothing_shown, some_left
 use Rattle.markdown_plain.proofs.ParagraphsInPlaceLemmas.{KeepsDefined, ended_at, ended_is_placed, ends_text}
 use Rattle.markdown_plain.proofs.ParagraphsInPlaceLemmas.{headed_block, headed_last, left_over, nothing_left}
 use Rattle.markdown_plain.proofs.ParagraphsInPlaceLemmas.{placed_keeps, same_keeps}
+use Rattle.markdown_plain.proofs.LeafTreesLemmas.{no_text, texts_after}
 use Rattle.markdown_plain.proofs.ParagraphTreesLemmas.{as_many, none_behind}
 use Rattle.markdown_plain.specs.Fitting.{AllFitted, IfFitted}
 use Rattle.markdown_plain.specs.HeldSources.{AreTextLines, IsParagraph}
-use Rattle.markdown_plain.specs.LeafTrees.{HasTrees}
+use Rattle.markdown_plain.specs.LeafTrees.{HasMoreTexts, HasTrees}
 use Rattle.markdown_plain.specs.ParagraphItems.{AreSome}
 use Rattle.markdown_plain.specs.OpenLeaves.{HoldsParagraph, IsPlaced, ended_block, leaf_block}
 use Rattle.markdown_plain.specs.OpenedFrames.{around_innermost}
@@ -147,8 +148,26 @@ placed c outside some fitted =
           )
     ]
 
+-- texts are only appended
+more_texts : (c : goal.After-clear) → AllFitted c.if-left.self.placing
+    → HasMoreTexts c.args.self.now.placing.builder c.if-left.self.placing.builder
+more_texts c fitted =
+    let before = c.args.self.now.placing.builder in
+    elim c.if-left.branch [
+      | then-left+in_ok-place_paragraph w ↦
+          let placed = w.in_ok-place_paragraph.ensures.texts
+          (subst (λ (p : Pass). AllFitted p.placing) w.self-is fitted) in
+          let steps = c.in_ok-taken.ensures.steps placed.0 in
+          subst (λ (p : Pass). HasMoreTexts before p.placing.builder) (sym w.self-is)
+          (texts_after _ _ _ (no_text _ _ (ap (λ (v : BuilderView). v.texts) steps.1)) placed.1)
+      | else-left w ↦
+          let steps = c.in_ok-taken.ensures.steps (subst (λ (p : Pass). AllFitted p.placing) w.self-is fitted) in
+          subst (λ (p : Pass). HasMoreTexts before p.placing.builder) (sym w.self-is)
+          (no_text _ _ (ap (λ (v : BuilderView). v.texts) steps.1))
+    ]
+
 pub returns-clause-frame : goal.returns-clause-frame
-returns-clause-frame c = λ s frames inside b sources holds options more fitted.
+returns-clause-frame c = λ s frames inside b sources holds options fitted.
     let pass = c.args.self.now in
     let new = c.if-left.self.placing.builder in
     let heading = c.args.heading in
@@ -170,5 +189,6 @@ returns-clause-frame c = λ s frames inside b sources holds options more fitted.
           ended_is_placed pass new frames inside b sources left heading held
           (λ none. nothing_left (divided_of pass sources).lines left none count) is.1
           (ends_text (source_of pass) sources _ pass.placing.builder c.take_definitions.new.placing.builder new
-          (c.in_ok-taken.ensures.steps (taken_fitted c fitted)).1 divided.1.definitions is.0 tree more)) holds,
+          (c.in_ok-taken.ensures.steps (taken_fitted c fitted)).1 divided.1.definitions is.0 tree
+          (more_texts c fitted))) holds,
     )

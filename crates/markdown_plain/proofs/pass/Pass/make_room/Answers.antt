@@ -2,7 +2,6 @@
 use Rattle.std.proofs.Common.{◌∙◌, refl, sym, subst, take, drop, ◌≡◌, List, true, false, ap, rules, ◌≤◌, length}
 use Rattle.markdown_plain.specs.Closing.{StandsFor, MayClose}
 use Rattle.markdown_base.specs.Forest.{Forest}
-use Rattle.markdown_builder.specs.BuilderView.{BuilderView}
 use Rattle.markdown_builder.specs.TreeLevels.{followed_by}
 use Rattle.markdown_lines.specs.BlockBeginnings.{Source}
 use Rattle.markdown_block_rules.specs.BlockGrowth.{Block}
@@ -49,28 +48,15 @@ made_room c s frames inside few closed fits =
           )
     ]
 
--- to close it changes no text that blocks and items refer to
-texts_stay : (c : goal.After-add_block) → AllFitted c.if-is_in_list.self.placing
-    → c.if-is_in_list.self.placing.builder.texts ≡ c.close_down.new.self.placing.builder.texts
-texts_stay c fits =
-    elim c.if-is_in_list.branch [
-      | then-is_in_list w ↦
-          ap (λ (p : Pass). p.placing.builder.texts) w.self-is
-          ∙ ap (λ (v : BuilderView). v.texts)
-          (w.close_block.ensures.closes (subst (λ (p : Pass). AllFitted p.placing) w.self-is fits)).1
-      | else-is_in_list w ↦ ap (λ (p : Pass). p.placing.builder.texts) w.self-is
-    ]
-
 pub returns-clause-forgets : goal.returns-clause-forgets
 returns-clause-forgets c = λ s frames inside none few may fitted.
     let made = made_room c s frames inside few (c.in_ok-close_down.ensures.forgets s frames inside none may) fitted in
     (made.0, stands_on s c.if-is_in_list.self _ _ _ refl refl made.1)
 
 pub returns-clause-finishes : goal.returns-clause-finishes
-returns-clause-finishes c = λ s frames inside b held few may more fitted.
+returns-clause-finishes c = λ s frames inside b held few may fitted.
     let made = made_room c s frames (followed_by inside (leaf_block b)) few
-    (c.in_ok-close_down.ensures.finishes s frames inside b held may
-    (record { more = more.more; are = sym (texts_stay c fitted) ∙ more.are })) fitted in
+    (c.in_ok-close_down.ensures.finishes s frames inside b held may) fitted in
     (made.0, stands_on s c.if-is_in_list.self _ _ _ refl refl made.1)
 
 -- what is remembered before the block is added is that of the containers which it may begin in

@@ -10,7 +10,7 @@ use Rattle.markdown_lines.specs.declared.held_line.HeldLine.{HeldLine}
 use Rattle.markdown_block_rules.specs.BlockRules.{before_braces}
 use Rattle.markdown_plain.proofs.ParagraphBracesLemmas.{begin_first, heading_open}
 use Rattle.markdown_plain.proofs.ParagraphTreesLemmas.{any_default, takes_line}
-use Rattle.markdown_plain.proofs.PlacedParagraphsLemmas.{IsAtEnd, moved_to, none_run, placed_tree}
+use Rattle.markdown_plain.proofs.PlacedParagraphsLemmas.{IsAtEnd, moved_to, none_run, opens_no_text, placed_tree}
 use Rattle.markdown_plain.specs.Fitting.{AllFitted, stepped}
 use Rattle.markdown_plain.specs.HeldSources.{AreTextLines}
 use Rattle.markdown_plain.specs.ParagraphItems.{HaveEnds, OpenInLast, heading_braces, text_items}
@@ -19,6 +19,7 @@ use Rattle.markdown_plain.specs.LeafTrees.{HasTrees}
 use Rattle.markdown_plain.specs.declared.pass.Pass.{Pass}
 use Rattle.markdown_plain.proofs.pass.Pass.place_paragraph.Goals.{in-Some, in_default, then-from-eq0, else-from-eq0}
 use Rattle.markdown_plain.proofs.pass.Pass.place_paragraph.Goals.{in-Some-heading, in_default-heading}
+use Rattle.markdown_plain.proofs.LeafTreesLemmas.{no_text, texts_after}
 use Rattle.markdown_plain.proofs.pass.Pass.place_paragraph.Goals as goal
 
 same : (c : goal.After-close) → c.match-get.self ≡ record c.args.self.now { placing = c.match-get.self.placing }
@@ -151,4 +152,46 @@ returns-clause-tree c = λ sources marked b are less some first end fitted.
           (braces_are ∙ ap (heading_braces pass.options c.args.heading) t.left) opens.1 items
           (over.1.open_blocks ∙ ap (λ (v : BuilderView). v.blocks) goes)
           (over.1.headings ∙ ap (λ (v : BuilderView). v.headings) goes) over.1.levels (over.1.at ∙ sym end) put.1),
+    )
+
+-- what is between the other calls appends no text
+begun_texts : (c : goal.After-close) → AllFitted c.match-get.self.placing → AllFitted c.args.self.now.placing
+    × (c.match-get.self.placing.builder.texts ≡ c.args.self.now.placing.builder.texts)
+begun_texts c fitted =
+    elim c.match-get.branch [
+      | in-Some w ↦
+          let steps = w.step_to.ensures.steps (subst (λ (p : Pass). AllFitted p.placing) w.self-is fitted) in
+          (steps.0, ap (λ (p : Pass). p.placing.builder.texts) w.self-is ∙ ap (λ (v : BuilderView). v.texts) steps.1)
+      | in_default w ↦ (
+          subst (λ (p : Pass). AllFitted p.placing) w.self-is fitted,
+          ap (λ (p : Pass). p.placing.builder.texts) w.self-is,
+        )
+    ]
+
+ended_texts : (c : goal.After-close) → AllFitted c.match-heading.self.placing → AllFitted c.add_lines.new.placing
+    × (c.match-heading.self.placing.builder.texts ≡ c.add_lines.new.placing.builder.texts)
+ended_texts c fitted =
+    elim c.match-heading.branch [
+      | in-Some-heading w ↦
+          let steps = w.step_to-in-Some-heading.ensures.steps
+          (subst (λ (p : Pass). AllFitted p.placing) w.self-is fitted) in
+          (steps.0, ap (λ (p : Pass). p.placing.builder.texts) w.self-is ∙ ap (λ (v : BuilderView). v.texts) steps.1)
+      | in_default-heading w ↦ (
+          subst (λ (p : Pass). AllFitted p.placing) w.self-is fitted,
+          ap (λ (p : Pass). p.placing.builder.texts) w.self-is,
+        )
+    ]
+
+pub returns-clause-texts : goal.returns-clause-texts
+returns-clause-texts c = λ fitted.
+    let closed = c.close.ensures.closes fitted in
+    let over = ended_texts c closed.0 in
+    let filled = c.in_ok-add_lines.ensures.texts over.0 in
+    let opens = c.in_ok-open_text.ensures.opens filled.0 in
+    let begun = begun_texts c opens.0 in
+    let same = opens_no_text c.match-get.self.placing.builder c.open_text.new.placing.builder c.args.heading
+    opens.1 in (
+      begun.0,
+      texts_after _ _ _ (texts_after _ _ _ (no_text _ _ (same ∙ begun.1)) filled.1)
+          (no_text _ _ (ap (λ (v : BuilderView). v.texts) closed.1 ∙ over.1)),
     )
