@@ -15,7 +15,7 @@ ghost use Rattle.markdown_builder.specs.TreeLevels.{followed_by};
 ghost use Rattle.markdown_lines.specs.BlockBeginnings.{Source};
 ghost use Rattle.markdown_lines.specs.SourceLines.{SourceLine, cut};
 ghost use Rattle.markdown_block_rules.specs.BlockGrowth.{Block, Kind, break_leaf, fenced_leaf, heading_leaf};
-ghost use Rattle.markdown_block_rules.specs.BlockGrowth.{leaf_with, metadata_leaf};
+ghost use Rattle.markdown_block_rules.specs.BlockGrowth.{ends_html, html_leaf, leaf_with, metadata_leaf};
 ghost use Rattle.markdown_block_rules.specs.BlockRules.{shown_heading, shown_over};
 ghost use Rattle.markdown_items.specs.ContentItems.{content_items};
 ghost use Rattle.markdown_items.specs.LineItems.{item_extensions};
@@ -377,6 +377,13 @@ impl<'a> Pass<'a> {
             × HasTrees self.old.placing.builder self.new.placing.builder
             (shown_over start (after_line position.at line.next) body.HtmlBlock None
             (chain_of (source_line body.Html source))))) }
+        ensures leaf { IfOk result (λ _. (s : Source) (frames : List Frame) (inside : Forest Block)
+            (b : Block) (source : SourceLine) → IsBuilt s self.old.placing.builder frames inside
+            → IsLineRest self.old.placing.builder.text position line source
+            → b.kind ≡ html_leaf kind (ends_html kind source) (source ∷ [])
+            → IsNextContent self.old.placing.builder.text position.at (Some b.start)
+            → b.last ≡ source.next → IfFitted self.old.placing self.new.placing
+            (IsLeafIn s self.new.placing.builder frames inside b (ends_html kind source))) }
         ensures kind { IfOk result (λ _. self.new.leaf ≡ leaf_kind.Html kind) }
         ensures same { self.new
             ≡ record self.old { placing = self.new.placing; leaf = self.new.leaf } }
@@ -425,6 +432,14 @@ impl<'a> Pass<'a> {
             IfFitted self.old.placing self.new.placing
             (GoesOn self.old.placing.builder self.new.placing.builder
             (after_line position.at line.next))) }
+        ensures leaf { IfOk result (λ _. (s : Source) (frames : List Frame) (inside : Forest Block)
+            (b : Block) (lines : List SourceLine) (source : SourceLine) (now : Kind)
+            → IsLeafIn s self.old.placing.builder frames inside b false
+            → b.kind ≡ html_leaf kind false lines
+            → IsLineRest self.old.placing.builder.text position line source
+            → leaf_with s source b.kind ≡ Some now → IfFitted self.old.placing self.new.placing
+            (IsLeafIn s self.new.placing.builder frames inside
+            (record b { last = source.next; kind = now }) (has_ended now))) }
         ensures same { self.new ≡ record self.old { placing = self.new.placing } }
     {
         self.add_html_line(line, position)?;
