@@ -1,11 +1,9 @@
 -- The line is one more of the block, and may close it.
-use Rattle.std.proofs.Common.{◌≡◌, ◌∙◌, ◌++◌, ◌∷◌, [], None, ap, arith, sym, subst, rules, true, false}
+use Rattle.std.proofs.Common.{◌∙◌, ◌++◌, ◌∷◌, [], None, ap, arith, sym, subst, true, false}
 use Rattle.markdown_base.specs.declared.item.ItemBody.TheVariants as body
-use Rattle.markdown_builder.specs.TreeLevels.{followed_by}
 use Rattle.markdown_block_rules.specs.BlockGrowth.{ends_html, html_leaf}
 use Rattle.markdown_plain.specs.CodeLines.{ends_html_at}
-use Rattle.markdown_plain.specs.Fitting.{AllFitted, GoesOn, closed}
-use Rattle.markdown_plain.specs.HeldSources.{IsRest}
+use Rattle.markdown_plain.specs.Fitting.{AllFitted, GoesOn}
 use Rattle.markdown_plain.specs.OpenLeaves.{IsLeafIn, IsOpenIn, has_ended}
 use Rattle.markdown_plain.specs.declared.pass.Pass.{Pass}
 use Rattle.markdown_plain.proofs.LeafKindsLemmas.{html_alike, html_lined, html_with, on_value}

@@ -163,9 +163,9 @@ begun_texts c fitted =
           let steps = w.step_to.ensures.steps (subst (λ (p : Pass). AllFitted p.placing) w.self-is fitted) in
           (steps.0, ap (λ (p : Pass). p.placing.builder.texts) w.self-is ∙ ap (λ (v : BuilderView). v.texts) steps.1)
       | in_default w ↦ (
-          subst (λ (p : Pass). AllFitted p.placing) w.self-is fitted,
-          ap (λ (p : Pass). p.placing.builder.texts) w.self-is,
-        )
+        subst (λ (p : Pass). AllFitted p.placing) w.self-is fitted,
+        ap (λ (p : Pass). p.placing.builder.texts) w.self-is,
+      )
     ]
 
 ended_texts : (c : goal.After-close) → AllFitted c.match-heading.self.placing → AllFitted c.add_lines.new.placing
@@ -177,9 +177,9 @@ ended_texts c fitted =
           (subst (λ (p : Pass). AllFitted p.placing) w.self-is fitted) in
           (steps.0, ap (λ (p : Pass). p.placing.builder.texts) w.self-is ∙ ap (λ (v : BuilderView). v.texts) steps.1)
       | in_default-heading w ↦ (
-          subst (λ (p : Pass). AllFitted p.placing) w.self-is fitted,
-          ap (λ (p : Pass). p.placing.builder.texts) w.self-is,
-        )
+        subst (λ (p : Pass). AllFitted p.placing) w.self-is fitted,
+        ap (λ (p : Pass). p.placing.builder.texts) w.self-is,
+      )
     ]
 
 pub returns-clause-texts : goal.returns-clause-texts
