@@ -2,6 +2,7 @@
 use Rattle.std.proofs.Common.{◌∙◌, refl, sym, subst, take, drop, ◌≡◌, List, true, false, ap, rules, ◌≤◌, length}
 use Rattle.markdown_plain.specs.Closing.{StandsFor, MayClose}
 use Rattle.markdown_base.specs.Forest.{Forest}
+use Rattle.markdown_builder.specs.BuilderView.{BuilderView}
 use Rattle.markdown_builder.specs.TreeLevels.{followed_by}
 use Rattle.markdown_lines.specs.BlockBeginnings.{Source}
 use Rattle.markdown_block_rules.specs.BlockGrowth.{Block}
