@@ -23,3 +23,4 @@ pub mod ClosedFramesLemmas
 pub mod LeavesInPlaceLemmas
 pub mod LinedLeavesLemmas
 pub mod LeafKindsLemmas
+pub mod IndentedLeavesLemmas
