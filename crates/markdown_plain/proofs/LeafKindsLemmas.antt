@@ -1,64 +1,50 @@
 -- Fenced code, metadata, HTML and indented code in the innermost open container, line by line.
-use Rattle.std.proofs.Common.{◌≡◌, ℕ, Bool, true, false, List, [], ◌∷◌, ◌++◌, Option, Some, None, length, slice_range}
-use Rattle.std.proofs.Common.{refl, sym, ap, ◌∙◌, subst, not}
-use Rattle.std.specs.Prelude.{◌||◌}
+use Rattle.std.proofs.Common.{◌≡◌, ℕ, Bool, true, false, List, [], ◌∷◌, ◌++◌, Some, None, length, slice_range}
+use Rattle.std.proofs.Common.{refl, sym, ap, ◌∙◌, subst}
 use Rattle.markdown_base.specs.Forest.{Forest, nil, node}
 use Rattle.markdown_base.specs.declared.item.ItemBody.{ItemBody}
 use Rattle.markdown_base.specs.declared.item.ItemBody.TheVariants as body
 use Rattle.markdown_base.specs.declared.options.Options.{Options}
 use Rattle.markdown_builder.specs.declared.open_block.OpenBlock.{OpenBlock}
-use Rattle.markdown_builder.specs.BuilderView.{AppendsItem, BuilderView, parts_of}
+use Rattle.markdown_builder.specs.BuilderView.{BuilderView, parts_of}
 use Rattle.markdown_builder.specs.Shown.{chain_of, shown_item}
 use Rattle.markdown_builder.specs.TreeLevels.{followed_by, with_trees}
-use Rattle.markdown_builder.proofs.LaidLemmas.{followed_by-nil}
-use Rattle.markdown_items.specs.ContentItems.{content_items}
-use Rattle.markdown_items.specs.LineItems.{item_extensions}
 use Rattle.markdown_items.proofs.RestOfLineLemmas.{no_items}
 use Rattle.markdown_lines.specs.BlockBeginnings.{Source}
 use Rattle.markdown_lines.specs.LineBytes.{IsPartOf}
 use Rattle.markdown_lines.specs.SourceLines.{SourceLine}
-use Rattle.markdown_lines.specs.declared.atx_heading.AtxHeading.{AtxHeading}
 use Rattle.markdown_lines.specs.declared.fence.OpeningFence.{OpeningFence}
 use Rattle.markdown_scan.specs.Entity.{entity_names}
 use Rattle.markdown_scan.specs.Unescape.{unescaped}
 use Rattle.markdown_block_rules.specs.BlockGrowth as was
 use Rattle.markdown_block_rules.specs.BlockGrowth.{Block, Kind}
-use Rattle.markdown_block_rules.specs.BlockRules.{block_end, in_no_item, info_of, shown_heading, shown_over}
-use Rattle.markdown_block_rules.specs.LineContents.{source_lines}
+use Rattle.markdown_block_rules.specs.BlockRules.{in_no_item, info_of, shown_over}
 use Rattle.markdown_plain.specs.Fitting.{GoesOn, OpensFenced}
 use Rattle.markdown_plain.specs.Frames.{Frame}
 use Rattle.markdown_plain.specs.LeafTrees.{HasItems, HasMoreTexts, HasTrees}
 use Rattle.markdown_plain.specs.OpenedFrames.{around_innermost}
-use Rattle.markdown_plain.specs.OpenLeaves.{InfoStands, IsOpenIn, IsPlaced, is_leaf, leaf_block}
+use Rattle.markdown_plain.specs.OpenLeaves.{InfoStands, IsOpenIn, IsPlaced, leaf_block}
 use Rattle.markdown_plain.specs.Paragraphs.{IsPlacedTo}
 use Rattle.markdown_plain.specs.Settled.{IsBuilt}
-use Rattle.markdown_plain.proofs.LeafTreesLemmas.{get_last, lines_append, no_text}
-use Rattle.std.specs.Prelude.{◌+◌, ◌-◌, ◌≤◌, ◌==◌, ◌&&◌, max, nat_le, nat_lt, if◌then◌else◌}
+use Rattle.markdown_plain.proofs.LeafTreesLemmas.{get_last, no_text}
+use Rattle.std.specs.Prelude.{◌&&◌, nat_lt, if◌then◌else◌}
 use Rattle.std.proofs.Common.{append-nil, arith}
 use Rattle.std.proofs.lemmas.Option.{same_Some}
 use Rattle.markdown_builder.specs.BuilderView.{with_items}
-use Rattle.markdown_scan.specs.LineStart.{Space, column_after, leading_space, space_from, space_width}
+use Rattle.markdown_scan.specs.LineStart.{leading_space}
 use Rattle.markdown_lines.specs.CodeFences.{closes_fence}
 use Rattle.markdown_lines.specs.SourceLines.{cut, stop_of}
 use Rattle.markdown_lines.specs.declared.fence.Fence.{Fence}
 use Rattle.markdown_lines.specs.declared.line.Line.{Line}
 use Rattle.markdown_lines.specs.declared.position.Position.{Position}
 use Rattle.markdown_block_rules.specs.BlockGrowth.{closes, leaf_with}
-use Rattle.markdown_block_rules.specs.BlockRules.{Around}
 use Rattle.markdown_block_rules.specs.LineContents.{source_line}
-use Rattle.markdown_plain.specs.CodeLines.{after_line, is_closed_at}
+use Rattle.markdown_plain.specs.CodeLines.{is_closed_at}
 use Rattle.markdown_plain.specs.Fitting.{PutsBlock, closed, stepped}
 use Rattle.markdown_plain.specs.OpenLeaves.{IsLeafIn, IsLineRest, has_ended}
-use Rattle.markdown_plain.specs.HeldSources.{IsHeld}
-use Rattle.markdown_lines.specs.declared.held_line.HeldLine.{HeldLine}
-use Rattle.std.specs.Prelude.{IfOk, Result, Ok, Err}
-use Rattle.markdown_plain.proofs.LeafTreesLemmas.{on_test}
-use Rattle.markdown_plain.proofs.LeavesInPlaceLemmas.{closed_leaf, shown_of_kind}
-use Rattle.markdown_plain.proofs.LeavesInPlaceLemmas.{filled_leaf, has_its_text, is_some, more_in_first, names_text}
-use Rattle.markdown_plain.proofs.LeavesInPlaceLemmas.{opened_leaf, shown_alone, shown_leaf, whole_leaf}
+use Rattle.markdown_plain.proofs.LeavesInPlaceLemmas.{opened_leaf, shown_alone, whole_leaf}
 use Rattle.markdown_base.specs.declared.tag.MetadataBlockKind.{MetadataBlockKind}
 use Rattle.markdown_lines.specs.MetadataBlocks.{closes_metadata}
-use Rattle.markdown_builder.specs.Shown.{Parts, plain_item}
 use Rattle.markdown_plain.specs.Fitting.{opened}
 use Rattle.markdown_plain.specs.LeafTrees.{OpensWith}
 use Rattle.markdown_lines.specs.declared.html_kind.HtmlKind.{HtmlKind}

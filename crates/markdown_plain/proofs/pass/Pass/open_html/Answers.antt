@@ -10,7 +10,7 @@ use Rattle.markdown_plain.specs.CodeLines.{after_line, ends_html_at}
 use Rattle.markdown_plain.specs.Fitting.{stepped}
 use Rattle.markdown_plain.specs.HeldSources.{IsRest}
 use Rattle.markdown_plain.specs.LeafTrees.{HasTrees}
-use Rattle.std.proofs.Common.{◌∙◌, ap, sym, arith, false}
+use Rattle.std.proofs.Common.{◌∙◌, ap, sym, arith}
 use Rattle.markdown_block_rules.specs.BlockGrowth.{ends_html}
 use Rattle.markdown_plain.specs.Fitting.{AllFitted}
 use Rattle.markdown_plain.specs.OpenLeaves.{IsLeafIn, IsOpenIn}
