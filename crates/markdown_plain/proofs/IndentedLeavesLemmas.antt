@@ -89,7 +89,8 @@ pub indented_opened : (s : Source) (old now new : BuilderView) (frames : List Fr
     → IsOpenIn s new frames inside true b
 indented_opened s old now new frames inside b source at built some same start opens goes_on texts levels =
     let code = code_to_end [] source some in
-    plain_leaf_opened s old new frames inside b at source.next body.IndentCodeBlock (body.Text false) (source ∷ []) built
+    plain_leaf_opened s old new frames inside b at source.next body.IndentCodeBlock (body.Text false)
+    (source ∷ []) built
     (record {
       plain = λ parts start end. refl;
       leaf = kind_is_leaf b (was.indented_leaf (source ∷ [])) same refl;
@@ -99,7 +100,8 @@ indented_opened s old now new frames inside b source at built some same start op
         levels = new.levels;
         texts = new.texts;
       }) opens;
-      levels = levels ∙ ap (with_items (old.levels ++ nil ∷ [])) (sym (append-nil (source_line (body.Text false) source)));
+      levels = levels ∙ ap (with_items (old.levels ++ nil ∷ [])) (sym (append-nil (source_line
+          (body.Text false) source)));
       texts = texts;
       shown = code_shown s frames b (source ∷ []) (source ∷ []) same code
           ∙ ap (λ n. shown_code n source.next (source ∷ [])) start;
@@ -158,5 +160,6 @@ blank_held s view frames inside b lines source is_open same blank =
           ∙ sym (code_shown s frames c (lines ++ cut 4 source ∷ []) (code_lines lines) refl code));
       end = is_open.end ∙ (leaf_end frames inside b (kind_is_leaf b (was.indented_leaf lines) same refl)
           ∙ (code_end b lines (code_lines lines) same refl
-          ∙ sym (leaf_end frames inside c refl ∙ code_end c (lines ++ cut 4 source ∷ []) (code_lines lines) refl code)));
+          ∙ sym (leaf_end frames inside c refl ∙ code_end c (lines ++ cut 4 source ∷ [])
+          (code_lines lines) refl code)));
     }

@@ -62,7 +62,8 @@ closed_tree (l ∷ m ∷ n ∷ outer) inside a some =
     ap (λ ls. l ∷ ls) (closed_tree (m ∷ n ∷ outer) inside a (λ e. cc (e)))
 
 -- a block that is no tight list keeps what is in it
-pub settled_leaf : (a : Shown) (inside : Forest Shown) → is_tight_list a.item.body ≡ false → settled_below a inside ≡ inside
+pub settled_leaf : (a : Shown) (inside : Forest Shown) → is_tight_list a.item.body ≡ false
+    → settled_below a inside ≡ inside
 settled_leaf a inside e = ap (λ b. cond b (items_changed tight_shown inside) inside) e
 
 -- a leaf that was opened, filled and closed is put into the innermost level

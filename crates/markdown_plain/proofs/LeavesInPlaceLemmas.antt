@@ -279,7 +279,8 @@ closed_leaf s old new frames inside leaf b is closes put is_open =
       built = appended_is_built s frames inside (leaf_block b) around new (record {
         more = [];
         text = ap (λ (v : BuilderView). v.text) closes;
-        blocks = ap (λ (v : BuilderView). v.blocks) closes ∙ outer_of_these old.blocks is_open.outer is_open.block is_open.blocks;
+        blocks = ap (λ (v : BuilderView). v.blocks) closes
+            ∙ outer_of_these old.blocks is_open.outer is_open.block is_open.blocks;
         outside = ap (λ (v : BuilderView). v.leaf) closes;
         levels = put.levels
             ∙ (ap (λ block. with_block old.levels (shown_as block))

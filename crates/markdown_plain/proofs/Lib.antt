@@ -23,4 +23,5 @@ pub mod ClosedFramesLemmas
 pub mod LeavesInPlaceLemmas
 pub mod LinedLeavesLemmas
 pub mod LeafKindsLemmas
+pub mod HtmlLeavesLemmas
 pub mod IndentedLeavesLemmas

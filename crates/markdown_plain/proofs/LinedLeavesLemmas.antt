@@ -58,7 +58,8 @@ pub kind_is_leaf : (b : Block) (kind : Kind) → b.kind ≡ kind → is_leaf kin
 kind_is_leaf b kind is leaf = ap is_leaf is ∙ leaf
 
 -- and it ends with its last line
-pub ends_with_line : (b : Block) (kind : Kind) (to : ℕ) → b.kind ≡ kind → block_end b b.first kind ≡ b.last → b.last ≡ to
+pub ends_with_line : (b : Block) (kind : Kind) (to : ℕ) → b.kind ≡ kind → block_end b b.first kind ≡ b.last
+    → b.last ≡ to
     → to ≡ block_end b b.first b.kind
 ends_with_line b kind to is end last = sym last ∙ (sym end ∙ sym (ap (block_end b b.first) is))
 
@@ -101,9 +102,11 @@ heading_placed s old new options frames inside b heading to built same kind star
     (chain_of (content_items t (item_extensions o) heading.from heading.to))) in
     whole_leaf s old new frames inside b (kind_is_leaf b (was.heading_leaf heading) kind refl) built
     (subst (IsPlacedTo old new) (ends_with_line b (was.heading_leaf heading) to kind refl last) placed) texts
-    (λ some. trees some ∙ (ap (λ t. shown t options old.at to) built.text ∙ (ap (λ o. shown s.text o old.at to) (sym same)
+    (λ some. trees some ∙ (ap (λ t. shown t options old.at to) built.text ∙ (ap (λ o. shown s.text o old.at to)
+    (sym same)
     ∙ (ap (λ n. shown s.text s.options n to) (sym start) ∙ (ap (shown s.text s.options b.start) (sym last)
-    ∙ ap (with_trees old.levels) (sym (shown_alone s (around_innermost in_no_item frames) b (was.heading_leaf heading) kind
+    ∙ ap (with_trees old.levels) (sym (shown_alone s (around_innermost in_no_item frames) b
+    (was.heading_leaf heading) kind
     ∙ followed_by-nil _)))))))
 
 -- ---- lines that are added
@@ -122,7 +125,8 @@ pub record AddsLines (s : Source) (frames : List Frame) (old new : BuilderView) 
   pub from : ℕ
   pub start : b.start ≡ c.start
   pub was : shown_leaf s frames b ≡ shown_over b.start from body text (chain_of (source_lines line before))
-  pub shown : shown_leaf s frames c ≡ shown_over c.start new.at body text (chain_of (source_lines line (before ++ lines)))
+  pub shown : shown_leaf s frames c ≡ shown_over c.start new.at body text (chain_of (source_lines line
+      (before ++ lines)))
   pub named : (not (names_text body) || is_some text) ≡ true
   pub goes_on : GoesOn old new new.at
   pub texts : HasMoreTexts old new
@@ -140,7 +144,8 @@ lines_added s old new frames inside in_leaf b c leaf adds is_open =
       added = adds.added;
       named = ap has_its_text adds.was ∙ adds.named;
       shown = ap (more_in_first new.at (source_lines adds.line adds.lines)) adds.was
-          ∙ (ap (λ n. shown_over n new.at adds.body adds.text (followed_by (chain_of (source_lines adds.line adds.before))
+          ∙ (ap (λ n. shown_over n new.at adds.body adds.text (followed_by (chain_of
+          (source_lines adds.line adds.before))
           (chain_of (source_lines adds.line adds.lines)))) adds.start
           ∙ (ap (shown_over c.start new.at adds.body adds.text)
           (chain_of_both (source_lines adds.line adds.before) (source_lines adds.line adds.lines)
