@@ -7,8 +7,8 @@ use Rattle.markdown_base.specs.declared.item.ItemBody.TheVariants as body
 use Rattle.markdown_base.specs.declared.options.Options.{Options}
 use Rattle.markdown_builder.specs.declared.open_block.OpenBlock.{OpenBlock}
 use Rattle.markdown_builder.specs.BuilderView.{BuilderView, parts_of}
-use Rattle.markdown_builder.specs.Shown.{chain_of, shown_item}
-use Rattle.markdown_builder.specs.TreeLevels.{followed_by, with_trees}
+use Rattle.markdown_builder.specs.Shown.{shown_item}
+use Rattle.markdown_builder.specs.TreeLevels.{followed_by}
 use Rattle.markdown_items.proofs.RestOfLineLemmas.{no_items}
 use Rattle.markdown_lines.specs.BlockBeginnings.{Source}
 use Rattle.markdown_lines.specs.LineBytes.{IsPartOf}
@@ -21,16 +21,13 @@ use Rattle.markdown_block_rules.specs.BlockGrowth.{Block, Kind}
 use Rattle.markdown_block_rules.specs.BlockRules.{in_no_item, info_of, shown_over}
 use Rattle.markdown_plain.specs.Fitting.{GoesOn, OpensFenced}
 use Rattle.markdown_plain.specs.Frames.{Frame}
-use Rattle.markdown_plain.specs.LeafTrees.{HasItems, HasMoreTexts, HasTrees}
+use Rattle.markdown_plain.specs.LeafTrees.{HasItems, HasMoreTexts}
 use Rattle.markdown_plain.specs.OpenedFrames.{around_innermost}
 use Rattle.markdown_plain.specs.OpenLeaves.{InfoStands, IsOpenIn, IsPlaced, leaf_block}
-use Rattle.markdown_plain.specs.Paragraphs.{IsPlacedTo}
 use Rattle.markdown_plain.specs.Settled.{IsBuilt}
 use Rattle.markdown_plain.proofs.LeafTreesLemmas.{get_last, no_text}
 use Rattle.std.specs.Prelude.{◌&&◌, nat_lt, if◌then◌else◌}
-use Rattle.std.proofs.Common.{append-nil, arith}
 use Rattle.std.proofs.lemmas.Option.{same_Some}
-use Rattle.markdown_builder.specs.BuilderView.{with_items}
 use Rattle.markdown_scan.specs.LineStart.{leading_space}
 use Rattle.markdown_lines.specs.CodeFences.{closes_fence}
 use Rattle.markdown_lines.specs.SourceLines.{cut, stop_of}
@@ -42,26 +39,11 @@ use Rattle.markdown_block_rules.specs.LineContents.{source_line}
 use Rattle.markdown_plain.specs.CodeLines.{is_closed_at}
 use Rattle.markdown_plain.specs.Fitting.{PutsBlock, closed, stepped}
 use Rattle.markdown_plain.specs.OpenLeaves.{IsLeafIn, IsLineRest, has_ended}
-use Rattle.markdown_plain.proofs.LeavesInPlaceLemmas.{opened_leaf, shown_alone, whole_leaf}
+use Rattle.markdown_plain.proofs.LeavesInPlaceLemmas.{opened_leaf, shown_alone}
 use Rattle.markdown_base.specs.declared.tag.MetadataBlockKind.{MetadataBlockKind}
 use Rattle.markdown_lines.specs.MetadataBlocks.{closes_metadata}
 use Rattle.markdown_plain.specs.Fitting.{opened}
-use Rattle.markdown_plain.specs.LeafTrees.{OpensWith}
-use Rattle.markdown_lines.specs.declared.html_kind.HtmlKind.{HtmlKind}
-use Rattle.markdown_lines.specs.HtmlKinds.{ends_at_blank, ends_in}
-use Rattle.markdown_lines.specs.Lines.{IsNextContent}
-use Rattle.markdown_lines.specs.SourceLines.{is_blank_rest}
-use Rattle.markdown_scan.specs.LineStart.{LineLeft}
-use Rattle.markdown_builder.specs.Shown.{Shown}
 use Rattle.markdown_block_rules.specs.BlockGrowth.{ends_html}
-use Rattle.markdown_plain.specs.CodeLines.{ends_html_at}
-use Rattle.markdown_builder.specs.BuilderView.{Opens}
-use Rattle.markdown_plain.specs.Fitting.{BeginsAtContent}
-use Rattle.markdown_plain.specs.OpenBlocks.{outer_of}
-use Rattle.markdown_plain.proofs.LeafTreesLemmas.{same_block}
-use Rattle.markdown_plain.proofs.OpenBlocksLemmas.{outer_of_these}
-use Rattle.std.proofs.Common.{◌<◌, true≢false}
-use Rattle.std.proofs.lemmas.Bool.Decides.{nat_tests}
 use Rattle.markdown_plain.proofs.LinedLeavesLemmas.{IsLined, closed_by_line, ends_with_line, grown_to, kind_is_leaf}
 use Rattle.markdown_plain.proofs.LinedLeavesLemmas.{line_added_to, lined_shown, opened_as, plain_leaf_opened}
 

@@ -3,8 +3,6 @@ use Rattle.std.proofs.Common.{◌≡◌, ◌∙◌, ap, arith, sym, subst, rules
 use Rattle.std.proofs.lemmas.Result.{IfOk-weaker}
 use Rattle.markdown_builder.specs.BuilderView.{BuilderView}
 use Rattle.markdown_lines.specs.MetadataBlocks.{closes_metadata}
-use Rattle.markdown_scan.specs.LineStart.{LineLeft}
-use Rattle.markdown_plain.specs.CodeLines.{whole_of}
 use Rattle.markdown_plain.specs.Fitting.{GoesOn, PutsBlock, closed, stepped}
 use Rattle.markdown_plain.specs.HeldSources.{IsHeld}
 use Rattle.markdown_plain.proofs.LeafKindsLemmas.{metadata_added, metadata_closed}
