@@ -1,81 +1,49 @@
--- Fenced code, metadata, HTML and indented code in the innermost open container, line by line.
-use Rattle.std.proofs.Common.{◌≡◌, ℕ, Bool, true, false, List, [], ◌∷◌, ◌++◌, Option, Some, None, length, slice_range}
-use Rattle.std.proofs.Common.{refl, sym, ap, ◌∙◌, subst, not}
-use Rattle.std.specs.Prelude.{◌||◌}
+-- Fenced code and metadata in the innermost open container, line by line.
+use Rattle.std.proofs.Common.{◌≡◌, ℕ, Bool, true, false, List, [], ◌∷◌, ◌++◌, Some, None, length, slice_range}
+use Rattle.std.proofs.Common.{refl, sym, ap, ◌∙◌, subst}
 use Rattle.markdown_base.specs.Forest.{Forest, nil, node}
 use Rattle.markdown_base.specs.declared.item.ItemBody.{ItemBody}
 use Rattle.markdown_base.specs.declared.item.ItemBody.TheVariants as body
 use Rattle.markdown_base.specs.declared.options.Options.{Options}
 use Rattle.markdown_builder.specs.declared.open_block.OpenBlock.{OpenBlock}
-use Rattle.markdown_builder.specs.BuilderView.{AppendsItem, BuilderView, parts_of}
-use Rattle.markdown_builder.specs.Shown.{chain_of, shown_item}
-use Rattle.markdown_builder.specs.TreeLevels.{followed_by, with_trees}
-use Rattle.markdown_builder.proofs.LaidLemmas.{followed_by-nil}
-use Rattle.markdown_items.specs.ContentItems.{content_items}
-use Rattle.markdown_items.specs.LineItems.{item_extensions}
+use Rattle.markdown_builder.specs.BuilderView.{BuilderView, parts_of}
+use Rattle.markdown_builder.specs.Shown.{shown_item}
+use Rattle.markdown_builder.specs.TreeLevels.{followed_by}
 use Rattle.markdown_items.proofs.RestOfLineLemmas.{no_items}
 use Rattle.markdown_lines.specs.BlockBeginnings.{Source}
 use Rattle.markdown_lines.specs.LineBytes.{IsPartOf}
 use Rattle.markdown_lines.specs.SourceLines.{SourceLine}
-use Rattle.markdown_lines.specs.declared.atx_heading.AtxHeading.{AtxHeading}
 use Rattle.markdown_lines.specs.declared.fence.OpeningFence.{OpeningFence}
 use Rattle.markdown_scan.specs.Entity.{entity_names}
 use Rattle.markdown_scan.specs.Unescape.{unescaped}
 use Rattle.markdown_block_rules.specs.BlockGrowth as was
 use Rattle.markdown_block_rules.specs.BlockGrowth.{Block, Kind}
-use Rattle.markdown_block_rules.specs.BlockRules.{block_end, in_no_item, info_of, shown_heading, shown_over}
-use Rattle.markdown_block_rules.specs.LineContents.{source_lines}
+use Rattle.markdown_block_rules.specs.BlockRules.{in_no_item, info_of, shown_over}
 use Rattle.markdown_plain.specs.Fitting.{GoesOn, OpensFenced}
 use Rattle.markdown_plain.specs.Frames.{Frame}
-use Rattle.markdown_plain.specs.LeafTrees.{HasItems, HasMoreTexts, HasTrees}
+use Rattle.markdown_plain.specs.LeafTrees.{HasItems, HasMoreTexts}
 use Rattle.markdown_plain.specs.OpenedFrames.{around_innermost}
-use Rattle.markdown_plain.specs.OpenLeaves.{InfoStands, IsOpenIn, IsPlaced, is_leaf, leaf_block}
-use Rattle.markdown_plain.specs.Paragraphs.{IsPlacedTo}
+use Rattle.markdown_plain.specs.OpenLeaves.{InfoStands, IsOpenIn, IsPlaced, leaf_block}
 use Rattle.markdown_plain.specs.Settled.{IsBuilt}
-use Rattle.markdown_plain.proofs.LeafTreesLemmas.{get_last, lines_append, no_text}
-use Rattle.std.specs.Prelude.{◌+◌, ◌-◌, ◌≤◌, ◌==◌, ◌&&◌, max, nat_le, nat_lt, if◌then◌else◌}
-use Rattle.std.proofs.Common.{append-nil, arith}
+use Rattle.markdown_plain.proofs.LeafTreesLemmas.{get_last, no_text}
+use Rattle.std.specs.Prelude.{◌&&◌, nat_lt, if◌then◌else◌}
 use Rattle.std.proofs.lemmas.Option.{same_Some}
-use Rattle.markdown_builder.specs.BuilderView.{with_items}
-use Rattle.markdown_scan.specs.LineStart.{Space, column_after, leading_space, space_from, space_width}
+use Rattle.markdown_scan.specs.LineStart.{leading_space}
 use Rattle.markdown_lines.specs.CodeFences.{closes_fence}
 use Rattle.markdown_lines.specs.SourceLines.{cut, stop_of}
 use Rattle.markdown_lines.specs.declared.fence.Fence.{Fence}
 use Rattle.markdown_lines.specs.declared.line.Line.{Line}
 use Rattle.markdown_lines.specs.declared.position.Position.{Position}
 use Rattle.markdown_block_rules.specs.BlockGrowth.{closes, leaf_with}
-use Rattle.markdown_block_rules.specs.BlockRules.{Around}
 use Rattle.markdown_block_rules.specs.LineContents.{source_line}
-use Rattle.markdown_plain.specs.CodeLines.{after_line, is_closed_at}
+use Rattle.markdown_plain.specs.CodeLines.{is_closed_at}
 use Rattle.markdown_plain.specs.Fitting.{PutsBlock, closed, stepped}
 use Rattle.markdown_plain.specs.OpenLeaves.{IsLeafIn, IsLineRest, has_ended}
-use Rattle.markdown_plain.specs.HeldSources.{IsHeld}
-use Rattle.markdown_lines.specs.declared.held_line.HeldLine.{HeldLine}
-use Rattle.std.specs.Prelude.{IfOk, Result, Ok, Err}
-use Rattle.markdown_plain.proofs.LeafTreesLemmas.{on_test}
-use Rattle.markdown_plain.proofs.LeavesInPlaceLemmas.{closed_leaf, shown_of_kind}
-use Rattle.markdown_plain.proofs.LeavesInPlaceLemmas.{filled_leaf, has_its_text, is_some, more_in_first, names_text}
-use Rattle.markdown_plain.proofs.LeavesInPlaceLemmas.{opened_leaf, shown_alone, shown_leaf, whole_leaf}
+use Rattle.markdown_plain.proofs.LeavesInPlaceLemmas.{opened_leaf, shown_alone}
 use Rattle.markdown_base.specs.declared.tag.MetadataBlockKind.{MetadataBlockKind}
 use Rattle.markdown_lines.specs.MetadataBlocks.{closes_metadata}
-use Rattle.markdown_builder.specs.Shown.{Parts, plain_item}
 use Rattle.markdown_plain.specs.Fitting.{opened}
-use Rattle.markdown_plain.specs.LeafTrees.{OpensWith}
-use Rattle.markdown_lines.specs.declared.html_kind.HtmlKind.{HtmlKind}
-use Rattle.markdown_lines.specs.HtmlKinds.{ends_at_blank, ends_in}
-use Rattle.markdown_lines.specs.Lines.{IsNextContent}
-use Rattle.markdown_lines.specs.SourceLines.{is_blank_rest}
-use Rattle.markdown_scan.specs.LineStart.{LineLeft}
-use Rattle.markdown_builder.specs.Shown.{Shown}
 use Rattle.markdown_block_rules.specs.BlockGrowth.{ends_html}
-use Rattle.markdown_plain.specs.CodeLines.{ends_html_at}
-use Rattle.markdown_builder.specs.BuilderView.{Opens}
-use Rattle.markdown_plain.specs.Fitting.{BeginsAtContent}
-use Rattle.markdown_plain.specs.OpenBlocks.{outer_of}
-use Rattle.markdown_plain.proofs.LeafTreesLemmas.{same_block}
-use Rattle.markdown_plain.proofs.OpenBlocksLemmas.{outer_of_these}
-use Rattle.std.proofs.Common.{◌<◌, true≢false}
-use Rattle.std.proofs.lemmas.Bool.Decides.{nat_tests}
 use Rattle.markdown_plain.proofs.LinedLeavesLemmas.{IsLined, closed_by_line, ends_with_line, grown_to, kind_is_leaf}
 use Rattle.markdown_plain.proofs.LinedLeavesLemmas.{line_added_to, lined_shown, opened_as, plain_leaf_opened}
 
@@ -205,8 +173,8 @@ metadata_opened s old new frames inside b kind at to built same start last opens
       same = opens ∙ sym (ap (opened_as old at to (body.MetadataBlock kind)) opens);
       levels = ap (λ (v : BuilderView). v.levels) opens ∙ sym (no_items (old.levels ++ nil ∷ []));
       texts = no_text old new (ap (λ (v : BuilderView). v.texts) opens);
-      shown = lined_shown s frames b kind_of (body.MetadataBlock kind) None (body.Text false) [] at to lined same
-          start last;
+      shown = lined_shown s frames b kind_of (body.MetadataBlock kind) None
+          (body.Text false) [] at to lined same start last;
       end = ends_with_line b kind_of to same refl last;
     })
 
@@ -251,122 +219,3 @@ metadata_added s old new frames inside b kind lines source now is_open same grow
     (was.metadata_leaf kind false (lines ++ source ∷ [])) source.next (body.MetadataBlock kind) None (body.Text false)
     lines source (metadata_lined s kind false lines) (metadata_lined s kind false (lines ++ source ∷ [])) same goes_on
     texts added is_open)
-
--- ---- HTML
-
-pub html_lined : (s : Source) (kind : HtmlKind) (ended : Bool) (lines : List SourceLine)
-    → IsLined s (was.html_leaf kind ended lines) body.HtmlBlock None body.Html lines
-html_lined s kind ended lines =
-    record { leaf = refl; named = refl; end = λ b. refl; shown = λ around b. refl }
-
--- a line ends a block where that of the definition does
-pub html_alike : (text : List ℕ) (position : Position) (line : Line) (source : SourceLine) (kind : HtmlKind)
-    → IsLineRest text position line source → ends_html_at text position line kind ≡ ends_html kind source
-html_alike text position line source kind is = ap (λ (left : LineLeft). ends_in kind left.bytes) is.rest.left
-
--- what holds of a test holds of its value
-pub on_value : (P : Bool → Type 0) (test : Bool) → (test ≡ true → P true) → (test ≡ false → P false) → P test
-on_value P true yes_case no_case = yes_case refl
-on_value P false yes_case no_case = no_case refl
-
--- there is one next content byte
-pub same_content : (text : List ℕ) (from a b : ℕ) → IsNextContent text from (Some a) → IsNextContent text from (Some b)
-    → a ≡ b
-same_content text from a b one two = by_order (nat_lt a b) (nat_lt b a) refl refl
-  where
-    before : (m n : ℕ) → IsNextContent text from (Some m) → IsNextContent text from (Some n) → m < n → ⊥
-    before m n first second less =
-        true≢false (sym (second.1.passes m first.1.low less) ∙ first.1.stops first.0)
-
-    by_order : (less more : Bool) → nat_lt a b ≡ less → nat_lt b a ≡ more → a ≡ b
-    by_order true more e f = absurd (before a b one two (grind (arith, nat_tests, e)))
-    by_order false true e f = absurd (before b a two one (grind (arith, nat_tests, f)))
-    by_order false false e f = grind (arith, nat_tests, e, f)
-
--- an HTML block that ends with its first line
-pub html_placed : (s : Source) (old new : BuilderView) (frames : List Frame) (inside : Forest Block) (b : Block)
-    (kind : HtmlKind) (source : SourceLine) (ended : Bool) (start to : ℕ) → IsBuilt s old frames inside
-    → b.kind ≡ was.html_leaf kind ended (source ∷ []) → b.start ≡ start → b.last ≡ to
-    → IsPlacedTo old new to → HasMoreTexts old new
-    → HasTrees old new (shown_over start to body.HtmlBlock None (chain_of (source_line body.Html source)))
-    → IsPlaced s new frames (followed_by inside (leaf_block b))
-html_placed s old new frames inside b kind source ended start to built same begins last placed texts trees =
-    let kind_of = was.html_leaf kind ended (source ∷ []) in
-    whole_leaf s old new frames inside b (kind_is_leaf b kind_of same refl) built
-    (subst (IsPlacedTo old new) (ends_with_line b kind_of to same refl last) placed) texts
-    (λ some. trees some ∙ ap (with_trees old.levels) (ap (λ (items : List Shown). shown_over start to body.HtmlBlock None
-    (chain_of items)) (sym (append-nil (source_line body.Html source)))
-    ∙ sym (lined_shown s frames b kind_of body.HtmlBlock None body.Html (source ∷ []) start to
-    (html_lined s kind ended (source ∷ [])) same begins last)))
-
--- an HTML block that does not end with its first line
-pub html_opened : (s : Source) (old new : BuilderView) (frames : List Frame) (inside : Forest Block) (b : Block)
-    (kind : HtmlKind) (source : SourceLine) (ended : Bool) (start to : ℕ) → IsBuilt s old frames inside
-    → b.kind ≡ was.html_leaf kind ended (source ∷ []) → b.start ≡ start → b.last ≡ to
-    → new ≡ opened_as old start to body.HtmlBlock new → HasMoreTexts old new
-    → OpensWith old new (source_line body.Html source) → IsOpenIn s new frames inside true b
-html_opened s old new frames inside b kind source ended start to built same begins last opens texts levels =
-    let kind_of = was.html_leaf kind ended (source ∷ []) in
-    plain_leaf_opened s old new frames inside b start to body.HtmlBlock body.Html (source ∷ []) built (record {
-      plain = λ parts start end. refl;
-      leaf = kind_is_leaf b kind_of same refl;
-      same = opens;
-      levels = levels ∙ ap (with_items (old.levels ++ nil ∷ [])) (sym (append-nil (source_line body.Html source)));
-      texts = texts;
-      shown = lined_shown s frames b kind_of body.HtmlBlock None body.Html (source ∷ []) start to
-          (html_lined s kind ended (source ∷ [])) same begins last;
-      end = ends_with_line b kind_of to same refl last;
-    })
-
--- an HTML block was opened at a byte offset, filled, and moved to its first content byte
-pub record BeginsHtml (old new : BuilderView) (text : List ℕ) (from to : ℕ) : Type 0 where
-  pub start : ℕ
-  pub content : IsNextContent text from (Some start)
-  pub same : new ≡ opened_as old start to body.HtmlBlock new
-
-pub html_begins : (old now filled new : BuilderView) (from to : ℕ) → Opens (stepped old from) now body.HtmlBlock
-    → GoesOn now filled to → BeginsAtContent filled new → new ≡ record filled { blocks = new.blocks }
-    → BeginsHtml old new filled.text from to
-html_begins old now filled new from to opens goes_on begins same =
-    let block : OpenBlock = record { start = from; body = body.HtmlBlock } in
-    let blocks : filled.blocks ≡ old.blocks ++ block ∷ [] =
-    ap (λ (v : BuilderView). v.blocks) goes_on ∙ ap (λ (v : BuilderView). v.blocks) opens in
-    let first = same_block filled.blocks (outer_of filled.blocks) old.blocks begins.blocks.block block begins.blocks.was
-    blocks in
-    let here : new.blocks ≡ old.blocks ++ record block { start = begins.start } ∷ [] =
-    begins.blocks.becomes
-    ∙ (ap (λ outer. outer ++ record begins.blocks.block { start = begins.start } ∷ [])
-    (outer_of_these filled.blocks old.blocks block blocks)
-    ∙ ap (λ (one : OpenBlock). old.blocks ++ record one { start = begins.start } ∷ []) first) in
-    let filling = ap (λ (v : BuilderView). record v { blocks = new.blocks }) goes_on
-    ∙ ap (λ (v : BuilderView). record v {
-      at = to;
-      blocks = new.blocks;
-      run = filled.run;
-      levels = filled.levels;
-      texts = filled.texts;
-    }) opens in
-    record {
-      start = begins.start;
-      content = subst (λ (one : OpenBlock). IsNextContent filled.text one.start (Some begins.start)) first begins.content;
-      same = same ∙ (filling ∙ (ap (λ blocks. record old {
-        at = to;
-        blocks = blocks;
-        leaf = true;
-        run = filled.run;
-        levels = filled.levels;
-        texts = filled.texts;
-      }) here ∙ sym (ap (opened_as old begins.start to body.HtmlBlock) same)));
-    }
-
-pub html_with : (s : Source) (source : SourceLine) (b : Block) (now : Kind) (kind : HtmlKind) (lines : List SourceLine)
-    → b.kind ≡ was.html_leaf kind false lines → leaf_with s source b.kind ≡ Some now
-    → was.html_leaf kind (ends_html kind source) (lines ++ source ∷ []) ≡ now
-html_with s source b now kind lines same grown =
-    chosen (is_blank_rest source && ends_at_blank kind) (sym (ap (leaf_with s source) same) ∙ grown)
-  where
-    chosen : (test : Bool)
-        → (if test then None else Some (was.html_leaf kind (ends_html kind source) (lines ++ source ∷ []))) ≡ Some now
-        → was.html_leaf kind (ends_html kind source) (lines ++ source ∷ []) ≡ now
-    chosen true e = cc (e)
-    chosen false e = same_Some _ now e

@@ -39,3 +39,5 @@ pub mod LeafKindsLemmas
 pub mod ParagraphsInPlaceLemmas
 pub mod EndedLeavesLemmas
 pub mod AddedLinesLemmas
+pub mod HtmlLeavesLemmas
+pub mod IndentedLeavesLemmas

@@ -1,12 +1,11 @@
 -- Leaves in the innermost open container that are put there whole, or that consist of lines.
-use Rattle.std.proofs.Common.{◌≡◌, ℕ, Bool, true, false, List, [], ◌∷◌, ◌++◌, Option, Some, None, length, slice_range}
+use Rattle.std.proofs.Common.{◌≡◌, ℕ, Bool, true, false, List, [], ◌∷◌, ◌++◌, Option, None, length, slice_range}
 use Rattle.std.proofs.Common.{refl, sym, ap, ◌∙◌, subst, not}
 use Rattle.std.specs.Prelude.{◌||◌}
 use Rattle.markdown_base.specs.Forest.{Forest, nil, node}
 use Rattle.markdown_base.specs.declared.item.ItemBody.{ItemBody}
 use Rattle.markdown_base.specs.declared.item.ItemBody.TheVariants as body
 use Rattle.markdown_base.specs.declared.options.Options.{Options}
-use Rattle.markdown_builder.specs.declared.open_block.OpenBlock.{OpenBlock}
 use Rattle.markdown_builder.specs.BuilderView.{AppendsItem, BuilderView, parts_of}
 use Rattle.markdown_builder.specs.Shown.{chain_of, shown_item}
 use Rattle.markdown_builder.specs.TreeLevels.{followed_by, with_trees}
@@ -15,40 +14,33 @@ use Rattle.markdown_items.specs.ContentItems.{content_items}
 use Rattle.markdown_items.specs.LineItems.{item_extensions}
 use Rattle.markdown_items.proofs.RestOfLineLemmas.{no_items}
 use Rattle.markdown_lines.specs.BlockBeginnings.{Source}
-use Rattle.markdown_lines.specs.LineBytes.{IsPartOf}
 use Rattle.markdown_lines.specs.SourceLines.{SourceLine}
 use Rattle.markdown_lines.specs.declared.atx_heading.AtxHeading.{AtxHeading}
-use Rattle.markdown_lines.specs.declared.fence.OpeningFence.{OpeningFence}
-use Rattle.markdown_scan.specs.Entity.{entity_names}
-use Rattle.markdown_scan.specs.Unescape.{unescaped}
 use Rattle.markdown_block_rules.specs.BlockGrowth as was
 use Rattle.markdown_block_rules.specs.BlockGrowth.{Block, Kind}
-use Rattle.markdown_block_rules.specs.BlockRules.{block_end, in_no_item, info_of, shown_heading, shown_over}
+use Rattle.markdown_block_rules.specs.BlockRules.{block_end, in_no_item, shown_heading, shown_over}
 use Rattle.markdown_block_rules.specs.LineContents.{source_lines}
-use Rattle.markdown_plain.specs.Fitting.{GoesOn, OpensFenced}
+use Rattle.markdown_plain.specs.Fitting.{GoesOn}
 use Rattle.markdown_plain.specs.Frames.{Frame}
 use Rattle.markdown_plain.specs.LeafTrees.{HasItems, HasMoreTexts, HasTrees}
 use Rattle.markdown_plain.specs.OpenedFrames.{around_innermost}
-use Rattle.markdown_plain.specs.OpenLeaves.{InfoStands, IsOpenIn, IsPlaced, is_leaf, leaf_block}
+use Rattle.markdown_plain.specs.OpenLeaves.{IsOpenIn, IsPlaced, is_leaf, leaf_block}
 use Rattle.markdown_plain.specs.Paragraphs.{IsPlacedTo}
 use Rattle.markdown_plain.specs.Settled.{IsBuilt}
-use Rattle.markdown_plain.proofs.LeafTreesLemmas.{get_last, lines_append, no_text}
-use Rattle.std.specs.Prelude.{◌+◌, ◌-◌, ◌≤◌, ◌==◌, ◌&&◌, max, nat_le, nat_lt, if◌then◌else◌}
+use Rattle.markdown_plain.proofs.LeafTreesLemmas.{lines_append, no_text}
+use Rattle.std.specs.Prelude.{◌+◌, ◌-◌, ◌≤◌, ◌==◌, nat_le, nat_lt}
 use Rattle.std.proofs.Common.{append-nil, arith}
-use Rattle.std.proofs.lemmas.Option.{same_Some}
 use Rattle.markdown_builder.specs.BuilderView.{with_items}
-use Rattle.markdown_scan.specs.LineStart.{LineLeft, Space, column_after, leading_space, space_from, space_width}
-use Rattle.markdown_lines.specs.CodeFences.{closes_fence}
+use Rattle.markdown_scan.specs.LineStart.{LineLeft, Space, column_after, space_from, space_width}
 use Rattle.markdown_lines.specs.SourceLines.{cut, stop_of}
-use Rattle.markdown_lines.specs.declared.fence.Fence.{Fence}
 use Rattle.markdown_lines.specs.declared.line.Line.{Line}
 use Rattle.markdown_lines.specs.declared.position.Position.{Position}
 use Rattle.markdown_block_rules.specs.BlockGrowth.{closes, leaf_with}
 use Rattle.markdown_block_rules.specs.BlockRules.{Around}
 use Rattle.markdown_block_rules.specs.LineContents.{source_line}
-use Rattle.markdown_plain.specs.CodeLines.{after_line, is_closed_at, whole_of}
+use Rattle.markdown_plain.specs.CodeLines.{after_line, whole_of}
 use Rattle.markdown_plain.specs.Fitting.{PutsBlock, closed, stepped}
-use Rattle.markdown_plain.specs.OpenLeaves.{IsLeafIn, IsLineRest, has_ended}
+use Rattle.markdown_plain.specs.OpenLeaves.{IsLineRest}
 use Rattle.markdown_plain.specs.HeldSources.{IsHeld}
 use Rattle.markdown_lines.specs.declared.held_line.HeldLine.{HeldLine}
 use Rattle.std.specs.Prelude.{IfOk, Result, Ok, Err}
@@ -59,7 +51,6 @@ use Rattle.markdown_plain.proofs.LeavesInPlaceLemmas.{opened_leaf, shown_alone, 
 use Rattle.markdown_base.specs.declared.tag.MetadataBlockKind.{MetadataBlockKind}
 use Rattle.markdown_lines.specs.MetadataBlocks.{closes_metadata}
 use Rattle.markdown_builder.specs.Shown.{Parts, plain_item}
-use Rattle.markdown_plain.specs.Fitting.{opened}
 use Rattle.markdown_plain.specs.LeafTrees.{OpensWith}
 
 -- this is a leaf, by its kind
@@ -67,8 +58,8 @@ pub kind_is_leaf : (b : Block) (kind : Kind) → b.kind ≡ kind → is_leaf kin
 kind_is_leaf b kind is leaf = ap is_leaf is ∙ leaf
 
 -- and it ends with its last line
-pub ends_with_line : (b : Block) (kind : Kind) (to : ℕ) → b.kind ≡ kind → block_end b b.first kind ≡ b.last → b.last
-    ≡ to
+pub ends_with_line : (b : Block) (kind : Kind) (to : ℕ) → b.kind ≡ kind → block_end b b.first kind ≡ b.last
+    → b.last ≡ to
     → to ≡ block_end b b.first b.kind
 ends_with_line b kind to is end last = sym last ∙ (sym end ∙ sym (ap (block_end b b.first) is))
 
@@ -111,11 +102,11 @@ heading_placed s old new options frames inside b heading to built same kind star
     (chain_of (content_items t (item_extensions o) heading.from heading.to))) in
     whole_leaf s old new frames inside b (kind_is_leaf b (was.heading_leaf heading) kind refl) built
     (subst (IsPlacedTo old new) (ends_with_line b (was.heading_leaf heading) to kind refl last) placed) texts
-    (λ some. trees some ∙ (ap (λ t. shown t options old.at to) built.text
-    ∙ (ap (λ o. shown s.text o old.at to) (sym same)
+    (λ some. trees some ∙ (ap (λ t. shown t options old.at to) built.text ∙ (ap (λ o. shown s.text o old.at to)
+    (sym same)
     ∙ (ap (λ n. shown s.text s.options n to) (sym start) ∙ (ap (shown s.text s.options b.start) (sym last)
-    ∙ ap (with_trees old.levels) (sym
-    (shown_alone s (around_innermost in_no_item frames) b (was.heading_leaf heading) kind
+    ∙ ap (with_trees old.levels) (sym (shown_alone s (around_innermost in_no_item frames) b
+    (was.heading_leaf heading) kind
     ∙ followed_by-nil _)))))))
 
 -- ---- lines that are added
@@ -134,8 +125,8 @@ pub record AddsLines (s : Source) (frames : List Frame) (old new : BuilderView) 
   pub from : ℕ
   pub start : b.start ≡ c.start
   pub was : shown_leaf s frames b ≡ shown_over b.start from body text (chain_of (source_lines line before))
-  pub shown : shown_leaf s frames c
-      ≡ shown_over c.start new.at body text (chain_of (source_lines line (before ++ lines)))
+  pub shown : shown_leaf s frames c ≡ shown_over c.start new.at body text (chain_of (source_lines line
+      (before ++ lines)))
   pub named : (not (names_text body) || is_some text) ≡ true
   pub goes_on : GoesOn old new new.at
   pub texts : HasMoreTexts old new
@@ -153,8 +144,8 @@ lines_added s old new frames inside in_leaf b c leaf adds is_open =
       added = adds.added;
       named = ap has_its_text adds.was ∙ adds.named;
       shown = ap (more_in_first new.at (source_lines adds.line adds.lines)) adds.was
-          ∙ (ap (λ n. shown_over n new.at adds.body adds.text
-          (followed_by (chain_of (source_lines adds.line adds.before))
+          ∙ (ap (λ n. shown_over n new.at adds.body adds.text (followed_by (chain_of
+          (source_lines adds.line adds.before))
           (chain_of (source_lines adds.line adds.lines)))) adds.start
           ∙ (ap (shown_over c.start new.at adds.body adds.text)
           (chain_of_both (source_lines adds.line adds.before) (source_lines adds.line adds.lines)

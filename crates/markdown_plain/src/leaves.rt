@@ -13,10 +13,11 @@ ghost use Rattle.markdown_builder.specs.BuilderView.{BuilderView};
 ghost use Rattle.markdown_builder.specs.Shown.{chain_of};
 ghost use Rattle.markdown_builder.specs.TreeLevels.{followed_by};
 ghost use Rattle.markdown_lines.specs.BlockBeginnings.{Source};
-ghost use Rattle.markdown_lines.specs.SourceLines.{SourceLine, cut};
+ghost use Rattle.markdown_lines.specs.SourceLines.{SourceLine, cut, is_blank_rest};
 ghost use Rattle.markdown_block_rules.specs.BlockGrowth.{Block, Kind, break_leaf, fenced_leaf, heading_leaf};
-ghost use Rattle.markdown_block_rules.specs.BlockGrowth.{ends_html, html_leaf, leaf_with, metadata_leaf};
-ghost use Rattle.markdown_block_rules.specs.BlockRules.{shown_heading, shown_over};
+ghost use Rattle.markdown_block_rules.specs.BlockGrowth.{ends_html, html_leaf, indented_leaf, leaf_with};
+ghost use Rattle.markdown_block_rules.specs.BlockGrowth.{metadata_leaf};
+ghost use Rattle.markdown_block_rules.specs.BlockRules.{code_lines, shown_heading, shown_over};
 ghost use Rattle.markdown_items.specs.ContentItems.{content_items};
 ghost use Rattle.markdown_items.specs.LineItems.{item_extensions};
 ghost use Rattle.markdown_block_rules.specs.LineContents.{source_line, source_lines};
@@ -507,6 +508,12 @@ impl<'a> Pass<'a> {
             → IfFitted self.old.placing self.new.placing
             (OpensWith self.old.placing.builder self.new.placing.builder
             (source_line (body.Text false) source))) }
+        ensures leaf { IfOk result (λ _. (s : Source) (frames : List Frame) (inside : Forest Block)
+            (b : Block) (source : SourceLine) → IsBuilt s self.old.placing.builder frames inside
+            → IsLineRest self.old.placing.builder.text position line source
+            → is_blank_rest source ≡ false → b.kind ≡ indented_leaf (source ∷ [])
+            → b.start ≡ position.at → IfFitted self.old.placing self.new.placing
+            (IsLeafIn s self.new.placing.builder frames inside b false)) }
         ensures kind { IfOk result (λ _. self.new.leaf ≡ leaf_kind.Indented) }
         ensures same { self.new
             ≡ record self.old { placing = self.new.placing; leaf = self.new.leaf } }
@@ -530,6 +537,17 @@ impl<'a> Pass<'a> {
             → IfFitted self.old.placing self.new.placing
             (HasItems self.old.placing.builder self.new.placing.builder
             (source_lines (body.Text false) (blank ++ source ∷ [])))) }
+        ensures leaf { IfOk result (λ _. (s : Source) (frames : List Frame) (inside : Forest Block)
+            (b : Block) (lines : List SourceLine) (blank : List SourceLine) (source : SourceLine)
+            → IsLeafIn s self.old.placing.builder frames inside b false
+            → b.kind ≡ indented_leaf (lines ++ blank) → code_lines (lines ++ blank) ≡ lines
+            → AreHeld self.old.blanks.items blank
+            → IsLineRest self.old.placing.builder.text position line source
+            → is_blank_rest source ≡ false → IfFitted self.old.placing self.new.placing
+            (IsLeafIn s self.new.placing.builder frames inside (record b {
+              last = source.next;
+              kind = indented_leaf ((lines ++ blank) ++ source ∷ []);
+            }) false)) }
         ensures emptied { IfOk result (λ _. self.new.blanks.items ≡ []) }
         ensures same { self.new
             ≡ record self.old { placing = self.new.placing; blanks = self.new.blanks } }
@@ -547,6 +565,13 @@ impl<'a> Pass<'a> {
             → AreHeld self.old.blanks.items blank
             → IsRest self.old.placing.builder.text position line source
             → AreHeld self.new.blanks.items (blank ++ cut 4 source ∷ [])) }
+        ensures leaf { IfOk result (λ _. (s : Source) (frames : List Frame) (inside : Forest Block)
+            (b : Block) (lines : List SourceLine) (source : SourceLine)
+            → IsLeafIn s self.old.placing.builder frames inside b false
+            → b.kind ≡ indented_leaf lines → is_blank_rest source ≡ true
+            → IsLeafIn s self.new.placing.builder frames inside
+            (record b { last = source.next; kind = indented_leaf (lines ++ cut 4 source ∷ []) })
+            false) }
         ensures same { self.new ≡ record self.old { blanks = self.new.blanks } }
     {
         let code = read_space(self.placing.text(), position, line.stop, 4).after;

@@ -42,8 +42,8 @@ returns-then-is_closing_fence-clause-leaf c = λ s frames inside b opening lines
     let new = c.close.new.self.builder in
     let next = c.args.line.next in
     let ends : is_closed_at old.text c.args.position c.args.line c.args.fence ≡ true = search rules in
-    let closes_now = sym (closes_alike s old.text c.args.position c.args.line source c.args.fence is_open.around.text
-    is)
+    let closes_now = sym
+    (closes_alike s old.text c.args.position c.args.line source c.args.fence is_open.around.text is)
     ∙ ends in
     let close = c.close.ensures.closes fitted in
     let step = c.step_to.ensures.steps close.0 in
@@ -64,8 +64,8 @@ returns-clause-leaf c =
     let old = c.args.self.now.placing.builder in
     let new = c.add_code.new.placing.builder in
     let one = cut c.args.fence.indent source in
-    let closes_not = sym (closes_alike s old.text c.args.position c.args.line source c.args.fence is_open.around.text
-    is)
+    let closes_not = sym
+    (closes_alike s old.text c.args.position c.args.line source c.args.fence is_open.around.text is)
     ∙ goes_on c in
     let held = subst (λ line. IsHeld line one) (sym c.rest_of.ensures)
     (cut_held old.text c.args.position c.read_space.result.after c.args.line source c.args.fence.indent

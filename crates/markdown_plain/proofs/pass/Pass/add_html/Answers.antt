@@ -6,7 +6,7 @@ use Rattle.markdown_plain.specs.CodeLines.{ends_html_at}
 use Rattle.markdown_plain.specs.Fitting.{AllFitted, GoesOn}
 use Rattle.markdown_plain.specs.OpenLeaves.{IsLeafIn, IsOpenIn, has_ended}
 use Rattle.markdown_plain.specs.declared.pass.Pass.{Pass}
-use Rattle.markdown_plain.proofs.LeafKindsLemmas.{html_alike, html_lined, html_with, on_value}
+use Rattle.markdown_plain.proofs.HtmlLeavesLemmas.{html_alike, html_lined, html_with, on_value}
 use Rattle.markdown_plain.proofs.LeafTreesLemmas.{rest_from, rest_held}
 use Rattle.markdown_plain.proofs.LeavesInPlaceLemmas.{closed_leaf}
 use Rattle.markdown_plain.proofs.LinedLeavesLemmas.{after_held, grown_to, line_added_to, rest_ends, stop_after}
@@ -34,7 +34,8 @@ returns-clause-leaf c = λ s frames inside b lines source now is_open same is gr
     subst (λ k. AllFitted c.args.self.now.placing
     × IsLeafIn s new frames inside (grown_to b source.next k) (has_ended k))
     (html_with s source b now c.args.kind lines same grown)
-    (on_value (λ t. AllFitted c.args.self.now.placing × IsLeafIn s new frames inside (grown_to b source.next kind_now) t)
+    (on_value (λ t. AllFitted c.args.self.now.placing × IsLeafIn s new frames inside
+    (grown_to b source.next kind_now) t)
     ends
     (λ e.
     let close = c.end_html.ensures.ends (alike ∙ e) fitted in

@@ -15,8 +15,8 @@ use Rattle.markdown_block_rules.specs.BlockGrowth.{ends_html}
 use Rattle.markdown_plain.specs.Fitting.{AllFitted}
 use Rattle.markdown_plain.specs.OpenLeaves.{IsLeafIn, IsOpenIn}
 use Rattle.markdown_plain.specs.Paragraphs.{IsPlacedTo}
-use Rattle.markdown_plain.proofs.LeafKindsLemmas.{html_alike, html_begins, html_opened, html_placed}
-use Rattle.markdown_plain.proofs.LeafKindsLemmas.{on_value, same_content}
+use Rattle.markdown_plain.proofs.HtmlLeavesLemmas.{html_alike, html_begins, html_opened, html_placed}
+use Rattle.markdown_plain.proofs.HtmlLeavesLemmas.{on_value, same_content}
 use Rattle.markdown_plain.specs.declared.pass.Pass.{Pass}
 use Rattle.markdown_plain.proofs.LinedLeavesLemmas.{after_held, rest_ends, stop_after}
 use Rattle.markdown_plain.proofs.OpenBlocksLemmas.{outer_of_opened}
@@ -105,7 +105,8 @@ returns-clause-leaf c = λ s frames inside b source built is kind content last f
       subst (λ (p : Pass). IsOpenIn s p.placing.builder frames inside true b) (sym kept)
           (html_opened s old begun frames inside b c.args.kind source (ends_html c.args.kind source) made.start to built
           kind (same_content old.text c.args.position.at b.start made.start content
-          (subst (λ t. IsNextContent t c.args.position.at (Some made.start)) same made.content)) (last ∙ sym end) made.same
+          (subst (λ t. IsNextContent t c.args.position.at (Some made.start)) same made.content)) (last
+          ∙ sym end) made.same
           (texts_after old now begun (no_text old now (ap (λ (v : BuilderView). v.texts) opened))
           (texts_after now filled begun more.1
           (no_text filled begun (ap (λ (v : BuilderView). v.texts) c.begin_at_content.ensures.same))))
