@@ -20,3 +20,4 @@ pub mod ReachedFrames
 pub mod OpenedFrames
 pub mod Closing
 pub mod OpenLeaves
+pub mod Standing

@@ -4,6 +4,10 @@
 ghost use Rattle.std.specs.Prelude.{◌≡◌, [], length, IfOk};
 ghost use Rattle.std.specs.Str.{IsCharBoundary};
 ghost use Rattle.markdown_base.specs.BlockTree.{tree_of};
+ghost use Rattle.markdown_base.specs.Forest.{Forest};
+ghost use Rattle.markdown_block_rules.specs.BlockGrowth.{Block};
+ghost use Rattle.markdown_lines.specs.BlockBeginnings.{Source};
+ghost use Rattle.markdown_plain.specs.Standing.{PlacesFor, StandsFor};
 ghost use Rattle.markdown_base.specs.Coverage.{Covers};
 ghost use Rattle.markdown_base.specs.WellFormed.{IsWellFormed};
 ghost use Rattle.markdown_builder.specs.EvenRows.{HasEvenRows};
@@ -136,7 +140,9 @@ impl<'a> Pass<'a> {
 
     /// Records that a line was read that is not blank for the innermost blocks that continue in it.
     fn see_content(&mut self, line: Line)
-        ensures { self.new.placing ≡ self.old.placing }
+        ensures placing { self.new.placing ≡ self.old.placing }
+        ensures stands { (s : Source) (blocks : Forest Block) → PlacesFor s self.old line.next blocks
+            → StandsFor s self.new line.next blocks }
     {
         self.placed = line.next;
         self.looseness.see_content();
