@@ -24,6 +24,7 @@ pub mod AppendedBlocksLemmas
 pub mod OpenedFramesLemmas
 -- on open containers that are closed
 pub mod TightBlocksLemmas
+pub mod TouchedFramesLemmas
 pub mod ClosedFramesLemmas
 pub mod ItemsInListsLemmas
 -- on open containers: which lists are loose, and which containers end with a blank line
