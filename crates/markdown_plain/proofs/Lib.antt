@@ -42,3 +42,7 @@ pub mod EndedLeavesLemmas
 pub mod AddedLinesLemmas
 pub mod HtmlLeavesLemmas
 pub mod IndentedLeavesLemmas
+-- on lines that are text
+pub mod HeldTextLemmas
+pub mod AddedTextLemmas
+pub mod TextLinesLemmas

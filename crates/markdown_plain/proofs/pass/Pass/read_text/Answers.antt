@@ -1,2 +1,2 @@
 -- A line that is text.
-use Rattle.markdown_plain.proofs.TouchedFramesLemmas.{built_touched}
+use Rattle.markdown_plain.proofs.HeldTextLemmas.{none_opened}

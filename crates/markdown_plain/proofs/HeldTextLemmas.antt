@@ -1,0 +1,123 @@
+-- The rest of a line that is text, as a line of a paragraph.
+use Rattle.std.proofs.Common.{◌≡◌, inl, inr, ℕ, ◌+◌, ◌<◌, ◌≤◌, Bool, true, false, List, [], ◌∷◌, length, drop}
+use Rattle.std.proofs.Common.{get_or, arith, refl, sym, ap, ◌∙◌, subst}
+use Rattle.std.specs.Prelude.{slice_range, slice_index, nat_le, ◌==◌}
+use Rattle.std.specs.List.{prefix_len}
+use Rattle.std.proofs.lemmas.Bool.{true≢false}
+use Rattle.std.proofs.lemmas.Bool.Decides.{eqb_tells, nat_tests}
+use Rattle.std.proofs.lemmas.List.Sums.{prefix_len-le-length, prefix_len_stops}
+use Rattle.markdown_lines.specs.HeldLines.{AreHeldFrom, IsHeldLine}
+use Rattle.markdown_lines.specs.Lines.{IsLineEnd, IsLineFrom, ending_length, is_space_or_tab}
+use Rattle.markdown_lines.specs.SourceLines.{SourceLine, is_blank_rest, stop_of, text_line}
+use Rattle.markdown_lines.specs.declared.held_line.HeldLine.{HeldLine}
+use Rattle.markdown_lines.specs.declared.line.Line.{Line}
+use Rattle.markdown_lines.proofs.BlockStartsLemmas.{is_blank}
+use Rattle.markdown_lines.proofs.PositionsLemmas.{in_part, rest_of_part}
+use Rattle.markdown_block_rules.specs.BlockGrowth.{Block}
+use Rattle.markdown_plain.specs.Frames.{Frame}
+use Rattle.markdown_plain.specs.HeldSources.{AreInParagraph, IsTextLine}
+use Rattle.markdown_plain.specs.OpenLeaves.{AreItemsOpenedIn, BeginsText, ComesAfter}
+use Rattle.markdown_plain.specs.Paragraphs.{lines_end}
+use Rattle.markdown_plain.specs.Standing.{AreOpenedBefore}
+use Rattle.markdown_plain.specs.TextLines.{IsContentAt, held_line, text_block}
+
+-- a line that is not blank has fewer bytes of white space than bytes
+filled_first : (bytes : List ℕ) (rest : SourceLine) → rest.left.bytes ≡ bytes → is_blank_rest rest ≡ false
+    → prefix_len is_space_or_tab bytes < length bytes
+filled_first bytes rest is filled =
+    elim (eqb_tells (prefix_len is_space_or_tab bytes) (length bytes)) [
+      | inl all ↦ absurd (true≢false (sym (is_blank rest.left.bytes
+          (subst (λ (bs : List ℕ). prefix_len is_space_or_tab bs ≡ length bs) (sym is) all.1)) ∙ filled))
+      | inr some ↦ let within = prefix_len-le-length is_space_or_tab bytes in omega (arith, within, some.1)
+    ]
+
+module _ (text : List ℕ) (line : Line) (rest : SourceLine) (start : ℕ) (at : IsContentAt text line rest start) where
+  -- the first byte of content is in the line
+  pub starts_before : start < line.stop
+  starts_before =
+      let some = filled_first rest.left.bytes rest refl at.filled in
+      let here = at.here in
+      let stop = at.stop in
+      omega (arith, some, here, stop)
+
+  pub starts_after : line.start ≤ start
+  starts_after =
+      let low = at.low in
+      let here = at.here in
+      omega (arith, low, here)
+
+  pub is_text_line : IsTextLine text (held_line line start) (text_line rest)
+  is_text_line = record {
+    start = at.here;
+    bytes = ap (λ n. slice_range text n line.stop) at.here
+        ∙ (sym (rest_of_part text rest.left.scanned line.stop (prefix_len is_space_or_tab rest.left.bytes))
+        ∙ ap (drop (prefix_len is_space_or_tab rest.left.bytes)) at.bytes);
+    next = at.next;
+  }
+
+  first_is_content : is_space_or_tab (slice_index text start) ≡ false
+  first_is_content =
+      let white = prefix_len is_space_or_tab rest.left.bytes in
+      let some = filled_first rest.left.bytes rest refl at.filled in
+      let there = in_part text rest.left.bytes rest.left.scanned line.stop white (sym at.bytes) some in
+      ap (λ n. is_space_or_tab (slice_index text n)) at.here
+      ∙ (sym (ap is_space_or_tab there.byte) ∙ prefix_len_stops is_space_or_tab rest.left.bytes 0 some)
+
+  module _ (from : IsLineFrom text line.start line) where
+    pub ends_after : line.start < line.next
+    ends_after =
+        let first = starts_before in
+        let low = starts_after in
+        let ends = from.ends in
+        omega (arith, first, low, ends)
+
+    pub is_held_line : IsHeldLine text (held_line line start)
+    is_held_line = record {
+      boundary = at.boundary;
+      some = starts_before;
+      first = first_is_content;
+      content = record {
+        low = let first = starts_before in omega (arith, first);
+        high = from.content.high;
+        content = λ k low high. let after = starts_after in from.content.content k (omega (arith, low, after)) high;
+        stops = from.content.stops;
+      };
+      ends = from.ends;
+    }
+
+    -- it comes after the lines of a paragraph that end before the line
+    pub comes_after : (lines : List HeldLine) → lines_end lines ≤ line.start
+        → ComesAfter text lines (held_line line start) (text_line rest)
+    comes_after lines before = record {
+      is = is_text_line;
+      held = is_held_line;
+      after = let after = starts_after in omega (arith, before, after);
+    }
+
+    -- or a paragraph begins with it
+    pub begins_block : BeginsText text (held_line line start) (text_line rest) (text_block rest)
+    begins_block =
+        let first = starts_before in
+        let some : (start == line.stop) ≡ false = grind (arith, nat_tests, first) in
+        record {
+          is = is_text_line;
+          inside = rw some (omega arith, (is_held_line, tt));
+          some = let after = ends_after in omega (arith, after);
+          kind = refl;
+          last = refl;
+        }
+
+    -- the items that were opened before the line were not opened in it
+    pub none_opened : (frames : List Frame) → AreOpenedBefore line.start frames → AreItemsOpenedIn line frames
+    none_opened [] earlier = tt
+    none_opened (f ∷ frames) earlier = (
+      λ item.
+          let before = earlier.0 item in
+          let start = before.start in
+          let first = before.first in
+          let after = ends_after in
+          let not_at : nat_le line.start f.block.start ≡ false = grind (arith, nat_tests, start) in
+          let not_there : (line.next == f.block.first) ≡ false = grind (arith, nat_tests, first, after) in
+          record { same = not_at ∙ sym not_there; before = omega (arith, first, after) },
+      none_opened frames earlier.1,
+    )

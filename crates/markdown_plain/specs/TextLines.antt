@@ -1,0 +1,45 @@
+-- Lines that are text inside the containers that go on in them.
+use Rattle.std.specs.Prelude.{◌≡◌, ℕ, ◌≤◌, Bool, false, List, [], ◌∷◌, ◌++◌, slice_range, if◌then◌else◌}
+use Rattle.std.specs.Str.{IsCharBoundary}
+use Rattle.markdown_lines.specs.declared.block_start.Before.{Before}
+use Rattle.markdown_lines.specs.declared.block_start.Before.TheVariants as paragraph
+use Rattle.markdown_lines.specs.declared.held_line.HeldLine.{HeldLine}
+use Rattle.markdown_lines.specs.declared.line.Line.{Line}
+use Rattle.markdown_lines.specs.SourceLines.{SourceLine, is_blank_rest, stop_of, text_line}
+use Rattle.markdown_block_rules.specs.BlockGrowth as was
+use Rattle.markdown_block_rules.specs.BlockGrowth.{Block, content_of}
+use Rattle.markdown_plain.specs.declared.pass.Pass.{Pass}
+use Rattle.markdown_plain.specs.Paragraphs.{has_paragraph}
+
+-- a line as it is held back, from its first byte of content on
+abbrev pub held_line : Line → (start : ℕ) → HeldLine
+held_line line start = record { start = start; stop = line.stop; next = line.next; owed = 0 }
+
+-- this is the rest of a line, which is not blank, and its first byte of content is at a byte offset
+pub record IsContentAt (text : List ℕ) (line : Line) (rest : SourceLine) (start : ℕ) : Type 0 where
+  pub filled : is_blank_rest rest ≡ false
+  pub here : start ≡ content_of rest
+  pub boundary : IsCharBoundary text start
+  pub low : line.start ≤ rest.left.scanned
+  pub bytes : slice_range text rest.left.scanned line.stop ≡ rest.left.bytes
+  pub stop : line.stop ≡ stop_of rest
+  pub next : line.next ≡ rest.next
+
+-- the paragraph that a line may go on with, where all open containers go on in it, or not
+abbrev pub paragraph_before : Pass → (all : Bool) → Before
+paragraph_before pass all =
+    if has_paragraph pass then (if all then paragraph.Reached else paragraph.Lazy) else paragraph.NoParagraph
+
+-- a paragraph of these lines with the rest of one more
+abbrev pub with_text : SourceLine → Block → List SourceLine → Block
+with_text rest b lines =
+    record b { last = rest.next; kind = was.paragraph_leaf (lines ++ text_line rest ∷ []) }
+
+-- a paragraph that begins with the rest of a line
+abbrev pub text_block : SourceLine → Block
+text_block rest = record {
+  start = content_of rest;
+  first = rest.next;
+  last = rest.next;
+  kind = was.paragraph_leaf (text_line rest ∷ []);
+}
