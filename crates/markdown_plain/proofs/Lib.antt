@@ -45,4 +45,6 @@ pub mod IndentedLeavesLemmas
 -- on lines that are text
 pub mod HeldTextLemmas
 pub mod AddedTextLemmas
+pub mod RoomLemmas
+pub mod PlacedTextLemmas
 pub mod TextLinesLemmas

@@ -1,3 +1,2 @@
 -- A line that is text.
-use Rattle.markdown_plain.proofs.HeldTextLemmas.{none_opened}
-use Rattle.markdown_plain.proofs.AddedTextLemmas.{paragraph_line}
+use Rattle.markdown_plain.proofs.PlacedTextLemmas.{text_begun}

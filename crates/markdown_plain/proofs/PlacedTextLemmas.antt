@@ -1,0 +1,166 @@
+-- What the pass has placed with a line of text: a paragraph with one more line, or one that begins.
+use Rattle.std.proofs.Common.{◌≡◌, ℕ, zero, suc, ◌+◌, ◌≤◌, Bool, true, false, List, [], ◌∷◌, ◌++◌, Option, Some, None}
+use Rattle.std.proofs.Common.{arith, length, map, take, drop, refl, sym, ap, ◌∙◌, subst, true≢false}
+use Rattle.std.specs.Prelude.{slice_range, if◌then◌else◌}
+use Rattle.markdown_base.specs.Forest.{Forest}
+use Rattle.markdown_builder.specs.TreeLevels.{followed_by}
+use Rattle.markdown_lines.specs.declared.block_start.Before.TheVariants as paragraph
+use Rattle.markdown_lines.specs.declared.line.Line.{Line}
+use Rattle.markdown_lines.specs.declared.list_marker.ListMarker.{ListMarker}
+use Rattle.markdown_lines.specs.BlockBeginnings as beginning
+use Rattle.markdown_lines.specs.BlockBeginnings.{Source, begins}
+use Rattle.markdown_lines.specs.SourceLines.{SourceLine, is_blank_rest, text_line}
+use Rattle.markdown_block_rules.specs.BlockGrowth as was
+use Rattle.markdown_block_rules.specs.BlockGrowth.{Block, another_item, begun_by, goes_on, inside_of, line_block}
+use Rattle.markdown_block_rules.specs.BlockGrowth.{new_blocks, next_item, with_line}
+use Rattle.markdown_block_rules.specs.BlockRules.{ends_blank, is_blank_block}
+use Rattle.markdown_block_rules.specs.TableLines.{reads_tables}
+use Rattle.markdown_plain.specs.declared.looseness.Looseness.{Looseness}
+use Rattle.markdown_plain.specs.declared.pass.Pass.{Pass}
+use Rattle.markdown_plain.specs.Closing as closing
+use Rattle.markdown_plain.specs.Closing.{AreItemsInLists, MayEnd}
+use Rattle.markdown_plain.specs.Frames.{AreContainers, AreNested, Frame, Reached, reached, rebuilt, room_depth, touched}
+use Rattle.markdown_plain.specs.OpenLeaves.{AreItemsOpenedIn, BeginsText, ComesAfter, HoldsParagraph, leaf_block}
+use Rattle.markdown_plain.specs.Paragraphs.{lines_end, source_of}
+use Rattle.markdown_plain.specs.Settled.{IsBuilt, IsLooseAs, IsLooseBefore}
+use Rattle.markdown_plain.specs.Standing.{AreOpenedBefore, IsSource, PlacesFor, Stands, with_last}
+use Rattle.markdown_plain.specs.TextLines.{IsContentAt, held_line, text_block, with_text}
+use Rattle.markdown_plain.proofs.AddedTextLemmas.{GoesAs, loose_as_leaf, loose_with_leaf, paragraph_line}
+use Rattle.markdown_plain.proofs.BegunLemmas.{IsLeftOf, block_begun, item_begun}
+use Rattle.markdown_plain.proofs.BlanksKnownLemmas.{same_touched}
+use Rattle.markdown_plain.proofs.HeldTextLemmas.{begins_block, comes_after, ends_after, none_opened}
+use Rattle.markdown_plain.proofs.ItemsInListsLemmas.{line_keeps}
+use Rattle.markdown_plain.proofs.LastBlocksLemmas.{open_are_containers}
+use Rattle.markdown_plain.proofs.LooseFramesLemmas.{ends_more}
+use Rattle.markdown_plain.proofs.RoomLemmas.{begins_in_room}
+use Rattle.markdown_plain.proofs.TouchedFramesLemmas.{earlier_touched, holds_touched, quotes_touched}
+
+-- the paragraph that is the last block has these lines now, where the blocks are those of the definition
+placed_text : (s : Source) (pass : Pass) (source : SourceLine) (line : Line) (frames : List Frame)
+    (inside : Forest Block) (b : Block) (sources : List SourceLine) (blocks : Forest Block) → source_of pass ≡ s
+    → HoldsParagraph s pass frames inside b sources → line.next ≡ source.next → b.last ≡ line.next
+    → line.start ≤ line.next → AreOpenedBefore line.start frames
+    → IsLooseAs pass.looseness frames (followed_by inside (leaf_block b)) → AreItemsInLists false blocks
+    → with_line s blocks source ≡ rebuilt (map (touched source) frames) (followed_by inside (leaf_block b))
+    → PlacesFor s pass line.next (with_line s blocks source)
+placed_text s pass source line frames inside b sources blocks of holds next last low earlier loose items whole =
+    record {
+      frames = map (touched source) frames;
+      inside = inside;
+      last = Some b;
+      places = record {
+        source = of;
+        unended = (Some sources, holds_touched source s pass frames inside b sources holds, tt);
+        quotes = quotes_touched source line.next (sym next) frames;
+        items = subst (AreItemsInLists false) whole (line_keeps s blocks source items);
+        loose = same_touched source pass.looseness frames (followed_by inside (leaf_block b)) loose;
+        filled = ends_more false inside (leaf_block b)
+            ∙ ap (λ kind. ends_blank (ends_blank false inside) (leaf_block (record b { kind = kind }))) holds.kind;
+        before = let end = holds.last in omega (arith, end, last);
+        earlier = earlier_touched source line.start line.next low frames earlier;
+      };
+      whole = whole;
+    }
+
+-- ---- a line more
+
+-- a line was added to the lines that are held back
+pub record AddsLine (old new : Pass) (line : Line) (start : ℕ) : Type 0 where
+  pub same : new ≡ record old { lines = new.lines }
+  pub further : (s : Source) (frames : List Frame) (inside : Forest Block) (b : Block) (sources : List SourceLine)
+      (source : SourceLine) → HoldsParagraph s old frames inside b sources
+      → ComesAfter old.placing.builder.text old.lines.items (held_line line start) source
+      → HoldsParagraph s new frames inside (record b {
+        last = source.next;
+        kind = was.paragraph_leaf (sources ++ source ∷ []);
+      }) (sources ++ source ∷ [])
+
+pub text_added : (s : Source) (old new : Pass) (line : Line) (start : ℕ) (frames : List Frame) (inside : Forest Block)
+    (b : Block) (sources : List SourceLine) (source : SourceLine) → reads_tables s ≡ false
+    → Stands s old frames inside (Some b) line.start → MayEnd s old frames inside b (Some sources)
+    → IsSource old line source → AddsLine old new line start
+    → IsContentAt old.placing.builder.text line
+    (reached s frames (followed_by inside (leaf_block b)) source).rest start
+    → GoesAs s (reached s frames (followed_by inside (leaf_block b)) source)
+    → PlacesFor s new line.next (with_line s (rebuilt frames (followed_by inside (leaf_block b))) source)
+text_added s old new line start frames inside b sources source tables stands may is adds at goes =
+    let text = old.placing.builder.text in
+    let blocks = followed_by inside (leaf_block b) in
+    let rest = (reached s frames blocks source).rest in
+    let holds = may.unended in
+    let grown = with_text rest b sources in
+    let kind = holds.kind in
+    let loose = loose_as_leaf old.looseness frames inside b grown (ap is_blank_block kind) refl stands.loose in
+    let containers = open_are_containers old.placing.builder.texts old.placing.builder.blocks frames
+    holds.built.blocks in
+    let after = ends_after text line rest start at is.from in
+    placed_text s new source line frames inside grown (sources ++ text_line rest ∷ []) (rebuilt frames blocks)
+    (ap source_of adds.same ∙ stands.source)
+    (adds.further s frames inside b sources (text_line rest) holds
+    (comes_after text line rest start at is.from old.lines.items stands.before))
+    is.next (sym at.next) (omega (arith, after)) stands.earlier
+    (subst (λ (now : Looseness). IsLooseAs now frames (followed_by inside (leaf_block grown)))
+    (sym (ap (λ (p : Pass). p.looseness) adds.same)) loose)
+    may.items
+    (paragraph_line s frames inside b sources source tables containers holds.built.nested may.items kind at.filled goes)
+
+-- ---- a paragraph that begins
+
+earlier_taken : (from n : ℕ) (frames : List Frame) → AreOpenedBefore from frames → AreOpenedBefore from (take n frames)
+earlier_taken from zero frames earlier = tt
+earlier_taken from (suc n) [] earlier = tt
+earlier_taken from (suc n) (f ∷ frames) earlier = (earlier.0, earlier_taken from n frames earlier.1)
+
+-- a line is held back as the first one of a paragraph, in the containers where there is room for it
+pub record BeginsLine (s : Source) (new : Pass) (line : Line) (start : ℕ) (outer : List Frame) (inside : Forest Block)
+    : Type 0 where
+  pub stands : closing.StandsFor s new outer inside
+  pub loose : IsLooseBefore new.looseness outer inside
+  pub first : (b : Block) (source : SourceLine)
+      → BeginsText new.placing.builder.text (held_line line start) source b → AreItemsOpenedIn line outer
+      → HoldsParagraph s new outer inside b (source ∷ [])
+
+-- what is left of a line that is text makes a paragraph
+text_made : (s : Source) (l : SourceLine) → is_blank_rest l ≡ false → begins s paragraph.NoParagraph l ≡ beginning.begins_text
+    → line_block s l ≡ leaf_block (text_block l)
+text_made s l filled text =
+    block_begun s l filled ∙ ap (new_blocks (inside_of (begun_by s) l) l) text
+
+-- and no item
+text_no_item : (s : Source) (l : SourceLine) (marker : ListMarker) → IsLeftOf s.text l.left → is_blank_rest l ≡ false
+    → begins s paragraph.NoParagraph l ≡ beginning.begins_text → next_item s l marker ≡ None
+text_no_item s l marker own filled text = item_begun s l marker own filled ∙ ap (another_item s l marker) text
+
+pub text_begun : (s : Source) (old new : Pass) (line : Line) (start : ℕ) (frames : List Frame) (inside : Forest Block)
+    (source : SourceLine) → source_of new ≡ s → old.placing.builder.text ≡ s.text → IsSource old line source
+    → AreContainers frames → AreNested frames → AreItemsInLists false (rebuilt frames inside)
+    → AreOpenedBefore line.start frames
+    → IsContentAt old.placing.builder.text line (reached s frames inside source).rest start
+    → goes_on s (rebuilt (reached s frames inside source).inner inside) (reached s frames inside source).rest ≡ None
+    → begins s paragraph.NoParagraph (reached s frames inside source).rest ≡ beginning.begins_text
+    → BeginsLine s new line start
+    (take (room_depth (length (reached s frames inside source).outer) frames) frames)
+    (rebuilt (drop (room_depth (length (reached s frames inside source).outer) frames) frames) inside)
+    → PlacesFor s new line.next (with_line s (rebuilt frames inside) source)
+text_begun s old new line start frames inside source of same is are nested items earlier at none text begun =
+    let r = reached s frames inside source in
+    let n = room_depth (length r.outer) frames in
+    let outer = take n frames in
+    let now = rebuilt (drop n frames) inside in
+    let b = text_block r.rest in
+    let after = ends_after old.placing.builder.text line r.rest start at is.from in
+    let own : IsLeftOf s.text r.rest.left =
+    subst (λ stop. slice_range s.text r.rest.left.scanned stop ≡ r.rest.left.bytes) at.stop
+    (subst (λ t. slice_range t r.rest.left.scanned line.stop ≡ r.rest.left.bytes) same at.bytes) in
+    let kept : old.placing.builder.text ≡ new.placing.builder.text =
+    same ∙ sym (ap (λ (s : Source). s.text) of) in
+    let begins_it = subst (λ t. BeginsText t (held_line line start) (text_line r.rest) b) kept
+    (begins_block old.placing.builder.text line r.rest start at is.from) in
+    placed_text s new source line outer now b (text_line r.rest ∷ []) (rebuilt frames inside) of
+    (begun.first b (text_line r.rest) begins_it
+    (none_opened old.placing.builder.text line r.rest start at is.from outer (earlier_taken line.start n frames earlier)))
+    is.next (sym at.next) (omega (arith, after)) (earlier_taken line.start n frames earlier)
+    (loose_with_leaf new.looseness outer now b refl begun.loose) items
+    (begins_in_room s frames inside source are nested none
+    (λ marker. text_no_item s r.rest marker own at.filled text)
+    ∙ ap (λ made. rebuilt (map (touched source) outer) (followed_by now made)) (text_made s r.rest at.filled text))

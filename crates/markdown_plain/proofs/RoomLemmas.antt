@@ -1,0 +1,86 @@
+-- A block that begins in a line, inside the containers that the line reaches, and around a list among these.
+use Rattle.std.proofs.Common.{◌≡◌, ℕ, ◌-◌, Bool, true, false, List, [], ◌∷◌, ◌++◌, None, arith, append_assoc, length}
+use Rattle.std.proofs.Common.{map, take, drop, refl, sym, ap, ◌∙◌, subst}
+use Rattle.std.proofs.lemmas.List.{drop_at, length-append, take_at}
+use Rattle.std.specs.Prelude.{if◌then◌else◌}
+use Rattle.markdown_base.specs.Forest.{Forest}
+use Rattle.markdown_lines.specs.declared.list_marker.ListMarker.{ListMarker}
+use Rattle.markdown_lines.specs.BlockBeginnings.{Source}
+use Rattle.markdown_lines.specs.SourceLines.{SourceLine}
+use Rattle.markdown_builder.specs.TreeLevels.{followed_by}
+use Rattle.markdown_block_rules.specs.BlockGrowth as was
+use Rattle.markdown_block_rules.specs.BlockGrowth.{Block, goes_on, line_block, next_item, with_line}
+use Rattle.markdown_plain.specs.Frames.{AreContainers, AreNested, Frame, Reached, forgotten, innermost_is, is_list}
+use Rattle.markdown_plain.specs.Frames.{reached, rebuilt, room_depth, touched}
+use Rattle.markdown_plain.proofs.FramesLemmas.{HasMarker, Innermost, innermost_apart, marker_of_list}
+use Rattle.markdown_plain.proofs.ReachedLemmas.{block_begins, inner_left, list_ends, outer_taken, reached_parts}
+
+-- the containers around such a block, of those that a line reaches: all, or all but the list
+record IsRoomOf (frames outer inner : List Frame) (n : ℕ) : Type 0 where
+  outside : take n frames ≡ outer
+  inside : drop n frames ≡ inner
+
+parted_at : (frames outer inner : List Frame) (n : ℕ) → outer ++ inner ≡ frames → n ≡ length outer
+    → IsRoomOf frames outer inner n
+parted_at frames outer inner n parts is = record {
+  outside = ap (take n) (sym parts) ∙ take_at outer inner n (sym is);
+  inside = ap (drop n) (sym parts) ∙ drop_at outer inner n (sym is);
+}
+
+module _ (s : Source) (frames : List Frame) (inside : Forest Block) (l : SourceLine) (are : AreContainers frames)
+    (nested : AreNested frames) where
+  depth_reached : (list : Bool) → innermost_is is_list (reached s frames inside l).outer ≡ list
+      → room_depth (length (reached s frames inside l).outer) frames
+      ≡ (if list then length (reached s frames inside l).outer - 1 else length (reached s frames inside l).outer)
+  depth_reached list is =
+      let n = length (reached s frames inside l).outer in
+      ap (λ (fs : List Frame). if innermost_is is_list fs then n - 1 else n) (outer_taken s frames inside l)
+      ∙ ap (λ test. if test then n - 1 else n) is
+
+  -- a line makes of blocks the same with what it begins after them, where nothing goes on and no item begins
+  pub begins_in_room :
+      goes_on s (rebuilt (reached s frames inside l).inner inside) (reached s frames inside l).rest ≡ None
+      → ((marker : ListMarker) → next_item s (reached s frames inside l).rest marker ≡ None)
+      → with_line s (rebuilt frames inside) l
+      ≡ rebuilt (map (touched l) (take (room_depth (length (reached s frames inside l).outer) frames) frames))
+      (followed_by (rebuilt (drop (room_depth (length (reached s frames inside l).outer) frames) frames) inside)
+      (line_block s (reached s frames inside l).rest))
+  begins_in_room none no_item = decided (innermost_is is_list r.outer) refl
+    where
+      r : Reached
+      r = reached s frames inside l
+
+      n : ℕ
+      n = room_depth (length r.outer) frames
+
+      made : (outer inner : List Frame) → Forest Block
+      made outer inner = rebuilt (map (touched l) outer) (followed_by (rebuilt inner inside) (line_block s r.rest))
+
+      same_made : (outer inner : List Frame) → IsRoomOf frames outer inner n
+          → made outer inner ≡ made (take n frames) (drop n frames)
+      same_made outer inner is =
+          ap (λ (fs : List Frame). made fs inner) (sym is.outside)
+          ∙ ap (λ (fs : List Frame). made (take n frames) fs) (sym is.inside)
+
+      in_marked : (list : Innermost is_list r.outer) → HasMarker list.last.block.kind
+          → innermost_is is_list r.outer ≡ true
+          → with_line s (rebuilt frames inside) l ≡ made (take n frames) (drop n frames)
+      in_marked list marked is =
+          let many = ap length list.are ∙ length-append list.outer (list.last ∷ []) in
+          let size : n ≡ length list.outer = depth_reached true is ∙ omega (arith, many) in
+          let parts : list.outer ++ (list.last ∷ r.inner) ≡ frames =
+          sym (append_assoc list.outer (list.last ∷ []) r.inner)
+          ∙ (ap (λ (fs : List Frame). fs ++ r.inner) (sym list.are) ∙ reached_parts s frames inside l) in
+          list_ends s frames inside l are nested list.outer list.last marked.marker list.are marked.is none
+          (no_item marked.marker)
+          ∙ same_made list.outer (list.last ∷ r.inner) (parted_at frames list.outer (list.last ∷ r.inner) n parts size)
+
+      decided : (list : Bool) → innermost_is is_list r.outer ≡ list
+          → with_line s (rebuilt frames inside) l ≡ made (take n frames) (drop n frames)
+      decided true is =
+          let list = innermost_apart is_list r.outer is in
+          in_marked list (marker_of_list list.last.block.kind list.passes) is
+      decided false plain =
+          block_begins s frames inside l are nested none plain
+          ∙ same_made r.outer r.inner (parted_at frames r.outer r.inner n (reached_parts s frames inside l)
+          (depth_reached false plain))
