@@ -1,15 +1,21 @@
 -- Lines that are text inside the containers that go on in them.
-use Rattle.std.specs.Prelude.{◌≡◌, ℕ, ◌≤◌, Bool, false, List, [], ◌∷◌, ◌++◌, slice_range, if◌then◌else◌}
+use Rattle.std.specs.Prelude.{◌≡◌, ℕ, ◌≤◌, Bool, false, List, [], ◌∷◌, ◌++◌, None, length, slice_range}
+use Rattle.std.specs.Prelude.{if◌then◌else◌}
 use Rattle.std.specs.Str.{IsCharBoundary}
+use Rattle.markdown_base.specs.Forest.{Forest}
 use Rattle.markdown_lines.specs.declared.block_start.Before.{Before}
 use Rattle.markdown_lines.specs.declared.block_start.Before.TheVariants as paragraph
 use Rattle.markdown_lines.specs.declared.held_line.HeldLine.{HeldLine}
 use Rattle.markdown_lines.specs.declared.line.Line.{Line}
+use Rattle.markdown_lines.specs.BlockBeginnings as beginning
+use Rattle.markdown_lines.specs.BlockBeginnings.{Source, begins}
 use Rattle.markdown_lines.specs.SourceLines.{SourceLine, is_blank_rest, stop_of, text_line}
 use Rattle.markdown_block_rules.specs.BlockGrowth as was
-use Rattle.markdown_block_rules.specs.BlockGrowth.{Block, content_of}
+use Rattle.markdown_block_rules.specs.BlockGrowth.{Block, content_of, goes_on}
 use Rattle.markdown_plain.specs.declared.pass.Pass.{Pass}
+use Rattle.markdown_plain.specs.Frames.{Reached, rebuilt}
 use Rattle.markdown_plain.specs.Paragraphs.{has_paragraph}
+use Rattle.markdown_plain.specs.ReachedFrames.{are_none}
 
 -- a line as it is held back, from its first byte of content on
 abbrev pub held_line : Line → (start : ℕ) → HeldLine
@@ -43,3 +49,12 @@ text_block rest = record {
   last = rest.next;
   kind = was.paragraph_leaf (text_line rest ∷ []);
 }
+
+-- What was reached in a line leaves text, whose first byte of content is at a byte offset, and where no paragraph is open
+-- that it may go on with, none of these blocks goes on.
+pub record IsTextHere (s : Source) (pass : Pass) (line : Line) (start depth : ℕ) (inside : Forest Block) (r : Reached)
+    : Type 0 where
+  pub depth_is : depth ≡ length r.outer
+  pub content : IsContentAt pass.placing.builder.text line r.rest start
+  pub text : begins s (paragraph_before pass (are_none r.inner)) r.rest ≡ beginning.begins_text
+  pub over : has_paragraph pass ≡ false → goes_on s (rebuilt r.inner inside) r.rest ≡ None

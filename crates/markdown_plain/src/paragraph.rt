@@ -31,7 +31,9 @@ ghost use Rattle.markdown_builder.specs.TreeLevels.{followed_by};
 ghost use Rattle.markdown_plain.specs.Frames.{Frame, rebuilt, room_depth};
 ghost use Rattle.markdown_plain.specs.OpenLeaves.{HoldsParagraph, IsPlaced, ended_block, leaf_block};
 ghost use Rattle.markdown_plain.specs.OpenLeaves.{AreItemsOpenedIn, BeginsText, ComesAfter};
-ghost use Rattle.markdown_plain.specs.Settled.{IsBuilt};
+ghost use Rattle.markdown_block_rules.specs.BlockGrowth.{is_nil};
+ghost use Rattle.markdown_plain.specs.Frames.{AreNested};
+ghost use Rattle.markdown_plain.specs.Settled.{AreOpen, BlanksKnown, IsBuilt, IsLooseAs, IsLooseBefore};
 
 use crate::leaves::open_heading;
 use crate::pass::Pass;
@@ -404,6 +406,16 @@ impl<'a> Pass<'a> {
               last = source.next;
               kind = paragraph_leaf (sources ++ source ∷ []);
             }) (sources ++ source ∷ [])) }
+        ensures loose { IfOk result (λ _. has_paragraph self.old ≡ false
+            → (texts : List (List ℕ)) (frames : List Frame) (inside : Forest Block)
+            → AreOpen texts (without_leaf self.old.placing.builder) frames → AreNested frames
+            → IsLooseAs self.old.looseness frames inside → depth ≤ length frames
+            → (is_nil (rebuilt (drop (room_depth depth frames) frames) inside) ≡ false
+            → BlanksKnown self.old.looseness.blank_from 0 frames inside)
+            → IfFitted self.old.placing self.new.placing (IsLooseBefore self.new.looseness
+            (take (room_depth depth frames) frames)
+            (rebuilt (drop (room_depth depth frames) frames) inside))) }
+        ensures options { self.new.options ≡ self.old.options }
     {
         if !self.has_paragraph() {
             self.make_room(depth)?;
