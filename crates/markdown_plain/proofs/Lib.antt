@@ -47,4 +47,5 @@ pub mod HeldTextLemmas
 pub mod AddedTextLemmas
 pub mod RoomLemmas
 pub mod PlacedTextLemmas
+pub mod TextStepsLemmas
 pub mod TextLinesLemmas

@@ -1,0 +1,207 @@
+-- A step of the pass that adds a line of text: what it has placed then, whether a paragraph was open or not.
+use Rattle.std.proofs.Common.{◌≡◌, ℕ, ◌≤◌, Bool, true, false, not, List, [], ◌∷◌, ◌++◌, Option, Some, None, arith}
+use Rattle.std.proofs.Common.{length, take, drop, refl, sym, ap, ◌∙◌, subst, true≢false}
+use Rattle.std.specs.Prelude.{◌==◌, ◌&&◌, if◌then◌else◌}
+use Rattle.std.proofs.Math.Bool.{and-false}
+use Rattle.std.proofs.lemmas.List.{length-append}
+use Rattle.markdown_base.specs.Forest.{Forest}
+use Rattle.markdown_builder.specs.BuilderView.{BuilderView}
+use Rattle.markdown_builder.specs.TreeLevels.{followed_by}
+use Rattle.markdown_builder.specs.declared.open_block.OpenBlock.{OpenBlock}
+use Rattle.markdown_lines.specs.declared.block_start.Before.TheVariants as paragraph
+use Rattle.markdown_lines.specs.declared.line.Line.{Line}
+use Rattle.markdown_lines.specs.BlockBeginnings as beginning
+use Rattle.markdown_lines.specs.BlockBeginnings.{Source, begins}
+use Rattle.markdown_lines.specs.SourceLines.{SourceLine}
+use Rattle.markdown_block_rules.specs.BlockGrowth as was
+use Rattle.markdown_block_rules.specs.BlockGrowth.{Block, goes_on, is_nil, with_line}
+use Rattle.markdown_block_rules.specs.TableLines.{reads_tables}
+use Rattle.markdown_plain.specs.declared.looseness.Looseness.{Looseness}
+use Rattle.markdown_plain.specs.declared.pass.Pass.{Pass}
+use Rattle.markdown_plain.specs.Closing as closing
+use Rattle.markdown_plain.specs.Closing.{AreItemsInLists, MayClose, MayEnd}
+use Rattle.markdown_plain.specs.Fitting.{AllFitted, IfFitted}
+use Rattle.markdown_plain.specs.Frames.{AreNested, Frame, Reached, reached, rebuilt, room_depth}
+use Rattle.markdown_plain.specs.OpenBlocks.{without_leaf}
+use Rattle.markdown_plain.specs.OpenLeaves.{AreItemsOpenedIn, BeginsText, ComesAfter, HoldsParagraph, leaf_block}
+use Rattle.markdown_plain.specs.Paragraphs.{has_paragraph, source_of}
+use Rattle.markdown_plain.specs.ReachedFrames.{are_none}
+use Rattle.markdown_plain.specs.Settled.{AreOpen, BlanksKnown, IsBuilt, IsLooseAs, IsLooseBefore}
+use Rattle.markdown_plain.specs.Standing.{HasLast, IsSource, PlacesFor, Stands, with_last}
+use Rattle.markdown_plain.specs.TextLines.{IsTextHere, held_line, paragraph_before}
+use Rattle.markdown_plain.proofs.AddedLinesLemmas.{has_held}
+use Rattle.markdown_plain.proofs.AddedTextLemmas.{GoesAs, continues, reaches}
+use Rattle.markdown_plain.proofs.LastBlocksLemmas.{open_are_containers}
+use Rattle.markdown_plain.proofs.OpenBlocksLemmas.{outer_of_these}
+use Rattle.markdown_plain.proofs.PlacedTextLemmas.{AddsLine, BeginsLine, text_added, text_begun}
+use Rattle.markdown_plain.proofs.ReachedLemmas.{reached_parts}
+
+-- a line was added from a byte offset on, inside the outermost `depth` of the open blocks
+pub record AddsText (old new : Pass) (line : Line) (start depth : ℕ) : Type 0 where
+  pub text : new.placing.builder.text ≡ old.placing.builder.text
+  pub options : new.options ≡ old.options
+  pub goes_on : has_paragraph old ≡ true → new ≡ record old { lines = new.lines }
+  pub forgets : (s : Source) (frames : List Frame) (inside : Forest Block) → old.lines.items ≡ []
+      → depth ≤ length frames → MayClose s old frames inside → IfFitted old.placing new.placing
+      (closing.StandsFor s new (take (room_depth depth frames) frames)
+      (rebuilt (drop (room_depth depth frames) frames) inside))
+  pub finishes : (s : Source) (frames : List Frame) (inside : Forest Block) (b : Block) → depth ≤ length frames
+      → MayEnd s old frames inside b None → IfFitted old.placing new.placing
+      (closing.StandsFor s new (take (room_depth depth frames) frames)
+      (rebuilt (drop (room_depth depth frames) frames) (followed_by inside (leaf_block b))))
+  pub loose : has_paragraph old ≡ false → (texts : List (List ℕ)) (frames : List Frame) (inside : Forest Block)
+      → AreOpen texts (without_leaf old.placing.builder) frames → AreNested frames
+      → IsLooseAs old.looseness frames inside → depth ≤ length frames
+      → (is_nil (rebuilt (drop (room_depth depth frames) frames) inside) ≡ false
+      → BlanksKnown old.looseness.blank_from 0 frames inside) → IfFitted old.placing new.placing
+      (IsLooseBefore new.looseness (take (room_depth depth frames) frames)
+      (rebuilt (drop (room_depth depth frames) frames) inside))
+  pub first : has_paragraph old ≡ false → (s : Source) (frames : List Frame) (inside : Forest Block) (b : Block)
+      (source : SourceLine) → IsBuilt s new.placing.builder frames inside → s.options ≡ old.options
+      → BeginsText new.placing.builder.text (held_line line start) source b → AreItemsOpenedIn line frames
+      → HoldsParagraph s new frames inside b (source ∷ [])
+  pub further : (s : Source) (frames : List Frame) (inside : Forest Block) (b : Block) (sources : List SourceLine)
+      (source : SourceLine) → HoldsParagraph s old frames inside b sources
+      → ComesAfter old.placing.builder.text old.lines.items (held_line line start) source
+      → HoldsParagraph s new frames inside (record b {
+        last = source.next;
+        kind = was.paragraph_leaf (sources ++ source ∷ []);
+      }) (sources ++ source ∷ [])
+
+-- ---- what is open
+
+-- open containers, and no paragraph that is held back
+record HasContainers (s : Source) (pass : Pass) (frames : List Frame) (blocks : Forest Block) : Type 0 where
+  texts : List (List ℕ)
+  are : AreOpen texts (without_leaf pass.placing.builder) frames
+  nested : AreNested frames
+  items : AreItemsInLists false (rebuilt frames blocks)
+  none : has_paragraph pass ≡ false
+
+none_held : (leaf : Bool) (count : ℕ) → count ≡ 0 → (not leaf && not (count == 0)) ≡ false
+none_held leaf count none = ap (λ n. not leaf && not (n == 0)) none ∙ and-false (not leaf)
+
+settled_containers : (s : Source) (pass : Pass) (frames : List Frame) (inside : Forest Block)
+    → MayClose s pass frames inside → pass.lines.items ≡ [] → HasContainers s pass frames inside
+settled_containers s pass frames inside may empty =
+    let built = may.stands.built in
+    let view = pass.placing.builder in
+    record {
+      texts = view.texts;
+      are = subst (λ blocks. AreOpen view.texts blocks frames) (sym (no_leaf view built.outside)) built.blocks;
+      nested = built.nested;
+      items = may.stands.items;
+      none = none_held view.leaf (length pass.lines.items) (ap length empty);
+    }
+  where
+    no_leaf : (view : BuilderView) → view.leaf ≡ false → without_leaf view ≡ view.blocks
+    no_leaf view outside = rw outside refl
+
+leaf_containers : (s : Source) (pass : Pass) (frames : List Frame) (inside : Forest Block) (b : Block)
+    → MayEnd s pass frames inside b None → HasContainers s pass frames (followed_by inside (leaf_block b))
+leaf_containers s pass frames inside b may =
+    let is = may.unended.1 in
+    let view = pass.placing.builder in
+    record {
+      texts = view.texts;
+      are = subst (λ blocks. AreOpen view.texts blocks frames)
+          (sym (in_leaf view is.outer is.block is.leaf is.blocks)) is.around.blocks;
+      nested = is.around.nested;
+      items = may.items;
+      none = ap (λ leaf. not leaf && not (length pass.lines.items == 0)) is.leaf;
+    }
+  where
+    in_leaf : (view : BuilderView) (outer : List OpenBlock) (block : OpenBlock) → view.leaf ≡ true
+        → view.blocks ≡ outer ++ block ∷ [] → without_leaf view ≡ outer
+    in_leaf view outer block leaf is = rw leaf (outer_of_these view.blocks outer block is)
+
+-- ---- the line
+
+-- how the line goes on with a paragraph, by what it reaches
+goes_as : (s : Source) (pass : Pass) (r : Reached) → has_paragraph pass ≡ true
+    → begins s (paragraph_before pass (are_none r.inner)) r.rest ≡ beginning.begins_text → GoesAs s r
+goes_as s pass r some text = by_inner r.inner refl
+  where
+    same : begins s (if are_none r.inner then paragraph.Reached else paragraph.Lazy) r.rest ≡ beginning.begins_text
+    same =
+        ap (λ test. begins s (if test
+        then (if are_none r.inner then paragraph.Reached else paragraph.Lazy) else paragraph.NoParagraph) r.rest)
+        (sym some) ∙ text
+
+    by_inner : (inner : List Frame) → r.inner ≡ inner → GoesAs s r
+    by_inner [] is =
+        reaches is (ap (λ (fs : List Frame).
+        begins s (if are_none fs then paragraph.Reached else paragraph.Lazy) r.rest) (sym is) ∙ same)
+    by_inner (f ∷ others) is =
+        continues f others is (ap (λ (fs : List Frame).
+        begins s (if are_none fs then paragraph.Reached else paragraph.Lazy) r.rest) (sym is) ∙ same)
+
+module _ (s : Source) (old new : Pass) (line : Line) (start depth : ℕ) (source : SourceLine)
+    (adds : AddsText old new line start depth) (is : IsSource old line source) where
+  -- a paragraph begins
+  begins_there : (frames : List Frame) (inside : Forest Block) (last : Option Block)
+      → Stands s old frames inside last line.start → HasContainers s old frames (with_last inside last)
+      → IsTextHere s old line start depth (with_last inside last) (reached s frames (with_last inside last) source)
+      → (depth ≤ length frames → IfFitted old.placing new.placing
+      (closing.StandsFor s new (take (room_depth depth frames) frames)
+      (rebuilt (drop (room_depth depth frames) frames) (with_last inside last))))
+      → IfFitted old.placing new.placing
+      (PlacesFor s new line.next (with_line s (rebuilt frames (with_last inside last)) source))
+  begins_there frames inside last stands around here settles fitted =
+      let blocks = with_last inside last in
+      let r = reached s frames blocks source in
+      let many = ap length (reached_parts s frames blocks source) in
+      let parts = length-append r.outer r.inner in
+      let deep = here.depth_is in
+      let few : depth ≤ length frames = omega (arith, many, parts, deep) in
+      let there = settles few fitted in
+      let loose = adds.loose around.none around.texts frames blocks around.are around.nested stands.loose few
+      (λ some. stands.blanks) fitted in
+      let text = ap (λ (source : Source). source.text) stands.source in
+      let options = ap (λ (source : Source). source.options) stands.source in
+      let now : source_of new ≡ s =
+      ap (λ t. record { text = t; options = new.options }) adds.text
+      ∙ (ap (λ o. record { text = old.placing.builder.text; options = o }) adds.options ∙ stands.source) in
+      let begun : BeginsLine s new line start (take (room_depth depth frames) frames)
+      (rebuilt (drop (room_depth depth frames) frames) blocks) = record {
+        stands = there.1;
+        loose = loose.1;
+        first = λ b first begins opened.
+            adds.first around.none s _ _ b first there.1.built (sym options) begins opened;
+      } in (
+        there.0,
+        text_begun s old new line start frames blocks source now text is
+            (open_are_containers around.texts (without_leaf old.placing.builder) frames around.are) around.nested around.items
+            stands.earlier here.content (here.over around.none)
+            (ap (λ test. begins s (if test then (if are_none r.inner then paragraph.Reached else paragraph.Lazy)
+            else paragraph.NoParagraph) r.rest) (sym around.none) ∙ here.text)
+            (subst (λ n. BeginsLine s new line start (take (room_depth n frames) frames)
+            (rebuilt (drop (room_depth n frames) frames) blocks)) here.depth_is begun),
+      )
+
+  -- the pass has placed the line
+  pub text_places : reads_tables s ≡ false → (frames : List Frame) (inside : Forest Block) (last : Option Block)
+      → Stands s old frames inside last line.start
+      → IsTextHere s old line start depth (with_last inside last) (reached s frames (with_last inside last) source)
+      → IfFitted old.placing new.placing
+      (PlacesFor s new line.next (with_line s (rebuilt frames (with_last inside last)) source))
+  text_places tables frames inside None stands here fitted =
+      let may = stands.unended in
+      begins_there frames inside None stands (settled_containers s old frames inside may.0 may.1) here
+      (λ few. adds.forgets s frames inside may.1 few may.0) fitted
+  text_places tables frames inside (Some b) stands here fitted = by_held stands.unended.0 stands.unended.1
+    where
+      by_held : (held : Option (List SourceLine)) → MayEnd s old frames inside b held
+          → AllFitted old.placing
+          × PlacesFor s new line.next (with_line s (rebuilt frames (followed_by inside (leaf_block b))) source)
+      by_held None may =
+          begins_there frames inside (Some b) stands (leaf_containers s old frames inside b may) here
+          (λ few. adds.finishes s frames inside b few may) fitted
+      by_held (Some sources) may =
+          let some = has_held s old frames inside b sources may.unended in
+          let same = adds.goes_on some in (
+            subst AllFitted (ap (λ (p : Pass). p.placing) same) fitted,
+            text_added s old new line start frames inside b sources source tables stands may is
+                (record { same = same; further = adds.further }) here.content
+                (goes_as s old (reached s frames (followed_by inside (leaf_block b)) source) some here.text),
+          )
