@@ -1,14 +1,20 @@
 -- Lines that are text inside the containers that go on in them.
-use Rattle.std.specs.Prelude.{◌≡◌, ℕ, ◌≤◌, Bool, false, List, [], ◌∷◌, ◌++◌, None, length, slice_range}
+use Rattle.std.specs.Prelude.{◌≡◌, ℕ, ◌≤◌, Bool, false, ◌==◌, ◌||◌, List, [], ◌∷◌, ◌++◌, None, length, slice_range}
 use Rattle.std.specs.Prelude.{if◌then◌else◌}
+use Rattle.std.specs.Char.{is_ascii_digit}
 use Rattle.std.specs.Str.{IsCharBoundary}
+use Rattle.markdown_base.specs.Bytes.{backtick, equals_sign, greater_than, less_than, number_sign, open_bracket, tilde}
 use Rattle.markdown_base.specs.Forest.{Forest}
 use Rattle.markdown_lines.specs.declared.block_start.Before.{Before}
 use Rattle.markdown_lines.specs.declared.block_start.Before.TheVariants as paragraph
 use Rattle.markdown_lines.specs.declared.held_line.HeldLine.{HeldLine}
 use Rattle.markdown_lines.specs.declared.line.Line.{Line}
+use Rattle.markdown_lines.specs.declared.position.Position.{Position}
 use Rattle.markdown_lines.specs.BlockBeginnings as beginning
 use Rattle.markdown_lines.specs.BlockBeginnings.{Source, begins}
+use Rattle.markdown_lines.specs.ListMarkers.{is_bullet}
+use Rattle.markdown_lines.specs.Positions.{left_from}
+use Rattle.markdown_lines.specs.ThematicBreaks.{is_break_mark}
 use Rattle.markdown_lines.specs.SourceLines.{SourceLine, is_blank_rest, stop_of, text_line}
 use Rattle.markdown_block_rules.specs.BlockGrowth as was
 use Rattle.markdown_block_rules.specs.BlockGrowth.{Block, content_of, goes_on}
@@ -16,6 +22,25 @@ use Rattle.markdown_plain.specs.declared.pass.Pass.{Pass}
 use Rattle.markdown_plain.specs.Frames.{Reached, rebuilt}
 use Rattle.markdown_plain.specs.Paragraphs.{has_paragraph}
 use Rattle.markdown_plain.specs.ReachedFrames.{are_none}
+
+-- a line that begins with this byte begins no block but a paragraph, and underlines none
+pub record BeginsNoBlock (byte : ℕ) : Type 0 where
+  pub quote : (byte == greater_than) ≡ false
+  pub heading : (byte == number_sign) ≡ false
+  pub fence : ((byte == backtick) || (byte == tilde)) ≡ false
+  pub html : (byte == less_than) ≡ false
+  pub footnote : (byte == open_bracket) ≡ false
+  pub underline : (byte == equals_sign) ≡ false
+  pub break : is_break_mark byte ≡ false
+  pub bullet : is_bullet byte ≡ false
+  pub digit : is_ascii_digit byte ≡ false
+
+-- a line of which this is left is not blank, has its content here, and begins text, whatever paragraph is before it
+pub record IsTextFrom (text : List ℕ) (position : Position) (stop : ℕ) : Type 0 where
+  pub filled : (l : SourceLine) → l.left ≡ left_from text position stop → is_blank_rest l ≡ false
+  pub here : (l : SourceLine) → l.left ≡ left_from text position stop → content_of l ≡ position.at
+  pub begins_it : (s : Source) (before : Before) (l : SourceLine) → s.text ≡ text
+      → l.left ≡ left_from text position stop → begins s before l ≡ beginning.begins_text
 
 -- a line as it is held back, from its first byte of content on
 abbrev pub held_line : Line → (start : ℕ) → HeldLine

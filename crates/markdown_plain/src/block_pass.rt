@@ -1,13 +1,15 @@
 //! The block pass, line by line: which open blocks continue, which blocks begin, and what a lazy continuation line
 //! continues (CommonMark, appendix on parsing). Functions that return a `Result` fail only where memory is refused;
 //! what was built by then is not used.
-ghost use Rattle.std.specs.Prelude.{◌≡◌, [], length, IfOk};
+ghost use Rattle.std.specs.Prelude.{◌≡◌, [], false, length, true, IfOk};
 ghost use Rattle.std.specs.Str.{IsCharBoundary};
 ghost use Rattle.markdown_base.specs.BlockTree.{tree_of};
 ghost use Rattle.markdown_base.specs.Forest.{Forest};
 ghost use Rattle.markdown_block_rules.specs.BlockGrowth.{Block};
 ghost use Rattle.markdown_lines.specs.BlockBeginnings.{Source};
 ghost use Rattle.markdown_plain.specs.Standing.{PlacesFor, StandsFor};
+ghost use Rattle.markdown_lines.specs.declared.position.Position.{Position};
+ghost use Rattle.markdown_plain.specs.TextLines.{BeginsNoBlock, IsTextFrom};
 ghost use Rattle.markdown_base.specs.Coverage.{Covers};
 ghost use Rattle.markdown_base.specs.WellFormed.{IsWellFormed};
 ghost use Rattle.markdown_builder.specs.EvenRows.{HasEvenRows};
@@ -56,7 +58,9 @@ struct LineRest<'a> {
 /// Returns whether a line with this first byte after white space may begin a block other than a paragraph, or be the
 /// delimiter row of a table.
 #[inline(always)]
-fn may_begin_block(byte: u8) -> bool {
+fn may_begin_block(byte: u8) -> bool
+    ensures { result ≡ false → BeginsNoBlock byte }
+{
     match byte {
         b'>' | b'#' | b'`' | b'~' | b'<' | b'[' => true,
         b'=' | b'-' | b'_' | b'*' | b'+' | b'0'..=b'9' => true,
@@ -69,7 +73,10 @@ fn may_begin_block(byte: u8) -> bool {
 /// delimiter row. In most lines the first byte is a letter.
 // inlined: it is called for each line
 #[inline(always)]
-fn begins_text(text: &str, at: usize, stop: usize) -> bool {
+fn begins_text(text: &str, at: usize, stop: usize) -> bool
+    ensures { result ≡ true → (position : Position) → position.at ≡ at → position.owed ≡ 0
+        → IsTextFrom text.now position stop }
+{
     at < stop
         && match byte_at(text, at) {
             Some(byte) if byte.is_ascii_alphabetic() => true,
@@ -81,7 +88,9 @@ fn begins_text(text: &str, at: usize, stop: usize) -> bool {
 /// Returns whether the rest of a line from a place on begins with a byte that shows that it is text.
 // inlined, as `begins_text`
 #[inline(always)]
-fn is_text_from(text: &str, position: Position, stop: usize) -> bool {
+fn is_text_from(text: &str, position: Position, stop: usize) -> bool
+    ensures { result ≡ true → IsTextFrom text.now position stop }
+{
     position.owed == 0 && begins_text(text, position.at, stop)
 }
 

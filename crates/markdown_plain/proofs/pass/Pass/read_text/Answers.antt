@@ -1,2 +1,2 @@
 -- A line that is text.
-use Rattle.markdown_plain.proofs.TextStepsLemmas.{text_places}
+use Rattle.markdown_plain.proofs.TextLinesLemmas.{shows_text}
