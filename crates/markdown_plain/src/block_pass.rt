@@ -1,15 +1,20 @@
 //! The block pass, line by line: which open blocks continue, which blocks begin, and what a lazy continuation line
 //! continues (CommonMark, appendix on parsing). Functions that return a `Result` fail only where memory is refused;
 //! what was built by then is not used.
-ghost use Rattle.std.specs.Prelude.{◌≡◌, [], false, length, true, IfOk};
+ghost use Rattle.std.specs.Prelude.{◌≡◌, List, [], Option, false, length, true, IfOk};
 ghost use Rattle.std.specs.Str.{IsCharBoundary};
 ghost use Rattle.markdown_base.specs.BlockTree.{tree_of};
 ghost use Rattle.markdown_base.specs.Forest.{Forest};
 ghost use Rattle.markdown_block_rules.specs.BlockGrowth.{Block};
 ghost use Rattle.markdown_lines.specs.BlockBeginnings.{Source};
-ghost use Rattle.markdown_plain.specs.Standing.{PlacesFor, StandsFor};
+ghost use Rattle.markdown_plain.specs.Standing.{IsSource, PlacesFor, Stands, StandsFor, with_last};
 ghost use Rattle.markdown_lines.specs.declared.position.Position.{Position};
-ghost use Rattle.markdown_plain.specs.TextLines.{BeginsNoBlock, IsTextFrom};
+ghost use Rattle.markdown_block_rules.specs.BlockGrowth.{with_line};
+ghost use Rattle.markdown_block_rules.specs.TableLines.{reads_tables};
+ghost use Rattle.markdown_lines.specs.SourceLines.{SourceLine};
+ghost use Rattle.markdown_plain.specs.Fitting.{IfFitted};
+ghost use Rattle.markdown_plain.specs.Frames.{Frame, reached, rebuilt};
+ghost use Rattle.markdown_plain.specs.TextLines.{BeginsNoBlock, IsTextFrom, IsTextHere};
 ghost use Rattle.markdown_base.specs.Coverage.{Covers};
 ghost use Rattle.markdown_base.specs.WellFormed.{IsWellFormed};
 ghost use Rattle.markdown_builder.specs.EvenRows.{HasEvenRows};
@@ -142,7 +147,26 @@ impl<'a> Pass<'a> {
         {
             return self.read_any_line(line, ahead);
         }
-        self.add_text(line, line.start, 0)?;
+        self.read_text_line(line, line.start, 0)
+    }
+
+    /// Reads a line that is text, from its first byte of content at byte offset `start` on, inside the outermost `depth`
+    /// of the open blocks.
+    // inlined, as `add_text`
+    #[inline(always)]
+    fn read_text_line(&mut self, line: Line, start: usize, depth: usize) -> Result<(), AllocError>
+        ensures text { IfOk result (λ _. self.new.placing.builder.text
+            ≡ self.old.placing.builder.text) }
+        ensures stands { IfOk result (λ _. (s : Source) (frames : List Frame)
+            (inside : Forest Block) (last : Option Block) (source : SourceLine)
+            → reads_tables s ≡ false → Stands s self.old frames inside last line.start
+            → IsSource self.old line source
+            → IsTextHere s self.old line start depth (with_last inside last)
+            (reached s frames (with_last inside last) source)
+            → IfFitted self.old.placing self.new.placing (StandsFor s self.new line.next
+            (with_line s (rebuilt frames (with_last inside last)) source))) }
+    {
+        self.add_text(line, start, depth)?;
         self.see_content(line);
         Ok(())
     }
@@ -175,9 +199,7 @@ impl<'a> Pass<'a> {
         }
         let is_row = reached.all && self.is_in_table();
         if !is_row && is_text_from(self.placing.text(), reached.position, line.stop) {
-            self.add_text(line, reached.position.at, reached.depth)?;
-            self.see_content(line);
-            return Ok(());
+            return self.read_text_line(line, reached.position.at, reached.depth);
         }
         // only metadata asks whether the line is directly under the root
         let outermost = reads_metadata(self.options)
@@ -333,7 +355,16 @@ impl<'a> Pass<'a> {
 
     /// Reads text, from its first byte on. Returns false.
     fn read_text(&mut self, rest: &LineRest<'a>, at: usize) -> Result<bool, AllocError>
-        ensures { IfOk result (λ _. self.new.placing.builder.text ≡ self.old.placing.builder.text) }
+        ensures text { IfOk result (λ _. self.new.placing.builder.text
+            ≡ self.old.placing.builder.text) }
+        ensures places { IfOk result (λ _. (s : Source) (frames : List Frame)
+            (inside : Forest Block) (last : Option Block) (source : SourceLine)
+            → reads_tables s ≡ false → Stands s self.old frames inside last rest.now.line.start
+            → IsSource self.old rest.now.line source
+            → IsTextHere s self.old rest.now.line at rest.now.depth (with_last inside last)
+            (reached s frames (with_last inside last) source)
+            → IfFitted self.old.placing self.new.placing (PlacesFor s self.new rest.now.line.next
+            (with_line s (rebuilt frames (with_last inside last)) source))) }
     {
         self.add_text(rest.line, at, rest.depth)?;
         Ok(false)

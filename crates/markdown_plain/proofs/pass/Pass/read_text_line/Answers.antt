@@ -1,0 +1,26 @@
+-- The pass stands for what the line makes of its blocks.
+use Rattle.std.proofs.Common.{subst}
+use Rattle.markdown_plain.specs.Fitting.{AllFitted}
+use Rattle.markdown_plain.proofs.TextStepsLemmas.{AddsText, text_places}
+use Rattle.markdown_plain.proofs.pass.Pass.read_text_line.Goals as goal
+
+-- the line is added
+adds : (c : goal.After-see_content) → AddsText c.args.self.now c.add_text.new.self c.args.line c.args.start c.args.depth
+adds c =
+    let done = c.in_ok-add_text.ensures in
+    record {
+      text = done.text;
+      options = done.options;
+      goes_on = done.goes_on;
+      forgets = done.forgets;
+      finishes = done.finishes;
+      loose = done.loose;
+      first = done.first;
+      further = done.further;
+    }
+
+pub returns-clause-stands : goal.returns-clause-stands
+returns-clause-stands c = λ s frames inside last source tables stands is here fitted.
+    let placed = text_places s c.args.self.now c.add_text.new.self c.args.line c.args.start c.args.depth source (adds c)
+    is tables frames inside last stands here (subst AllFitted c.see_content.ensures.placing fitted) in
+    (placed.0, c.see_content.ensures.stands s _ placed.1)
