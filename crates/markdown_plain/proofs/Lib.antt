@@ -41,3 +41,5 @@ pub mod EndedLeavesLemmas
 pub mod AddedLinesLemmas
 pub mod HtmlLeavesLemmas
 pub mod IndentedLeavesLemmas
+-- on what the pass stands for between two lines
+pub mod StandingLemmas
