@@ -54,7 +54,7 @@ gathered_followed own all is (node b below after) new =
     ∙ ap (λ xs. xs ++ all new) (sym (is.block b below after)))))
 
 -- with an open container around blocks
-gathered_around : {A : Type 0} (own : Block → List A) (all : Forest Block → List A) → IsGathered own all
+pub gathered_around : {A : Type 0} (own : Block → List A) (all : Forest Block → List A) → IsGathered own all
     → (f : Frame) (blocks : Forest Block)
     → all (followed_by f.before (node f.block blocks nil)) ≡ (all f.before ++ own f.block) ++ all blocks
 gathered_around own all is f blocks =
@@ -73,13 +73,13 @@ gathered_appended own all is (f ∷ frames) inside new =
     ∙ (sym (append_assoc (all f.before ++ own f.block) (all (rebuilt frames inside)) (all new))
     ∙ ap (λ xs. xs ++ all new) (sym (gathered_around own all is f (rebuilt frames inside)))))
 
-definitions_gathered : (s : Source)
+pub definitions_gathered : (s : Source)
     → IsGathered (λ b. (divided (entity_names s.options) s.text (paragraph_lines b.kind)).definitions)
     (definitions_in s)
 unfolding definitions_in
 definitions_gathered s = record { none = refl; block = λ b below after. refl }
 
-footnotes_gathered : IsGathered (λ b. label_of b.kind) footnotes_in
+pub footnotes_gathered : IsGathered (λ b. label_of b.kind) footnotes_in
 unfolding footnotes_in
 footnotes_gathered = record { none = refl; block = λ b below after. refl }
 

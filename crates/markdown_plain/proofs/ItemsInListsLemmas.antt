@@ -265,7 +265,7 @@ goes_placed in_list s m (node b below (node c others after)) are =
     mapped (AreItemsInLists in_list) (AreItemsInLists in_list) (node b below) (λ f placed. (are.0, are.1, placed))
     (goes_on s (node c others after) m) (goes_placed in_list s m (node c others after) are.2)
 
-line_keeps : (s : Source) (blocks : Forest Block) (l : SourceLine) → AreItemsInLists false blocks
+pub line_keeps : (s : Source) (blocks : Forest Block) (l : SourceLine) → AreItemsInLists false blocks
     → AreItemsInLists false (with_line s blocks l)
 line_keeps s blocks l are =
     unwrapped (AreItemsInLists false) (goes_on s blocks l) (followed_by blocks (line_block s l))

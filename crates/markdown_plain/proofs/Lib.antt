@@ -24,6 +24,7 @@ pub mod AppendedBlocksLemmas
 pub mod OpenedFramesLemmas
 -- on open containers that are closed
 pub mod TightBlocksLemmas
+pub mod TouchedFramesLemmas
 pub mod ClosedFramesLemmas
 pub mod ItemsInListsLemmas
 -- on open containers: which lists are loose, and which containers end with a blank line
@@ -43,3 +44,5 @@ pub mod HtmlLeavesLemmas
 pub mod IndentedLeavesLemmas
 -- on what the pass stands for between two lines
 pub mod StandingLemmas
+pub mod LeafLinesLemmas
+pub mod BlankLinesLemmas

@@ -99,6 +99,8 @@ placed_stands s old new to blocks same places =
         blanks = content_known 0 old.placing.builder.texts open_now.blocks places.frames
             (with_last places.inside places.last) open_now.are p.filled;
         before = p.before;
+        unheld = p.unheld;
+        earlier = p.earlier;
       };
       whole = places.whole;
     })

@@ -1,23 +1,26 @@
 -- What the pass stands for between two lines, where no table is open: the blocks of the lines so far. And what it stands
 -- for once a line that is not blank is placed, before that is recorded.
-use Rattle.std.specs.Prelude.{◌≡◌, ℕ, ◌≤◌, true, false, List, [], ◌++◌, Option, Some, None}
+use Rattle.std.specs.Prelude.{◌≡◌, ℕ, ◌<◌, ◌≤◌, Bool, true, false, ◌&&◌, List, [], ◌∷◌, ◌++◌, Option, Some}
+use Rattle.std.specs.Prelude.{None}
+use Rattle.std.specs.Str.{IsCharBoundary}
 use Rattle.markdown_base.specs.Forest.{Forest}
 use Rattle.markdown_builder.specs.TreeLevels.{followed_by}
 use Rattle.markdown_lines.specs.BlockBeginnings.{Source}
-use Rattle.markdown_lines.specs.SourceLines.{SourceLine, stop_of}
+use Rattle.markdown_lines.specs.Lines.{IsLineFrom}
+use Rattle.markdown_lines.specs.SourceLines.{SourceLine, is_blank_rest, stop_of}
 use Rattle.markdown_lines.specs.declared.held_line.HeldLine.{HeldLine}
 use Rattle.markdown_lines.specs.declared.line.Line.{Line}
 use Rattle.markdown_block_rules.specs.BlockGrowth as was
-use Rattle.markdown_block_rules.specs.BlockGrowth.{Block, Kind, with_line}
+use Rattle.markdown_block_rules.specs.BlockGrowth.{Block, Kind, leaf_with}
 use Rattle.markdown_block_rules.specs.BlockRules.{code_lines, ends_blank}
 use Rattle.markdown_plain.specs.declared.pass.LeafKind.{LeafKind}
 use Rattle.markdown_plain.specs.declared.pass.LeafKind.TheVariants as leaf
 use Rattle.markdown_plain.specs.declared.pass.Pass.{Pass}
 use Rattle.markdown_plain.specs.Closing.{AreItemsInLists, MayClose, MayEnd}
 use Rattle.markdown_plain.specs.Containers.{whole_line}
-use Rattle.markdown_plain.specs.Frames.{AreOver, Frame, rebuilt}
+use Rattle.markdown_plain.specs.Frames.{AreOver, Frame, is_item, rebuilt}
 use Rattle.markdown_plain.specs.HeldSources.{AreHeld}
-use Rattle.markdown_plain.specs.OpenLeaves.{IsPlaced, IsUnended, leaf_block}
+use Rattle.markdown_plain.specs.OpenLeaves.{IsPlaced, IsUnended, is_leaf, leaf_block}
 use Rattle.markdown_plain.specs.Paragraphs.{lines_end, source_of}
 use Rattle.markdown_plain.specs.Settled.{BlanksKnown, IsLooseAs, QuotesEnd}
 
@@ -40,10 +43,11 @@ HoldsBlanks held (was.indented_leaf lines) =
     (blank : List SourceLine) × (lines ≡ code_lines lines ++ blank) × AreHeld held blank
 HoldsBlanks held other = held ≡ []
 
--- the pass remembers how the last block goes on: a paragraph's lines are held back, a leaf is open
+-- the pass remembers how the last block goes on: a paragraph's lines are held back, or a leaf is open and none are
 abbrev pub KnowsLast : Pass → Block → Option (List SourceLine) → Type 0
 KnowsLast pass b (Some sources) = Unit
-KnowsLast pass b None = IsLeafKind pass.leaf b.kind × HoldsBlanks pass.blanks.items b.kind
+KnowsLast pass b None =
+    IsLeafKind pass.leaf b.kind × HoldsBlanks pass.blanks.items b.kind × (pass.lines.items ≡ [])
 
 -- which block has not ended
 abbrev pub HasLast : Source → Pass → List Frame → Forest Block → Option Block → Type 0
@@ -51,6 +55,17 @@ HasLast s pass frames inside None =
     MayClose s pass frames inside × (pass.lines.items ≡ []) × AreOver s inside
 HasLast s pass frames inside (Some b) =
     (held : Option (List SourceLine)) × MayEnd s pass frames inside b held × KnowsLast pass b held
+
+-- a block was opened in a line before a byte offset
+pub record IsOpenedBefore (from : ℕ) (b : Block) : Type 0 where
+  pub start : b.start < from
+  pub first : b.first ≤ from
+
+-- this is so for each open item
+abbrev pub AreOpenedBefore : ℕ → List Frame → Type 0
+AreOpenedBefore from [] = Unit
+AreOpenedBefore from (f ∷ frames) =
+    (is_item f.block.kind ≡ true → IsOpenedBefore from f.block) × AreOpenedBefore from frames
 
 -- Between two lines, of which the second begins at a byte offset: these containers are open, with these blocks in the
 -- innermost, the last of which has not ended, or all of them have.
@@ -61,6 +76,8 @@ pub record Stands (s : Source) (pass : Pass) (frames : List Frame) (inside : For
   pub loose : IsLooseAs pass.looseness frames (with_last inside last)
   pub blanks : BlanksKnown pass.looseness.blank_from 0 frames (with_last inside last)
   pub before : lines_end pass.lines.items ≤ from
+  pub unheld : pass.placing.builder.leaf ≡ false → pass.blanks.items ≡ []
+  pub earlier : AreOpenedBefore from frames
 
 -- the pass stands for these blocks between two lines
 pub record StandsFor (s : Source) (pass : Pass) (from : ℕ) (blocks : Forest Block) : Type 0 where
@@ -77,6 +94,20 @@ pub record IsSource (pass : Pass) (line : Line) (source : SourceLine) : Type 0 w
   pub next : line.next ≡ source.next
   pub outermost : source.outermost ≡ true
   pub indent : source.indent ≡ None
+  pub from : IsLineFrom pass.placing.builder.text line.start line
+  pub boundary : IsCharBoundary pass.placing.builder.text line.start
+
+-- the kind is that of indented code
+abbrev pub is_indented : Kind → Bool
+is_indented (was.indented_leaf lines) = true
+is_indented other = false
+
+-- The last block does not go on in the rest of a line, if it is an open leaf; indented code does not in one that is not
+-- blank.
+abbrev pub LeavesOff : Source → SourceLine → Option Block → Type 0
+LeavesOff s rest None = Unit
+LeavesOff s rest (Some b) =
+    is_leaf b.kind ≡ true → (is_blank_rest rest && is_indented b.kind) ≡ false → leaf_with s rest b.kind ≡ None
 
 -- which block has not ended, once a line is placed
 abbrev pub PlacesLast : Source → Pass → List Frame → Forest Block → Option Block → Type 0
@@ -96,6 +127,8 @@ pub record Places (s : Source) (pass : Pass) (frames : List Frame) (inside : For
   pub loose : IsLooseAs pass.looseness frames (with_last inside last)
   pub filled : ends_blank false (with_last inside last) ≡ false
   pub before : lines_end pass.lines.items ≤ to
+  pub unheld : pass.placing.builder.leaf ≡ false → pass.blanks.items ≡ []
+  pub earlier : AreOpenedBefore to frames
 
 -- the pass has placed a line that makes these blocks
 pub record PlacesFor (s : Source) (pass : Pass) (to : ℕ) (blocks : Forest Block) : Type 0 where
