@@ -144,7 +144,7 @@ blank_quotes s (f ∷ frames) inside whole l to blank =
         (λ quote. absurd (true≢false (sym quote ∙ taken.plain)), ends m taken.blank)
 
 -- the innermost of some open containers is no empty item
-abbrev NoEmptyItem : List Frame → Forest Block → Type 0
+abbrev pub NoEmptyItem : List Frame → Forest Block → Type 0
 NoEmptyItem [] inside = Unit
 NoEmptyItem (f ∷ []) inside = is_item f.block.kind ≡ true → is_nil inside ≡ false
 NoEmptyItem (f ∷ g ∷ frames) inside = NoEmptyItem (g ∷ frames) inside
@@ -165,7 +165,7 @@ whole_left s (f ∷ frames) inside l none =
     past None none = refl
     past (Some m) none = absurd (some_first (reached s frames inside m).outer none)
 
-item_reached : (s : Source) (frames : List Frame) (inside : Forest Block) (l : SourceLine)
+pub item_reached : (s : Source) (frames : List Frame) (inside : Forest Block) (l : SourceLine)
     → is_blank_rest (reached s frames inside l).rest ≡ true
     → NoEmptyItem (reached s frames inside l).outer (rebuilt (reached s frames inside l).inner inside)
 unfolding reached
@@ -198,7 +198,7 @@ item_reached s (f ∷ frames) inside l blank =
     past (Some m) takes more blank = around m (reached s frames inside m).outer refl takes blank (more m blank)
 
 -- with a blank line in it the innermost container is as empty as before
-empty_blank : (empty : Bool) (frames : List Frame) (inside : Forest Block) (b : Block) → NoEmptyItem frames inside
+pub empty_blank : (empty : Bool) (frames : List Frame) (inside : Forest Block) (b : Block) → NoEmptyItem frames inside
     → EmptyKnown empty frames inside → EmptyKnown empty frames (followed_by inside (leaf_block b))
 empty_blank empty [] inside b some known = tt
 empty_blank empty (f ∷ []) inside b some known = by_kind f.block.kind some known

@@ -296,7 +296,7 @@ lists_before_blank frames inside b blank =
 
 -- ---- an open leaf in containers that go on
 
-end_touched : (before : ℕ) (l : SourceLine) (frames : List Frame) (inside : Forest Block)
+pub end_touched : (before : ℕ) (l : SourceLine) (frames : List Frame) (inside : Forest Block)
     → placed_end before (map (touched l) frames) inside ≡ placed_end before frames inside
 end_touched before l [] inside = refl
 end_touched before l (f ∷ frames) inside = end_touched f.block.first l frames inside

@@ -46,3 +46,4 @@ pub mod IndentedLeavesLemmas
 pub mod StandingLemmas
 pub mod LeafLinesLemmas
 pub mod BlankLinesLemmas
+pub mod BlankStandingLemmas

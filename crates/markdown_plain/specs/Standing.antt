@@ -1,17 +1,16 @@
 -- What the pass stands for between two lines, where no table is open: the blocks of the lines so far. And what it stands
 -- for once a line that is not blank is placed, before that is recorded.
-use Rattle.std.specs.Prelude.{◌≡◌, ℕ, ◌<◌, ◌≤◌, Bool, true, false, ◌&&◌, List, [], ◌∷◌, ◌++◌, Option, Some}
-use Rattle.std.specs.Prelude.{None}
+use Rattle.std.specs.Prelude.{◌≡◌, ℕ, ◌<◌, ◌≤◌, true, false, List, [], ◌∷◌, ◌++◌, Option, Some, None}
 use Rattle.std.specs.Str.{IsCharBoundary}
 use Rattle.markdown_base.specs.Forest.{Forest}
 use Rattle.markdown_builder.specs.TreeLevels.{followed_by}
 use Rattle.markdown_lines.specs.BlockBeginnings.{Source}
 use Rattle.markdown_lines.specs.Lines.{IsLineFrom}
-use Rattle.markdown_lines.specs.SourceLines.{SourceLine, is_blank_rest, stop_of}
+use Rattle.markdown_lines.specs.SourceLines.{SourceLine, stop_of}
 use Rattle.markdown_lines.specs.declared.held_line.HeldLine.{HeldLine}
 use Rattle.markdown_lines.specs.declared.line.Line.{Line}
 use Rattle.markdown_block_rules.specs.BlockGrowth as was
-use Rattle.markdown_block_rules.specs.BlockGrowth.{Block, Kind, leaf_with}
+use Rattle.markdown_block_rules.specs.BlockGrowth.{Block, Kind, with_line}
 use Rattle.markdown_block_rules.specs.BlockRules.{code_lines, ends_blank}
 use Rattle.markdown_plain.specs.declared.pass.LeafKind.{LeafKind}
 use Rattle.markdown_plain.specs.declared.pass.LeafKind.TheVariants as leaf
@@ -20,7 +19,7 @@ use Rattle.markdown_plain.specs.Closing.{AreItemsInLists, MayClose, MayEnd}
 use Rattle.markdown_plain.specs.Containers.{whole_line}
 use Rattle.markdown_plain.specs.Frames.{AreOver, Frame, is_item, rebuilt}
 use Rattle.markdown_plain.specs.HeldSources.{AreHeld}
-use Rattle.markdown_plain.specs.OpenLeaves.{IsPlaced, IsUnended, is_leaf, leaf_block}
+use Rattle.markdown_plain.specs.OpenLeaves.{IsPlaced, IsUnended, leaf_block}
 use Rattle.markdown_plain.specs.Paragraphs.{lines_end, source_of}
 use Rattle.markdown_plain.specs.Settled.{BlanksKnown, IsLooseAs, QuotesEnd}
 
@@ -96,18 +95,6 @@ pub record IsSource (pass : Pass) (line : Line) (source : SourceLine) : Type 0 w
   pub indent : source.indent ≡ None
   pub from : IsLineFrom pass.placing.builder.text line.start line
   pub boundary : IsCharBoundary pass.placing.builder.text line.start
-
--- the kind is that of indented code
-abbrev pub is_indented : Kind → Bool
-is_indented (was.indented_leaf lines) = true
-is_indented other = false
-
--- The last block does not go on in the rest of a line, if it is an open leaf; indented code does not in one that is not
--- blank.
-abbrev pub LeavesOff : Source → SourceLine → Option Block → Type 0
-LeavesOff s rest None = Unit
-LeavesOff s rest (Some b) =
-    is_leaf b.kind ≡ true → (is_blank_rest rest && is_indented b.kind) ≡ false → leaf_with s rest b.kind ≡ None
 
 -- which block has not ended, once a line is placed
 abbrev pub PlacesLast : Source → Pass → List Frame → Forest Block → Option Block → Type 0
