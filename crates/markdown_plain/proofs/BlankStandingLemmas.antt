@@ -1,7 +1,7 @@
 -- What the pass stands for after a blank line: the containers that the line does not reach are closed, and the line
 -- follows in the innermost one that it reaches; or it goes on with indented code.
 use Rattle.std.proofs.Common.{◌≡◌, ℕ, ◌≤◌, Bool, true, false, not, ◌&&◌, List, [], ◌∷◌, ◌++◌, Option, Some, None}
-use Rattle.std.proofs.Common.{drop, length, map, refl, sym, ap, ◌∙◌, subst, true≢false, arith, append_assoc}
+use Rattle.std.proofs.Common.{drop, length, map, refl, sym, ap, ◌∙◌, subst, true≢false, arith, append_assoc, append-nil}
 use Rattle.std.specs.Prelude.{if◌then◌else◌}
 use Rattle.std.specs.Option.{option_map}
 use Rattle.markdown_base.specs.Forest.{Forest, nil, node}
@@ -14,11 +14,14 @@ use Rattle.markdown_lines.specs.declared.list_marker.ListMarker.{ListMarker}
 use Rattle.markdown_scan.specs.LineStart.{LineLeft}
 use Rattle.markdown_block_rules.specs.BlockGrowth as was
 use Rattle.markdown_block_rules.specs.BlockGrowth.{Block, begun_by, goes_on, lazily, leaf_with, line_block, next_item}
-use Rattle.markdown_block_rules.specs.BlockGrowth.{with_line}
+use Rattle.markdown_block_rules.specs.BlockGrowth.{Kind, with_line}
+use Rattle.markdown_block_rules.specs.BlockRules.{code_lines, is_blank_block, last_is_blank}
+use Rattle.markdown_plain.specs.declared.pass.LeafKind.TheVariants as leaf
 use Rattle.markdown_plain.specs.declared.pass.Pass.{Pass}
 use Rattle.markdown_plain.specs.Closing.{AreItemsInLists, MayClose, MayEnd}
 use Rattle.markdown_plain.specs.Frames.{AreContainers, AreNested, Frame, innermost_is, is_list, reached}
 use Rattle.markdown_plain.specs.Frames.{rebuilt, touched}
+use Rattle.markdown_plain.specs.HeldSources.{AreHeld}
 use Rattle.markdown_plain.specs.ListLooseness.{blank_from}
 use Rattle.markdown_plain.specs.OpenLeaves.{is_leaf, leaf_block}
 use Rattle.markdown_plain.specs.Paragraphs.{lines_end, source_of}
@@ -26,7 +29,8 @@ use Rattle.markdown_plain.specs.ReachedFrames.{quote_depth}
 use Rattle.markdown_plain.specs.Settled.{BlanksKnown, IsLooseAs, QuotesEnd}
 use Rattle.markdown_plain.specs.ReachedLines.{Before, IsReachedBy, blocks_before, blocks_in, reached_of}
 use Rattle.markdown_plain.specs.declared.containers.Reached as code
-use Rattle.markdown_plain.specs.Standing.{AreOpenedBefore, HasLast, IsSource, KnowsLast, Stands, StandsFor, with_last}
+use Rattle.markdown_plain.specs.Standing.{AreOpenedBefore, HasLast, HoldsBlanks, IsLeafKind, IsSource, KnowsLast}
+use Rattle.markdown_plain.specs.Standing.{Stands, StandsFor, with_last}
 use Rattle.markdown_plain.proofs.AppendedBlocksLemmas.{blank_is_at_end, blank_is_built}
 use Rattle.markdown_plain.proofs.BlankLinesLemmas.{empty_blank, item_reached}
 use Rattle.markdown_plain.proofs.BlanksKnownLemmas.{blank_at_end, blank_known, known_touched, same_touched}
@@ -34,7 +38,11 @@ use Rattle.markdown_plain.proofs.ClosedListsLemmas.{known_of_outermost}
 use Rattle.markdown_plain.proofs.FramesLemmas.{HasMarker, Innermost, goes_on_last, innermost_apart, marker_of_list}
 use Rattle.markdown_plain.proofs.ItemsInListsLemmas.{line_keeps}
 use Rattle.markdown_plain.proofs.LastBlocksLemmas.{leaf_is_over, open_are_containers}
-use Rattle.markdown_plain.proofs.LeafLinesLemmas.{end_touched, leaf_leaves_off, lists_before_blank, open_parts}
+use Rattle.markdown_plain.proofs.LeafLinesLemmas.{end_touched, leaf_grows, leaf_leaves_off, lists_before_blank}
+use Rattle.markdown_plain.proofs.LeafLinesLemmas.{loose_grown, open_leaf_touched, open_parts}
+use Rattle.markdown_plain.proofs.LinedLeavesLemmas.{grown_to}
+use Rattle.markdown_plain.proofs.LooseFramesLemmas.{ends_more}
+use Rattle.markdown_plain.proofs.IndentedLeavesLemmas.{blank_cut, blank_held, code_before_blank}
 use Rattle.markdown_plain.proofs.ReachedLemmas.{block_begins, inner_goes_lazily, inner_left, item_begins, outer_taken}
 use Rattle.markdown_plain.proofs.ReachedLemmas.{reached_parts}
 use Rattle.markdown_plain.proofs.TouchedFramesLemmas.{built_touched, earlier_touched}
@@ -247,3 +255,148 @@ blank_stands s old mid line reached before source placed by blank off closed quo
       };
       whole = whole;
     })
+
+-- ---- a blank line in indented code
+
+last_blank : (lines : List SourceLine) (l : SourceLine) → is_blank_rest l ≡ true → last_is_blank (lines ++ l ∷ []) ≡ true
+last_blank [] l blank = blank
+last_blank (m ∷ []) l blank = blank
+last_blank (m ∷ n ∷ lines) l blank = last_blank (n ∷ lines) l blank
+
+-- the blank lines at its end, with one more
+more_blank : (held : List HeldLine) (lines blank : List SourceLine) (l : SourceLine) → is_blank_rest l ≡ true
+    → lines ≡ code_lines lines ++ blank → AreHeld held (blank ++ l ∷ [])
+    → HoldsBlanks held (was.indented_leaf (lines ++ l ∷ []))
+more_blank held lines blank l white same are = (
+  blank ++ l ∷ [],
+  ap (λ ls. ls ++ l ∷ []) same ∙ (append_assoc (code_lines lines) blank (l ∷ [])
+      ∙ ap (λ ls. ls ++ (blank ++ l ∷ [])) (sym (code_before_blank lines l white))),
+  are,
+)
+
+-- all containers go on
+all_reached : (s : Source) (frames : List Frame) (now : Forest Block) (l : SourceLine)
+    → (reached s frames now l).inner ≡ [] → (reached s frames now l).outer ≡ frames
+all_reached s frames now l none =
+    let r = reached s frames now l in
+    sym (append-nil r.outer) ∙ (ap (λ (fs : List Frame). r.outer ++ fs) (sym none) ∙ reached_parts s frames now l)
+
+-- a line after indented code, which reaches all containers
+record HoldsBlank (s : Source) (old mid : Pass) (b : Block) (lines : List SourceLine) (rest : SourceLine) : Type 0
+    where
+  kind : b.kind ≡ was.indented_leaf lines
+  how : old.leaf ≡ leaf.Indented
+  blank : is_blank_rest rest ≡ true
+  holds : HoldsBlanks mid.blanks.items (was.indented_leaf (lines ++ cut 4 rest ∷ []))
+
+abbrev last_of : List Frame → Forest Block → Block → Before
+last_of frames inside b = record { frames = frames; inside = inside; last = Some b }
+
+-- it is one more line of the code
+code_stands_for : (s : Source) (old mid : Pass) (line : Line) (found : code.Reached) (frames : List Frame)
+    (inside : Forest Block) (b : Block) (source : SourceLine) (lines : List SourceLine) (placed : ℕ)
+    → IsReachedBy s old line found (last_of frames inside b) source
+    → (reached_of s (last_of frames inside b) source).inner ≡ []
+    → HoldsBlank s old mid b lines (reached_of s (last_of frames inside b) source).rest
+    → (may : MayEnd s old frames inside b None) → old.lines.items ≡ []
+    → QuotesEnd placed (map (touched source) (reached_of s (last_of frames inside b) source).outer)
+    → StandsFor s (blank_seen (record old { blanks = mid.blanks }) found.quoted placed) line.next
+    (with_line s (blocks_before (last_of frames inside b)) source)
+code_stands_for s old mid line found frames inside b source lines placed by none held may empty quotes =
+    let before = last_of frames inside b in
+    let now = followed_by inside (leaf_block b) in
+    let r = reached_of s before source in
+    let all = all_reached s frames now source none in
+    let grown = was.indented_leaf (lines ++ cut 4 r.rest ∷ []) in
+    let c = grown_to b r.rest.next grown in
+    let after = followed_by inside (leaf_block c) in
+    let outer = map (touched source) frames in
+    let around = may.unended.1.around in
+    let texts = old.placing.builder.texts in
+    let opened = may.unended.1.outer in
+    let are = open_are_containers texts opened frames around.blocks in
+    let goes : leaf_with s r.rest b.kind ≡ Some grown =
+    ap (leaf_with s r.rest) held.kind ∙ goes_blank s r.rest lines held.blank in
+    let whole = leaf_grows s frames inside b source grown are around.nested none may.unended.0 goes in
+    let mid_pass = record old { blanks = mid.blanks } in
+    let new = blank_seen mid_pass (quote_depth frames) placed in
+    let loose = loose_grown source new.looseness frames inside b c (ap is_blank_block held.kind)
+    (record { lists = by.stands.loose.lists; empty = by.stands.loose.empty }) in
+    subst (λ n. StandsFor s (blank_seen mid_pass n placed) line.next (with_line s (blocks_before before) source))
+    (sym (by.reaches.quoted ∙ ap quote_depth all)) (record {
+      frames = outer;
+      inside = inside;
+      last = Some c;
+      stands = record {
+        source = by.stands.source;
+        unended = (
+          None,
+          record {
+            unended = (
+              refl,
+              open_leaf_touched source s old.placing.builder frames inside true c
+                  (blank_held s old.placing.builder frames inside b lines r.rest may.unended.1 held.kind held.blank),
+            );
+            options = may.options;
+            quotes = subst (λ (fs : List Frame). QuotesEnd placed (map (touched source) fs)) all quotes;
+            items = subst (AreItemsInLists false) whole
+                (line_keeps s (blocks_before before) source may.items);
+            lists = loose.lists;
+          },
+          (subst (λ how. IsLeafKind how grown) (sym held.how) tt, held.holds, empty),
+        );
+        loose = loose;
+        blanks = known_touched source new.looseness.blank_from 0 frames after
+            (blank_known old.looseness.blank_from texts opened frames now after around.blocks by.stands.blanks
+            (ends_more false inside (leaf_block c) ∙ last_blank lines (cut 4 r.rest) (blank_cut 4 r.rest held.blank)));
+        before =
+            let last = by.stands.before in
+            let next = next_after old line source by.is in
+            omega (arith, last, next);
+        unheld = λ outside. absurd (true≢false (sym may.unended.1.leaf ∙ outside));
+        earlier = earlier_touched source line.start line.next (next_after old line source by.is) frames
+            by.stands.earlier;
+      };
+      whole = whole;
+    })
+  where
+    goes_blank : (s : Source) (l : SourceLine) (lines : List SourceLine) → is_blank_rest l ≡ true
+        → leaf_with s l (was.indented_leaf lines) ≡ Some (was.indented_leaf (lines ++ cut 4 l ∷ []))
+    goes_blank s l lines blank = rw blank refl
+
+-- the line is held back
+pub code_stands : (s : Source) (old mid : Pass) (line : Line) (found : code.Reached) (frames : List Frame)
+    (inside : Forest Block) (last : Option Block) (source : SourceLine) (placed : ℕ)
+    → IsReachedBy s old line found (record { frames = frames; inside = inside; last = last }) source
+    → is_blank_rest (reached s frames (with_last inside last) source).rest ≡ true
+    → (reached s frames (with_last inside last) source).inner ≡ [] → old.leaf ≡ leaf.Indented
+    → old.placing.builder.leaf ≡ true → ((blank : List SourceLine) → AreHeld old.blanks.items blank
+    → AreHeld mid.blanks.items (blank ++ cut 4 (reached s frames (with_last inside last) source).rest ∷ []))
+    → QuotesEnd placed (map (touched source) (reached s frames (with_last inside last) source).outer)
+    → StandsFor s (blank_seen (record old { blanks = mid.blanks }) found.quoted placed) line.next
+    (with_line s (rebuilt frames (with_last inside last)) source)
+code_stands s old mid line found frames inside None source placed by blank none how open_leaf holds quotes =
+    absurd (true≢false (sym open_leaf ∙ by.stands.unended.0.stands.built.outside))
+code_stands s old mid line found frames inside (Some b) source placed by blank none how open_leaf holds quotes =
+    by_held by.stands.unended.0 by.stands.unended.1 by.stands.unended.2
+  where
+    by_kind : (kind : Kind) → b.kind ≡ kind → MayEnd s old frames inside b None → IsLeafKind leaf.Indented kind
+        → HoldsBlanks old.blanks.items kind → old.lines.items ≡ []
+        → StandsFor s (blank_seen (record old { blanks = mid.blanks }) found.quoted placed) line.next
+        (with_line s (rebuilt frames (followed_by inside (leaf_block b))) source)
+    by_kind (was.indented_leaf lines) kind may is knows empty =
+        code_stands_for s old mid line found frames inside b source lines placed by none (record {
+          kind = kind;
+          how = how;
+          blank = blank;
+          holds = more_blank mid.blanks.items lines knows.0 (cut 4 (reached_of s (last_of frames inside b) source).rest)
+              (blank_cut 4 (reached_of s (last_of frames inside b) source).rest blank) knows.1 (holds knows.0 knows.2);
+        }) may empty quotes
+    by_kind other kind may is knows empty = absurd is
+
+    by_held : (held : Option (List SourceLine)) → MayEnd s old frames inside b held → KnowsLast old b held
+        → StandsFor s (blank_seen (record old { blanks = mid.blanks }) found.quoted placed) line.next
+        (with_line s (rebuilt frames (followed_by inside (leaf_block b))) source)
+    by_held None may knows =
+        by_kind b.kind refl may (subst (λ how. IsLeafKind how b.kind) how knows.0) knows.1 knows.2
+    by_held (Some sources) may knows = absurd (true≢false (sym open_leaf ∙ may.unended.built.outside))
