@@ -1,7 +1,7 @@
 -- What the pass stands for after a blank line: the containers that the line does not reach are closed, and the line
 -- follows in the innermost one that it reaches; or it goes on with indented code.
 use Rattle.std.proofs.Common.{◌≡◌, ℕ, ◌≤◌, Bool, true, false, not, ◌&&◌, List, [], ◌∷◌, ◌++◌, Option, Some, None}
-use Rattle.std.proofs.Common.{drop, length, map, refl, sym, ap, ◌∙◌, subst, true≢false, arith, append_assoc, append-nil}
+use Rattle.std.proofs.Common.{drop, take, length, map, refl, sym, ap, ◌∙◌, subst, true≢false, arith, append_assoc, append-nil}
 use Rattle.std.specs.Prelude.{if◌then◌else◌}
 use Rattle.std.specs.Option.{option_map}
 use Rattle.markdown_base.specs.Forest.{Forest, nil, node}
@@ -25,14 +25,20 @@ use Rattle.markdown_plain.specs.HeldSources.{AreHeld}
 use Rattle.markdown_plain.specs.ListLooseness.{blank_from}
 use Rattle.markdown_plain.specs.OpenLeaves.{is_leaf, leaf_block}
 use Rattle.markdown_plain.specs.Paragraphs.{lines_end, source_of}
-use Rattle.markdown_plain.specs.ReachedFrames.{quote_depth}
-use Rattle.markdown_plain.specs.Settled.{BlanksKnown, IsLooseAs, QuotesEnd}
-use Rattle.markdown_plain.specs.ReachedLines.{Before, IsReachedBy, blocks_before, blocks_in, reached_of}
+use Rattle.markdown_plain.specs.ReachedFrames.{are_none, quote_depth}
+use Rattle.markdown_plain.specs.Fitting.{IfFitted}
+use Rattle.markdown_plain.specs.OpenBlocks.{without_leaf}
+use Rattle.markdown_builder.specs.declared.open_block.OpenBlock.{OpenBlock}
+use Rattle.markdown_plain.specs.declared.pass.LeafKind.{LeafKind}
+use Rattle.std.proofs.Math.Bool.{and-false}
+use Rattle.markdown_plain.specs.Settled.{AreOpen, BlanksKnown, IsLooseAs, QuotesEnd}
+use Rattle.markdown_plain.specs.ReachedLines.{Before, IsReachedBy, LeavesOff, blocks_before, blocks_in, is_indented}
+use Rattle.markdown_plain.specs.ReachedLines.{reached_of}
 use Rattle.markdown_plain.specs.declared.containers.Reached as code
 use Rattle.markdown_plain.specs.Standing.{AreOpenedBefore, HasLast, HoldsBlanks, IsLeafKind, IsSource, KnowsLast}
 use Rattle.markdown_plain.specs.Standing.{Stands, StandsFor, with_last}
 use Rattle.markdown_plain.proofs.AppendedBlocksLemmas.{blank_is_at_end, blank_is_built}
-use Rattle.markdown_plain.proofs.BlankLinesLemmas.{empty_blank, item_reached}
+use Rattle.markdown_plain.proofs.BlankLinesLemmas.{blank_quotes, empty_blank, item_reached}
 use Rattle.markdown_plain.proofs.BlanksKnownLemmas.{blank_at_end, blank_known, known_touched, same_touched}
 use Rattle.markdown_plain.proofs.ClosedListsLemmas.{known_of_outermost}
 use Rattle.markdown_plain.proofs.FramesLemmas.{HasMarker, Innermost, goes_on_last, innermost_apart, marker_of_list}
@@ -45,7 +51,7 @@ use Rattle.markdown_plain.proofs.LooseFramesLemmas.{ends_more}
 use Rattle.markdown_plain.proofs.IndentedLeavesLemmas.{blank_cut, blank_held, code_before_blank}
 use Rattle.markdown_plain.proofs.ReachedLemmas.{block_begins, inner_goes_lazily, inner_left, item_begins, outer_taken}
 use Rattle.markdown_plain.proofs.ReachedLemmas.{reached_parts}
-use Rattle.markdown_plain.proofs.TouchedFramesLemmas.{built_touched, earlier_touched}
+use Rattle.markdown_plain.proofs.TouchedFramesLemmas.{built_touched, earlier_touched, quotes_touched}
 
 -- ---- what goes on in a blank line
 
@@ -400,3 +406,110 @@ code_stands s old mid line found frames inside (Some b) source placed by blank n
     by_held None may knows =
         by_kind b.kind refl may (subst (λ how. IsLeafKind how b.kind) how knows.0) knows.1 knows.2
     by_held (Some sources) may knows = absurd (true≢false (sym open_leaf ∙ may.unended.built.outside))
+
+-- ---- the containers that a line does not reach are closed
+
+-- what closing all but a number of containers does
+pub record ClosesDown (s : Source) (old mid : Pass) (depth : ℕ) : Type 0 where
+  pub forgets : (frames : List Frame) (inside : Forest Block) → old.lines.items ≡ [] → MayClose s old frames inside
+      → IfFitted old.placing mid.placing (MayClose s mid (take depth frames) (rebuilt (drop depth frames) inside))
+  pub finishes : (frames : List Frame) (inside : Forest Block) (b : Block) (held : Option (List SourceLine))
+      → MayEnd s old frames inside b held → IfFitted old.placing mid.placing
+      (MayClose s mid (take depth frames) (rebuilt (drop depth frames) (followed_by inside (leaf_block b))))
+  pub loose : (texts : List (List ℕ)) (frames : List Frame) (inside : Forest Block)
+      → AreOpen texts (without_leaf old.placing.builder) frames → AreNested frames
+      → IsLooseAs old.looseness frames inside → IfFitted old.placing mid.placing
+      (IsLooseAs mid.looseness (take depth frames) (rebuilt (drop depth frames) inside))
+  pub lines : mid.lines.items ≡ []
+  pub dropped : old.placing.builder.leaf ≡ true → mid.blanks.items ≡ []
+  pub unheld : old.blanks.items ≡ [] → mid.blanks.items ≡ []
+  pub source : source_of mid ≡ source_of old
+  pub from : mid.looseness.blank_from ≡ old.looseness.blank_from
+
+may_close : (s : Source) (old mid : Pass) (depth : ℕ) (frames : List Frame) (inside : Forest Block)
+    (last : Option Block) → ClosesDown s old mid depth → HasLast s old frames inside last
+    → IfFitted old.placing mid.placing
+    (MayClose s mid (take depth frames) (rebuilt (drop depth frames) (with_last inside last)))
+may_close s old mid depth frames inside None closes has = closes.forgets frames inside has.1 has.0
+may_close s old mid depth frames inside (Some b) closes has = closes.finishes frames inside b has.0 has.1
+
+none_held : (s : Source) (old mid : Pass) (depth : ℕ) (leaf : Bool) → ClosesDown s old mid depth
+    → old.placing.builder.leaf ≡ leaf → (old.placing.builder.leaf ≡ false → old.blanks.items ≡ [])
+    → mid.blanks.items ≡ []
+none_held s old mid depth true closes is unheld = closes.dropped is
+none_held s old mid depth false closes is unheld = closes.unheld (unheld is)
+
+-- those that it reaches are left
+pub closed_to_reached : (s : Source) (old mid : Pass) (line : Line) (found : code.Reached) (before : Before)
+    (source : SourceLine) → IsReachedBy s old line found before source → ClosesDown s old mid found.depth
+    → IfFitted old.placing mid.placing (HasClosed s old mid (reached_of s before source).outer
+    (rebuilt (reached_of s before source).inner (blocks_in before)))
+closed_to_reached s old mid line found before source by closes fitted =
+    let stands = by.stands in
+    let now = blocks_in before in
+    let r = reached_of s before source in
+    let parts = open_parts s old before.frames before.inside before.last stands.unended stands.loose in
+    let depth = by.reaches.depth in
+    let outer : take found.depth before.frames ≡ r.outer =
+    ap (λ n. take n before.frames) depth ∙ outer_taken s before.frames now source in
+    let inner : drop found.depth before.frames ≡ r.inner =
+    ap (λ n. drop n before.frames) depth ∙ inner_left s before.frames now source in
+    let may = may_close s old mid found.depth before.frames before.inside before.last closes stands.unended fitted in
+    let loose = closes.loose old.placing.builder.texts before.frames now
+    (subst (λ (bs : List OpenBlock). AreOpen old.placing.builder.texts bs before.frames) (sym parts.without) parts.are)
+    parts.nested stands.loose fitted in (
+      may.0,
+      record {
+        may = subst (λ (fs : List Frame). MayClose s mid r.outer (rebuilt fs now)) inner
+            (subst (λ (fs : List Frame). MayClose s mid fs (rebuilt (drop found.depth before.frames) now)) outer may.1);
+        loose = subst (λ (fs : List Frame). IsLooseAs mid.looseness r.outer (rebuilt fs now)) inner
+            (subst (λ (fs : List Frame). IsLooseAs mid.looseness fs (rebuilt (drop found.depth before.frames) now))
+            outer loose.1);
+        lines = closes.lines;
+        blanks = none_held s old mid found.depth old.placing.builder.leaf closes refl stands.unheld;
+        source = closes.source ∙ stands.source;
+        from = closes.from;
+      },
+    )
+
+-- ---- whether the open leaf is indented code
+
+indented_is : (how : LeafKind) (kind : Kind) → IsLeafKind how kind → (how ≡ leaf.Indented → ⊥)
+    → is_indented kind ≡ false
+indented_is leaf.Indented kind is other = absurd (other refl)
+indented_is (leaf.Fenced fence) (was.fenced_leaf opening false lines) is other = refl
+indented_is (leaf.Html found) (was.html_leaf kind false lines) is other = refl
+indented_is (leaf.Metadata found) (was.metadata_leaf kind false lines) is other = refl
+indented_is how kind is other = absurd is
+
+pub goes_not : (s : Source) (pass : Pass) (frames : List Frame) (inside : Forest Block) (last : Option Block)
+    (rest : SourceLine) → HasLast s pass frames inside last → LeavesOff s rest last
+    → (pass.leaf ≡ leaf.Indented → pass.placing.builder.leaf ≡ true → ⊥) → GoesNot s rest last
+goes_not s pass frames inside None rest has off other = tt
+goes_not s pass frames inside (Some b) rest has off other = λ is.
+    off is (ap (λ t. is_blank_rest rest && t) (by_held has.0 has.1 has.2 is) ∙ and-false (is_blank_rest rest))
+  where
+    by_held : (held : Option (List SourceLine)) → MayEnd s pass frames inside b held → KnowsLast pass b held
+        → is_leaf b.kind ≡ true → is_indented b.kind ≡ false
+    by_held None may knows is =
+        indented_is pass.leaf b.kind knows.0 (λ how. other how may.unended.1.leaf)
+    by_held (Some sources) may knows is = absurd (true≢false (sym is ∙ ap is_leaf may.unended.kind))
+
+pub none_inside : (frames : List Frame) → are_none frames ≡ true → frames ≡ []
+none_inside [] none = refl
+none_inside (f ∷ frames) none = absurd (true≢false (sym none))
+
+-- ---- where the open block quotes end
+
+-- each that the line reaches went on in it; none is reached by a line that is all white space
+pub blank_ends : (s : Source) (old : Pass) (line : Line) (found : code.Reached) (before : Before)
+    (source : SourceLine) (placed : ℕ) → IsReachedBy s old line found before source
+    → (is_blank_rest source ≡ false → placed ≡ line.next)
+    → QuotesEnd placed (map (touched source) (reached_of s before source).outer)
+blank_ends s old line found before source placed by ends = by_white (is_blank_rest source) refl
+  where
+    by_white : (white : Bool) → is_blank_rest source ≡ white
+        → QuotesEnd placed (map (touched source) (reached_of s before source).outer)
+    by_white true is = blank_quotes s before.frames (blocks_in before) source source placed is
+    by_white false is =
+        quotes_touched source placed (sym (ends is ∙ by.is.next)) (reached_of s before source).outer
