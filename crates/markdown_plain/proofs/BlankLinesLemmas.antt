@@ -28,7 +28,7 @@ use Rattle.markdown_plain.proofs.ReachedLemmas.{reached_same}
 -- ---- what is left of a blank line
 
 -- no column of space makes a line blank
-blank_alike : (n : ℕ) (left : LineLeft)
+pub blank_alike : (n : ℕ) (left : LineLeft)
     → list_all is_space_or_tab (leading_space n left).after.bytes ≡ list_all is_space_or_tab left.bytes
 blank_alike n left =
     let after = (leading_space n left).after in
@@ -150,7 +150,7 @@ NoEmptyItem (f ∷ []) inside = is_item f.block.kind ≡ true → is_nil inside 
 NoEmptyItem (f ∷ g ∷ frames) inside = NoEmptyItem (g ∷ frames) inside
 
 -- where no container goes on, all of the line is left
-whole_left : (s : Source) (frames : List Frame) (inside : Forest Block) (l : SourceLine)
+pub whole_left : (s : Source) (frames : List Frame) (inside : Forest Block) (l : SourceLine)
     → (reached s frames inside l).outer ≡ [] → (reached s frames inside l).rest ≡ l
 unfolding reached
 whole_left s [] inside l none = refl

@@ -258,6 +258,7 @@ blank_stands s old mid line reached before source placed by blank off closed quo
         earlier = earlier_touched source line.start line.next (next_after old line source by.is) r.outer
             (earlier_outer line.start r.outer r.inner
             (subst (AreOpenedBefore line.start) (sym (reached_parts s before.frames now source)) stands.earlier));
+        alone = tt;
       };
       whole = whole;
     })
@@ -281,7 +282,7 @@ more_blank held lines blank l white same are = (
 )
 
 -- all containers go on
-all_reached : (s : Source) (frames : List Frame) (now : Forest Block) (l : SourceLine)
+pub all_reached : (s : Source) (frames : List Frame) (now : Forest Block) (l : SourceLine)
     → (reached s frames now l).inner ≡ [] → (reached s frames now l).outer ≡ frames
 all_reached s frames now l none =
     let r = reached s frames now l in
@@ -295,7 +296,7 @@ record HoldsBlank (s : Source) (old mid : Pass) (b : Block) (lines : List Source
   blank : is_blank_rest rest ≡ true
   holds : HoldsBlanks mid.blanks.items (was.indented_leaf (lines ++ cut 4 rest ∷ []))
 
-abbrev last_of : List Frame → Forest Block → Block → Before
+abbrev pub last_of : List Frame → Forest Block → Block → Before
 last_of frames inside b = record { frames = frames; inside = inside; last = Some b }
 
 -- it is one more line of the code
@@ -362,6 +363,7 @@ code_stands_for s old mid line found frames inside b source lines placed by none
         unheld = λ outside. absurd (true≢false (sym may.unended.1.leaf ∙ outside));
         earlier = earlier_touched source line.start line.next (next_after old line source by.is) frames
             by.stands.earlier;
+        alone = λ metadata. absurd (true≢false (sym metadata));
       };
       whole = whole;
     })

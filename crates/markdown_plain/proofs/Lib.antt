@@ -47,3 +47,4 @@ pub mod StandingLemmas
 pub mod LeafLinesLemmas
 pub mod BlankLinesLemmas
 pub mod BlankStandingLemmas
+pub mod GrownLeavesLemmas

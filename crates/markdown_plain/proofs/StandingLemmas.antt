@@ -101,6 +101,7 @@ placed_stands s old new to blocks same places =
         before = p.before;
         unheld = p.unheld;
         earlier = p.earlier;
+        alone = p.alone;
       };
       whole = places.whole;
     })

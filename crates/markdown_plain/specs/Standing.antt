@@ -1,6 +1,6 @@
 -- What the pass stands for between two lines, where no table is open: the blocks of the lines so far. And what it stands
 -- for once a line that is not blank is placed, before that is recorded.
-use Rattle.std.specs.Prelude.{◌≡◌, ℕ, ◌<◌, ◌≤◌, true, false, List, [], ◌∷◌, ◌++◌, Option, Some, None}
+use Rattle.std.specs.Prelude.{◌≡◌, ℕ, ◌<◌, ◌≤◌, Bool, true, false, List, [], ◌∷◌, ◌++◌, Option, Some, None}
 use Rattle.std.specs.Str.{IsCharBoundary}
 use Rattle.markdown_base.specs.Forest.{Forest}
 use Rattle.markdown_builder.specs.TreeLevels.{followed_by}
@@ -66,6 +66,16 @@ AreOpenedBefore from [] = Unit
 AreOpenedBefore from (f ∷ frames) =
     (is_item f.block.kind ≡ true → IsOpenedBefore from f.block) × AreOpenedBefore from frames
 
+-- the kind is that of metadata
+abbrev pub is_metadata : Kind → Bool
+is_metadata (was.metadata_leaf kind closed lines) = true
+is_metadata other = false
+
+-- metadata is open in no container
+abbrev pub MetadataAlone : Option Block → List Frame → Type 0
+MetadataAlone None frames = Unit
+MetadataAlone (Some b) frames = is_metadata b.kind ≡ true → frames ≡ []
+
 -- Between two lines, of which the second begins at a byte offset: these containers are open, with these blocks in the
 -- innermost, the last of which has not ended, or all of them have.
 pub record Stands (s : Source) (pass : Pass) (frames : List Frame) (inside : Forest Block) (last : Option Block)
@@ -77,6 +87,7 @@ pub record Stands (s : Source) (pass : Pass) (frames : List Frame) (inside : For
   pub before : lines_end pass.lines.items ≤ from
   pub unheld : pass.placing.builder.leaf ≡ false → pass.blanks.items ≡ []
   pub earlier : AreOpenedBefore from frames
+  pub alone : MetadataAlone last frames
 
 -- the pass stands for these blocks between two lines
 pub record StandsFor (s : Source) (pass : Pass) (from : ℕ) (blocks : Forest Block) : Type 0 where
@@ -116,6 +127,7 @@ pub record Places (s : Source) (pass : Pass) (frames : List Frame) (inside : For
   pub before : lines_end pass.lines.items ≤ to
   pub unheld : pass.placing.builder.leaf ≡ false → pass.blanks.items ≡ []
   pub earlier : AreOpenedBefore to frames
+  pub alone : MetadataAlone last frames
 
 -- the pass has placed a line that makes these blocks
 pub record PlacesFor (s : Source) (pass : Pass) (to : ℕ) (blocks : Forest Block) : Type 0 where
