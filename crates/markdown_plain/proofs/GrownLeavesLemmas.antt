@@ -1,6 +1,6 @@
 -- An open leaf with one more line: what the pass has placed then.
 use Rattle.std.proofs.Common.{◌≡◌, ℕ, ◌≤◌, Bool, true, false, ◌&&◌, ◌||◌, List, [], ◌∷◌, ◌++◌, Option, Some, None}
-use Rattle.std.proofs.Common.{map, refl, sym, ap, ◌∙◌, subst, true≢false, arith}
+use Rattle.std.proofs.Common.{map, refl, sym, ap, ◌∙◌, subst, append-nil, true≢false, arith}
 use Rattle.std.specs.Prelude.{◌==◌, nat_le, nat_lt, if◌then◌else◌}
 use Rattle.markdown_base.specs.Forest.{Forest, nil, node}
 use Rattle.markdown_builder.specs.BuilderView.{BuilderView}
@@ -21,18 +21,26 @@ use Rattle.markdown_lines.specs.declared.position.Position.{Position}
 use Rattle.markdown_plain.specs.Fitting.{IfFitted}
 use Rattle.markdown_plain.specs.declared.pass.LeafKind.{LeafKind}
 use Rattle.markdown_plain.specs.declared.pass.LeafKind.TheVariants as leaf
-use Rattle.markdown_block_rules.specs.BlockRules.{block_ends_blank, is_blank_block}
+use Rattle.markdown_block_rules.specs.BlockRules.{block_ends_blank, code_lines, is_blank_block, last_is_blank}
+use Rattle.markdown_lines.specs.Positions.{left_from}
+use Rattle.markdown_scan.specs.LineStart.{LineLeft, leading_space}
+use Rattle.markdown_plain.specs.HeldSources.{AreHeld}
+use Rattle.std.proofs.Math.Bool.{or-true}
 use Rattle.markdown_plain.specs.declared.containers.Reached as code
 use Rattle.markdown_plain.specs.declared.pass.Pass.{Pass}
 use Rattle.markdown_plain.specs.Closing.{AreItemsInLists, MayEnd}
-use Rattle.markdown_plain.specs.Frames.{Frame, rebuilt, touched}
+use Rattle.markdown_plain.specs.Frames.{Frame, reached, rebuilt, touched}
 use Rattle.markdown_plain.specs.OpenLeaves.{IsLeafIn, IsLineRest, IsPlaced, has_ended, is_leaf, leaf_block}
 use Rattle.markdown_plain.specs.Paragraphs.{lines_end, source_of}
 use Rattle.markdown_plain.specs.ReachedLines.{Before, IsReachedBy, blocks_before, reached_of}
 use Rattle.markdown_plain.specs.Settled.{IsLooseAs}
 use Rattle.markdown_plain.specs.Standing.{HasLast, HoldsBlanks, IsLeafKind, KnowsLast, PlacesFor}
 use Rattle.markdown_plain.specs.Standing.{is_metadata}
-use Rattle.markdown_plain.proofs.BlankStandingLemmas.{last_of, next_after}
+use Rattle.markdown_plain.proofs.BlankStandingLemmas.{all_reached, last_of, next_after}
+use Rattle.markdown_plain.proofs.BlankLinesLemmas.{blank_alike, whole_left}
+use Rattle.markdown_plain.proofs.IndentedLeavesLemmas.{code_to_end}
+use Rattle.markdown_plain.proofs.LeafTreesLemmas.{few_owed}
+use Rattle.markdown_plain.proofs.ReachedFramesLemmas.{space_alike}
 use Rattle.markdown_plain.proofs.ItemsInListsLemmas.{line_keeps}
 use Rattle.markdown_plain.proofs.LastBlocksLemmas.{is_over, leaf_is_over, open_are_containers}
 use Rattle.markdown_plain.proofs.LeafLinesLemmas.{end_touched, leaf_grows, loose_grown, open_leaf_touched}
@@ -164,6 +172,11 @@ grown_places s old new line found frames inside b source now by none may empty g
       };
       whole = whole;
     }
+
+last_filled : (lines : List SourceLine) (l : SourceLine) → is_blank_rest l ≡ false → last_is_blank (lines ++ l ∷ []) ≡ false
+last_filled [] l some = some
+last_filled (m ∷ []) l some = some
+last_filled (m ∷ n ∷ lines) l some = last_filled (n ∷ lines) l some
 
 -- ---- the open leaf, by its kind
 
@@ -322,5 +335,183 @@ fenced_places s old new line found before source fence how open_leaf same text a
           added.0,
           kept_places s old new line found before.frames before.inside b source by none may empty unheld same text
               grown added.1,
+        )
+    by_kind b kind same_kind may is unheld empty = absurd is
+
+-- ---- HTML
+
+abbrev pub AddsHtml : Source → Pass → Pass → Line → Position → HtmlKind → Type 0
+AddsHtml s old new line position kind =
+    (frames : List Frame) (inside : Forest Block) (b : Block) (lines : List SourceLine) (source : SourceLine)
+    (now : Kind) → IsLeafIn s old.placing.builder frames inside b false → b.kind ≡ was.html_leaf kind false lines
+    → IsLineRest old.placing.builder.text position line source → leaf_with s source b.kind ≡ Some now
+    → IfFitted old.placing new.placing (IsLeafIn s new.placing.builder frames inside
+    (record b { last = source.next; kind = now }) (has_ended now))
+
+pub html_places : (s : Source) (old new : Pass) (line : Line) (found : code.Reached) (before : Before)
+    (source : SourceLine) (kind : HtmlKind) → old.leaf ≡ leaf.Html kind → old.placing.builder.leaf ≡ true
+    → new ≡ record old { placing = new.placing } → new.placing.builder.text ≡ old.placing.builder.text
+    → AddsHtml s old new line found.position kind
+    → (nat_le line.stop found.content && ends_at_blank kind) ≡ false
+    → IsReachedBy s old line found before source → PlacesLine s old new line found source before
+html_places s old new line found before source kind how open_leaf same text adds more by =
+    leaf_case (PlacesLine s old new line found source) s old before by.stands.unended open_leaf
+    (λ b may knows. by_kind b b.kind refl may (subst (λ h. IsLeafKind h b.kind) how knows.0) knows.1 knows.2)
+  where
+    by_kind : (b : Block) (now : Kind) → b.kind ≡ now → MayEnd s old before.frames before.inside b None
+        → IsLeafKind (leaf.Html kind) now → HoldsBlanks old.blanks.items now → old.lines.items ≡ []
+        → PlacesLine s old new line found source (last_of before.frames before.inside b)
+    by_kind b (was.html_leaf found_kind false lines) now may is unheld empty = λ by none fits.
+        let rest = (reached_of s (last_of before.frames before.inside b) source).rest in
+        let kind_is : b.kind ≡ was.html_leaf kind false lines =
+        now ∙ ap (λ k. was.html_leaf k false lines) is in
+        let grown : GrownFrom s rest old.leaf b.kind =
+        subst (λ k. GrownFrom s rest old.leaf k) (sym kind_is)
+        (subst (λ h. GrownFrom s rest h (was.html_leaf kind false lines)) (sym how)
+        (html_grown s rest kind lines (ap (λ t. t && ends_at_blank kind) (sym by.reaches.blank) ∙ more))) in
+        let added = adds before.frames before.inside b lines rest grown.now may.unended.1 kind_is
+        (line_rest s old line found (last_of before.frames before.inside b) source by) grown.is fits in (
+          added.0,
+          kept_places s old new line found before.frames before.inside b source by none may empty unheld same text
+              grown added.1,
+        )
+    by_kind b now same_kind may is unheld empty = absurd is
+
+-- ---- metadata
+
+abbrev pub AddsMetadata : Source → Pass → Pass → Line → MetadataBlockKind → Type 0
+AddsMetadata s old new line kind =
+    (frames : List Frame) (inside : Forest Block) (b : Block) (lines : List SourceLine) (position : Position)
+    (source : SourceLine) (now : Kind) → IsLeafIn s old.placing.builder frames inside b false
+    → b.kind ≡ was.metadata_leaf kind false lines → position.at ≡ line.start → position.owed ≡ 0
+    → IsLineRest old.placing.builder.text position line source → leaf_with s source b.kind ≡ Some now
+    → IfFitted old.placing new.placing (IsLeafIn s new.placing.builder frames inside
+    (record b { last = source.next; kind = now }) (has_ended now))
+
+-- in no container all of the line is left
+whole_rest : (s : Source) (frames : List Frame) (now : Forest Block) (source : SourceLine) → frames ≡ []
+    → (reached s frames now source).inner ≡ [] → (reached s frames now source).rest ≡ source
+whole_rest s frames now source none all = whole_left s frames now source (all_reached s frames now source all ∙ none)
+
+pub metadata_places : (s : Source) (old new : Pass) (line : Line) (found : code.Reached) (before : Before)
+    (source : SourceLine) (kind : MetadataBlockKind) → old.leaf ≡ leaf.Metadata kind
+    → old.placing.builder.leaf ≡ true → new ≡ record old { placing = new.placing }
+    → new.placing.builder.text ≡ old.placing.builder.text → AddsMetadata s old new line kind
+    → IsReachedBy s old line found before source → PlacesLine s old new line found source before
+metadata_places s old new line found before source kind how open_leaf same text adds by =
+    leaf_case (PlacesLine s old new line found source) s old before by.stands.unended open_leaf
+    (λ b may knows. by_kind b b.kind refl may (subst (λ h. IsLeafKind h b.kind) how knows.0) knows.1 knows.2)
+  where
+    by_kind : (b : Block) (now : Kind) → b.kind ≡ now → MayEnd s old before.frames before.inside b None
+        → IsLeafKind (leaf.Metadata kind) now → HoldsBlanks old.blanks.items now → old.lines.items ≡ []
+        → PlacesLine s old new line found source (last_of before.frames before.inside b)
+    by_kind b (was.metadata_leaf found_kind false lines) now may is unheld empty = λ by none fits.
+        let open_blocks = followed_by before.inside (leaf_block b) in
+        let rest = (reached_of s (last_of before.frames before.inside b) source).rest in
+        let kind_is : b.kind ≡ was.metadata_leaf kind false lines =
+        now ∙ ap (λ k. was.metadata_leaf k false lines) is in
+        let grown : GrownFrom s rest old.leaf b.kind =
+        subst (λ k. GrownFrom s rest old.leaf k) (sym kind_is)
+        (subst (λ h. GrownFrom s rest h (was.metadata_leaf kind false lines)) (sym how)
+        (metadata_grown s rest kind lines)) in
+        let alone = by.stands.alone (ap is_metadata kind_is) in
+        let left = by.reaches.rest.left
+        ∙ (ap (λ (l : SourceLine). l.left) (whole_rest s before.frames open_blocks source alone none)
+        ∙ sym by.is.left) in
+        let added = adds before.frames before.inside b lines found.position rest grown.now may.unended.1 kind_is
+        (ap (λ (l : LineLeft). l.scanned) left) (ap (λ (l : LineLeft). l.owed) left)
+        (line_rest s old line found (last_of before.frames before.inside b) source by) grown.is fits in (
+          added.0,
+          kept_places s old new line found before.frames before.inside b source by none may empty unheld same text
+              grown added.1,
+        )
+    by_kind b now same_kind may is unheld empty = absurd is
+
+-- ---- indented code
+
+abbrev pub AddsIndented : Source → Pass → Pass → Line → Position → Type 0
+AddsIndented s old new line position =
+    (frames : List Frame) (inside : Forest Block) (b : Block) (lines : List SourceLine) (blank : List SourceLine)
+    (source : SourceLine) → IsLeafIn s old.placing.builder frames inside b false
+    → b.kind ≡ was.indented_leaf (lines ++ blank) → code_lines (lines ++ blank) ≡ lines
+    → AreHeld old.blanks.items blank → IsLineRest old.placing.builder.text position line source
+    → is_blank_rest source ≡ false → IfFitted old.placing new.placing (IsLeafIn s new.placing.builder frames inside
+    (record b { last = source.next; kind = was.indented_leaf ((lines ++ blank) ++ source ∷ []) }) false)
+
+-- the rest of a line after at most four columns of space
+pub rest_cut : (text : List ℕ) (position after : Position) (line : Line) (l : SourceLine)
+    → left_from text after line.stop ≡ (leading_space 4 (left_from text position line.stop)).after
+    → IsLineRest text position line l → IsLineRest text after line (cut 4 l)
+rest_cut text position after line l read is =
+    let left = read ∙ ap (λ left. (leading_space 4 left).after) is.rest.left in
+    let few = few_owed 4 (left_from text position line.stop) is.rest.few in
+    record {
+      rest = record {
+        left = left;
+        few = subst (λ (left : LineLeft). left.owed ≤ 3) (sym read) few;
+        next = is.rest.next;
+      };
+      stop = is.stop ∙ sym (space_alike 4 l.left).end;
+      ends = is.ends;
+    }
+
+-- a line of indented code that is not blank is added, after the blank lines that were held back
+pub indented_places : (s : Source) (old new : Pass) (line : Line) (found : code.Reached) (before : Before)
+    (source : SourceLine) (after : Position) → old.leaf ≡ leaf.Indented → old.placing.builder.leaf ≡ true
+    → new ≡ record old { placing = new.placing; blanks = new.blanks } → new.blanks.items ≡ []
+    → new.placing.builder.text ≡ old.placing.builder.text → AddsIndented s old new line after
+    → left_from old.placing.builder.text after line.stop
+    ≡ (leading_space 4 (left_from old.placing.builder.text found.position line.stop)).after
+    → nat_le line.stop found.content ≡ false
+    → ((leading_space 4 (left_from old.placing.builder.text found.position line.stop)).columns == 4) ≡ true
+    → IsReachedBy s old line found before source → PlacesLine s old new line found source before
+indented_places s old new line found before source after how open_leaf same emptied text adds read some four by =
+    leaf_case (PlacesLine s old new line found source) s old before by.stands.unended open_leaf
+    (λ b may knows. by_kind b b.kind refl may (subst (λ h. IsLeafKind h b.kind) how knows.0) knows.1 knows.2)
+  where
+    none_left : (held : List HeldLine) (lines : List SourceLine) → held ≡ [] → code_lines lines ≡ lines
+        → HoldsBlanks held (was.indented_leaf lines)
+    none_left held lines none all =
+        ([], sym (append-nil (code_lines lines) ∙ all), subst (λ (ls : List HeldLine). AreHeld ls []) (sym none) tt)
+
+    goes : (rest : SourceLine) (lines : List SourceLine) → ((leading_space 4 rest.left).columns == 4) ≡ true
+        → leaf_with s rest (was.indented_leaf lines) ≡ Some (was.indented_leaf (lines ++ cut 4 rest ∷ []))
+    goes rest lines enough = rw (enough, or-true (is_blank_rest rest)) refl
+
+    by_kind : (b : Block) (kind : Kind) → b.kind ≡ kind → MayEnd s old before.frames before.inside b None
+        → IsLeafKind leaf.Indented kind → HoldsBlanks old.blanks.items kind → old.lines.items ≡ []
+        → PlacesLine s old new line found source (last_of before.frames before.inside b)
+    by_kind b (was.indented_leaf lines) kind may is unheld empty = λ by none fits.
+        let rest = (reached_of s (last_of before.frames before.inside b) source).rest in
+        let code = code_lines lines in
+        let blank = unheld.0 in
+        let now = was.indented_leaf (lines ++ cut 4 rest ∷ []) in
+        let filled : is_blank_rest (cut 4 rest) ≡ false =
+        blank_alike 4 rest.left ∙ (sym by.reaches.blank ∙ some) in
+        let enough = sym (ap (λ left. (leading_space 4 left).columns == 4) by.reaches.rest.left) ∙ four in
+        let all = code_to_end lines (cut 4 rest) filled in
+        let added = adds before.frames before.inside b code blank (cut 4 rest) may.unended.1
+        (kind ∙ ap was.indented_leaf unheld.1) (ap code_lines (sym unheld.1)) unheld.2
+        (rest_cut old.placing.builder.text found.position after line rest read
+        (line_rest s old line found (last_of before.frames before.inside b) source by)) filled fits in (
+          added.0,
+          grown_places s old new line found before.frames before.inside b source now by none may empty (record {
+            leaf = refl;
+            over = λ e. absurd (true≢false (sym e));
+            filled = last_filled lines (cut 4 rest) filled;
+            alone = λ e. absurd (true≢false (sym e));
+          }) (ap (leaf_with s rest) kind ∙ goes rest lines enough) (record {
+            source = ap (λ t. record { text = t; options = new.options }) text
+                ∙ ap (λ (p : Pass). record { text = old.placing.builder.text; options = p.options }) same;
+            lines = ap (λ (p : Pass). p.lines.items) same;
+            looseness = ap (λ (p : Pass). p.looseness) same;
+            is = subst (λ ls. IsLeafIn s new.placing.builder before.frames before.inside
+                (grown_to b rest.next (was.indented_leaf (ls ++ cut 4 rest ∷ []))) false) (sym unheld.1) added.1;
+            held = λ e. emptied;
+            knows = λ e. (
+              subst (λ h. IsLeafKind h now) (sym (ap (λ (p : Pass). p.leaf) same ∙ how)) tt,
+              none_left new.blanks.items (lines ++ cut 4 rest ∷ []) emptied all,
+            );
+          }),
         )
     by_kind b kind same_kind may is unheld empty = absurd is

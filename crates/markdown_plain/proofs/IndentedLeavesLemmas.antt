@@ -28,7 +28,7 @@ use Rattle.markdown_plain.proofs.LinedLeavesLemmas.{grown_to, kind_is_leaf, line
 -- ---- the lines of code
 
 -- a line that is not blank is the last one of code
-code_to_end : (lines : List SourceLine) (l : SourceLine) → is_blank_rest l ≡ false
+pub code_to_end : (lines : List SourceLine) (l : SourceLine) → is_blank_rest l ≡ false
     → code_lines (lines ++ l ∷ []) ≡ lines ++ l ∷ []
 code_to_end [] l some = ap (λ t. if t then [] else l ∷ []) some
 code_to_end (m ∷ []) l some = ap (before_code m) (code_to_end [] l some)
