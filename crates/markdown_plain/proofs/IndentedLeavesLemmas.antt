@@ -28,14 +28,14 @@ use Rattle.markdown_plain.proofs.LinedLeavesLemmas.{grown_to, kind_is_leaf, line
 -- ---- the lines of code
 
 -- a line that is not blank is the last one of code
-code_to_end : (lines : List SourceLine) (l : SourceLine) → is_blank_rest l ≡ false
+pub code_to_end : (lines : List SourceLine) (l : SourceLine) → is_blank_rest l ≡ false
     → code_lines (lines ++ l ∷ []) ≡ lines ++ l ∷ []
 code_to_end [] l some = ap (λ t. if t then [] else l ∷ []) some
 code_to_end (m ∷ []) l some = ap (before_code m) (code_to_end [] l some)
 code_to_end (m ∷ n ∷ lines) l some = ap (before_code m) (code_to_end (n ∷ lines) l some)
 
 -- and a blank line is not
-code_before_blank : (lines : List SourceLine) (l : SourceLine) → is_blank_rest l ≡ true
+pub code_before_blank : (lines : List SourceLine) (l : SourceLine) → is_blank_rest l ≡ true
     → code_lines (lines ++ l ∷ []) ≡ code_lines lines
 code_before_blank [] l blank = ap (λ t. if t then [] else l ∷ []) blank
 code_before_blank (m ∷ lines) l blank = ap (before_code m) (code_before_blank lines l blank)
@@ -60,7 +60,7 @@ blank_from n scanned column (b ∷ bytes) blank =
     rest false e = cc (e)
 
 -- what is left of a blank line after some space is blank
-blank_cut : (columns : ℕ) (l : SourceLine) → is_blank_rest l ≡ true → is_blank_rest (cut columns l) ≡ true
+pub blank_cut : (columns : ℕ) (l : SourceLine) → is_blank_rest l ≡ true → is_blank_rest (cut columns l) ≡ true
 blank_cut columns l blank =
     on_test (λ (sp : Space). list_all is_space_or_tab sp.after.bytes ≡ true) (nat_le columns l.left.owed) _ _
     (λ e. blank) (λ e. blank_from (columns - l.left.owed) l.left.scanned l.left.column l.left.bytes blank)

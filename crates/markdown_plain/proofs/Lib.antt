@@ -42,6 +42,12 @@ pub mod EndedLeavesLemmas
 pub mod AddedLinesLemmas
 pub mod HtmlLeavesLemmas
 pub mod IndentedLeavesLemmas
+-- on what the pass stands for between two lines
+pub mod StandingLemmas
+pub mod LeafLinesLemmas
+pub mod BlankLinesLemmas
+pub mod BlankStandingLemmas
+pub mod GrownLeavesLemmas
 -- on lines that are text
 pub mod HeldTextLemmas
 pub mod AddedTextLemmas

@@ -23,7 +23,7 @@ use Rattle.markdown_plain.specs.Frames.{AreContainers, AreNested, Frame, Reached
 use Rattle.markdown_plain.specs.OpenLeaves.{AreItemsOpenedIn, BeginsText, ComesAfter, HoldsParagraph, leaf_block}
 use Rattle.markdown_plain.specs.Paragraphs.{lines_end, source_of}
 use Rattle.markdown_plain.specs.Settled.{IsBuilt, IsLooseAs, IsLooseBefore}
-use Rattle.markdown_plain.specs.Standing.{AreOpenedBefore, IsSource, PlacesFor, Stands, with_last}
+use Rattle.markdown_plain.specs.Standing.{AreOpenedBefore, IsSource, PlacesFor, Stands, is_metadata}
 use Rattle.markdown_plain.specs.TextLines.{IsContentAt, held_line, text_block, with_text}
 use Rattle.markdown_plain.proofs.AddedTextLemmas.{GoesAs, loose_as_leaf, loose_with_leaf, paragraph_line}
 use Rattle.markdown_plain.proofs.BegunLemmas.{IsLeftOf, block_begun, item_begun}
@@ -35,15 +35,19 @@ use Rattle.markdown_plain.proofs.LooseFramesLemmas.{ends_more}
 use Rattle.markdown_plain.proofs.RoomLemmas.{begins_in_room}
 use Rattle.markdown_plain.proofs.TouchedFramesLemmas.{earlier_touched, holds_touched, quotes_touched}
 
+-- no blank lines are held back where no leaf is open
+abbrev pub IsUnheld : Pass → Type 0
+IsUnheld pass = pass.placing.builder.leaf ≡ false → pass.blanks.items ≡ []
+
 -- the paragraph that is the last block has these lines now, where the blocks are those of the definition
 placed_text : (s : Source) (pass : Pass) (source : SourceLine) (line : Line) (frames : List Frame)
     (inside : Forest Block) (b : Block) (sources : List SourceLine) (blocks : Forest Block) → source_of pass ≡ s
     → HoldsParagraph s pass frames inside b sources → line.next ≡ source.next → b.last ≡ line.next
-    → line.start ≤ line.next → AreOpenedBefore line.start frames
+    → line.start ≤ line.next → AreOpenedBefore line.start frames → IsUnheld pass
     → IsLooseAs pass.looseness frames (followed_by inside (leaf_block b)) → AreItemsInLists false blocks
     → with_line s blocks source ≡ rebuilt (map (touched source) frames) (followed_by inside (leaf_block b))
     → PlacesFor s pass line.next (with_line s blocks source)
-placed_text s pass source line frames inside b sources blocks of holds next last low earlier loose items whole =
+placed_text s pass source line frames inside b sources blocks of holds next last low earlier unheld loose items whole =
     record {
       frames = map (touched source) frames;
       inside = inside;
@@ -57,7 +61,9 @@ placed_text s pass source line frames inside b sources blocks of holds next last
         filled = ends_more false inside (leaf_block b)
             ∙ ap (λ kind. ends_blank (ends_blank false inside) (leaf_block (record b { kind = kind }))) holds.kind;
         before = let end = holds.last in omega (arith, end, last);
+        unheld = unheld;
         earlier = earlier_touched source line.start line.next low frames earlier;
+        alone = λ metadata. absurd (true≢false (sym metadata ∙ ap is_metadata holds.kind));
       };
       whole = whole;
     }
@@ -98,7 +104,7 @@ text_added s old new line start frames inside b sources source tables stands may
     (ap source_of adds.same ∙ stands.source)
     (adds.further s frames inside b sources (text_line rest) holds
     (comes_after text line rest start at is.from old.lines.items stands.before))
-    is.next (sym at.next) (omega (arith, after)) stands.earlier
+    is.next (sym at.next) (omega (arith, after)) stands.earlier (subst IsUnheld (sym adds.same) stands.unheld)
     (subst (λ (now : Looseness). IsLooseAs now frames (followed_by inside (leaf_block grown)))
     (sym (ap (λ (p : Pass). p.looseness) adds.same)) loose)
     may.items
@@ -115,6 +121,7 @@ earlier_taken from (suc n) (f ∷ frames) earlier = (earlier.0, earlier_taken fr
 pub record BeginsLine (s : Source) (new : Pass) (line : Line) (start : ℕ) (outer : List Frame) (inside : Forest Block)
     : Type 0 where
   pub stands : closing.StandsFor s new outer inside
+  pub unheld : IsUnheld new
   pub loose : IsLooseBefore new.looseness outer inside
   pub first : (b : Block) (source : SourceLine)
       → BeginsText new.placing.builder.text (held_line line start) source b → AreItemsOpenedIn line outer
@@ -159,7 +166,7 @@ text_begun s old new line start frames inside source of same is are nested items
     placed_text s new source line outer now b (text_line r.rest ∷ []) (rebuilt frames inside) of
     (begun.first b (text_line r.rest) begins_it
     (none_opened old.placing.builder.text line r.rest start at is.from outer (earlier_taken line.start n frames earlier)))
-    is.next (sym at.next) (omega (arith, after)) (earlier_taken line.start n frames earlier)
+    is.next (sym at.next) (omega (arith, after)) (earlier_taken line.start n frames earlier) begun.unheld
     (loose_with_leaf new.looseness outer now b refl begun.loose) items
     (begins_in_room s frames inside source are nested none
     (λ marker. text_no_item s r.rest marker own at.filled text)

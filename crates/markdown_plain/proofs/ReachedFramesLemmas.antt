@@ -42,13 +42,13 @@ use Rattle.markdown_plain.proofs.LeafTreesLemmas.{few_owed, on_test}
 -- ---- what space leaves
 
 -- the byte offset at which a line's content ends
-abbrev end_of : LineLeft → ℕ
+abbrev pub end_of : LineLeft → ℕ
 end_of left = left.scanned + length left.bytes
 
 -- a rest of a line begins its content and ends where another does
-record AreAlike (one other : LineLeft) : Type 0 where
-  content : content_of one ≡ content_of other
-  end : end_of one ≡ end_of other
+pub record AreAlike (one other : LineLeft) : Type 0 where
+  pub content : content_of one ≡ content_of other
+  pub end : end_of one ≡ end_of other
 
 same_rest : (left : LineLeft) → AreAlike left left
 same_rest left = record { content = refl; end = refl }
@@ -96,7 +96,7 @@ space_from_alike n scanned column (b ∷ bytes) =
     white some = white_width column b (second (n == 0) (space_width column b == 0) some)
 
 -- no column of space is content
-space_alike : (n : ℕ) (left : LineLeft) → AreAlike (leading_space n left).after left
+pub space_alike : (n : ℕ) (left : LineLeft) → AreAlike (leading_space n left).after left
 space_alike n left =
     on_test (λ (s : Space). AreAlike s.after left) (nat_le n left.owed) _ _
     (λ e. record { content = refl; end = refl })
@@ -106,7 +106,7 @@ space_alike n left =
     record { content = later.content; end = later.end })
 
 -- what is left of a line is blank where its content begins at its end
-blank_at : (left : LineLeft)
+pub blank_at : (left : LineLeft)
     → nat_le (end_of left) (content_of left) ≡ list_all is_space_or_tab left.bytes
 blank_at left =
     elim (eqb_tells (prefix_len is_space_or_tab left.bytes) (length left.bytes)) [
@@ -299,7 +299,7 @@ known_inside : (empty : Bool) (f : Frame) (frames : List Frame) (inside : Forest
 known_inside empty f [] inside known = tt
 known_inside empty f (g ∷ frames) inside known = known
 
-some_follow : (before : Forest Block) (b : Block) (below : Forest Block)
+pub some_follow : (before : Forest Block) (b : Block) (below : Forest Block)
     → is_nil (followed_by before (node b below nil)) ≡ false
 some_follow nil b below = refl
 some_follow (node a inner after) b below = refl

@@ -41,6 +41,8 @@ pub record AddsText (old new : Pass) (line : Line) (start depth : ℕ) : Type 0 
   pub text : new.placing.builder.text ≡ old.placing.builder.text
   pub options : new.options ≡ old.options
   pub goes_on : has_paragraph old ≡ true → new ≡ record old { lines = new.lines }
+  pub unheld : old.blanks.items ≡ [] → new.blanks.items ≡ []
+  pub dropped : old.placing.builder.leaf ≡ true → new.blanks.items ≡ []
   pub forgets : (s : Source) (frames : List Frame) (inside : Forest Block) → old.lines.items ≡ []
       → depth ≤ length frames → MayClose s old frames inside → IfFitted old.placing new.placing
       (closing.StandsFor s new (take (room_depth depth frames) frames)
@@ -138,6 +140,11 @@ goes_as s pass r some text = by_inner r.inner refl
 
 module _ (s : Source) (old new : Pass) (line : Line) (start depth : ℕ) (source : SourceLine)
     (adds : AddsText old new line start depth) (is : IsSource old line source) where
+  none_kept : (leaf : Bool) → old.placing.builder.leaf ≡ leaf
+      → (old.placing.builder.leaf ≡ false → old.blanks.items ≡ []) → new.blanks.items ≡ []
+  none_kept true is unheld = adds.dropped is
+  none_kept false is unheld = adds.unheld (unheld is)
+
   -- a paragraph begins
   begins_there : (frames : List Frame) (inside : Forest Block) (last : Option Block)
       → Stands s old frames inside last line.start → HasContainers s old frames (with_last inside last)
@@ -165,6 +172,7 @@ module _ (s : Source) (old new : Pass) (line : Line) (start depth : ℕ) (source
       let begun : BeginsLine s new line start (take (room_depth depth frames) frames)
       (rebuilt (drop (room_depth depth frames) frames) blocks) = record {
         stands = there.1;
+        unheld = λ outside. none_kept old.placing.builder.leaf refl stands.unheld;
         loose = loose.1;
         first = λ b first begins opened.
             adds.first around.none s _ _ b first there.1.built (sym options) begins opened;

@@ -21,4 +21,5 @@ pub mod OpenedFrames
 pub mod Closing
 pub mod OpenLeaves
 pub mod Standing
+pub mod ReachedLines
 pub mod TextLines

@@ -1,6 +1,6 @@
 -- What the pass stands for between two lines, where no table is open: the blocks of the lines so far. And what it stands
 -- for once a line that is not blank is placed, before that is recorded.
-use Rattle.std.specs.Prelude.{◌≡◌, ℕ, ◌<◌, ◌≤◌, true, false, List, [], ◌∷◌, ◌++◌, Option, Some, None}
+use Rattle.std.specs.Prelude.{◌≡◌, ℕ, ◌<◌, ◌≤◌, Bool, true, false, List, [], ◌∷◌, ◌++◌, Option, Some, None}
 use Rattle.std.specs.Str.{IsCharBoundary}
 use Rattle.markdown_base.specs.Forest.{Forest}
 use Rattle.markdown_builder.specs.TreeLevels.{followed_by}
@@ -42,10 +42,11 @@ HoldsBlanks held (was.indented_leaf lines) =
     (blank : List SourceLine) × (lines ≡ code_lines lines ++ blank) × AreHeld held blank
 HoldsBlanks held other = held ≡ []
 
--- the pass remembers how the last block goes on: a paragraph's lines are held back, a leaf is open
+-- the pass remembers how the last block goes on: a paragraph's lines are held back, or a leaf is open and none are
 abbrev pub KnowsLast : Pass → Block → Option (List SourceLine) → Type 0
 KnowsLast pass b (Some sources) = Unit
-KnowsLast pass b None = IsLeafKind pass.leaf b.kind × HoldsBlanks pass.blanks.items b.kind
+KnowsLast pass b None =
+    IsLeafKind pass.leaf b.kind × HoldsBlanks pass.blanks.items b.kind × (pass.lines.items ≡ [])
 
 -- which block has not ended
 abbrev pub HasLast : Source → Pass → List Frame → Forest Block → Option Block → Type 0
@@ -65,6 +66,16 @@ AreOpenedBefore from [] = Unit
 AreOpenedBefore from (f ∷ frames) =
     (is_item f.block.kind ≡ true → IsOpenedBefore from f.block) × AreOpenedBefore from frames
 
+-- the kind is that of metadata
+abbrev pub is_metadata : Kind → Bool
+is_metadata (was.metadata_leaf kind closed lines) = true
+is_metadata other = false
+
+-- metadata is open in no container
+abbrev pub MetadataAlone : Option Block → List Frame → Type 0
+MetadataAlone None frames = Unit
+MetadataAlone (Some b) frames = is_metadata b.kind ≡ true → frames ≡ []
+
 -- Between two lines, of which the second begins at a byte offset: these containers are open, with these blocks in the
 -- innermost, the last of which has not ended, or all of them have.
 pub record Stands (s : Source) (pass : Pass) (frames : List Frame) (inside : Forest Block) (last : Option Block)
@@ -74,7 +85,9 @@ pub record Stands (s : Source) (pass : Pass) (frames : List Frame) (inside : For
   pub loose : IsLooseAs pass.looseness frames (with_last inside last)
   pub blanks : BlanksKnown pass.looseness.blank_from 0 frames (with_last inside last)
   pub before : lines_end pass.lines.items ≤ from
+  pub unheld : pass.placing.builder.leaf ≡ false → pass.blanks.items ≡ []
   pub earlier : AreOpenedBefore from frames
+  pub alone : MetadataAlone last frames
 
 -- the pass stands for these blocks between two lines
 pub record StandsFor (s : Source) (pass : Pass) (from : ℕ) (blocks : Forest Block) : Type 0 where
@@ -112,7 +125,9 @@ pub record Places (s : Source) (pass : Pass) (frames : List Frame) (inside : For
   pub loose : IsLooseAs pass.looseness frames (with_last inside last)
   pub filled : ends_blank false (with_last inside last) ≡ false
   pub before : lines_end pass.lines.items ≤ to
+  pub unheld : pass.placing.builder.leaf ≡ false → pass.blanks.items ≡ []
   pub earlier : AreOpenedBefore to frames
+  pub alone : MetadataAlone last frames
 
 -- the pass has placed a line that makes these blocks
 pub record PlacesFor (s : Source) (pass : Pass) (to : ℕ) (blocks : Forest Block) : Type 0 where

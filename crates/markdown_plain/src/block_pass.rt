@@ -1,18 +1,22 @@
 //! The block pass, line by line: which open blocks continue, which blocks begin, and what a lazy continuation line
 //! continues (CommonMark, appendix on parsing). Functions that return a `Result` fail only where memory is refused;
 //! what was built by then is not used.
-ghost use Rattle.std.specs.Prelude.{◌≡◌, List, [], Option, false, length, true, IfOk};
+ghost use Rattle.std.specs.Prelude.{◌≡◌, List, [], Option, true, false, Some, length, slice_range, IfOk};
+ghost use Rattle.std.specs.List.{list_all};
 ghost use Rattle.std.specs.Str.{IsCharBoundary};
 ghost use Rattle.markdown_base.specs.BlockTree.{tree_of};
 ghost use Rattle.markdown_base.specs.Forest.{Forest};
-ghost use Rattle.markdown_block_rules.specs.BlockGrowth.{Block};
+ghost use Rattle.markdown_block_rules.specs.BlockGrowth.{Block, with_line};
 ghost use Rattle.markdown_lines.specs.BlockBeginnings.{Source};
+ghost use Rattle.markdown_lines.specs.SourceLines.{SourceLine, is_blank_rest};
+ghost use Rattle.markdown_lines.specs.Lines.{is_space_or_tab};
+ghost use Rattle.markdown_plain.specs.Fitting.{IfFitted};
+ghost use Rattle.markdown_plain.specs.ListLooseness.{blank_from};
+ghost use Rattle.markdown_plain.specs.ReachedLines as lines;
+ghost use Rattle.markdown_plain.specs.ReachedLines.{IsReachedBy, LeavesOff, blocks_before, reached_of};
 ghost use Rattle.markdown_plain.specs.Standing.{IsSource, PlacesFor, Stands, StandsFor, with_last};
 ghost use Rattle.markdown_lines.specs.declared.position.Position.{Position};
-ghost use Rattle.markdown_block_rules.specs.BlockGrowth.{with_line};
 ghost use Rattle.markdown_block_rules.specs.TableLines.{reads_tables};
-ghost use Rattle.markdown_lines.specs.SourceLines.{SourceLine};
-ghost use Rattle.markdown_plain.specs.Fitting.{IfFitted};
 ghost use Rattle.markdown_plain.specs.Frames.{Frame, reached, rebuilt};
 ghost use Rattle.markdown_plain.specs.TextLines.{BeginsNoBlock, IsTextFrom, IsTextHere};
 ghost use Rattle.markdown_base.specs.Coverage.{Covers};
@@ -222,7 +226,18 @@ impl<'a> Pass<'a> {
 
     /// Adds a line to the open code or HTML block, if that continues in it, and returns whether it does.
     fn goes_on(&mut self, line: Line, reached: Reached) -> Result<bool, AllocError>
-        ensures { IfOk result (λ _. self.new.placing.builder.text ≡ self.old.placing.builder.text) }
+        ensures text { IfOk result (λ _. self.new.placing.builder.text
+            ≡ self.old.placing.builder.text) }
+        ensures places { IfOk result (λ goes. goes ≡ true → (s : Source) (before : lines.Before)
+            (source : SourceLine) → IsReachedBy s self.old line reached before source
+            → self.old.placing.builder.leaf ≡ true → (reached_of s before source).inner ≡ []
+            → IfFitted self.old.placing self.new.placing
+            (PlacesFor s self.new line.next (with_line s (blocks_before before) source))) }
+        ensures leaves_off { IfOk result (λ goes. goes ≡ false → (self.new ≡ self.old)
+            × ((s : Source) (before : lines.Before) (source : SourceLine)
+            → IsReachedBy s self.old line reached before source
+            → self.old.placing.builder.leaf ≡ true
+            → LeavesOff s (reached_of s before source).rest before.last)) }
     {
         let blank = reached.content >= line.stop;
         match self.leaf {
@@ -247,7 +262,15 @@ impl<'a> Pass<'a> {
 
     /// Reads a line that is blank for the innermost blocks that continue in it.
     fn read_blank(&mut self, line: Line, reached: Reached) -> Result<(), AllocError>
-        ensures { IfOk result (λ _. self.new.placing.builder.text ≡ self.old.placing.builder.text) }
+        ensures text { IfOk result (λ _. self.new.placing.builder.text
+            ≡ self.old.placing.builder.text) }
+        ensures stands { IfOk result (λ _. (s : Source) (before : lines.Before)
+            (source : SourceLine) → IsReachedBy s self.old line reached before source
+            → is_blank_rest (reached_of s before source).rest ≡ true
+            → ((reached_of s before source).inner ≡ []
+            → LeavesOff s (reached_of s before source).rest before.last)
+            → IfFitted self.old.placing self.new.placing
+            (StandsFor s self.new line.next (with_line s (blocks_before before) source))) }
     {
         let in_code = match self.leaf {
             LeafKind::Indented => self.placing.is_in_leaf(),
@@ -258,11 +281,27 @@ impl<'a> Pass<'a> {
         } else {
             self.close_down(reached.depth)?;
         }
-        self.looseness.see_blank(reached.quoted);
+        self.see_blank(line, reached.quoted);
+        Ok(())
+    }
+
+    /// Records that a line was read that is blank for the innermost blocks that continue in it: for the open blocks from
+    /// the number `quoted` on.
+    fn see_blank(&mut self, line: Line, quoted: usize)
+        ensures same { self.new ≡ record self.old {
+          looseness = record self.old.looseness {
+            blank_from = Some (blank_from self.old.looseness.blank_from quoted)
+          };
+          placed = self.new.placed;
+        } }
+        ensures placed { list_all is_space_or_tab
+            (slice_range self.old.placing.builder.text line.start line.stop) ≡ false
+            → self.new.placed ≡ line.next }
+    {
+        self.looseness.see_blank(quoted);
         if !is_white(bytes_of(self.placing.text(), line.start, line.stop)) {
             self.placed = line.next;
         }
-        Ok(())
     }
 
     /// Returns the paragraph that a line may go on with, where all open containers continue in it, or not.

@@ -416,6 +416,10 @@ impl<'a> Pass<'a> {
             (take (room_depth depth frames) frames)
             (rebuilt (drop (room_depth depth frames) frames) inside))) }
         ensures options { self.new.options ≡ self.old.options }
+        ensures unheld { IfOk result (λ _. self.old.blanks.items ≡ []
+            → self.new.blanks.items ≡ []) }
+        ensures dropped { IfOk result (λ _. self.old.placing.builder.leaf ≡ true
+            → self.new.blanks.items ≡ []) }
     {
         if !self.has_paragraph() {
             self.make_room(depth)?;

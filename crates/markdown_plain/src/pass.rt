@@ -175,6 +175,8 @@ impl<'a> Pass<'a> {
         ensures ended { IfOk result (λ _. self.new.lines.items ≡ []) }
         ensures dropped { IfOk result (λ _. self.old.placing.builder.leaf ≡ true
             → self.new.blanks.items ≡ []) }
+        ensures unheld { IfOk result (λ _. self.old.blanks.items ≡ []
+            → self.new.blanks.items ≡ []) }
         ensures same { self.new ≡ record self.old {
           placing = self.new.placing;
           lines = self.new.lines;
@@ -223,6 +225,8 @@ impl<'a> Pass<'a> {
             (self.new.placing.builder.leaf ≡ false)) }
         ensures ended { IfOk result (λ _. self.new.lines.items ≡ []) }
         ensures dropped { IfOk result (λ _. self.old.placing.builder.leaf ≡ true
+            → self.new.blanks.items ≡ []) }
+        ensures unheld { IfOk result (λ _. self.old.blanks.items ≡ []
             → self.new.blanks.items ≡ []) }
         ensures same { self.new ≡ record self.old {
           placing = self.new.placing;
@@ -281,6 +285,8 @@ impl<'a> Pass<'a> {
             (self.new.placing.builder.leaf ≡ false)) }
         ensures ended { IfOk result (λ _. self.new.lines.items ≡ []) }
         ensures dropped { IfOk result (λ _. self.old.placing.builder.leaf ≡ true
+            → self.new.blanks.items ≡ []) }
+        ensures unheld { IfOk result (λ _. self.old.blanks.items ≡ []
             → self.new.blanks.items ≡ []) }
         ensures frame { IfOk result (λ _. (s : Source) (frames : List Frame)
             (inside : Forest Block) (b : Block) (held : Option (List SourceLine))

@@ -53,6 +53,7 @@ blocks-2-preserved c =
           ((before.closes done.0).0, ap (λ (b : BuilderView). b.leaf) done.1);
       ended = search rules;
       dropped = search rules;
+      unheld = search rules;
       same = search rules;
       looseness = search rules;
       least = λ fitted.
@@ -89,6 +90,7 @@ blocks-2-init c = record {
   outside = search rules;
   ended = search rules;
   dropped = search rules;
+  unheld = search rules;
   same = search rules;
   looseness = search rules;
   least = search rules;

@@ -23,6 +23,7 @@ invariant-blocks-2 l = record {
   outside : IfFitted l.fn.self.placing l.self.placing (l.self.placing.builder.leaf ≡ false);
   ended : l.self.lines.items ≡ [];
   dropped : l.fn.self.placing.builder.leaf ≡ true → l.self.blanks.items ≡ [];
+  unheld : l.fn.self.blanks.items ≡ [] → l.self.blanks.items ≡ [];
   same : l.self ≡ record l.fn.self {
     placing = l.self.placing;
     lines = l.self.lines;
