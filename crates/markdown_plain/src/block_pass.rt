@@ -1,7 +1,7 @@
 //! The block pass, line by line: which open blocks continue, which blocks begin, and what a lazy continuation line
 //! continues (CommonMark, appendix on parsing). Functions that return a `Result` fail only where memory is refused;
 //! what was built by then is not used.
-ghost use Rattle.std.specs.Prelude.{◌≡◌, List, [], Option, true, false, Some, length, slice_range, IfOk};
+ghost use Rattle.std.specs.Prelude.{◌≡◌, [], true, false, Some, length, slice_range, IfOk};
 ghost use Rattle.std.specs.List.{list_all};
 ghost use Rattle.std.specs.Str.{IsCharBoundary};
 ghost use Rattle.markdown_base.specs.BlockTree.{tree_of};
@@ -13,11 +13,10 @@ ghost use Rattle.markdown_lines.specs.Lines.{is_space_or_tab};
 ghost use Rattle.markdown_plain.specs.Fitting.{IfFitted};
 ghost use Rattle.markdown_plain.specs.ListLooseness.{blank_from};
 ghost use Rattle.markdown_plain.specs.ReachedLines as lines;
-ghost use Rattle.markdown_plain.specs.ReachedLines.{IsReachedBy, LeavesOff, blocks_before, reached_of};
-ghost use Rattle.markdown_plain.specs.Standing.{IsSource, PlacesFor, Stands, StandsFor, with_last};
+ghost use Rattle.markdown_plain.specs.ReachedLines.{IsReachedBy, LeavesOff, blocks_before, blocks_in, reached_of};
+ghost use Rattle.markdown_plain.specs.Standing.{IsSource, PlacesFor, Stands, StandsFor};
 ghost use Rattle.markdown_lines.specs.declared.position.Position.{Position};
 ghost use Rattle.markdown_block_rules.specs.TableLines.{reads_tables};
-ghost use Rattle.markdown_plain.specs.Frames.{Frame, reached, rebuilt};
 ghost use Rattle.markdown_plain.specs.TextLines.{BeginsNoBlock, IsTextFrom, IsTextHere};
 ghost use Rattle.markdown_base.specs.Coverage.{Covers};
 ghost use Rattle.markdown_base.specs.WellFormed.{IsWellFormed};
@@ -161,14 +160,13 @@ impl<'a> Pass<'a> {
     fn read_text_line(&mut self, line: Line, start: usize, depth: usize) -> Result<(), AllocError>
         ensures text { IfOk result (λ _. self.new.placing.builder.text
             ≡ self.old.placing.builder.text) }
-        ensures stands { IfOk result (λ _. (s : Source) (frames : List Frame)
-            (inside : Forest Block) (last : Option Block) (source : SourceLine)
-            → reads_tables s ≡ false → Stands s self.old frames inside last line.start
+        ensures stands { IfOk result (λ _. (s : Source) (before : lines.Before)
+            (source : SourceLine) → reads_tables s ≡ false
+            → Stands s self.old before.frames before.inside before.last line.start
             → IsSource self.old line source
-            → IsTextHere s self.old line start depth (with_last inside last)
-            (reached s frames (with_last inside last) source)
-            → IfFitted self.old.placing self.new.placing (StandsFor s self.new line.next
-            (with_line s (rebuilt frames (with_last inside last)) source))) }
+            → IsTextHere s self.old line start depth (blocks_in before) (reached_of s before source)
+            → IfFitted self.old.placing self.new.placing
+            (StandsFor s self.new line.next (with_line s (blocks_before before) source))) }
     {
         self.add_text(line, start, depth)?;
         self.see_content(line);
@@ -396,14 +394,14 @@ impl<'a> Pass<'a> {
     fn read_text(&mut self, rest: &LineRest<'a>, at: usize) -> Result<bool, AllocError>
         ensures text { IfOk result (λ _. self.new.placing.builder.text
             ≡ self.old.placing.builder.text) }
-        ensures places { IfOk result (λ _. (s : Source) (frames : List Frame)
-            (inside : Forest Block) (last : Option Block) (source : SourceLine)
-            → reads_tables s ≡ false → Stands s self.old frames inside last rest.now.line.start
+        ensures places { IfOk result (λ _. (s : Source) (before : lines.Before)
+            (source : SourceLine) → reads_tables s ≡ false
+            → Stands s self.old before.frames before.inside before.last rest.now.line.start
             → IsSource self.old rest.now.line source
-            → IsTextHere s self.old rest.now.line at rest.now.depth (with_last inside last)
-            (reached s frames (with_last inside last) source)
+            → IsTextHere s self.old rest.now.line at rest.now.depth (blocks_in before)
+            (reached_of s before source)
             → IfFitted self.old.placing self.new.placing (PlacesFor s self.new rest.now.line.next
-            (with_line s (rebuilt frames (with_last inside last)) source))) }
+            (with_line s (blocks_before before) source))) }
     {
         self.add_text(rest.line, at, rest.depth)?;
         Ok(false)

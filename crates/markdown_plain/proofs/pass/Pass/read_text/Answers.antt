@@ -20,6 +20,6 @@ adds c =
     }
 
 pub returns-clause-places : goal.returns-clause-places
-returns-clause-places c = λ s frames inside last source tables stands is here.
+returns-clause-places c = λ s before source tables stands is here.
     text_places s c.args.self.now c.add_text.new.self c.args.rest.now.line c.args.at c.args.rest.now.depth source (adds c) is
-    tables frames inside last stands here
+    tables before.frames before.inside before.last stands here
