@@ -53,7 +53,7 @@ pub left_from_is_of : (text : List ℕ) (position : Position) (stop : ℕ) (left
 left_from_is_of text position stop left is = subst (IsLeftOf text) is (slice_same text position.at stop)
 
 -- a byte fewer
-next_is_of : (text : List ℕ) (scanned owed next column after b : ℕ) (bytes : List ℕ)
+pub next_is_of : (text : List ℕ) (scanned owed next column after b : ℕ) (bytes : List ℕ)
     → IsLeftOf text (record { scanned = scanned; owed = owed; column = column; bytes = b ∷ bytes })
     → IsLeftOf text (record { scanned = scanned + 1; owed = next; column = after; bytes = bytes })
 next_is_of text scanned owed next column after b bytes is =

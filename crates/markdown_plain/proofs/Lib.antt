@@ -54,4 +54,5 @@ pub mod AddedTextLemmas
 pub mod RoomLemmas
 pub mod PlacedTextLemmas
 pub mod TextStepsLemmas
+pub mod TextReachedLemmas
 pub mod TextLinesLemmas
