@@ -17,13 +17,29 @@ use Rattle.markdown_lines.specs.declared.block_start.Before.TheVariants as parag
 use Rattle.markdown_lines.specs.declared.line.Line.{Line}
 use Rattle.markdown_lines.specs.BlockBeginnings.{Source, begins}
 use Rattle.markdown_lines.specs.SourceLines.{SourceLine, is_blank_rest, rest_inside}
+use Rattle.markdown_lines.proofs.BlockStartsLemmas.{slice_same}
 use Rattle.markdown_lines.proofs.PositionsLemmas.{in_part}
 use Rattle.markdown_block_rules.specs.BlockGrowth as was
-use Rattle.markdown_block_rules.specs.BlockGrowth.{Block, Kind, goes_on, is_nil, is_text, lazily, past_footnote}
+use Rattle.markdown_block_rules.specs.BlockGrowth.{Block, Kind, goes_on, is_nil, is_text, lazily, leaf_with, past_footnote}
 use Rattle.markdown_block_rules.specs.BlockGrowth.{past_indentation, past_quote, with_lazy}
-use Rattle.markdown_plain.specs.Frames.{Frame, Reached, inside_container, reached, reached_past, rebuilt}
+use Rattle.markdown_plain.specs.declared.containers.Reached as code
+use Rattle.markdown_plain.specs.declared.pass.Pass.{Pass}
+use Rattle.markdown_plain.specs.Closing.{MayEnd}
+use Rattle.markdown_plain.specs.Frames.{AreContainers, Frame, Reached, inside_container, reached, reached_past, rebuilt}
+use Rattle.markdown_plain.specs.Frames.{touched}
+use Rattle.markdown_plain.specs.OpenLeaves.{is_leaf, leaf_block}
+use Rattle.markdown_plain.specs.Paragraphs.{has_paragraph}
+use Rattle.markdown_plain.specs.ReachedFrames.{are_none}
+use Rattle.markdown_plain.specs.ReachedLines.{Before, IsReachedBy, LeavesOff, blocks_in, is_indented, reached_of}
+use Rattle.markdown_plain.specs.Standing.{Stands, with_last}
+use Rattle.markdown_plain.specs.TextLines.{IsTextFrom, IsTextHere, paragraph_before}
+use Rattle.markdown_plain.proofs.AddedLinesLemmas.{has_held}
 use Rattle.markdown_plain.proofs.BegunLemmas.{IsLeftOf, next_is_of}
+use Rattle.markdown_plain.proofs.FramesLemmas.{inner_containers, with_lazy_last}
+use Rattle.markdown_plain.proofs.LastBlocksLemmas.{lazily_inside, nothing_goes_on, open_are_containers}
+use Rattle.markdown_plain.proofs.LeafLinesLemmas.{leaf_leaves_off}
 use Rattle.markdown_plain.proofs.LeafTreesLemmas.{on_test}
+use Rattle.markdown_plain.proofs.ReachedLemmas.{inner_goes_lazily, reached_parts}
 
 -- ---- where it begins
 
@@ -150,3 +166,121 @@ module _ (text : List ℕ) (from : ℕ) (utf8 : IsUtf8 text) where
           → IsWithin text from (reached_past f frames l (reached s frames inside) rest).rest.left
       past None there inner = is
       past (Some m) there inner = inner m there
+
+-- ---- what goes on in it
+
+leaf_stays_lazily : (l : SourceLine) (start first last : ℕ) (kind : Kind) → is_leaf kind ≡ true
+    → with_lazy l (node (record { start = start; first = first; last = last; kind = kind }) nil nil) ≡ None
+unfolding with_lazy
+leaf_stays_lazily l start first last (was.paragraph_leaf lines) leaf = absurd (true≢false (sym leaf))
+leaf_stays_lazily l start first last other leaf = refl
+
+-- a leaf goes on lazily behind no containers
+behind_none : (s : Source) (l : SourceLine) (frames : List Frame) (inside : Forest Block) (b : Block)
+    → is_leaf b.kind ≡ true → AreContainers frames
+    → lazily s l (rebuilt frames (followed_by inside (leaf_block b))) ≡ None
+behind_none s l frames inside b leaf are =
+    either_none (not (is_blank_rest l) && is_text (begins s paragraph.Lazy l))
+    (lazily_inside l frames (followed_by inside (leaf_block b)) are
+    ∙ ap (option_map (rebuilt (map (touched l) frames)))
+    (with_lazy_last inside b nil l
+    ∙ ap (option_map (followed_by inside)) (leaf_stays_lazily l b.start b.first b.last b.kind leaf)))
+  where
+    either_none : (test : Bool) → with_lazy l (rebuilt frames (followed_by inside (leaf_block b))) ≡ None
+        → (if test then with_lazy l (rebuilt frames (followed_by inside (leaf_block b))) else None) ≡ None
+    either_none true none = none
+    either_none false none = refl
+
+leaf_ends : (s : Source) (frames : List Frame) (inside : Forest Block) (b : Block) (l : SourceLine)
+    → is_leaf b.kind ≡ true → AreContainers frames
+    → ((reached s frames (followed_by inside (leaf_block b)) l).inner ≡ []
+    → leaf_with s (reached s frames (followed_by inside (leaf_block b)) l).rest b.kind ≡ None)
+    → goes_on s (rebuilt (reached s frames (followed_by inside (leaf_block b)) l).inner
+    (followed_by inside (leaf_block b))) (reached s frames (followed_by inside (leaf_block b)) l).rest ≡ None
+leaf_ends s frames inside b l leaf are off = by_inner r.inner refl
+  where
+    now : Forest Block
+    now = followed_by inside (leaf_block b)
+
+    r : Reached
+    r = reached s frames now l
+
+    inner_are : AreContainers r.inner
+    inner_are = inner_containers r.outer r.inner (subst AreContainers (sym (reached_parts s frames now l)) are)
+
+    by_inner : (inner : List Frame) → r.inner ≡ inner → goes_on s (rebuilt r.inner now) r.rest ≡ None
+    by_inner [] is =
+        ap (λ (fs : List Frame). goes_on s (rebuilt fs now) r.rest) is
+        ∙ leaf_leaves_off s r.rest inside b leaf (off is)
+    by_inner (f ∷ others) is =
+        inner_goes_lazily s frames now l f others are is ∙ behind_none s r.rest r.inner inside b leaf inner_are
+
+-- where no paragraph is open, and an open leaf that the line reaches leaves off, nothing goes on
+nothing_left : (s : Source) (pass : Pass) (line : Line) (found : code.Reached) (before : Before) (source : SourceLine)
+    → IsReachedBy s pass line found before source → is_blank_rest (reached_of s before source).rest ≡ false
+    → ((reached_of s before source).inner ≡ [] → LeavesOff s (reached_of s before source).rest before.last)
+    → has_paragraph pass ≡ false
+    → goes_on s (rebuilt (reached_of s before source).inner (blocks_in before)) (reached_of s before source).rest ≡ None
+nothing_left s pass line found before source by filled off none =
+    by_last before.last by.stands off filled
+  where
+    by_last : (last : Option Block) → Stands s pass before.frames before.inside last line.start
+        → ((reached s before.frames (with_last before.inside last) source).inner ≡ []
+        → LeavesOff s (reached s before.frames (with_last before.inside last) source).rest last)
+        → is_blank_rest (reached s before.frames (with_last before.inside last) source).rest ≡ false
+        → goes_on s (rebuilt (reached s before.frames (with_last before.inside last) source).inner
+        (with_last before.inside last)) (reached s before.frames (with_last before.inside last) source).rest ≡ None
+    by_last None stands off filled =
+        nothing_goes_on s before.frames before.inside source
+        (open_are_containers pass.placing.builder.texts pass.placing.builder.blocks before.frames
+        stands.unended.0.stands.built.blocks) stands.unended.2
+    by_last (Some b) stands off filled = by_held stands.unended.0 stands.unended.1
+      where
+        by_held : (held : Option (List SourceLine)) → MayEnd s pass before.frames before.inside b held
+            → goes_on s (rebuilt (reached s before.frames (with_last before.inside (Some b)) source).inner
+            (with_last before.inside (Some b)))
+            (reached s before.frames (with_last before.inside (Some b)) source).rest ≡ None
+        by_held None may =
+            leaf_ends s before.frames before.inside b source may.unended.0
+            (open_are_containers pass.placing.builder.texts may.unended.1.outer before.frames
+            may.unended.1.around.blocks)
+            (λ all. off all may.unended.0 (ap (λ blank. blank && is_indented b.kind) filled))
+        by_held (Some sources) may =
+            absurd (true≢false
+            (sym (has_held s pass before.frames before.inside b sources may.unended) ∙ none))
+
+-- ---- text
+
+-- what the line reaches is text where its first byte shows that, and a leaf that it reaches leaves off
+pub text_reached : (s : Source) (pass : Pass) (line : Line) (found : code.Reached) (before : Before)
+    (source : SourceLine) → IsUtf8 pass.placing.builder.text → IsReachedBy s pass line found before source
+    → IsTextFrom pass.placing.builder.text found.position line.stop
+    → ((reached_of s before source).inner ≡ [] → LeavesOff s (reached_of s before source).rest before.last)
+    → IsTextHere s pass line found.position.at found.depth (blocks_in before) (reached_of s before source)
+text_reached s pass line found before source utf8 by shows off =
+    let text = pass.placing.builder.text in
+    let rest = (reached_of s before source).rest in
+    let left = by.reaches.rest.left in
+    let at : found.position.at ≡ rest.left.scanned = ap (λ (l : LineLeft). l.scanned) left in
+    let filled = shows.filled rest (sym left) in
+    let whole : IsWithin text line.start source.left = subst (IsWithin text line.start) by.is.left (record {
+      own = slice_same text line.start line.stop;
+      boundary = by.is.boundary;
+      low = omega arith;
+    }) in
+    let within = reached_within text line.start utf8 s before.frames (blocks_in before) source whole in
+    record {
+      depth_is = by.reaches.depth;
+      content = record {
+        filled = filled;
+        here = sym (shows.here rest (sym left));
+        boundary = subst (IsCharBoundary text) (sym at) within.boundary;
+        low = within.low;
+        bytes = ap (λ n. slice_range text n line.stop) (sym at) ∙ ap (λ (l : LineLeft). l.bytes) left;
+        stop = by.reaches.stop;
+        next = by.reaches.rest.next;
+      };
+      text = shows.begins_it s (paragraph_before pass (are_none (reached_of s before source).inner)) rest
+          (sym (ap (λ (s : Source). s.text) by.stands.source)) (sym left);
+      over = nothing_left s pass line found before source by filled off;
+    }
