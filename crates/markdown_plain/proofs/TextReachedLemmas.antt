@@ -1,8 +1,9 @@
 -- What a line reaches is text: it begins between characters, and nothing but a paragraph goes on in it.
 use Rattle.std.proofs.Common.{◌≡◌, ℕ, zero, suc, ◌+◌, ◌-◌, ◌<◌, ◌≤◌, Bool, true, false, not, ◌&&◌, ◌||◌, ◌==◌, List, []}
-use Rattle.std.proofs.Common.{◌∷◌, Option, Some, None, length, get_or, codes, nat_le, nat_lt, arith, refl, sym, ap, ◌∙◌}
+use Rattle.std.proofs.Common.{◌∷◌, ◌++◌, Option, Some, None, length, get_or, codes, nat_le, nat_lt, arith, refl, sym, ap, ◌∙◌}
 use Rattle.std.proofs.Common.{map, subst, true≢false}
 use Rattle.std.specs.Prelude.{slice_range, if◌then◌else◌}
+use Rattle.std.specs.List.{prefix_len}
 use Rattle.std.specs.Option.{IfSome, option_map}
 use Rattle.std.specs.Str.{IsCharBoundary, IsUtf8}
 use Rattle.std.proofs.lemmas.Bool.Decides.{nat_tests}
@@ -10,17 +11,22 @@ use Rattle.std.proofs.lemmas.Str.{IsCharBoundary-after_ascii}
 use Rattle.markdown_base.specs.EnabledOptions.{old_footnotes_on}
 use Rattle.markdown_base.specs.Forest.{Forest, nil, node}
 use Rattle.markdown_builder.specs.TreeLevels.{followed_by}
+use Rattle.markdown_builder.specs.declared.open_block.OpenBlock.{OpenBlock}
 use Rattle.markdown_scan.specs.Beginnings.{begins_with}
 use Rattle.markdown_scan.specs.LineStart.{LineLeft, Space, column_after, leading_space, past_marker, past_one_byte}
 use Rattle.markdown_scan.specs.LineStart.{next_column, space_from, space_width}
 use Rattle.markdown_lines.specs.declared.block_start.Before.TheVariants as paragraph
 use Rattle.markdown_lines.specs.declared.line.Line.{Line}
+use Rattle.markdown_lines.specs.declared.position.Position.{Position}
+use Rattle.markdown_lines.specs.BlockBeginnings as beginning
 use Rattle.markdown_lines.specs.BlockBeginnings.{Source, begins}
+use Rattle.markdown_lines.specs.Lines.{is_space_or_tab}
+use Rattle.markdown_lines.specs.Positions.{left_from}
 use Rattle.markdown_lines.specs.SourceLines.{SourceLine, is_blank_rest, rest_inside}
 use Rattle.markdown_lines.proofs.BlockStartsLemmas.{slice_same}
 use Rattle.markdown_lines.proofs.PositionsLemmas.{in_part}
 use Rattle.markdown_block_rules.specs.BlockGrowth as was
-use Rattle.markdown_block_rules.specs.BlockGrowth.{Block, Kind, goes_on, is_nil, is_text, lazily, leaf_with, past_footnote}
+use Rattle.markdown_block_rules.specs.BlockGrowth.{Block, Kind, content_of, goes_on, is_nil, is_text, lazily, leaf_with, past_footnote}
 use Rattle.markdown_block_rules.specs.BlockGrowth.{past_indentation, past_quote, with_lazy}
 use Rattle.markdown_plain.specs.declared.containers.Reached as code
 use Rattle.markdown_plain.specs.declared.pass.Pass.{Pass}
@@ -31,13 +37,15 @@ use Rattle.markdown_plain.specs.OpenLeaves.{is_leaf, leaf_block}
 use Rattle.markdown_plain.specs.Paragraphs.{has_paragraph}
 use Rattle.markdown_plain.specs.ReachedFrames.{are_none}
 use Rattle.markdown_plain.specs.ReachedLines.{Before, IsReachedBy, LeavesOff, blocks_in, is_indented, reached_of}
-use Rattle.markdown_plain.specs.Standing.{Stands, with_last}
+use Rattle.markdown_plain.specs.Containers.{whole_line}
+use Rattle.markdown_plain.specs.Settled.{AreOpen}
+use Rattle.markdown_plain.specs.Standing.{IsSource, Stands, with_last}
 use Rattle.markdown_plain.specs.TextLines.{IsTextFrom, IsTextHere, paragraph_before}
 use Rattle.markdown_plain.proofs.AddedLinesLemmas.{has_held}
 use Rattle.markdown_plain.proofs.BegunLemmas.{IsLeftOf, next_is_of}
 use Rattle.markdown_plain.proofs.FramesLemmas.{inner_containers, with_lazy_last}
 use Rattle.markdown_plain.proofs.LastBlocksLemmas.{lazily_inside, nothing_goes_on, open_are_containers}
-use Rattle.markdown_plain.proofs.LeafLinesLemmas.{leaf_leaves_off}
+use Rattle.markdown_plain.proofs.LeafLinesLemmas.{before_line, leaf_leaves_off}
 use Rattle.markdown_plain.proofs.LeafTreesLemmas.{on_test}
 use Rattle.markdown_plain.proofs.ReachedLemmas.{inner_goes_lazily, reached_parts}
 
@@ -167,6 +175,19 @@ module _ (text : List ℕ) (from : ℕ) (utf8 : IsUtf8 text) where
       past None there inner = is
       past (Some m) there inner = inner m there
 
+  -- and its first byte of content does
+  content_within : (scanned owed column : ℕ) (bytes : List ℕ)
+      → IsWithin text from (record { scanned = scanned; owed = owed; column = column; bytes = bytes })
+      → IsCharBoundary text (scanned + prefix_len is_space_or_tab bytes)
+  content_within scanned owed column [] is = subst (IsCharBoundary text) (omega arith) is.boundary
+  content_within scanned owed column (b ∷ bytes) is =
+      on_test (λ n. IsCharBoundary text (scanned + n)) (is_space_or_tab b) _ _
+      (λ white.
+      let ascii : b < 128 = grind (arith, nat_tests, white) in
+      subst (IsCharBoundary text) (omega arith)
+      (content_within (scanned + 1) 0 column bytes (next_within scanned owed 0 column column b bytes ascii is)))
+      (λ other. subst (IsCharBoundary text) (omega arith) is.boundary)
+
 -- ---- what goes on in it
 
 leaf_stays_lazily : (l : SourceLine) (start first last : ℕ) (kind : Kind) → is_leaf kind ≡ true
@@ -216,71 +237,169 @@ leaf_ends s frames inside b l leaf are off = by_inner r.inner refl
         inner_goes_lazily s frames now l f others are is ∙ behind_none s r.rest r.inner inside b leaf inner_are
 
 -- where no paragraph is open, and an open leaf that the line reaches leaves off, nothing goes on
-nothing_left : (s : Source) (pass : Pass) (line : Line) (found : code.Reached) (before : Before) (source : SourceLine)
-    → IsReachedBy s pass line found before source → is_blank_rest (reached_of s before source).rest ≡ false
-    → ((reached_of s before source).inner ≡ [] → LeavesOff s (reached_of s before source).rest before.last)
+nothing_left : (s : Source) (pass : Pass) (from : ℕ) (frames : List Frame) (inside : Forest Block)
+    (last : Option Block) (source : SourceLine) → Stands s pass frames inside last from
+    → is_blank_rest (reached s frames (with_last inside last) source).rest ≡ false
+    → ((reached s frames (with_last inside last) source).inner ≡ []
+    → LeavesOff s (reached s frames (with_last inside last) source).rest last)
     → has_paragraph pass ≡ false
-    → goes_on s (rebuilt (reached_of s before source).inner (blocks_in before)) (reached_of s before source).rest ≡ None
-nothing_left s pass line found before source by filled off none =
-    by_last before.last by.stands off filled
+    → goes_on s (rebuilt (reached s frames (with_last inside last) source).inner (with_last inside last))
+    (reached s frames (with_last inside last) source).rest ≡ None
+nothing_left s pass from frames inside None source stands filled off none =
+    nothing_goes_on s frames inside source
+    (open_are_containers pass.placing.builder.texts pass.placing.builder.blocks frames
+    stands.unended.0.stands.built.blocks) stands.unended.2
+nothing_left s pass from frames inside (Some b) source stands filled off none =
+    by_held stands.unended.0 stands.unended.1
   where
-    by_last : (last : Option Block) → Stands s pass before.frames before.inside last line.start
-        → ((reached s before.frames (with_last before.inside last) source).inner ≡ []
-        → LeavesOff s (reached s before.frames (with_last before.inside last) source).rest last)
-        → is_blank_rest (reached s before.frames (with_last before.inside last) source).rest ≡ false
-        → goes_on s (rebuilt (reached s before.frames (with_last before.inside last) source).inner
-        (with_last before.inside last)) (reached s before.frames (with_last before.inside last) source).rest ≡ None
-    by_last None stands off filled =
-        nothing_goes_on s before.frames before.inside source
-        (open_are_containers pass.placing.builder.texts pass.placing.builder.blocks before.frames
-        stands.unended.0.stands.built.blocks) stands.unended.2
-    by_last (Some b) stands off filled = by_held stands.unended.0 stands.unended.1
-      where
-        by_held : (held : Option (List SourceLine)) → MayEnd s pass before.frames before.inside b held
-            → goes_on s (rebuilt (reached s before.frames (with_last before.inside (Some b)) source).inner
-            (with_last before.inside (Some b)))
-            (reached s before.frames (with_last before.inside (Some b)) source).rest ≡ None
-        by_held None may =
-            leaf_ends s before.frames before.inside b source may.unended.0
-            (open_are_containers pass.placing.builder.texts may.unended.1.outer before.frames
-            may.unended.1.around.blocks)
-            (λ all. off all may.unended.0 (ap (λ blank. blank && is_indented b.kind) filled))
-        by_held (Some sources) may =
-            absurd (true≢false
-            (sym (has_held s pass before.frames before.inside b sources may.unended) ∙ none))
+    now : Forest Block
+    now = with_last inside (Some b)
+
+    by_held : (held : Option (List SourceLine)) → MayEnd s pass frames inside b held
+        → goes_on s (rebuilt (reached s frames now source).inner now) (reached s frames now source).rest ≡ None
+    by_held None may =
+        leaf_ends s frames inside b source may.unended.0
+        (open_are_containers pass.placing.builder.texts may.unended.1.outer frames may.unended.1.around.blocks)
+        (λ all. off all may.unended.0 (ap (λ blank. blank && is_indented b.kind) filled))
+    by_held (Some sources) may =
+        absurd (true≢false (sym (has_held s pass frames inside b sources may.unended) ∙ none))
 
 -- ---- text
 
--- what the line reaches is text where its first byte shows that, and a leaf that it reaches leaves off
+-- before a line, what is left of it is the line
+whole_within : (pass : Pass) (line : Line) (source : SourceLine) → IsSource pass line source
+    → IsWithin pass.placing.builder.text line.start source.left
+whole_within pass line source is =
+    let text = pass.placing.builder.text in
+    subst (IsWithin text line.start) is.left (record {
+      own = slice_same text line.start line.stop;
+      boundary = is.boundary;
+      low = omega arith;
+    })
+
+-- what the line reaches is text, from its first byte of content on, where a leaf that it reaches leaves off
+pub text_found : (s : Source) (pass : Pass) (line : Line) (found : code.Reached) (before : Before)
+    (source : SourceLine) (start : ℕ) → IsUtf8 pass.placing.builder.text
+    → IsReachedBy s pass line found before source → start ≡ content_of (reached_of s before source).rest
+    → is_blank_rest (reached_of s before source).rest ≡ false
+    → begins s (paragraph_before pass (are_none (reached_of s before source).inner)) (reached_of s before source).rest
+    ≡ beginning.begins_text
+    → ((reached_of s before source).inner ≡ [] → LeavesOff s (reached_of s before source).rest before.last)
+    → IsTextHere s pass line start found.depth (blocks_in before) (reached_of s before source)
+text_found s pass line found before source start utf8 by here filled text_begins off =
+    let text = pass.placing.builder.text in
+    let rest = (reached_of s before source).rest in
+    let left = by.reaches.rest.left in
+    let within = reached_within text line.start utf8 s before.frames (blocks_in before) source
+    (whole_within pass line source by.is) in
+    record {
+      depth_is = by.reaches.depth;
+      content = record {
+        filled = filled;
+        here = here;
+        boundary = subst (IsCharBoundary text) (sym here)
+            (content_within text line.start utf8 rest.left.scanned rest.left.owed rest.left.column rest.left.bytes
+            (record { own = within.own; boundary = within.boundary; low = within.low }));
+        low = within.low;
+        bytes = ap (λ n. slice_range text n line.stop) (sym (ap (λ (l : LineLeft). l.scanned) left))
+            ∙ ap (λ (l : LineLeft). l.bytes) left;
+        stop = by.reaches.stop;
+        next = by.reaches.rest.next;
+      };
+      text = text_begins;
+      over = nothing_left s pass line.start before.frames before.inside before.last source by.stands filled off;
+    }
+
+-- it is where its first byte shows that
 pub text_reached : (s : Source) (pass : Pass) (line : Line) (found : code.Reached) (before : Before)
     (source : SourceLine) → IsUtf8 pass.placing.builder.text → IsReachedBy s pass line found before source
     → IsTextFrom pass.placing.builder.text found.position line.stop
     → ((reached_of s before source).inner ≡ [] → LeavesOff s (reached_of s before source).rest before.last)
     → IsTextHere s pass line found.position.at found.depth (blocks_in before) (reached_of s before source)
 text_reached s pass line found before source utf8 by shows off =
-    let text = pass.placing.builder.text in
     let rest = (reached_of s before source).rest in
     let left = by.reaches.rest.left in
-    let at : found.position.at ≡ rest.left.scanned = ap (λ (l : LineLeft). l.scanned) left in
-    let filled = shows.filled rest (sym left) in
-    let whole : IsWithin text line.start source.left = subst (IsWithin text line.start) by.is.left (record {
-      own = slice_same text line.start line.stop;
-      boundary = by.is.boundary;
-      low = omega arith;
-    }) in
-    let within = reached_within text line.start utf8 s before.frames (blocks_in before) source whole in
-    record {
-      depth_is = by.reaches.depth;
-      content = record {
-        filled = filled;
-        here = sym (shows.here rest (sym left));
-        boundary = subst (IsCharBoundary text) (sym at) within.boundary;
-        low = within.low;
-        bytes = ap (λ n. slice_range text n line.stop) (sym at) ∙ ap (λ (l : LineLeft). l.bytes) left;
-        stop = by.reaches.stop;
-        next = by.reaches.rest.next;
-      };
-      text = shows.begins_it s (paragraph_before pass (are_none (reached_of s before source).inner)) rest
-          (sym (ap (λ (s : Source). s.text) by.stands.source)) (sym left);
-      over = nothing_left s pass line found before source by filled off;
-    }
+    text_found s pass line found before source found.position.at utf8 by (sym (shows.here rest (sym left)))
+    (shows.filled rest (sym left))
+    (shows.begins_it s (paragraph_before pass (are_none (reached_of s before source).inner)) rest
+    (sym (ap (λ (s : Source). s.text) by.stands.source)) (sym left)) off
+
+-- ---- outside all blocks
+
+no_frames : (texts : List (List ℕ)) (blocks leaf : List OpenBlock) (frames : List Frame) → AreOpen texts blocks frames
+    → [] ≡ blocks ++ leaf → (frames ≡ []) × (leaf ≡ [])
+no_frames texts [] leaf [] are none = (refl, sym none)
+no_frames texts [] leaf (f ∷ frames) are none = absurd are
+no_frames texts (block ∷ blocks) leaf frames are none = cc (none)
+
+none_before : (block : OpenBlock) (outer : List OpenBlock) → [] ≡ outer ++ block ∷ [] → ⊥
+none_before block [] none = cc (none)
+none_before block (first ∷ outer) none = cc (none)
+
+-- where no block is open, the line is text where its first byte shows that
+pub text_outside : (s : Source) (pass : Pass) (line : Line) (before : Before) (source : SourceLine)
+    → Stands s pass before.frames before.inside before.last line.start → IsSource pass line source
+    → pass.placing.builder.blocks ≡ [] → (position : Position) → position.at ≡ line.start → position.owed ≡ 0
+    → position.column ≡ 0 → IsTextFrom pass.placing.builder.text position line.stop
+    → IsTextHere s pass line line.start 0 (blocks_in before) (reached_of s before source)
+unfolding reached
+text_outside s pass line before source stands is none position here nothing column shows =
+    let opened = before_line s pass line before.frames before.inside before.last source stands is in
+    let frames = no_frames pass.placing.builder.texts opened.containers opened.leaf before.frames opened.are
+    (sym none ∙ opened.blocks) in
+    let left : source.left ≡ left_from pass.placing.builder.text position line.stop =
+    sym is.left ∙ sym (same_left pass.placing.builder.text) in
+    subst (λ (fs : List Frame). IsTextHere s pass line line.start 0 (blocks_in before)
+    (reached s fs (blocks_in before) source)) (sym frames.0)
+    (outside left)
+  where
+    same_left : (text : List ℕ) → left_from text position line.stop ≡ whole_line text line
+    same_left text =
+        ap (λ n. record { scanned = n; owed = position.owed; column = position.column; bytes = slice_range text n line.stop })
+        here
+        ∙ (ap (λ n. record {
+          scanned = line.start;
+          owed = n;
+          column = position.column;
+          bytes = slice_range text line.start line.stop;
+        }) nothing
+        ∙ ap (λ n. record {
+          scanned = line.start;
+          owed = 0;
+          column = n;
+          bytes = slice_range text line.start line.stop;
+        }) column)
+
+    outside : source.left ≡ left_from pass.placing.builder.text position line.stop
+        → IsTextHere s pass line line.start 0 (blocks_in before) (reached s [] (blocks_in before) source)
+    outside left =
+        let filled = shows.filled source left in
+        let within = whole_within pass line source is in
+        record {
+          depth_is = refl;
+          content = record {
+            filled = filled;
+            here = sym here ∙ sym (shows.here source left);
+            boundary = is.boundary;
+            low = within.low;
+            bytes = subst (λ stop. slice_range pass.placing.builder.text source.left.scanned stop ≡ source.left.bytes)
+                (sym is.stop) within.own;
+            stop = is.stop;
+            next = is.next;
+          };
+          text = shows.begins_it s (paragraph_before pass true) source
+              (sym (ap (λ (s : Source). s.text) stands.source)) left;
+          over = λ free. over before.frames before.last stands free;
+        }
+      where
+        over : (frames : List Frame) (last : Option Block) → Stands s pass frames before.inside last line.start
+            → has_paragraph pass ≡ false → goes_on s (with_last before.inside last) source ≡ None
+        over frames None stands free = (stands.unended.2 source).0
+        over frames (Some b) stands free = by_held stands.unended.0 stands.unended.1
+          where
+            by_held : (held : Option (List SourceLine)) → MayEnd s pass frames before.inside b held
+                → goes_on s (with_last before.inside (Some b)) source ≡ None
+            by_held None may =
+                absurd (none_before may.unended.1.block may.unended.1.outer (sym none ∙ may.unended.1.blocks))
+            by_held (Some sources) may =
+                absurd (true≢false (sym (has_held s pass frames before.inside b sources may.unended) ∙ free))
