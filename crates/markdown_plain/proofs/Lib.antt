@@ -41,3 +41,5 @@ pub mod EndedLeavesLemmas
 pub mod AddedLinesLemmas
 pub mod HtmlLeavesLemmas
 pub mod IndentedLeavesLemmas
+-- on blocks that begin inside containers which a line opened
+pub mod BegunBlocksLemmas

@@ -21,3 +21,4 @@ pub mod OpenedFrames
 pub mod Closing
 pub mod OpenLeaves
 pub mod Standing
+pub mod Beginning

@@ -1,12 +1,18 @@
 //! The block pass, line by line: which open blocks continue, which blocks begin, and what a lazy continuation line
 //! continues (CommonMark, appendix on parsing). Functions that return a `Result` fail only where memory is refused;
 //! what was built by then is not used.
-ghost use Rattle.std.specs.Prelude.{◌≡◌, [], length, IfOk};
+ghost use Rattle.std.specs.Prelude.{◌≡◌, [], List, length, IfOk};
 ghost use Rattle.std.specs.Str.{IsCharBoundary};
 ghost use Rattle.markdown_base.specs.BlockTree.{tree_of};
 ghost use Rattle.markdown_base.specs.Forest.{Forest};
 ghost use Rattle.markdown_block_rules.specs.BlockGrowth.{Block};
 ghost use Rattle.markdown_lines.specs.BlockBeginnings.{Source};
+ghost use Rattle.markdown_lines.specs.SourceLines.{SourceLine};
+ghost use Rattle.markdown_lines.specs.declared.block_start.Before.TheVariants as before;
+ghost use Rattle.markdown_lines.specs.declared.block_start.BlockStart.TheVariants as start;
+ghost use Rattle.markdown_plain.specs.Beginning.{GoesInside, IsFound, IsInside};
+ghost use Rattle.markdown_plain.specs.Fitting.{IfFitted};
+ghost use Rattle.markdown_plain.specs.Frames.{Frame};
 ghost use Rattle.markdown_plain.specs.Standing.{PlacesFor, StandsFor};
 ghost use Rattle.markdown_base.specs.Coverage.{Covers};
 ghost use Rattle.markdown_base.specs.WellFormed.{IsWellFormed};
@@ -340,7 +346,13 @@ impl<'a> Pass<'a> {
     }
 
     /// Moves to a place inside the container that was opened last, and returns true.
-    fn go_inside(&self, rest: &mut LineRest<'a>, inside: Position) -> bool {
+    fn go_inside(&self, rest: &mut LineRest<'a>, inside: Position) -> bool
+        ensures goes { rest.new ≡ record rest.old {
+          position = inside;
+          depth = length self.now.placing.builder.blocks;
+          before = before.NoParagraph;
+        } }
+    {
         rest.position = inside;
         rest.depth = self.depth();
         rest.before = Before::NoParagraph;
@@ -354,7 +366,13 @@ impl<'a> Pass<'a> {
         at: usize,
         inside: Position,
     ) -> Result<bool, AllocError>
-        ensures { IfOk result (λ _. self.new.placing.builder.text ≡ self.old.placing.builder.text) }
+        ensures text { IfOk result (λ _. self.new.placing.builder.text
+            ≡ self.old.placing.builder.text) }
+        ensures inside { IfOk result (λ _. (s : Source) (frames : List Frame) (source : SourceLine)
+            (blocks : Forest Block) → IsInside s self.old rest.old frames source blocks
+            → IsFound s rest.old source at (start.Quote inside)
+            → IfFitted self.old.placing self.new.placing
+            (GoesInside s self.new rest.new blocks)) }
     {
         self.make_room(rest.depth)?;
         self.open_quote(at, None)?;

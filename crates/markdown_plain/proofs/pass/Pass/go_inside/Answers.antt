@@ -1,0 +1,2 @@
+-- temp
+use Rattle.markdown_plain.proofs.BegunBlocksLemmas.{loose_inside}
