@@ -1,24 +1,36 @@
 -- Blocks that begin with the rest of a line, inside containers that were opened in this line.
 use Rattle.std.proofs.Common.{◌≡◌, ℕ, ◌<◌, ◌≤◌, Bool, true, false, List, [], ◌∷◌, ◌++◌, Option, Some, None, refl, sym}
-use Rattle.std.proofs.Common.{ap, ◌∙◌, subst, arith, append-nil, length, if◌then◌else◌}
+use Rattle.std.proofs.Common.{ap, ◌∙◌, subst, arith, append-nil, length, if◌then◌else◌, ◌&&◌, ◌==◌, nat_le}
+use Rattle.std.proofs.lemmas.Bool.Decides.{nat_tests}
+use Rattle.markdown_scan.specs.LineStart.{LineLeft}
+use Rattle.markdown_lines.specs.Positions.{left_from}
+use Rattle.markdown_lines.specs.declared.block_start.Before.{Before}
+use Rattle.markdown_lines.specs.declared.position.Position.{Position}
+use Rattle.markdown_plain.specs.declared.pass.Pass.{Pass}
+use Rattle.markdown_plain.specs.Closing.{AreItemsInLists}
+use Rattle.markdown_plain.specs.Paragraphs.{source_of}
+use Rattle.markdown_plain.specs.Settled.{IsBuilt}
+use Rattle.markdown_plain.proofs.BegunRestsLemmas.{HoldsRest, IsRestOf, begins_rest}
+use Rattle.markdown_plain.proofs.FramesLemmas.{rebuilt_more}
+use Rattle.markdown_plain.proofs.OpenedFramesLemmas.{as_many_containers, innermost_of_more}
 use Rattle.std.proofs.lemmas.Option.{none-some}
 use Rattle.std.specs.Prelude.{unwrap_or}
 use Rattle.markdown_base.specs.Forest.{Forest, nil, node}
 use Rattle.markdown_builder.specs.TreeLevels.{followed_by}
 use Rattle.markdown_lines.specs.BlockBeginnings as line
 use Rattle.markdown_lines.specs.BlockBeginnings.{Beginning, Source, begins}
-use Rattle.markdown_lines.specs.SourceLines.{SourceLine, is_blank_rest}
+use Rattle.markdown_lines.specs.SourceLines.{SourceLine, is_blank_rest, rest_inside}
 use Rattle.markdown_lines.specs.declared.block_start.Before.TheVariants as paragraph
 use Rattle.markdown_lines.specs.declared.block_start.BlockStart.{BlockStart}
 use Rattle.markdown_lines.specs.declared.line.Line.{Line}
-use Rattle.markdown_lines.specs.BlockStarts.{begins_unless_blank, beginning_found}
+use Rattle.markdown_lines.specs.BlockStarts.{begins_unless_blank, beginning_found, left_at}
 use Rattle.markdown_block_rules.specs.BlockGrowth as was
-use Rattle.markdown_block_rules.specs.BlockGrowth.{Block, Kind, begun_by, inside_of, new_blocks}
+use Rattle.markdown_block_rules.specs.BlockGrowth.{Block, Kind, begun_by, content_of, inside_of, new_blocks}
 use Rattle.markdown_block_rules.specs.BlockRules.{is_blank_block, is_loose}
 use Rattle.markdown_plain.specs.declared.block_pass.LineRest.{LineRest}
 use Rattle.markdown_plain.specs.declared.looseness.Looseness.{Looseness}
-use Rattle.markdown_plain.specs.Beginning.{IsFound, IsInside, begun_in_rest}
-use Rattle.markdown_plain.specs.Frames.{Frame, is_item, is_list, is_quote}
+use Rattle.markdown_plain.specs.Beginning.{GoesInside, IsFound, IsLeft, begun_in_rest}
+use Rattle.markdown_plain.specs.Frames.{Frame, is_list, is_quote, rebuilt}
 use Rattle.markdown_plain.specs.OpenLeaves.{AreItemsOpenedIn, IsOpenedIn}
 use Rattle.markdown_plain.specs.OpenedFrames.{with_frame}
 use Rattle.markdown_plain.specs.Settled.{EmptyKnown, EmptyKnownIn, IsLooseAs, IsLooseBefore, QuotesEnd, are_loose}
@@ -47,6 +59,27 @@ pub begun_found : (s : Source) (rest : LineRest) (source : SourceLine) (at : ℕ
 begun_found s rest source at start b before is found =
     found_some s source b (is_blank_rest source)
     (sym found ∙ (is.is ∙ ap (λ p. begins_unless_blank s p source) before))
+
+-- the rest inside what was found
+rest_some : (s : Source) (source : SourceLine) (b : Beginning) (blank : Bool) → source.left.owed ≤ 3
+    → Some b ≡ (if blank then None else Some (begins s paragraph.NoParagraph source)) → HoldsRest source.left b
+rest_some s source b true few is = absurd (none-some b (sym is))
+rest_some s source b false few is =
+    subst (HoldsRest source.left) (ap (λ (o : Option Beginning). unwrap_or o b) (sym is))
+    (begins_rest s paragraph.NoParagraph source few)
+
+pub rest_found : (s : Source) (rest : LineRest) (source : SourceLine) (at : ℕ) (start : BlockStart) (b : Beginning)
+    → rest.before ≡ paragraph.NoParagraph → IsLeft s rest source → IsFound s rest source at start
+    → beginning_found rest.reader start ≡ Some b → HoldsRest source.left b
+rest_found s rest source at start b before left is found =
+    rest_some s source b (is_blank_rest source)
+    (subst (λ n. n ≤ 3) (ap (λ (l : LineLeft). l.owed) left.is.rest.left) left.is.rest.few)
+    (sym found ∙ (is.is ∙ ap (λ p. begins_unless_blank s p source) before))
+
+-- the text and its options stay
+pub source_kept : (s : Source) (old new : Pass) → new.placing.builder.text ≡ old.placing.builder.text
+    → new.options ≡ old.options → source_of old ≡ s → source_of new ≡ s
+source_kept s old new text options source = rw (text, options) source
 
 -- ---- one more container
 
@@ -92,3 +125,118 @@ loose_inside now frames b holds before =
   where
     was_loose : Bool
     was_loose = is_loose nil
+
+-- ---- what is left inside it
+
+and_false : (b : Bool) → (b && false) ≡ false
+and_false true = refl
+and_false false = refl
+
+-- the rest of a line inside a container that it begins
+pub left_inside : (s : Source) (rest : LineRest) (source : SourceLine) (inside : Position) (depth : ℕ)
+    (before : Before) → IsLeft s rest source → IsRestOf source.left (left_at rest.reader inside)
+    → IsLeft s (record rest { position = inside; depth = depth; before = before })
+    (rest_inside (left_at rest.reader inside) source)
+left_inside s rest source inside depth before left is =
+    let here : rest.position.at ≡ source.left.scanned = ap (λ (l : LineLeft). l.scanned) left.is.rest.left in
+    let later : rest.reader.start < inside.at = omega (arith, left.start, left.after, here, is.after) in
+    let other : (inside.at == rest.reader.start) ≡ false = grind (arith, nat_tests, later) in
+    let next : rest.reader.next ≡ source.next = ap (λ (l : SourceLine). l.next) left.line in
+    let indent : None ≡ source.indent = ap (λ (l : SourceLine). l.indent) left.line in
+    record {
+      is = record {
+        rest = record {
+          left = ap (λ stop. left_from s.text inside stop) (sym left.stop)
+              ∙ ap (λ (r : Source). left_from r.text inside rest.reader.stop) (sym left.text);
+          few = is.few;
+          next = left.is.rest.next;
+        };
+        stop = left.is.stop ∙ sym is.end;
+        ends = left.is.ends;
+      };
+      text = left.text;
+      stop = left.stop;
+      start = left.start;
+      line = rw (other, and_false rest.reader.outermost, next, indent) refl;
+      after = omega (arith, left.after, here, is.after);
+    }
+
+-- a block that begins with the rest of a line
+abbrev pub begun_block : SourceLine → Kind → Block
+begun_block l kind = record { start = content_of l; first = l.next; last = l.next; kind = kind }
+
+-- it was opened in that line
+pub opened_here : (s : Source) (rest : LineRest) (source : SourceLine) (kind : Kind) → IsLeft s rest source
+    → IsOpenedIn rest.line (begun_block source kind)
+opened_here s rest source kind left =
+    let here : rest.position.at ≡ source.left.scanned = ap (λ (l : LineLeft). l.scanned) left.is.rest.left in
+    let next = left.is.rest.next in
+    let from : rest.line.start ≤ content_of source = omega (arith, left.after, here) in
+    let starts : nat_le rest.line.start (content_of source) ≡ true = grind (arith, nat_tests, from) in
+    let ends : (rest.line.next == source.next) ≡ true = grind (arith, nat_tests, next) in
+    record { same = starts ∙ sym ends; before = omega (arith, next) }
+
+-- a container that begins with the rest of a line is open inside others
+pub record OpensIn (s : Source) (now : Pass) (outer : List Frame) (b : Block) : Type 0 where
+  pub source : source_of now ≡ s
+  pub built : IsBuilt s now.placing.builder (with_frame outer nil b) nil
+  pub lines : now.lines.items ≡ []
+  pub blanks : now.blanks.items ≡ []
+  pub loose : IsLooseAs now.looseness (with_frame outer nil b) nil
+  pub free : is_list b.kind ≡ false
+
+-- these containers go on in a line, or were opened in it
+pub record AreInLine (line : Line) (frames : List Frame) : Type 0 where
+  pub quotes : QuotesEnd line.next frames
+  pub items : AreItemsOpenedIn line frames
+
+-- one more that begins with the rest of a line
+pub in_line_more : (s : Source) (rest : LineRest) (source : SourceLine) (kind : Kind) (frames : List Frame)
+    → IsLeft s rest source → AreInLine rest.line frames
+    → AreInLine rest.line (with_frame frames nil (begun_block source kind))
+in_line_more s rest source kind frames left are = record {
+  quotes = quotes_more rest.line.next frames nil (begun_block source kind) are.quotes (sym left.is.rest.next);
+  items = items_more rest.line frames nil (begun_block source kind) are.items (opened_here s rest source kind left);
+}
+
+-- the rest of the line is read inside it
+pub container_inside : (s : Source) (now : Pass) (rest next : LineRest) (outer : List Frame) (source : SourceLine)
+    (blocks : Forest Block) (inside : Position) (kind : Kind) → IsLeft s rest source
+    → next ≡ record rest {
+      position = inside;
+      depth = length now.placing.builder.blocks;
+      before = paragraph.NoParagraph;
+    }
+    → IsRestOf source.left (left_at rest.reader inside) → OpensIn s now outer (begun_block source kind)
+    → AreInLine rest.line outer
+    → blocks ≡ rebuilt outer (node (begun_block source kind)
+    (begun_in_rest s (rest_inside (left_at rest.reader inside) source)) nil)
+    → AreItemsInLists false blocks → GoesInside s now next blocks
+container_inside s now rest next outer source blocks inside kind left goes is opens are whole items =
+    let b = begun_block source kind in
+    let f : Frame = record { before = nil; block = b } in
+    let more = in_line_more s rest source kind outer left are in
+    subst (λ (r : LineRest). GoesInside s now r blocks) (sym goes) (record {
+      frames = with_frame outer nil b;
+      source = rest_inside (left_at rest.reader inside) source;
+      inside = record {
+        opened = record {
+          source = opens.source;
+          free = record {
+            built = opens.built;
+            lines = opens.lines;
+            free = innermost_of_more is_list outer f ∙ opens.free;
+          };
+          blanks = opens.blanks;
+          loose = opens.loose;
+          quotes = more.quotes;
+          items = more.items;
+        };
+        left = left_inside s rest source inside (length now.placing.builder.blocks) paragraph.NoParagraph left is;
+        depth = as_many_containers s now.placing.builder (with_frame outer nil b) nil opens.built;
+        before = refl;
+        whole = whole ∙ sym (rebuilt_more outer f
+            (begun_in_rest s (rest_inside (left_at rest.reader inside) source)));
+        items = items;
+      };
+    })

@@ -43,3 +43,4 @@ pub mod HtmlLeavesLemmas
 pub mod IndentedLeavesLemmas
 -- on blocks that begin inside containers which a line opened
 pub mod BegunBlocksLemmas
+pub mod BegunRestsLemmas

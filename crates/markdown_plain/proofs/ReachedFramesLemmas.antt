@@ -42,13 +42,13 @@ use Rattle.markdown_plain.proofs.LeafTreesLemmas.{few_owed, on_test}
 -- ---- what space leaves
 
 -- the byte offset at which a line's content ends
-abbrev end_of : LineLeft → ℕ
+abbrev pub end_of : LineLeft → ℕ
 end_of left = left.scanned + length left.bytes
 
 -- a rest of a line begins its content and ends where another does
-record AreAlike (one other : LineLeft) : Type 0 where
-  content : content_of one ≡ content_of other
-  end : end_of one ≡ end_of other
+pub record AreAlike (one other : LineLeft) : Type 0 where
+  pub content : content_of one ≡ content_of other
+  pub end : end_of one ≡ end_of other
 
 same_rest : (left : LineLeft) → AreAlike left left
 same_rest left = record { content = refl; end = refl }
@@ -96,7 +96,7 @@ space_from_alike n scanned column (b ∷ bytes) =
     white some = white_width column b (second (n == 0) (space_width column b == 0) some)
 
 -- no column of space is content
-space_alike : (n : ℕ) (left : LineLeft) → AreAlike (leading_space n left).after left
+pub space_alike : (n : ℕ) (left : LineLeft) → AreAlike (leading_space n left).after left
 space_alike n left =
     on_test (λ (s : Space). AreAlike s.after left) (nat_le n left.owed) _ _
     (λ e. record { content = refl; end = refl })

@@ -1,2 +1,0 @@
--- temp
-use Rattle.markdown_plain.proofs.BegunBlocksLemmas.{loose_inside}
