@@ -29,7 +29,7 @@ use Rattle.markdown_block_rules.specs.BlockGrowth.{Block, Kind, begun_by, conten
 use Rattle.markdown_block_rules.specs.BlockRules.{is_blank_block, is_loose}
 use Rattle.markdown_plain.specs.declared.block_pass.LineRest.{LineRest}
 use Rattle.markdown_plain.specs.declared.looseness.Looseness.{Looseness}
-use Rattle.markdown_plain.specs.Beginning.{GoesInside, IsFound, IsLeft, begun_in_rest}
+use Rattle.markdown_plain.specs.Beginning.{GoesInside, IsFound, IsLeft, IsOpened, begun_in_rest}
 use Rattle.markdown_plain.specs.Frames.{Frame, is_list, is_quote, rebuilt}
 use Rattle.markdown_plain.specs.OpenLeaves.{AreItemsOpenedIn, IsOpenedIn}
 use Rattle.markdown_plain.specs.OpenedFrames.{with_frame}
@@ -76,21 +76,73 @@ rest_found s rest source at start b before left is found =
     (subst (λ n. n ≤ 3) (ap (λ (l : LineLeft). l.owed) left.is.rest.left) left.is.rest.few)
     (sym found ∙ (is.is ∙ ap (λ p. begins_unless_blank s p source) before))
 
--- the text and its options stay
-pub source_kept : (s : Source) (old new : Pass) → new.placing.builder.text ≡ old.placing.builder.text
-    → new.options ≡ old.options → source_of old ≡ s → source_of new ≡ s
-source_kept s old new text options source = rw (text, options) source
+-- ---- what the calls leave as it is
+
+-- beside what is built, a pass is the same
+pub record KeepsRest (old now : Pass) : Type 0 where
+  pub text : now.placing.builder.text ≡ old.placing.builder.text
+  pub options : now.options ≡ old.options
+  pub lines : now.lines.items ≡ old.lines.items
+  pub blanks : now.blanks.items ≡ old.blanks.items
+  pub looseness : now.looseness ≡ old.looseness
+
+pub keeps_rest : (old now : Pass) → now ≡ record old { placing = now.placing; leaf = now.leaf }
+    → now.placing.builder.text ≡ old.placing.builder.text → KeepsRest old now
+keeps_rest old now same text = record {
+  text = text;
+  options = ap (λ (p : Pass). p.options) same;
+  lines = ap (λ (p : Pass). p.lines.items) same;
+  blanks = ap (λ (p : Pass). p.blanks.items) same;
+  looseness = ap (λ (p : Pass). p.looseness) same;
+}
+
+pub keeps_leaf : (old now : Pass) → now ≡ record old { placing = now.placing }
+    → now.placing.builder.text ≡ old.placing.builder.text → KeepsRest old now
+keeps_leaf old now same text =
+    keeps_rest old now (same ∙ ap (λ leaf. record old { placing = now.placing; leaf = leaf })
+    (sym (ap (λ (p : Pass). p.leaf) same))) text
+
+-- a block begins in the innermost of these containers, which is empty
+pub record MayBegin (s : Source) (now : Pass) (frames : List Frame) : Type 0 where
+  pub source : source_of now ≡ s
+  pub lines : now.lines.items ≡ []
+  pub blanks : now.blanks.items ≡ []
+  pub loose : IsLooseBefore now.looseness frames nil
+
+-- there is room for it
+pub room_made : (s : Source) (old room : Pass) (line : Line) (frames : List Frame) → IsOpened s old line frames
+    → room ≡ record old { looseness = room.looseness } → IsLooseBefore room.looseness frames nil
+    → MayBegin s room frames × IsBuilt s room.placing.builder frames nil
+room_made s old room line frames opened same loose = (
+  record {
+    source = ap (λ (p : Pass). source_of p) same ∙ opened.source;
+    lines = ap (λ (p : Pass). p.lines.items) same ∙ opened.free.lines;
+    blanks = ap (λ (p : Pass). p.blanks.items) same ∙ opened.blanks;
+    loose = loose;
+  },
+  subst (λ (p : Pass). IsBuilt s p.placing.builder frames nil) (sym same) opened.free.built,
+)
+
+-- and still once it was made
+pub still_may : (s : Source) (room now : Pass) (frames : List Frame) → MayBegin s room frames → KeepsRest room now
+    → MayBegin s now frames
+still_may s room now frames may keeps = record {
+  source = rw (keeps.text, keeps.options) may.source;
+  lines = keeps.lines ∙ may.lines;
+  blanks = keeps.blanks ∙ may.blanks;
+  loose = subst (λ (n : Looseness). IsLooseBefore n frames nil) (sym keeps.looseness) may.loose;
+}
 
 -- ---- one more container
 
 -- quotes go on in a line that opens another container
-pub quotes_more : (to : ℕ) (frames : List Frame) (inside : Forest Block) (b : Block) → QuotesEnd to frames
+quotes_more : (to : ℕ) (frames : List Frame) (inside : Forest Block) (b : Block) → QuotesEnd to frames
     → b.last ≡ to → QuotesEnd to (with_frame frames inside b)
 quotes_more to [] inside b ends last = (λ quote. last, tt)
 quotes_more to (f ∷ frames) inside b ends last = (ends.0, quotes_more to frames inside b ends.1 last)
 
 -- items were opened in a line, or not
-pub items_more : (line : Line) (frames : List Frame) (inside : Forest Block) (b : Block)
+items_more : (line : Line) (frames : List Frame) (inside : Forest Block) (b : Block)
     → AreItemsOpenedIn line frames → IsOpenedIn line b → AreItemsOpenedIn line (with_frame frames inside b)
 items_more line [] inside b items opened = (λ item. opened, tt)
 items_more line (f ∷ frames) inside b items opened = (items.0, items_more line frames inside b items.1 opened)
@@ -109,7 +161,7 @@ pub record HoldsBlocks (kind : Kind) : Type 0 where
   pub empty : EmptyKnownIn false nil kind
 
 -- a container that begins loosens as any block does
-pub loose_inside : (now : Looseness) (frames : List Frame) (b : Block) → HoldsBlocks b.kind
+loose_inside : (now : Looseness) (frames : List Frame) (b : Block) → HoldsBlocks b.kind
     → IsLooseBefore now frames nil → IsLooseAs now (with_frame frames nil b) nil
 loose_inside now frames b holds before =
     let f : Frame = record { before = nil; block = b } in
@@ -133,7 +185,7 @@ and_false true = refl
 and_false false = refl
 
 -- the rest of a line inside a container that it begins
-pub left_inside : (s : Source) (rest : LineRest) (source : SourceLine) (inside : Position) (depth : ℕ)
+left_inside : (s : Source) (rest : LineRest) (source : SourceLine) (inside : Position) (depth : ℕ)
     (before : Before) → IsLeft s rest source → IsRestOf source.left (left_at rest.reader inside)
     → IsLeft s (record rest { position = inside; depth = depth; before = before })
     (rest_inside (left_at rest.reader inside) source)
@@ -166,7 +218,7 @@ abbrev pub begun_block : SourceLine → Kind → Block
 begun_block l kind = record { start = content_of l; first = l.next; last = l.next; kind = kind }
 
 -- it was opened in that line
-pub opened_here : (s : Source) (rest : LineRest) (source : SourceLine) (kind : Kind) → IsLeft s rest source
+opened_here : (s : Source) (rest : LineRest) (source : SourceLine) (kind : Kind) → IsLeft s rest source
     → IsOpenedIn rest.line (begun_block source kind)
 opened_here s rest source kind left =
     let here : rest.position.at ≡ source.left.scanned = ap (λ (l : LineLeft). l.scanned) left.is.rest.left in
@@ -197,6 +249,18 @@ pub in_line_more : (s : Source) (rest : LineRest) (source : SourceLine) (kind : 
 in_line_more s rest source kind frames left are = record {
   quotes = quotes_more rest.line.next frames nil (begun_block source kind) are.quotes (sym left.is.rest.next);
   items = items_more rest.line frames nil (begun_block source kind) are.items (opened_here s rest source kind left);
+}
+
+-- one that is no list, where a block may begin
+pub opened_in : (s : Source) (now : Pass) (frames : List Frame) (b : Block) → MayBegin s now frames
+    → IsBuilt s now.placing.builder (with_frame frames nil b) nil → HoldsBlocks b.kind → OpensIn s now frames b
+opened_in s now frames b may built holds = record {
+  source = may.source;
+  built = built;
+  lines = may.lines;
+  blanks = may.blanks;
+  loose = loose_inside now.looseness frames b holds may.loose;
+  free = holds.free;
 }
 
 -- the rest of the line is read inside it

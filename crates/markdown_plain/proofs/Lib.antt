@@ -44,3 +44,4 @@ pub mod IndentedLeavesLemmas
 -- on blocks that begin inside containers which a line opened
 pub mod BegunBlocksLemmas
 pub mod BegunRestsLemmas
+pub mod BegunLeavesLemmas

@@ -11,7 +11,7 @@ ghost use Rattle.markdown_lines.specs.SourceLines.{SourceLine};
 ghost use Rattle.markdown_lines.specs.declared.block_start.Before.TheVariants as before;
 ghost use Rattle.markdown_lines.specs.declared.block_start.BlockStart.TheVariants as start;
 ghost use Rattle.markdown_plain.specs.Beginning.{GoesInside, IsFound, IsInside};
-ghost use Rattle.markdown_plain.specs.Fitting.{IfFitted};
+ghost use Rattle.markdown_plain.specs.Fitting.{BracesStand, IfFitted};
 ghost use Rattle.markdown_plain.specs.Frames.{Frame};
 ghost use Rattle.markdown_plain.specs.Standing.{PlacesFor, StandsFor};
 ghost use Rattle.markdown_base.specs.Coverage.{Covers};
@@ -402,7 +402,14 @@ impl<'a> Pass<'a> {
         at: usize,
         heading: AtxHeading,
     ) -> Result<bool, AllocError>
-        ensures { IfOk result (λ _. self.new.placing.builder.text ≡ self.old.placing.builder.text) }
+        ensures text { IfOk result (λ _. self.new.placing.builder.text
+            ≡ self.old.placing.builder.text) }
+        ensures inside { IfOk result (λ _. (s : Source) (frames : List Frame) (source : SourceLine)
+            (blocks : Forest Block) → IsInside s self.old rest.now frames source blocks
+            → IsFound s rest.now source at (start.Heading heading)
+            → BracesStand self.old.placing.builder.text heading.braces
+            → IfFitted self.old.placing self.new.placing
+            (PlacesFor s self.new rest.now.line.next blocks)) }
     {
         self.make_room(rest.depth)?;
         self.placing.step_to(at);
@@ -463,7 +470,13 @@ impl<'a> Pass<'a> {
 
     /// Reads a thematic break. Returns false.
     fn read_break(&mut self, rest: &LineRest<'a>, at: usize) -> Result<bool, AllocError>
-        ensures { IfOk result (λ _. self.new.placing.builder.text ≡ self.old.placing.builder.text) }
+        ensures text { IfOk result (λ _. self.new.placing.builder.text
+            ≡ self.old.placing.builder.text) }
+        ensures inside { IfOk result (λ _. (s : Source) (frames : List Frame) (source : SourceLine)
+            (blocks : Forest Block) → IsInside s self.old rest.now frames source blocks
+            → IsFound s rest.now source at start.ThematicBreak
+            → IfFitted self.old.placing self.new.placing
+            (PlacesFor s self.new rest.now.line.next blocks)) }
     {
         self.make_room(rest.depth)?;
         self.placing.step_to(at);
