@@ -102,6 +102,11 @@ keeps_leaf old now same text =
     keeps_rest old now (same ∙ ap (λ leaf. record old { placing = now.placing; leaf = leaf })
     (sym (ap (λ (p : Pass). p.leaf) same))) text
 
+-- the text and its options stay
+pub source_kept : (s : Source) (old now : Pass) → now.placing.builder.text ≡ old.placing.builder.text
+    → now.options ≡ old.options → source_of old ≡ s → source_of now ≡ s
+source_kept s old now text options source = rw (text, options) source
+
 -- a block begins in the innermost of these containers, which is empty
 pub record MayBegin (s : Source) (now : Pass) (frames : List Frame) : Type 0 where
   pub source : source_of now ≡ s
@@ -127,7 +132,7 @@ room_made s old room line frames opened same loose = (
 pub still_may : (s : Source) (room now : Pass) (frames : List Frame) → MayBegin s room frames → KeepsRest room now
     → MayBegin s now frames
 still_may s room now frames may keeps = record {
-  source = rw (keeps.text, keeps.options) may.source;
+  source = source_kept s room now keeps.text keeps.options may.source;
   lines = keeps.lines ∙ may.lines;
   blanks = keeps.blanks ∙ may.blanks;
   loose = subst (λ (n : Looseness). IsLooseBefore n frames nil) (sym keeps.looseness) may.loose;

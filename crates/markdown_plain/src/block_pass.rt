@@ -491,7 +491,13 @@ impl<'a> Pass<'a> {
         at: usize,
         item: ItemStart,
     ) -> Result<bool, AllocError>
-        ensures { IfOk result (λ _. self.new.placing.builder.text ≡ self.old.placing.builder.text) }
+        ensures text { IfOk result (λ _. self.new.placing.builder.text
+            ≡ self.old.placing.builder.text) }
+        ensures inside { IfOk result (λ _. (s : Source) (frames : List Frame) (source : SourceLine)
+            (blocks : Forest Block) → IsInside s self.old rest.old frames source blocks
+            → IsFound s rest.old source at (start.Item item)
+            → IfFitted self.old.placing self.new.placing
+            (GoesInside s self.new rest.new blocks)) }
     {
         self.open_item(item, at, rest.depth)?;
         Ok(self.go_inside(rest, item.inside))
