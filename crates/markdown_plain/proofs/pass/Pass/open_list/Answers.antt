@@ -1,5 +1,5 @@
 -- The list goes on, or is one more open container.
-use Rattle.std.proofs.Common.{append-assoc, ◌≡◌, ◌∙◌, ◌++◌, ◌∷◌, [], List, sym, subst, rules, true, false}
+use Rattle.std.proofs.Common.{append_assoc, ◌≡◌, ◌∙◌, ◌++◌, ◌∷◌, [], List, sym, subst, rules, true, false}
 use Rattle.std.proofs.lemmas.Bool.{true≢false}
 use Rattle.std.proofs.lemmas.Result.{IfOk-weaker}
 use Rattle.markdown_base.specs.declared.item.ItemBody.TheVariants as body
@@ -116,10 +116,10 @@ returns-clause-loose_begins c =
     let g : Frame = record { before = nil; block = b } in
     let kept = none_closed c (list_innermost s old.placing.builder frames inside built ∙ none) in
     let adds = subst (λ (bs : List OpenBlock). AddsBlock texts bs now.looseness c.add_block.new.self)
-    c.open_blocks.ensures (record { loose = c.add_block.ensures.begins texts }) in
+    c.open_blocks-2.ensures (record { loose = c.add_block.ensures.begins texts }) in
     let before = adds.loose frames inside
     (subst (λ (p : Pass). AreOpen texts p.placing.builder.blocks frames) (sym kept) built.blocks) built.nested none
     (subst (λ (p : Pass). IsLooseAs p.looseness frames inside) (sym kept) loose)
     (λ some. subst (λ (p : Pass). BlanksKnown p.looseness.blank_from 0 frames inside) (sym kept) (known some)) in
-    subst (λ fs. IsLooseAs c.open_list.new.self fs nil) (sym (append-assoc frames (f ∷ []) (g ∷ [])))
+    subst (λ fs. IsLooseAs c.open_list.new.self fs nil) (sym (append_assoc frames (f ∷ []) (g ∷ [])))
     (begins frames inside list b before lists items)) c.open_list.ensures.begins
