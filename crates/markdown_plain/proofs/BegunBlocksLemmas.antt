@@ -34,6 +34,7 @@ use Rattle.markdown_plain.specs.Frames.{Frame, is_list, is_quote, rebuilt}
 use Rattle.markdown_plain.specs.OpenLeaves.{AreItemsOpenedIn, IsOpenedIn}
 use Rattle.markdown_plain.specs.OpenedFrames.{with_frame}
 use Rattle.markdown_plain.specs.Settled.{EmptyKnown, EmptyKnownIn, IsLooseAs, IsLooseBefore, QuotesEnd, are_loose}
+use Rattle.markdown_plain.specs.Settled.{placed_end}
 use Rattle.markdown_plain.proofs.BegunLemmas.{begun_once}
 use Rattle.markdown_plain.proofs.LooseFramesLemmas.{loose_more}
 
@@ -158,6 +159,12 @@ empty_more : (frames : List Frame) (f : Frame) (inside : Forest Block) (empty : 
 empty_more [] f inside empty known = known
 empty_more (g ∷ []) f inside empty known = known
 empty_more (g ∷ h ∷ frames) f inside empty known = empty_more (h ∷ frames) f inside empty known
+
+-- nothing is in it, so that its first line is the last
+first_more : (frames : List Frame) (f : Frame) (before : ℕ)
+    → placed_end before (frames ++ f ∷ []) nil ≡ f.block.first
+first_more [] f before = refl
+first_more (g ∷ frames) f before = first_more frames f g.block.first
 
 -- a kind of container that holds no items, and is none
 pub record HoldsBlocks (kind : Kind) : Type 0 where
@@ -300,6 +307,7 @@ container_inside s now rest next outer source blocks inside kind left goes is op
           loose = opens.loose;
           quotes = more.quotes;
           items = more.items;
+          first = first_more outer f 0 ∙ sym left.is.rest.next;
         };
         left = left_inside s rest source inside (length now.placing.builder.blocks) paragraph.NoParagraph left is;
         depth = as_many_containers s now.placing.builder (with_frame outer nil b) nil opens.built;

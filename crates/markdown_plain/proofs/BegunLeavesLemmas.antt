@@ -3,25 +3,30 @@ use Rattle.std.proofs.Common.{◌≡◌, ℕ, ◌≤◌, Bool, true, false, List
 use Rattle.std.proofs.Common.{subst, arith}
 use Rattle.markdown_base.specs.Forest.{Forest, nil, node}
 use Rattle.markdown_builder.specs.BuilderView.{BuilderView}
-use Rattle.markdown_lines.specs.BlockBeginnings.{Source}
-use Rattle.markdown_lines.specs.SourceLines.{SourceLine}
+use Rattle.std.proofs.lemmas.Option.{none-some}
+use Rattle.std.specs.Prelude.{if◌then◌else◌}
+use Rattle.markdown_lines.specs.BlockBeginnings.{Source, begins}
+use Rattle.markdown_lines.specs.BlockStarts.{begins_unless_blank}
+use Rattle.markdown_lines.specs.SourceLines.{SourceLine, is_blank_rest}
+use Rattle.markdown_lines.specs.declared.block_start.Before.TheVariants as paragraph
+use Rattle.markdown_lines.specs.declared.block_start.BlockStart.TheVariants as start
 use Rattle.markdown_lines.specs.declared.held_line.HeldLine.{HeldLine}
 use Rattle.markdown_block_rules.specs.BlockGrowth as was
-use Rattle.markdown_block_rules.specs.BlockGrowth.{Block, Kind}
+use Rattle.markdown_block_rules.specs.BlockGrowth.{Block, Kind, begun_by}
 use Rattle.markdown_block_rules.specs.BlockRules.{block_ends_blank, ends_blank, is_blank_block}
 use Rattle.markdown_plain.specs.declared.block_pass.LineRest.{LineRest}
 use Rattle.markdown_plain.specs.declared.looseness.Looseness.{Looseness}
 use Rattle.markdown_plain.specs.declared.pass.Pass.{Pass}
-use Rattle.markdown_plain.specs.Beginning.{IsInside, begun_in_rest}
+use Rattle.markdown_plain.specs.Beginning.{IsFound, IsInside, begun_in_rest}
 use Rattle.markdown_plain.specs.Closing.{AreItemsInLists}
 use Rattle.markdown_plain.specs.Fitting.{stepped}
 use Rattle.markdown_plain.specs.Frames.{Frame, rebuilt}
-use Rattle.markdown_plain.specs.OpenLeaves.{IsPlaced, leaf_block}
+use Rattle.markdown_plain.specs.OpenLeaves.{IsOpenIn, IsPlaced, is_leaf, leaf_block}
 use Rattle.markdown_plain.specs.Paragraphs.{lines_end}
 use Rattle.markdown_plain.specs.Settled.{EmptyKnown, EmptyKnownIn, IsBuilt, IsLooseAs, IsLooseBefore}
-use Rattle.markdown_plain.specs.Standing.{PlacesFor, PlacesLast, with_last}
-use Rattle.markdown_plain.proofs.BegunBlocksLemmas.{MayBegin}
-use Rattle.markdown_plain.proofs.LastBlocksLemmas.{is_over, leaf_is_over}
+use Rattle.markdown_plain.specs.Standing.{HoldsBlanks, IsLeafKind, PlacesFor, PlacesLast, with_last}
+use Rattle.markdown_plain.proofs.BegunBlocksLemmas.{MayBegin, source_kept}
+use Rattle.markdown_plain.proofs.LastBlocksLemmas.{is_over, leaf_is_over, nothing_is_over}
 
 -- what is built does not depend on the place
 pub built_at : (s : Source) (old new : BuilderView) (to : ℕ) (frames : List Frame) (inside : Forest Block)
@@ -103,3 +108,59 @@ pub ended_places : (s : Source) (old now : Pass) (rest : LineRest) (frames : Lis
 ended_places s old now rest frames source blocks b state may leaf over placed begins =
     leaf_places s old now rest frames source blocks b (leaf_block b) None state may leaf refl
     (placed, may.lines, leaf_is_over s nil b over) begins
+
+-- by one that is open
+pub open_places : (s : Source) (old now : Pass) (rest : LineRest) (frames : List Frame) (source : SourceLine)
+    (blocks : Forest Block) (b : Block) → IsInside s old rest frames source blocks → MayBegin s now frames
+    → IsLeafOf b → is_leaf b.kind ≡ true → IsOpenIn s now.placing.builder frames nil true b
+    → IsLeafKind now.leaf b.kind → HoldsBlanks now.blanks.items b.kind
+    → begun_in_rest s source ≡ leaf_block b → PlacesFor s now rest.line.next blocks
+open_places s old now rest frames source blocks b state may leaf kind opens known held begins =
+    leaf_places s old now rest frames source blocks b nil (Some b) state may leaf refl
+    (None, (kind, opens), (known, held)) begins
+
+-- ---- nothing
+
+-- a rest of a line that begins nothing is blank
+blank_begins : (s : Source) (source : SourceLine) (blank : Bool)
+    → None ≡ (if blank then None else Some (begins s paragraph.NoParagraph source))
+    → (if blank then nil else begun_by s source) ≡ nil
+blank_begins s source true is = refl
+blank_begins s source false is = absurd (none-some (begins s paragraph.NoParagraph source) is)
+
+-- the line is placed by the containers alone
+pub nothing_places : (s : Source) (old now : Pass) (rest : LineRest) (frames : List Frame) (source : SourceLine)
+    (at : ℕ) (blocks : Forest Block) → IsInside s old rest frames source blocks
+    → IsFound s rest source at start.Nothing → now ≡ record old { placing = now.placing }
+    → now.placing.builder ≡ stepped old.placing.builder rest.line.next → PlacesFor s now rest.line.next blocks
+nothing_places s old now rest frames source at blocks state found same steps =
+    let opened = state.opened in
+    let lines : now.lines.items ≡ [] = ap (λ (p : Pass). p.lines.items) same ∙ opened.free.lines in
+    let whole : blocks ≡ rebuilt frames nil =
+    state.whole ∙ ap (rebuilt frames) (blank_begins s source (is_blank_rest source)
+    (found.is ∙ ap (λ p. begins_unless_blank s p source) state.before)) in
+    record {
+      frames = frames;
+      inside = nil;
+      last = None;
+      places = record {
+        source = source_kept s old now (ap (λ (v : BuilderView). v.text) steps) (ap (λ (p : Pass). p.options) same)
+            opened.source;
+        unended = (
+          record {
+            built = built_at s old.placing.builder now.placing.builder rest.line.next frames nil steps
+                opened.free.built;
+            at = ap (λ (v : BuilderView). v.at) steps ∙ sym opened.first;
+          },
+          lines,
+          nothing_is_over s,
+        );
+        quotes = opened.quotes;
+        items = subst (AreItemsInLists false) whole state.items;
+        loose = subst (λ (n : Looseness). IsLooseAs n frames nil) (sym (ap (λ (p : Pass). p.looseness) same))
+            opened.loose;
+        filled = refl;
+        before = none_held now.lines.items rest.line.next lines;
+      };
+      whole = whole;
+    }

@@ -16,7 +16,7 @@ use Rattle.markdown_plain.specs.Frames.{Frame, rebuilt}
 use Rattle.markdown_plain.specs.OpenLeaves.{AreItemsOpenedIn, IsLineRest}
 use Rattle.markdown_plain.specs.OpenedFrames.{MayOpen}
 use Rattle.markdown_plain.specs.Paragraphs.{source_of}
-use Rattle.markdown_plain.specs.Settled.{IsLooseAs, QuotesEnd}
+use Rattle.markdown_plain.specs.Settled.{IsLooseAs, QuotesEnd, placed_end}
 
 -- ---- what is left of a line
 
@@ -48,6 +48,7 @@ pub record IsOpened (s : Source) (pass : Pass) (line : Line) (frames : List Fram
   pub loose : IsLooseAs pass.looseness frames nil
   pub quotes : QuotesEnd line.next frames
   pub items : AreItemsOpenedIn line frames
+  pub first : placed_end 0 frames nil ≡ line.next
 
 -- The rest of a line is still to be read inside these containers, and makes the blocks so far these ones.
 pub record IsInside (s : Source) (pass : Pass) (rest : LineRest) (frames : List Frame) (source : SourceLine)

@@ -1,7 +1,7 @@
 //! The block pass, line by line: which open blocks continue, which blocks begin, and what a lazy continuation line
 //! continues (CommonMark, appendix on parsing). Functions that return a `Result` fail only where memory is refused;
 //! what was built by then is not used.
-ghost use Rattle.std.specs.Prelude.{◌≡◌, [], List, length, IfOk};
+ghost use Rattle.std.specs.Prelude.{◌≡◌, [], ℕ, List, length, IfOk};
 ghost use Rattle.std.specs.Str.{IsCharBoundary};
 ghost use Rattle.markdown_base.specs.BlockTree.{tree_of};
 ghost use Rattle.markdown_base.specs.Forest.{Forest};
@@ -13,6 +13,8 @@ ghost use Rattle.markdown_lines.specs.declared.block_start.BlockStart.TheVariant
 ghost use Rattle.markdown_plain.specs.Beginning.{GoesInside, IsFound, IsInside};
 ghost use Rattle.markdown_plain.specs.Fitting.{BracesStand, IfFitted};
 ghost use Rattle.markdown_plain.specs.Frames.{Frame};
+ghost use Rattle.markdown_plain.specs.OpenLeaves.{InfoStands};
+ghost use Rattle.markdown_plain.specs.declared.block_pass.LineRest.{LineRest};
 ghost use Rattle.markdown_plain.specs.Standing.{PlacesFor, StandsFor};
 ghost use Rattle.markdown_base.specs.Coverage.{Covers};
 ghost use Rattle.markdown_base.specs.WellFormed.{IsWellFormed};
@@ -322,7 +324,13 @@ impl<'a> Pass<'a> {
 
     /// Passes over the rest of a line that is blank. Returns false, as for all blocks that are not containers.
     fn skip_blank(&mut self, line: Line) -> Result<bool, AllocError>
-        ensures { IfOk result (λ _. self.new.placing.builder.text ≡ self.old.placing.builder.text) }
+        ensures text { IfOk result (λ _. self.new.placing.builder.text
+            ≡ self.old.placing.builder.text) }
+        ensures inside { IfOk result (λ _. (s : Source) (rest : LineRest) (frames : List Frame)
+            (source : SourceLine) (at : ℕ) (blocks : Forest Block)
+            → IsInside s self.old rest frames source blocks → rest.line ≡ line
+            → IsFound s rest source at start.Nothing → IfFitted self.old.placing self.new.placing
+            (PlacesFor s self.new line.next blocks)) }
     {
         self.placing.step_to(line.next);
         Ok(false)
@@ -424,7 +432,14 @@ impl<'a> Pass<'a> {
         at: usize,
         opening: OpeningFence,
     ) -> Result<bool, AllocError>
-        ensures { IfOk result (λ _. self.new.placing.builder.text ≡ self.old.placing.builder.text) }
+        ensures text { IfOk result (λ _. self.new.placing.builder.text
+            ≡ self.old.placing.builder.text) }
+        ensures inside { IfOk result (λ _. (s : Source) (frames : List Frame) (source : SourceLine)
+            (blocks : Forest Block) → IsInside s self.old rest.now frames source blocks
+            → IsFound s rest.now source at (start.Fence opening)
+            → InfoStands self.old.placing.builder.text opening
+            → IfFitted self.old.placing self.new.placing
+            (PlacesFor s self.new rest.now.line.next blocks)) }
     {
         self.make_room(rest.depth)?;
         self.open_fenced(rest.line, at, opening)?;
@@ -448,7 +463,13 @@ impl<'a> Pass<'a> {
         label: CowStr<'a>,
         inside: Position,
     ) -> Result<bool, AllocError>
-        ensures { IfOk result (λ _. self.new.placing.builder.text ≡ self.old.placing.builder.text) }
+        ensures text { IfOk result (λ _. self.new.placing.builder.text
+            ≡ self.old.placing.builder.text) }
+        ensures inside { IfOk result (λ _. (s : Source) (frames : List Frame) (source : SourceLine)
+            (blocks : Forest Block) → IsInside s self.old rest.old frames source blocks
+            → IsFound s rest.old source at (start.Footnote label.entry inside)
+            → IfFitted self.old.placing self.new.placing
+            (GoesInside s self.new rest.new blocks)) }
     {
         self.open_footnote(at, label, rest.depth)?;
         Ok(self.go_inside(rest, inside))

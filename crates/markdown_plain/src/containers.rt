@@ -287,7 +287,7 @@ impl<'a> Pass<'a> {
     ghost use Rattle.markdown_plain.specs.OpenedFrames.{with_item};
     ghost use Rattle.markdown_plain.specs.Frames.{is_item};
     ghost use Rattle.markdown_block_rules.specs.BlockGrowth.{is_nil};
-    ghost use Rattle.markdown_plain.specs.Settled.{BlanksKnown, IsBuilt, IsLooseAs};
+    ghost use Rattle.markdown_plain.specs.Settled.{BlanksKnown, IsBuilt, IsLooseAs, IsLooseBefore};
 
     /// Opens a block quote, an alert of a kind or none, whose marker is at the byte offset `at`.
     pub fn open_quote(&mut self, at: usize, kind: Option<BlockQuoteKind>) -> Result<(), AllocError>
@@ -433,6 +433,14 @@ impl<'a> Pass<'a> {
             → b.start ≡ at → b.kind ≡ footnote_container (text_of label.entry)
             → IfFitted self.old.placing self.new.placing
             (IsBuilt s self.new.placing.builder (with_frame frames inside b) nil)) }
+        ensures inside { IfOk result (λ _. (s : Source) (frames : List Frame)
+            → MayOpen s self.old frames nil → depth ≡ length frames
+            → IsLooseAs self.old.looseness frames nil
+            → (self.new ≡ record self.old {
+              placing = self.new.placing;
+              looseness = self.new.looseness;
+            })
+            × IsLooseBefore self.new.looseness frames nil) }
         ensures frame { IfOk result (λ _. (s : Source) (frames : List Frame)
             (inside : Forest Block) (b : Block) → self.old.lines.items ≡ []
             → MayClose s self.old frames inside → depth ≤ length frames → b.start ≡ at
