@@ -77,6 +77,19 @@ rest_found s rest source at start b before left is found =
     (subst (λ n. n ≤ 3) (ap (λ (l : LineLeft). l.owed) left.is.rest.left) left.is.rest.few)
     (sym found ∙ (is.is ∙ ap (λ p. begins_unless_blank s p source) before))
 
+-- it is not blank
+filled_some : (s : Source) (source : SourceLine) (b : Beginning) (blank : Bool)
+    → Some b ≡ (if blank then None else Some (begins s paragraph.NoParagraph source)) → blank ≡ false
+filled_some s source b true is = absurd (none-some b (sym is))
+filled_some s source b false is = refl
+
+pub found_filled : (s : Source) (rest : LineRest) (source : SourceLine) (at : ℕ) (start : BlockStart) (b : Beginning)
+    → rest.before ≡ paragraph.NoParagraph → IsFound s rest source at start
+    → beginning_found rest.reader start ≡ Some b → is_blank_rest source ≡ false
+found_filled s rest source at start b before is found =
+    filled_some s source b (is_blank_rest source)
+    (sym found ∙ (is.is ∙ ap (λ p. begins_unless_blank s p source) before))
+
 -- ---- what the calls leave as it is
 
 -- beside what is built, a pass is the same
@@ -173,7 +186,7 @@ pub record HoldsBlocks (kind : Kind) : Type 0 where
   pub empty : EmptyKnownIn false nil kind
 
 -- a container that begins loosens as any block does
-loose_inside : (now : Looseness) (frames : List Frame) (b : Block) → HoldsBlocks b.kind
+pub loose_inside : (now : Looseness) (frames : List Frame) (b : Block) → HoldsBlocks b.kind
     → IsLooseBefore now frames nil → IsLooseAs now (with_frame frames nil b) nil
 loose_inside now frames b holds before =
     let f : Frame = record { before = nil; block = b } in

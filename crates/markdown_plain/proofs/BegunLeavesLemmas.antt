@@ -22,8 +22,8 @@ use Rattle.markdown_plain.specs.Closing.{AreItemsInLists}
 use Rattle.markdown_plain.specs.Fitting.{stepped}
 use Rattle.markdown_plain.specs.Frames.{Frame, rebuilt}
 use Rattle.markdown_plain.specs.OpenLeaves.{IsOpenIn, IsPlaced, is_leaf, leaf_block}
-use Rattle.markdown_plain.specs.Paragraphs.{lines_end}
-use Rattle.markdown_plain.specs.Settled.{EmptyKnown, EmptyKnownIn, IsBuilt, IsLooseAs, IsLooseBefore}
+use Rattle.markdown_plain.specs.Paragraphs.{lines_end, source_of}
+use Rattle.markdown_plain.specs.Settled.{EmptyKnown, EmptyKnownIn, IsBuilt, IsLooseAs, IsLooseBefore, QuotesEnd}
 use Rattle.markdown_plain.specs.Standing.{HoldsBlanks, IsLeafKind, PlacesFor, PlacesLast, with_last}
 use Rattle.markdown_plain.proofs.BegunBlocksLemmas.{MayBegin, source_kept}
 use Rattle.markdown_plain.proofs.LastBlocksLemmas.{is_over, leaf_is_over, nothing_is_over}
@@ -74,31 +74,40 @@ pub record IsLeafOf (b : Block) : Type 0 where
 none_held : (lines : List HeldLine) (to : ℕ) → lines ≡ [] → lines_end lines ≤ to
 none_held lines to none = subst (λ (ls : List HeldLine). lines_end ls ≤ to) (sym none) (omega arith)
 
--- the line is placed, by a leaf that is the last block, ended or not
+-- the line is placed, by a block that is the last, ended or not
+pub line_places : (s : Source) (now : Pass) (to : ℕ) (frames : List Frame) (blocks : Forest Block) (b : Block)
+    (inside : Forest Block) (last : Option Block) → with_last inside last ≡ leaf_block b → IsLeafOf b
+    → source_of now ≡ s → PlacesLast s now frames inside last → QuotesEnd to frames
+    → IsLooseBefore now.looseness frames nil → lines_end now.lines.items ≤ to
+    → blocks ≡ rebuilt frames (leaf_block b) → AreItemsInLists false blocks → PlacesFor s now to blocks
+line_places s now to frames blocks b inside last is leaf source unended quotes loose before begins items =
+    let whole : blocks ≡ rebuilt frames (with_last inside last) = begins ∙ ap (rebuilt frames) (sym is) in
+    record {
+      frames = frames;
+      inside = inside;
+      last = last;
+      places = record {
+        source = source;
+        unended = unended;
+        quotes = quotes;
+        items = subst (AreItemsInLists false) whole items;
+        loose = subst (IsLooseAs now.looseness frames) (sym is)
+            (leaf_loosens now.looseness frames b leaf.filled loose);
+        filled = ap (ends_blank false) is ∙ leaf.ends;
+        before = before;
+      };
+      whole = whole;
+    }
+
 leaf_places : (s : Source) (old now : Pass) (rest : LineRest) (frames : List Frame) (source : SourceLine)
     (blocks : Forest Block) (b : Block) (inside : Forest Block) (last : Option Block)
     → IsInside s old rest frames source blocks → MayBegin s now frames → IsLeafOf b
     → with_last inside last ≡ leaf_block b → PlacesLast s now frames inside last
     → begun_in_rest s source ≡ leaf_block b → PlacesFor s now rest.line.next blocks
 leaf_places s old now rest frames source blocks b inside last state may leaf is unended begins =
-    let whole : blocks ≡ rebuilt frames (with_last inside last) =
-    state.whole ∙ ap (rebuilt frames) (begins ∙ sym is) in
-    record {
-      frames = frames;
-      inside = inside;
-      last = last;
-      places = record {
-        source = may.source;
-        unended = unended;
-        quotes = state.opened.quotes;
-        items = subst (AreItemsInLists false) whole state.items;
-        loose = subst (IsLooseAs now.looseness frames) (sym is)
-            (leaf_loosens now.looseness frames b leaf.filled may.loose);
-        filled = ap (ends_blank false) is ∙ leaf.ends;
-        before = none_held now.lines.items rest.line.next may.lines;
-      };
-      whole = whole;
-    }
+    line_places s now rest.line.next frames blocks b inside last is leaf may.source unended state.opened.quotes
+    may.loose (none_held now.lines.items rest.line.next may.lines) (state.whole ∙ ap (rebuilt frames) begins)
+    state.items
 
 -- by one that has ended
 pub ended_places : (s : Source) (old now : Pass) (rest : LineRest) (frames : List Frame) (source : SourceLine)

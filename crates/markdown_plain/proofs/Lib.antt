@@ -45,3 +45,4 @@ pub mod IndentedLeavesLemmas
 pub mod BegunBlocksLemmas
 pub mod BegunRestsLemmas
 pub mod BegunLeavesLemmas
+pub mod BegunTextsLemmas

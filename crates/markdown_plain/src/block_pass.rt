@@ -13,6 +13,7 @@ ghost use Rattle.markdown_lines.specs.declared.block_start.BlockStart.TheVariant
 ghost use Rattle.markdown_plain.specs.Beginning.{GoesInside, IsFound, IsInside};
 ghost use Rattle.markdown_plain.specs.Fitting.{BracesStand, IfFitted};
 ghost use Rattle.markdown_plain.specs.Frames.{Frame};
+ghost use Rattle.markdown_lines.specs.HeldLines.{IsHeldLine};
 ghost use Rattle.markdown_plain.specs.OpenLeaves.{InfoStands};
 ghost use Rattle.markdown_plain.specs.declared.block_pass.LineRest.{LineRest};
 ghost use Rattle.markdown_plain.specs.Standing.{PlacesFor, StandsFor};
@@ -338,7 +339,19 @@ impl<'a> Pass<'a> {
 
     /// Reads text, from its first byte on. Returns false.
     fn read_text(&mut self, rest: &LineRest<'a>, at: usize) -> Result<bool, AllocError>
-        ensures { IfOk result (λ _. self.new.placing.builder.text ≡ self.old.placing.builder.text) }
+        ensures text { IfOk result (λ _. self.new.placing.builder.text
+            ≡ self.old.placing.builder.text) }
+        ensures inside { IfOk result (λ _. (s : Source) (frames : List Frame) (source : SourceLine)
+            (blocks : Forest Block) → IsInside s self.old rest.now frames source blocks
+            → IsFound s rest.now source at start.Text
+            → IsHeldLine self.old.placing.builder.text (record {
+              start = at;
+              stop = rest.now.line.stop;
+              next = rest.now.line.next;
+              owed = 0;
+            })
+            → IfFitted self.old.placing self.new.placing
+            (PlacesFor s self.new rest.now.line.next blocks)) }
     {
         self.add_text(rest.line, at, rest.depth)?;
         Ok(false)
@@ -395,7 +408,13 @@ impl<'a> Pass<'a> {
         at: usize,
         kind: BlockQuoteKind,
     ) -> Result<bool, AllocError>
-        ensures { IfOk result (λ _. self.new.placing.builder.text ≡ self.old.placing.builder.text) }
+        ensures text { IfOk result (λ _. self.new.placing.builder.text
+            ≡ self.old.placing.builder.text) }
+        ensures inside { IfOk result (λ _. (s : Source) (frames : List Frame) (source : SourceLine)
+            (blocks : Forest Block) → IsInside s self.old rest.now frames source blocks
+            → IsFound s rest.now source at (start.Alert kind)
+            → IfFitted self.old.placing self.new.placing
+            (PlacesFor s self.new rest.now.line.next blocks)) }
     {
         self.make_room(rest.depth)?;
         self.open_quote(at, Some(kind))?;

@@ -32,6 +32,9 @@ ghost use Rattle.markdown_plain.specs.Frames.{Frame, rebuilt, room_depth};
 ghost use Rattle.markdown_plain.specs.OpenLeaves.{HoldsParagraph, IsPlaced, ended_block, leaf_block};
 ghost use Rattle.markdown_plain.specs.OpenLeaves.{AreItemsOpenedIn, BeginsText, ComesAfter};
 ghost use Rattle.markdown_plain.specs.Settled.{IsBuilt};
+ghost use Rattle.markdown_base.specs.Forest.{nil};
+ghost use Rattle.markdown_plain.specs.OpenedFrames.{MayOpen};
+ghost use Rattle.markdown_plain.specs.Settled.{IsLooseAs, IsLooseBefore};
 
 use crate::leaves::open_heading;
 use crate::pass::Pass;
@@ -376,6 +379,15 @@ impl<'a> Pass<'a> {
         ensures line { IfOk result (λ _. self.new.lines.items
             ≡ (if has_paragraph self.old then self.old.lines.items else [])
             ++ record { start = start; stop = line.stop; next = line.next; owed = 0 } ∷ []) }
+        ensures inside { IfOk result (λ _. (s : Source) (frames : List Frame)
+            → MayOpen s self.old frames nil → depth ≡ length frames
+            → IsLooseAs self.old.looseness frames nil
+            → (self.new ≡ record self.old {
+              lines = self.new.lines;
+              task = self.new.task;
+              looseness = self.new.looseness;
+            })
+            × IsLooseBefore self.new.looseness frames nil) }
         ensures forgets { IfOk result (λ _. (s : Source) (frames : List Frame)
             (inside : Forest Block) → self.old.lines.items ≡ [] → depth ≤ length frames
             → MayClose s self.old frames inside → IfFitted self.old.placing self.new.placing
