@@ -14,6 +14,25 @@ use Rattle.markdown_lines.specs.declared.held_line.HeldLine.{HeldLine}
 use Rattle.markdown_block_rules.specs.BlockGrowth as was
 use Rattle.markdown_block_rules.specs.BlockGrowth.{Block, Kind, begun_by}
 use Rattle.markdown_block_rules.specs.BlockRules.{block_ends_blank, ends_blank, is_blank_block}
+use Rattle.std.proofs.Common.{◌++◌}
+use Rattle.markdown_lines.specs.BlockStarts.{left_at}
+use Rattle.markdown_lines.specs.Positions.{left_from}
+use Rattle.markdown_plain.specs.HeldSources.{AreHeld}
+use Rattle.markdown_plain.specs.Beginning.{IsLeft}
+use Rattle.markdown_plain.proofs.ReachedFramesLemmas.{AreAlike}
+use Rattle.std.proofs.Common.{◌<◌, ◌+◌, ◌-◌, ◌||◌, drop, slice_range}
+use Rattle.std.proofs.lemmas.List.{get_or-drop, get_or-take}
+use Rattle.std.proofs.lemmas.List.Sums.{prefix_len-le-length, prefix_len_passes}
+use Rattle.std.specs.List.{prefix_len}
+use Rattle.std.specs.Prelude.{slice_index}
+use Rattle.markdown_scan.specs.LineStart.{LineLeft}
+use Rattle.markdown_lines.specs.HeldLines.{IsHeldLine}
+use Rattle.markdown_lines.specs.Lines.{IsNextContent, is_line_ending, is_space_or_tab}
+use Rattle.markdown_lines.specs.declared.html_kind.HtmlKind.{HtmlKind}
+use Rattle.markdown_lines.specs.declared.line.Line.{Line}
+use Rattle.markdown_lines.specs.declared.position.Position.{Position}
+use Rattle.markdown_block_rules.specs.BlockGrowth.{content_of}
+use Rattle.markdown_plain.specs.declared.pass.LeafKind.TheVariants as leaf
 use Rattle.markdown_plain.specs.declared.block_pass.LineRest.{LineRest}
 use Rattle.markdown_plain.specs.declared.looseness.Looseness.{Looseness}
 use Rattle.markdown_plain.specs.declared.pass.Pass.{Pass}
@@ -21,7 +40,7 @@ use Rattle.markdown_plain.specs.Beginning.{IsFound, IsInside, begun_in_rest}
 use Rattle.markdown_plain.specs.Closing.{AreItemsInLists}
 use Rattle.markdown_plain.specs.Fitting.{stepped}
 use Rattle.markdown_plain.specs.Frames.{Frame, rebuilt}
-use Rattle.markdown_plain.specs.OpenLeaves.{IsOpenIn, IsPlaced, is_leaf, leaf_block}
+use Rattle.markdown_plain.specs.OpenLeaves.{IsLeafIn, IsLineRest, IsOpenIn, IsPlaced, is_leaf, leaf_block}
 use Rattle.markdown_plain.specs.Paragraphs.{lines_end, source_of}
 use Rattle.markdown_plain.specs.Settled.{EmptyKnown, EmptyKnownIn, IsBuilt, IsLooseAs, IsLooseBefore, QuotesEnd}
 use Rattle.markdown_plain.specs.Standing.{HoldsBlanks, IsLeafKind, PlacesFor, PlacesLast, with_last}
@@ -173,3 +192,78 @@ nothing_places s old now rest frames source at blocks state found same steps =
       };
       whole = whole;
     }
+
+-- ---- an HTML block
+
+pub html_places : (s : Source) (old now : Pass) (rest : LineRest) (frames : List Frame) (source : SourceLine)
+    (blocks : Forest Block) (kind : HtmlKind) (ended : Bool) (b : Block) → b.kind ≡ was.html_leaf kind ended (source ∷ [])
+    → IsInside s old rest frames source blocks → MayBegin s now frames
+    → IsLeafIn s now.placing.builder frames nil b ended → now.leaf ≡ leaf.Html kind
+    → begun_in_rest s source ≡ leaf_block b → PlacesFor s now rest.line.next blocks
+html_places s old now rest frames source blocks kind true b is state may placed known begins =
+    ended_places s old now rest frames source blocks b state may
+    (record { filled = ap is_blank_block is; ends = ap (block_ends_blank false) is }) (ap is_over is) placed begins
+html_places s old now rest frames source blocks kind false b is state may opens known begins =
+    open_places s old now rest frames source blocks b state may
+    (record { filled = ap is_blank_block is; ends = ap (block_ends_blank false) is }) (ap is_leaf is) opens
+    (subst (λ how. IsLeafKind how b.kind) (sym known) (subst (IsLeafKind (leaf.Html kind)) (sym is) refl))
+    (subst (HoldsBlanks now.blanks.items) (sym is) may.blanks) begins
+
+-- the byte that begins the content of a line's rest is the next that is in no blank line
+pub content_next : (text : List ℕ) (position : Position) (line : Line) (source : SourceLine) (held : HeldLine)
+    → IsLineRest text position line source → held.start ≡ content_of source → IsHeldLine text held
+    → IsNextContent text position.at (Some (content_of source))
+content_next text position line source held is place holds =
+    let bytes : slice_range text position.at line.stop ≡ source.left.bytes =
+    ap (λ (l : LineLeft). l.bytes) is.rest.left in
+    let here : position.at ≡ source.left.scanned = ap (λ (l : LineLeft). l.scanned) is.rest.left in
+    let white = prefix_len is_space_or_tab source.left.bytes in
+    let within = prefix_len-le-length is_space_or_tab source.left.bytes in
+    subst (λ n. IsNextContent text position.at (Some n)) place (
+      omega (arith, holds.some, holds.content.high),
+      record {
+        low = omega (arith, place, here);
+        boundary = holds.boundary;
+        passes = λ at from before.
+            let k : position.at + (at - position.at) ≡ at = omega (arith, from) in
+            let few : at - position.at < white = omega (arith, from, before, place, here) in
+            let some : at - position.at < line.stop - position.at =
+            omega (arith, few, within, is.stop, here) in
+            let byte : slice_index source.left.bytes (at - position.at) ≡ slice_index text at =
+            ap (λ (bs : List ℕ). slice_index bs (at - position.at)) (sym bytes)
+            ∙ (get_or-take (line.stop - position.at) (drop position.at text) (at - position.at) 0 some
+            ∙ (get_or-drop position.at text (at - position.at) 0 ∙ ap (slice_index text) k)) in
+            ap (λ b. b || is_line_ending (slice_index text at))
+            (ap is_space_or_tab (sym byte)
+            ∙ prefix_len_passes is_space_or_tab source.left.bytes (at - position.at) 0 few);
+        stops = λ more.
+            ap (λ b. b || is_line_ending (slice_index text held.start)) holds.first
+            ∙ holds.content.content held.start (omega arith) holds.some;
+      },
+    )
+
+-- ---- indented code
+
+-- a line of code that is not blank is held back with no blank lines
+pub code_holds : (held : List HeldLine) (l : SourceLine) → is_blank_rest l ≡ false → held ≡ []
+    → HoldsBlanks held (was.indented_leaf (l ∷ []))
+code_holds held l filled none = (
+  [],
+  sym (ap (λ blank. (if blank then [] else l ∷ []) ++ []) filled),
+  subst (λ lines. AreHeld lines []) (sym none) tt,
+)
+
+-- what is left of a line after the space of indented code
+pub code_left : (s : Source) (rest : LineRest) (source : SourceLine) (code : Position) → IsLeft s rest source
+    → AreAlike (left_at rest.reader code) source.left → code.owed ≤ 3
+    → IsLineRest s.text code rest.line (record source { left = left_at rest.reader code })
+code_left s rest source code left alike few = record {
+  rest = record {
+    left = ap (λ stop. left_from s.text code stop) (sym left.stop)
+        ∙ ap (λ (r : Source). left_from r.text code rest.reader.stop) (sym left.text);
+    few = few;
+    next = left.is.rest.next;
+  };
+  stop = left.is.stop ∙ sym alike.end;
+  ends = left.is.ends;
+}

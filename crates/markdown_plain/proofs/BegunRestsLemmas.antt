@@ -7,7 +7,9 @@ use Rattle.std.proofs.lemmas.List.{length-drop, length-take}
 use Rattle.std.proofs.lemmas.List.Sums.{prefix_len-le-length}
 use Rattle.std.specs.Prelude.{if◌then◌else◌, slice_index, slice_range, unwrap_or}
 use Rattle.std.specs.Char.{is_ascii_digit}
-use Rattle.std.specs.List.{prefix_len}
+use Rattle.std.specs.List.{list_all, prefix_len}
+use Rattle.markdown_lines.specs.Lines.{is_space_or_tab}
+use Rattle.markdown_plain.specs.Containers.{content_of}
 use Rattle.std.specs.Option.{option_and_then, option_map}
 use Rattle.markdown_base.specs.EnabledOptions.{footnotes_on}
 use Rattle.markdown_base.specs.declared.tag.BlockQuoteKind.{BlockQuoteKind}
@@ -37,53 +39,54 @@ use Rattle.markdown_lines.specs.SourceLines.{SourceLine}
 use Rattle.markdown_lines.specs.ThematicBreaks.{is_thematic_break, setext_level}
 use Rattle.markdown_block_rules.proofs.BlockBeginningsLemmas.{HoldsLess, begins_less, either}
 use Rattle.markdown_plain.proofs.LeafTreesLemmas.{few_owed, on_test}
-use Rattle.markdown_plain.proofs.ReachedFramesLemmas.{AreAlike, space_alike}
+use Rattle.markdown_plain.proofs.ReachedFramesLemmas.{AreAlike, blank_at, end_of, space_alike}
 
--- a rest ends at a byte offset, and its first tab owes at most three columns
-abbrev EndsAt : ℕ → LineLeft → Type 0
-EndsAt stop rest = (rest.scanned + length rest.bytes ≡ stop) × (rest.owed ≤ 3)
+-- a rest ends with another, and its first tab owes at most three columns
+abbrev EndsAt : LineLeft → LineLeft → Type 0
+EndsAt whole rest = (end_of rest ≡ end_of whole) × (rest.owed ≤ 3)
 
 -- so does the rest in a container that begins
-abbrev HoldsTo : ℕ → Beginning → Type 0
-HoldsTo stop (line.begins_quote rest) = EndsAt stop rest
-HoldsTo stop (line.begins_footnote label rest) = EndsAt stop rest
-HoldsTo stop (line.begins_item marker indent rest) = EndsAt stop rest
-HoldsTo stop other = Unit
+abbrev HoldsTo : LineLeft → Beginning → Type 0
+HoldsTo whole (line.begins_quote rest) = EndsAt whole rest
+HoldsTo whole (line.begins_footnote label rest) = EndsAt whole rest
+HoldsTo whole (line.begins_item marker indent rest) = EndsAt whole rest
+HoldsTo whole (line.begins_indented rest) = AreAlike rest whole × (rest.owed ≤ 3)
+HoldsTo whole other = Unit
 
-abbrev IfHoldsTo : ℕ → Option Beginning → Type 0
-IfHoldsTo stop None = Unit
-IfHoldsTo stop (Some b) = HoldsTo stop b
+abbrev IfHoldsTo : LineLeft → Option Beginning → Type 0
+IfHoldsTo whole None = Unit
+IfHoldsTo whole (Some b) = HoldsTo whole b
 
-space_ends : (stop n : ℕ) (left : LineLeft) → EndsAt stop left → EndsAt stop (leading_space n left).after
-space_ends stop n left ends = ((space_alike n left).end ∙ ends.0, few_owed n left ends.1)
+space_ends : (whole : LineLeft) (n : ℕ) (left : LineLeft) → EndsAt whole left → EndsAt whole (leading_space n left).after
+space_ends whole n left ends = ((space_alike n left).end ∙ ends.0, few_owed n left ends.1)
 
 -- some bytes that are there are passed
-past_ends : (stop count : ℕ) (left : LineLeft) → count ≤ length left.bytes → EndsAt stop left
-    → EndsAt stop (past_bytes count left)
-past_ends stop count left within ends = (omega (arith, within, ends.0, length-drop count left.bytes), omega arith)
+past_ends : (whole : LineLeft) (count : ℕ) (left : LineLeft) → count ≤ length left.bytes → EndsAt whole left
+    → EndsAt whole (past_bytes count left)
+past_ends whole count left within ends = (omega (arith, within, ends.0, length-drop count left.bytes), omega arith)
 
 -- ---- a quote
 
-quote_ends : (stop : ℕ) (rest : LineLeft) (alert : Option BlockQuoteKind) → EndsAt stop rest
-    → HoldsTo stop (quote_or_alert rest alert)
-quote_ends stop rest None ends = ends
-quote_ends stop rest (Some kind) ends = tt
+quote_ends : (whole : LineLeft) (rest : LineLeft) (alert : Option BlockQuoteKind) → EndsAt whole rest
+    → HoldsTo whole (quote_or_alert rest alert)
+quote_ends whole rest None ends = ends
+quote_ends whole rest (Some kind) ends = tt
 
-marker_ends : (stop : ℕ) (here : LineLeft) → begins_with (codes ">") here.bytes ≡ true → EndsAt stop here
-    → EndsAt stop (past_marker here)
-marker_ends stop here marker ends =
-    space_ends stop 1 (past_one_byte here) (past_first here.scanned here.bytes marker ∙ ends.0, omega arith)
+marker_ends : (whole : LineLeft) (here : LineLeft) → begins_with (codes ">") here.bytes ≡ true → EndsAt whole here
+    → EndsAt whole (past_marker here)
+marker_ends whole here marker ends =
+    space_ends whole 1 (past_one_byte here) (past_first here.scanned here.bytes marker ∙ ends.0, omega arith)
   where
     past_first : (scanned : ℕ) (bytes : List ℕ) → begins_with (codes ">") bytes ≡ true
         → (scanned + 1) + length (drop 1 bytes) ≡ scanned + length bytes
     past_first scanned [] marker = absurd (true≢false (sym marker))
     past_first scanned (b ∷ bytes) marker = omega arith
 
-in_quote : (s : Source) (stop : ℕ) (here : LineLeft) → EndsAt stop here → IfHoldsTo stop (quote_in_line s here)
-in_quote s stop here ends =
-    on_test (IfHoldsTo stop) (begins_with (codes ">") here.bytes) (Some (quote_of s.options (past_marker here))) None
-    (λ marker. quote_ends stop (past_marker here) (alert_read s.options (past_marker here))
-    (marker_ends stop here marker ends)) (λ none. tt)
+in_quote : (s : Source) (whole : LineLeft) (here : LineLeft) → EndsAt whole here → IfHoldsTo whole (quote_in_line s here)
+in_quote s whole here ends =
+    on_test (IfHoldsTo whole) (begins_with (codes ">") here.bytes) (Some (quote_of s.options (past_marker here))) None
+    (λ marker. quote_ends whole (past_marker here) (alert_read s.options (past_marker here))
+    (marker_ends whole here marker ends)) (λ none. tt)
 
 -- ---- a footnote definition
 
@@ -94,26 +97,26 @@ colon_there [] (suc k) is = absurd (true≢false (sym is))
 colon_there (c ∷ bytes) zero is = omega arith
 colon_there (c ∷ bytes) (suc k) is = omega (arith, colon_there bytes k is)
 
-label_ends : (stop : ℕ) (here : LineLeft) (label : Option (ℕ × List ℕ)) → EndsAt stop here
-    → IfHoldsTo stop (option_map (λ marker. line.begins_footnote marker.0 (past_bytes marker.1 here))
+label_ends : (whole : LineLeft) (here : LineLeft) (label : Option (ℕ × List ℕ)) → EndsAt whole here
+    → IfHoldsTo whole (option_map (λ marker. line.begins_footnote marker.0 (past_bytes marker.1 here))
     (label_before_colon here.bytes label))
-label_ends stop here None ends = tt
-label_ends stop here (Some label) ends =
+label_ends whole here None ends = tt
+label_ends whole here (Some label) ends =
     on_test (λ (found : Option (List ℕ × ℕ)).
-    IfHoldsTo stop (option_map (λ marker. line.begins_footnote marker.0 (past_bytes marker.1 here)) found))
+    IfHoldsTo whole (option_map (λ marker. line.begins_footnote marker.0 (past_bytes marker.1 here)) found))
     (slice_index here.bytes (label.0 + 2) == 58) (Some (label.1, label.0 + 3)) None
-    (λ is. past_ends stop (label.0 + 3) here
+    (λ is. past_ends whole (label.0 + 3) here
     (omega (arith, colon_there here.bytes (label.0 + 2) is)) ends) (λ none. tt)
 
-in_footnote : (s : Source) (stop : ℕ) (here : LineLeft) → EndsAt stop here
-    → IfHoldsTo stop (footnote_in_line s.options here)
-in_footnote s stop here ends =
+in_footnote : (s : Source) (whole : LineLeft) (here : LineLeft) → EndsAt whole here
+    → IfHoldsTo whole (footnote_in_line s.options here)
+in_footnote s whole here ends =
     let label = link_label in_one_line false (drop 2 here.bytes) in
     let found : Option (List ℕ × ℕ) → Option Beginning =
     option_map (λ marker. line.begins_footnote marker.0 (past_bytes marker.1 here)) in
-    either (IfHoldsTo stop) (footnotes_on s.options) (found (footnote_marker here.bytes)) None
-    (either (λ o. IfHoldsTo stop (found o)) (begins_with (codes "[^") here.bytes) (label_before_colon here.bytes label)
-    None (label_ends stop here label ends) tt) tt
+    either (IfHoldsTo whole) (footnotes_on s.options) (found (footnote_marker here.bytes)) None
+    (either (λ o. IfHoldsTo whole (found o)) (begins_with (codes "[^") here.bytes) (label_before_colon here.bytes label)
+    None (label_ends whole here label ends) tt) tt
 
 -- ---- a list item
 
@@ -148,17 +151,17 @@ more_within : (n m : ℕ) (found : Option ListMarker) → n ≤ m → IsWithin n
 more_within n m None more within = tt
 more_within n m (Some marker) more within = omega (arith, more, within)
 
-item_ends : (stop columns : ℕ) (here : LineLeft) (found : Option ListMarker) → IsWithin (length here.bytes) found
-    → EndsAt stop here → IfHoldsTo stop (option_map (item_of columns here) found)
-item_ends stop columns here None within ends = tt
-item_ends stop columns here (Some marker) within ends =
+item_ends : (whole : LineLeft) (columns : ℕ) (here : LineLeft) (found : Option ListMarker) → IsWithin (length here.bytes) found
+    → EndsAt whole here → IfHoldsTo whole (option_map (item_of columns here) found)
+item_ends whole columns here None within ends = tt
+item_ends whole columns here (Some marker) within ends =
     let left = past_bytes marker.width here in
-    let after = past_ends stop marker.width here within ends in
-    either (λ (space : Space). EndsAt stop space.after)
+    let after = past_ends whole marker.width here within ends in
+    either (λ (space : Space). EndsAt whole space.after)
     (nat_lt 0 (leading_space 5 left).columns && nat_lt (leading_space 5 left).columns 5
     && not (length (leading_space 5 left).after.bytes == 0))
     (leading_space 5 left) (record { columns = 1; after = (leading_space 1 left).after })
-    (space_ends stop 5 left after) (space_ends stop 1 left after)
+    (space_ends whole 5 left after) (space_ends whole 1 left after)
 
 -- a part of a text is no longer than its range
 range_within : (text : List ℕ) (at n : ℕ) → length (slice_range text at (at + n)) ≤ n
@@ -166,12 +169,12 @@ range_within text at n =
     let size : at + n - at ≡ n = omega arith in
     omega (arith, length-take (at + n - at) (drop at text), size)
 
-in_item : (s : Source) (before : Before) (stop columns : ℕ) (here : LineLeft) → EndsAt stop here
-    → IfHoldsTo stop (item_in_line s before columns here)
-in_item s before stop columns here ends =
+in_item : (s : Source) (before : Before) (whole : LineLeft) (columns : ℕ) (here : LineLeft) → EndsAt whole here
+    → IfHoldsTo whole (item_in_line s before columns here)
+in_item s before whole columns here ends =
     let n = length here.bytes in
     let content = slice_range s.text here.scanned (here.scanned + n) in
-    item_ends stop columns here (list_marker_at s.text here.scanned (here.scanned + n) (is_reached before))
+    item_ends whole columns here (list_marker_at s.text here.scanned (here.scanned + n) (is_reached before))
     (standing_within n (marker_of content) content (is_reached before)
     (more_within (length content) n (marker_of content) (range_within s.text here.scanned n)
     (marker_within content))) ends
@@ -179,50 +182,50 @@ in_item s before stop columns here ends =
 -- ---- what a line begins
 
 -- each of some that are there does
-abbrev IfHoldAll : ℕ → List (Option Beginning) → Type 0
-IfHoldAll stop [] = Unit
-IfHoldAll stop (o ∷ others) = IfHoldsTo stop o × IfHoldAll stop others
+abbrev IfHoldAll : LineLeft → List (Option Beginning) → Type 0
+IfHoldAll whole [] = Unit
+IfHoldAll whole (o ∷ others) = IfHoldsTo whole o × IfHoldAll whole others
 
-first_ends : (stop : ℕ) (found : List (Option Beginning)) → IfHoldAll stop found → HoldsTo stop (first_found found)
-first_ends stop [] all = tt
-first_ends stop (None ∷ others) all = first_ends stop others all.1
-first_ends stop (Some b ∷ others) all = all.0
+first_ends : (whole : LineLeft) (found : List (Option Beginning)) → IfHoldAll whole found → HoldsTo whole (first_found found)
+first_ends whole [] all = tt
+first_ends whole (None ∷ others) all = first_ends whole others all.1
+first_ends whole (Some b ∷ others) all = all.0
 
 -- a leaf holds nothing
-leaf_ends : {A : Type 0} (stop : ℕ) (f : A → Beginning) (found : Option A) → ((a : A) → HoldsTo stop (f a))
-    → IfHoldsTo stop (option_map f found)
-leaf_ends stop f None leaf = tt
-leaf_ends stop f (Some a) leaf = leaf a
+leaf_ends : {A : Type 0} (whole : LineLeft) (f : A → Beginning) (found : Option A) → ((a : A) → HoldsTo whole (f a))
+    → IfHoldsTo whole (option_map f found)
+leaf_ends whole f None leaf = tt
+leaf_ends whole f (Some a) leaf = leaf a
 
-after_ends : (s : Source) (before : Before) (stop columns : ℕ) (here : LineLeft) → EndsAt stop here
-    → HoldsTo stop (begins_after s before columns here)
-after_ends s before stop columns here ends =
+after_ends : (s : Source) (before : Before) (whole : LineLeft) (columns : ℕ) (here : LineLeft) → EndsAt whole here
+    → HoldsTo whole (begins_after s before columns here)
+after_ends s before whole columns here ends =
     let n = length here.bytes in
     let byte = slice_index here.bytes 0 in
     let fence = opening_fence_at s.text here.scanned (here.scanned + n) byte columns in
     let html = html_kind_of here.bytes (is_paragraph before) in
     let heading = atx_heading_at s.text here.scanned (here.scanned + n) in
     let underline = setext_level here.bytes in
-    first_ends stop (quote_in_line s here ∷ heading_in_line s here ∷ fence_in_line s columns here
+    first_ends whole (quote_in_line s here ∷ heading_in_line s here ∷ fence_in_line s columns here
     ∷ html_in_line before here ∷ footnote_in_line s.options here ∷ underline_in_line before here
     ∷ break_in_line here ∷ item_in_line s before columns here ∷ []) (
-      in_quote s stop here ends,
+      in_quote s whole here ends,
       (
-        leaf_ends stop (λ found. line.begins_heading (whole_heading s.options here found)) heading (λ a. tt),
+        leaf_ends whole (λ found. line.begins_heading (whole_heading s.options here found)) heading (λ a. tt),
         (
-          either (IfHoldsTo stop) ((byte == 96) || (byte == 126)) (option_map line.begins_fence fence) None
-              (leaf_ends stop line.begins_fence fence (λ a. tt)) tt,
+          either (IfHoldsTo whole) ((byte == 96) || (byte == 126)) (option_map line.begins_fence fence) None
+              (leaf_ends whole line.begins_fence fence (λ a. tt)) tt,
           (
-            either (IfHoldsTo stop) (begins_with (codes "<") here.bytes) (option_map line.begins_html html) None
-                (leaf_ends stop line.begins_html html (λ a. tt)) tt,
+            either (IfHoldsTo whole) (begins_with (codes "<") here.bytes) (option_map line.begins_html html) None
+                (leaf_ends whole line.begins_html html (λ a. tt)) tt,
             (
-              in_footnote s stop here ends,
+              in_footnote s whole here ends,
               (
-                either (IfHoldsTo stop) (is_reached before) (option_map line.begins_underline underline) None
-                    (leaf_ends stop line.begins_underline underline (λ a. tt)) tt,
+                either (IfHoldsTo whole) (is_reached before) (option_map line.begins_underline underline) None
+                    (leaf_ends whole line.begins_underline underline (λ a. tt)) tt,
                 (
-                  either (IfHoldsTo stop) (is_thematic_break here.bytes) (Some line.begins_break) None tt tt,
-                  (in_item s before stop columns here ends, tt),
+                  either (IfHoldsTo whole) (is_thematic_break here.bytes) (Some line.begins_break) None tt tt,
+                  (in_item s before whole columns here ends, tt),
                 ),
               ),
             ),
@@ -231,36 +234,38 @@ after_ends s before stop columns here ends =
       ),
     )
 
-metadata_ends : (stop : ℕ) (before : Before) (kind : MetadataBlockKind) → IfHoldsTo stop (metadata_begun before kind)
-metadata_ends stop before metadata.YamlStyle =
-    either (IfHoldsTo stop) (is_reached before) None (Some (line.begins_metadata metadata.YamlStyle)) tt tt
-metadata_ends stop before metadata.PlusesStyle =
-    either (IfHoldsTo stop) (is_paragraph before) None (Some (line.begins_metadata metadata.PlusesStyle)) tt tt
+metadata_ends : (whole : LineLeft) (before : Before) (kind : MetadataBlockKind) → IfHoldsTo whole (metadata_begun before kind)
+metadata_ends whole before metadata.YamlStyle =
+    either (IfHoldsTo whole) (is_reached before) None (Some (line.begins_metadata metadata.YamlStyle)) tt tt
+metadata_ends whole before metadata.PlusesStyle =
+    either (IfHoldsTo whole) (is_paragraph before) None (Some (line.begins_metadata metadata.PlusesStyle)) tt tt
 
-opened_ends : (stop : ℕ) (before : Before) (found : Option MetadataBlockKind)
-    → IfHoldsTo stop (option_and_then (metadata_begun before) found)
-opened_ends stop before None = tt
-opened_ends stop before (Some kind) = metadata_ends stop before kind
+opened_ends : (whole : LineLeft) (before : Before) (found : Option MetadataBlockKind)
+    → IfHoldsTo whole (option_and_then (metadata_begun before) found)
+opened_ends whole before None = tt
+opened_ends whole before (Some kind) = metadata_ends whole before kind
 
-found_or_ends : (stop : ℕ) (found : Option Beginning) (other : Beginning) → IfHoldsTo stop found
-    → HoldsTo stop other → HoldsTo stop (unwrap_or found other)
-found_or_ends stop None other ends more = more
-found_or_ends stop (Some b) other ends more = ends
+found_or_ends : (whole : LineLeft) (found : Option Beginning) (other : Beginning) → IfHoldsTo whole found
+    → HoldsTo whole other → HoldsTo whole (unwrap_or found other)
+found_or_ends whole None other ends more = more
+found_or_ends whole (Some b) other ends more = ends
 
-begins_to : (s : Source) (before : Before) (stop : ℕ) (l : SourceLine) → EndsAt stop l.left
-    → HoldsTo stop (begins s before l)
-begins_to s before stop l ends =
+begins_to : (s : Source) (before : Before) (l : SourceLine) → l.left.owed ≤ 3 → HoldsTo l.left (begins s before l)
+begins_to s before l few =
+    let whole = l.left in
+    let ends : EndsAt whole whole = (refl, few) in
     let space = leading_space 4 l.left in
     let found = metadata_in_line s before l in
     let after = begins_after s before space.columns space.after in
     let opened = metadata_opened s.options s.text l.left.bytes l.next in
-    either (HoldsTo stop) (space.columns == 4)
+    either (HoldsTo whole) (space.columns == 4)
     (if is_paragraph before then line.begins_text else line.begins_indented space.after) (unwrap_or found after)
-    (either (HoldsTo stop) (is_paragraph before) line.begins_text (line.begins_indented space.after) tt tt)
-    (found_or_ends stop found after
-    (either (IfHoldsTo stop) l.outermost (option_and_then (metadata_begun before) opened) None
-    (opened_ends stop before opened) tt)
-    (after_ends s before stop space.columns space.after (space_ends stop 4 l.left ends)))
+    (either (HoldsTo whole) (is_paragraph before) line.begins_text (line.begins_indented space.after) tt
+    (space_alike 4 whole, few_owed 4 whole few))
+    (found_or_ends whole found after
+    (either (IfHoldsTo whole) l.outermost (option_and_then (metadata_begun before) opened) None
+    (opened_ends whole before opened) tt)
+    (after_ends s before whole space.columns space.after (space_ends whole 4 l.left ends)))
 
 -- a rest begins after another, and ends with it
 pub record IsRestOf (left rest : LineLeft) : Type 0 where
@@ -273,9 +278,10 @@ abbrev pub HoldsRest : LineLeft → Beginning → Type 0
 HoldsRest left (line.begins_quote rest) = IsRestOf left rest
 HoldsRest left (line.begins_footnote label rest) = IsRestOf left rest
 HoldsRest left (line.begins_item marker indent rest) = IsRestOf left rest
+HoldsRest left (line.begins_indented rest) = AreAlike rest left × (rest.owed ≤ 3)
 HoldsRest left other = Unit
 
-rest_of : (left rest : LineLeft) → EndsAt (left.scanned + length left.bytes) rest
+rest_of : (left rest : LineLeft) → EndsAt left rest
     → length rest.bytes < length left.bytes → IsRestOf left rest
 rest_of left rest ends less =
     record { end = ends.0; few = ends.1; after = omega (arith, ends.0, less) }
@@ -283,12 +289,19 @@ rest_of left rest ends less =
 pub begins_rest : (s : Source) (before : Before) (l : SourceLine) → l.left.owed ≤ 3
     → HoldsRest l.left (begins s before l)
 begins_rest s before l few =
-    both (begins s before l) (begins_to s before (l.left.scanned + length l.left.bytes) l (refl, few))
-    (begins_less s before l)
+    both (begins s before l) (begins_to s before l few) (begins_less s before l)
   where
-    both : (b : Beginning) → HoldsTo (l.left.scanned + length l.left.bytes) b → HoldsLess (length l.left.bytes) b
+    both : (b : Beginning) → HoldsTo l.left b → HoldsLess (length l.left.bytes) b
         → HoldsRest l.left b
     both (line.begins_quote rest) ends less = rest_of l.left rest ends less
     both (line.begins_footnote label rest) ends less = rest_of l.left rest ends less
     both (line.begins_item marker indent rest) ends less = rest_of l.left rest ends less
+    both (line.begins_indented rest) ends less = ends
     both other ends less = tt
+
+-- a rest is blank where one is that begins its content and ends where it does
+pub blank_alike : (one other : LineLeft) → AreAlike one other
+    → list_all is_space_or_tab one.bytes ≡ list_all is_space_or_tab other.bytes
+blank_alike one other alike =
+    sym (blank_at one) ∙ (ap (λ n. nat_le n (content_of one)) alike.end
+    ∙ (ap (λ n. nat_le (end_of other) n) alike.content ∙ blank_at other))

@@ -106,7 +106,7 @@ space_alike n left =
     record { content = later.content; end = later.end })
 
 -- what is left of a line is blank where its content begins at its end
-blank_at : (left : LineLeft)
+pub blank_at : (left : LineLeft)
     → nat_le (end_of left) (content_of left) ≡ list_all is_space_or_tab left.bytes
 blank_at left =
     elim (eqb_tells (prefix_len is_space_or_tab left.bytes) (length left.bytes)) [

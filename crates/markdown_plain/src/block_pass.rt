@@ -359,7 +359,13 @@ impl<'a> Pass<'a> {
 
     /// Reads the first line of indented code, from a place on. Returns false.
     fn read_indented(&mut self, rest: &LineRest<'a>, code: Position) -> Result<bool, AllocError>
-        ensures { IfOk result (λ _. self.new.placing.builder.text ≡ self.old.placing.builder.text) }
+        ensures text { IfOk result (λ _. self.new.placing.builder.text
+            ≡ self.old.placing.builder.text) }
+        ensures inside { IfOk result (λ _. (s : Source) (frames : List Frame) (source : SourceLine)
+            (at : ℕ) (blocks : Forest Block) → IsInside s self.old rest.now frames source blocks
+            → IsFound s rest.now source at (start.IndentedCode code)
+            → IfFitted self.old.placing self.new.placing
+            (PlacesFor s self.new rest.now.line.next blocks)) }
     {
         self.make_room(rest.depth)?;
         self.open_indented(rest.line, code)?;
@@ -467,7 +473,19 @@ impl<'a> Pass<'a> {
 
     /// Reads the first line of an HTML block. Returns false.
     fn read_html(&mut self, rest: &LineRest<'a>, kind: HtmlKind) -> Result<bool, AllocError>
-        ensures { IfOk result (λ _. self.new.placing.builder.text ≡ self.old.placing.builder.text) }
+        ensures text { IfOk result (λ _. self.new.placing.builder.text
+            ≡ self.old.placing.builder.text) }
+        ensures inside { IfOk result (λ _. (s : Source) (frames : List Frame) (source : SourceLine)
+            (at : ℕ) (blocks : Forest Block) → IsInside s self.old rest.now frames source blocks
+            → IsFound s rest.now source at (start.Html kind)
+            → IsHeldLine self.old.placing.builder.text (record {
+              start = at;
+              stop = rest.now.line.stop;
+              next = rest.now.line.next;
+              owed = 0;
+            })
+            → IfFitted self.old.placing self.new.placing
+            (PlacesFor s self.new rest.now.line.next blocks)) }
     {
         self.make_room(rest.depth)?;
         self.open_html(rest.line, rest.position, kind)?;
