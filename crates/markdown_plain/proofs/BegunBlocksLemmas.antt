@@ -323,6 +323,7 @@ container_inside s now rest next outer source blocks inside kind left goes is op
           first = first_more outer f 0 ∙ sym left.is.rest.next;
         };
         left = left_inside s rest source inside (length now.placing.builder.blocks) paragraph.NoParagraph left is;
+        inner = refl;
         depth = as_many_containers s now.placing.builder (with_frame outer nil b) nil opens.built;
         before = refl;
         whole = whole ∙ sym (rebuilt_more outer f

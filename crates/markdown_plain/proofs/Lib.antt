@@ -46,3 +46,5 @@ pub mod BegunBlocksLemmas
 pub mod BegunRestsLemmas
 pub mod BegunLeavesLemmas
 pub mod BegunTextsLemmas
+pub mod FoundBlocksLemmas
+pub mod InnerBeginningsLemmas

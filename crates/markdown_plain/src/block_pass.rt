@@ -1,7 +1,7 @@
 //! The block pass, line by line: which open blocks continue, which blocks begin, and what a lazy continuation line
 //! continues (CommonMark, appendix on parsing). Functions that return a `Result` fail only where memory is refused;
 //! what was built by then is not used.
-ghost use Rattle.std.specs.Prelude.{◌≡◌, [], ℕ, List, length, IfOk};
+ghost use Rattle.std.specs.Prelude.{◌≡◌, [], ℕ, None, List, true, false, length, IfOk};
 ghost use Rattle.std.specs.Str.{IsCharBoundary};
 ghost use Rattle.markdown_base.specs.BlockTree.{tree_of};
 ghost use Rattle.markdown_base.specs.Forest.{Forest};
@@ -9,8 +9,10 @@ ghost use Rattle.markdown_block_rules.specs.BlockGrowth.{Block};
 ghost use Rattle.markdown_lines.specs.BlockBeginnings.{Source};
 ghost use Rattle.markdown_lines.specs.SourceLines.{SourceLine};
 ghost use Rattle.markdown_lines.specs.declared.block_start.Before.TheVariants as before;
+ghost use Rattle.markdown_lines.specs.declared.block_start.BlockStart.{BlockStart};
 ghost use Rattle.markdown_lines.specs.declared.block_start.BlockStart.TheVariants as start;
-ghost use Rattle.markdown_plain.specs.Beginning.{GoesInside, IsFound, IsInside};
+ghost use Rattle.markdown_lines.specs.declared.line_reader.LineReader.{LineReader};
+ghost use Rattle.markdown_plain.specs.Beginning.{FoundStands, GoesInside, HasBegun, IsFound, IsInside};
 ghost use Rattle.markdown_plain.specs.Fitting.{BracesStand, IfFitted};
 ghost use Rattle.markdown_plain.specs.Frames.{Frame};
 ghost use Rattle.markdown_lines.specs.HeldLines.{IsHeldLine};
@@ -277,7 +279,16 @@ impl<'a> Pass<'a> {
     /// Reads the block that begins here. Returns whether the rest of the line is still to be read: inside a container,
     /// or once more.
     fn read_block(&mut self, rest: &mut LineRest<'a>) -> Result<bool, AllocError>
-        ensures { IfOk result (λ _. self.new.placing.builder.text ≡ self.old.placing.builder.text) }
+        ensures text { IfOk result (λ _. self.new.placing.builder.text
+            ≡ self.old.placing.builder.text) }
+        ensures inside { IfOk result (λ more. (s : Source) (frames : List Frame)
+            (source : SourceLine) (blocks : Forest Block)
+            → IsInside s self.old rest.old frames source blocks → rest.old.unless_row ≡ None
+            → ((at : ℕ) (start : BlockStart) (reader : LineReader)
+            → IsFound s (record rest.old { reader = reader }) source at start
+            → FoundStands self.old.placing.builder.text rest.old.line at start)
+            → IfFitted self.old.placing self.new.placing
+            (HasBegun s self.new rest.new blocks more)) }
     {
         if self.reads_table(rest)? {
             return Ok(false);
@@ -313,7 +324,10 @@ impl<'a> Pass<'a> {
 
     /// Reads the delimiter row of a table, where tables are read, and returns whether the rest of the line is one.
     fn reads_table(&mut self, rest: &LineRest<'a>) -> Result<bool, AllocError>
-        ensures { IfOk result (λ _. self.new.placing.builder.text ≡ self.old.placing.builder.text) }
+        ensures text { IfOk result (λ _. self.new.placing.builder.text
+            ≡ self.old.placing.builder.text) }
+        ensures none { IfOk result (λ is. rest.now.before ≡ before.NoParagraph → (is ≡ false)
+            × (self.new ≡ self.old)) }
     {
         match rest.before {
             Before::Reached if is_read(Options::ENABLE_TABLES, self.options) => {
@@ -327,6 +341,7 @@ impl<'a> Pass<'a> {
     fn skip_blank(&mut self, line: Line) -> Result<bool, AllocError>
         ensures text { IfOk result (λ _. self.new.placing.builder.text
             ≡ self.old.placing.builder.text) }
+        ensures more { IfOk result (λ more. more ≡ false) }
         ensures inside { IfOk result (λ _. (s : Source) (rest : LineRest) (frames : List Frame)
             (source : SourceLine) (at : ℕ) (blocks : Forest Block)
             → IsInside s self.old rest frames source blocks → rest.line ≡ line
@@ -341,6 +356,7 @@ impl<'a> Pass<'a> {
     fn read_text(&mut self, rest: &LineRest<'a>, at: usize) -> Result<bool, AllocError>
         ensures text { IfOk result (λ _. self.new.placing.builder.text
             ≡ self.old.placing.builder.text) }
+        ensures more { IfOk result (λ more. more ≡ false) }
         ensures inside { IfOk result (λ _. (s : Source) (frames : List Frame) (source : SourceLine)
             (blocks : Forest Block) → IsInside s self.old rest.now frames source blocks
             → IsFound s rest.now source at start.Text
@@ -361,6 +377,7 @@ impl<'a> Pass<'a> {
     fn read_indented(&mut self, rest: &LineRest<'a>, code: Position) -> Result<bool, AllocError>
         ensures text { IfOk result (λ _. self.new.placing.builder.text
             ≡ self.old.placing.builder.text) }
+        ensures more { IfOk result (λ more. more ≡ false) }
         ensures inside { IfOk result (λ _. (s : Source) (frames : List Frame) (source : SourceLine)
             (at : ℕ) (blocks : Forest Block) → IsInside s self.old rest.now frames source blocks
             → IsFound s rest.now source at (start.IndentedCode code)
@@ -374,6 +391,7 @@ impl<'a> Pass<'a> {
 
     /// Moves to a place inside the container that was opened last, and returns true.
     fn go_inside(&self, rest: &mut LineRest<'a>, inside: Position) -> bool
+        ensures more { result ≡ true }
         ensures goes { rest.new ≡ record rest.old {
           position = inside;
           depth = length self.now.placing.builder.blocks;
@@ -395,6 +413,7 @@ impl<'a> Pass<'a> {
     ) -> Result<bool, AllocError>
         ensures text { IfOk result (λ _. self.new.placing.builder.text
             ≡ self.old.placing.builder.text) }
+        ensures more { IfOk result (λ more. more ≡ true) }
         ensures inside { IfOk result (λ _. (s : Source) (frames : List Frame) (source : SourceLine)
             (blocks : Forest Block) → IsInside s self.old rest.old frames source blocks
             → IsFound s rest.old source at (start.Quote inside)
@@ -416,6 +435,7 @@ impl<'a> Pass<'a> {
     ) -> Result<bool, AllocError>
         ensures text { IfOk result (λ _. self.new.placing.builder.text
             ≡ self.old.placing.builder.text) }
+        ensures more { IfOk result (λ more. more ≡ false) }
         ensures inside { IfOk result (λ _. (s : Source) (frames : List Frame) (source : SourceLine)
             (blocks : Forest Block) → IsInside s self.old rest.now frames source blocks
             → IsFound s rest.now source at (start.Alert kind)
@@ -437,6 +457,7 @@ impl<'a> Pass<'a> {
     ) -> Result<bool, AllocError>
         ensures text { IfOk result (λ _. self.new.placing.builder.text
             ≡ self.old.placing.builder.text) }
+        ensures more { IfOk result (λ more. more ≡ false) }
         ensures inside { IfOk result (λ _. (s : Source) (frames : List Frame) (source : SourceLine)
             (blocks : Forest Block) → IsInside s self.old rest.now frames source blocks
             → IsFound s rest.now source at (start.Heading heading)
@@ -459,6 +480,7 @@ impl<'a> Pass<'a> {
     ) -> Result<bool, AllocError>
         ensures text { IfOk result (λ _. self.new.placing.builder.text
             ≡ self.old.placing.builder.text) }
+        ensures more { IfOk result (λ more. more ≡ false) }
         ensures inside { IfOk result (λ _. (s : Source) (frames : List Frame) (source : SourceLine)
             (blocks : Forest Block) → IsInside s self.old rest.now frames source blocks
             → IsFound s rest.now source at (start.Fence opening)
@@ -475,6 +497,7 @@ impl<'a> Pass<'a> {
     fn read_html(&mut self, rest: &LineRest<'a>, kind: HtmlKind) -> Result<bool, AllocError>
         ensures text { IfOk result (λ _. self.new.placing.builder.text
             ≡ self.old.placing.builder.text) }
+        ensures more { IfOk result (λ more. more ≡ false) }
         ensures inside { IfOk result (λ _. (s : Source) (frames : List Frame) (source : SourceLine)
             (at : ℕ) (blocks : Forest Block) → IsInside s self.old rest.now frames source blocks
             → IsFound s rest.now source at (start.Html kind)
@@ -502,6 +525,7 @@ impl<'a> Pass<'a> {
     ) -> Result<bool, AllocError>
         ensures text { IfOk result (λ _. self.new.placing.builder.text
             ≡ self.old.placing.builder.text) }
+        ensures more { IfOk result (λ more. more ≡ true) }
         ensures inside { IfOk result (λ _. (s : Source) (frames : List Frame) (source : SourceLine)
             (blocks : Forest Block) → IsInside s self.old rest.old frames source blocks
             → IsFound s rest.old source at (start.Footnote label.entry inside)
@@ -530,6 +554,7 @@ impl<'a> Pass<'a> {
     fn read_break(&mut self, rest: &LineRest<'a>, at: usize) -> Result<bool, AllocError>
         ensures text { IfOk result (λ _. self.new.placing.builder.text
             ≡ self.old.placing.builder.text) }
+        ensures more { IfOk result (λ more. more ≡ false) }
         ensures inside { IfOk result (λ _. (s : Source) (frames : List Frame) (source : SourceLine)
             (blocks : Forest Block) → IsInside s self.old rest.now frames source blocks
             → IsFound s rest.now source at start.ThematicBreak
@@ -551,6 +576,7 @@ impl<'a> Pass<'a> {
     ) -> Result<bool, AllocError>
         ensures text { IfOk result (λ _. self.new.placing.builder.text
             ≡ self.old.placing.builder.text) }
+        ensures more { IfOk result (λ more. more ≡ true) }
         ensures inside { IfOk result (λ _. (s : Source) (frames : List Frame) (source : SourceLine)
             (blocks : Forest Block) → IsInside s self.old rest.old frames source blocks
             → IsFound s rest.old source at (start.Item item)
