@@ -7,6 +7,11 @@ use Rattle.markdown_lines.specs.Positions.{left_from}
 use Rattle.markdown_lines.specs.declared.block_start.Before.{Before}
 use Rattle.markdown_lines.specs.declared.position.Position.{Position}
 use Rattle.markdown_plain.specs.declared.pass.Pass.{Pass}
+use Rattle.std.specs.List.{list_all}
+use Rattle.markdown_lines.specs.Lines.{is_space_or_tab}
+use Rattle.markdown_plain.specs.Containers.{content_of as left_content}
+use Rattle.markdown_plain.specs.Standing.{AreOpenedBefore, IsOpenedBefore}
+use Rattle.markdown_plain.proofs.ReachedFramesLemmas.{blank_at, end_of}
 use Rattle.markdown_plain.specs.Closing.{AreItemsInLists}
 use Rattle.markdown_plain.specs.Paragraphs.{source_of}
 use Rattle.markdown_plain.specs.Settled.{IsBuilt}
@@ -266,14 +271,38 @@ pub record OpensIn (s : Source) (now : Pass) (outer : List Frame) (b : Block) : 
 pub record AreInLine (line : Line) (frames : List Frame) : Type 0 where
   pub quotes : QuotesEnd line.next frames
   pub items : AreItemsOpenedIn line frames
+  pub earlier : AreOpenedBefore line.next frames
+
+-- the content of a rest that is not blank begins before its end
+content_before : (left : LineLeft) → list_all is_space_or_tab left.bytes ≡ false
+    → left_content left < end_of left
+content_before left filled =
+    let order = blank_at left ∙ filled in grind (arith, nat_tests, order)
+
+-- a block that begins with such a rest begins before the end of its line
+earlier_here : (s : Source) (rest : LineRest) (source : SourceLine) (kind : Kind) → IsLeft s rest source
+    → is_blank_rest source ≡ false → IsOpenedBefore rest.line.next (begun_block source kind)
+earlier_here s rest source kind left filled =
+    let before = content_before source.left filled in
+    record {
+      start = omega (arith, before, left.is.stop, left.is.ends);
+      first = omega (arith, left.is.rest.next);
+    }
+
+earlier_more : (to : ℕ) (frames : List Frame) (b : Block) → AreOpenedBefore to frames → IsOpenedBefore to b
+    → AreOpenedBefore to (with_frame frames nil b)
+earlier_more to [] b are is = (λ item. is, tt)
+earlier_more to (f ∷ frames) b are is = (are.0, earlier_more to frames b are.1 is)
 
 -- one more that begins with the rest of a line
 pub in_line_more : (s : Source) (rest : LineRest) (source : SourceLine) (kind : Kind) (frames : List Frame)
-    → IsLeft s rest source → AreInLine rest.line frames
+    → IsLeft s rest source → is_blank_rest source ≡ false → AreInLine rest.line frames
     → AreInLine rest.line (with_frame frames nil (begun_block source kind))
-in_line_more s rest source kind frames left are = record {
+in_line_more s rest source kind frames left filled are = record {
   quotes = quotes_more rest.line.next frames nil (begun_block source kind) are.quotes (sym left.is.rest.next);
   items = items_more rest.line frames nil (begun_block source kind) are.items (opened_here s rest source kind left);
+  earlier = earlier_more rest.line.next frames (begun_block source kind) are.earlier
+      (earlier_here s rest source kind left filled);
 }
 
 -- one that is no list, where a block may begin
@@ -291,7 +320,7 @@ opened_in s now frames b may built holds = record {
 -- the rest of the line is read inside it
 pub container_inside : (s : Source) (now : Pass) (rest next : LineRest) (outer : List Frame) (source : SourceLine)
     (blocks : Forest Block) (inside : Position) (kind : Kind) → IsLeft s rest source
-    → next ≡ record rest {
+    → is_blank_rest source ≡ false → next ≡ record rest {
       position = inside;
       depth = length now.placing.builder.blocks;
       before = paragraph.NoParagraph;
@@ -301,10 +330,10 @@ pub container_inside : (s : Source) (now : Pass) (rest next : LineRest) (outer :
     → blocks ≡ rebuilt outer (node (begun_block source kind)
     (begun_in_rest s (rest_inside (left_at rest.reader inside) source)) nil)
     → AreItemsInLists false blocks → GoesInside s now next blocks
-container_inside s now rest next outer source blocks inside kind left goes is opens are whole items =
+container_inside s now rest next outer source blocks inside kind left filled goes is opens are whole items =
     let b = begun_block source kind in
     let f : Frame = record { before = nil; block = b } in
-    let more = in_line_more s rest source kind outer left are in
+    let more = in_line_more s rest source kind outer left filled are in
     subst (λ (r : LineRest). GoesInside s now r blocks) (sym goes) (record {
       frames = with_frame outer nil b;
       source = rest_inside (left_at rest.reader inside) source;
@@ -321,6 +350,7 @@ container_inside s now rest next outer source blocks inside kind left goes is op
           quotes = more.quotes;
           items = more.items;
           first = first_more outer f 0 ∙ sym left.is.rest.next;
+          earlier = more.earlier;
         };
         left = left_inside s rest source inside (length now.placing.builder.blocks) paragraph.NoParagraph left is;
         inner = refl;

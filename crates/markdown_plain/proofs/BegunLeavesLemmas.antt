@@ -43,7 +43,9 @@ use Rattle.markdown_plain.specs.Frames.{Frame, rebuilt}
 use Rattle.markdown_plain.specs.OpenLeaves.{IsLeafIn, IsLineRest, IsOpenIn, IsPlaced, is_leaf, leaf_block}
 use Rattle.markdown_plain.specs.Paragraphs.{lines_end, source_of}
 use Rattle.markdown_plain.specs.Settled.{EmptyKnown, EmptyKnownIn, IsBuilt, IsLooseAs, IsLooseBefore, QuotesEnd}
-use Rattle.markdown_plain.specs.Standing.{HoldsBlanks, IsLeafKind, PlacesFor, PlacesLast, with_last}
+use Rattle.markdown_plain.specs.Standing.{AreOpenedBefore, HoldsBlanks, IsLeafKind, MetadataAlone, PlacesFor, PlacesLast}
+use Rattle.markdown_plain.specs.Standing.{is_metadata, with_last}
+use Rattle.std.proofs.lemmas.Bool.{true≢false}
 use Rattle.markdown_plain.proofs.BegunBlocksLemmas.{MayBegin, source_kept}
 use Rattle.markdown_plain.proofs.LastBlocksLemmas.{is_over, leaf_is_over, nothing_is_over}
 
@@ -96,10 +98,11 @@ none_held lines to none = subst (λ (ls : List HeldLine). lines_end ls ≤ to) (
 -- the line is placed, by a block that is the last, ended or not
 pub line_places : (s : Source) (now : Pass) (to : ℕ) (frames : List Frame) (blocks : Forest Block) (b : Block)
     (inside : Forest Block) (last : Option Block) → with_last inside last ≡ leaf_block b → IsLeafOf b
-    → source_of now ≡ s → PlacesLast s now frames inside last → QuotesEnd to frames
-    → IsLooseBefore now.looseness frames nil → lines_end now.lines.items ≤ to
+    → source_of now ≡ s → PlacesLast s now frames inside last → MetadataAlone last frames
+    → QuotesEnd to frames → AreOpenedBefore to frames → IsLooseBefore now.looseness frames nil
+    → now.blanks.items ≡ [] → lines_end now.lines.items ≤ to
     → blocks ≡ rebuilt frames (leaf_block b) → AreItemsInLists false blocks → PlacesFor s now to blocks
-line_places s now to frames blocks b inside last is leaf source unended quotes loose before begins items =
+line_places s now to frames blocks b inside last is leaf source unended alone quotes earlier loose blanks before begins items =
     let whole : blocks ≡ rebuilt frames (with_last inside last) = begins ∙ ap (rebuilt frames) (sym is) in
     record {
       frames = frames;
@@ -114,6 +117,9 @@ line_places s now to frames blocks b inside last is leaf source unended quotes l
             (leaf_loosens now.looseness frames b leaf.filled loose);
         filled = ap (ends_blank false) is ∙ leaf.ends;
         before = before;
+        unheld = λ e. blanks;
+        earlier = earlier;
+        alone = alone;
       };
       whole = whole;
     }
@@ -121,11 +127,11 @@ line_places s now to frames blocks b inside last is leaf source unended quotes l
 leaf_places : (s : Source) (old now : Pass) (rest : LineRest) (frames : List Frame) (source : SourceLine)
     (blocks : Forest Block) (b : Block) (inside : Forest Block) (last : Option Block)
     → IsInside s old rest frames source blocks → MayBegin s now frames → IsLeafOf b
-    → with_last inside last ≡ leaf_block b → PlacesLast s now frames inside last
+    → with_last inside last ≡ leaf_block b → PlacesLast s now frames inside last → MetadataAlone last frames
     → begun_in_rest s source ≡ leaf_block b → PlacesFor s now rest.line.next blocks
-leaf_places s old now rest frames source blocks b inside last state may leaf is unended begins =
-    line_places s now rest.line.next frames blocks b inside last is leaf may.source unended state.opened.quotes
-    may.loose (none_held now.lines.items rest.line.next may.lines) (state.whole ∙ ap (rebuilt frames) begins)
+leaf_places s old now rest frames source blocks b inside last state may leaf is unended alone begins =
+    line_places s now rest.line.next frames blocks b inside last is leaf may.source unended alone state.opened.quotes
+    state.opened.earlier may.loose may.blanks (none_held now.lines.items rest.line.next may.lines) (state.whole ∙ ap (rebuilt frames) begins)
     state.items
 
 -- by one that has ended
@@ -135,17 +141,17 @@ pub ended_places : (s : Source) (old now : Pass) (rest : LineRest) (frames : Lis
     → begun_in_rest s source ≡ leaf_block b → PlacesFor s now rest.line.next blocks
 ended_places s old now rest frames source blocks b state may leaf over placed begins =
     leaf_places s old now rest frames source blocks b (leaf_block b) None state may leaf refl
-    (placed, may.lines, leaf_is_over s nil b over) begins
+    (placed, may.lines, leaf_is_over s nil b over) tt begins
 
 -- by one that is open
 pub open_places : (s : Source) (old now : Pass) (rest : LineRest) (frames : List Frame) (source : SourceLine)
     (blocks : Forest Block) (b : Block) → IsInside s old rest frames source blocks → MayBegin s now frames
-    → IsLeafOf b → is_leaf b.kind ≡ true → IsOpenIn s now.placing.builder frames nil true b
+    → IsLeafOf b → is_leaf b.kind ≡ true → is_metadata b.kind ≡ false → IsOpenIn s now.placing.builder frames nil true b
     → IsLeafKind now.leaf b.kind → HoldsBlanks now.blanks.items b.kind
     → begun_in_rest s source ≡ leaf_block b → PlacesFor s now rest.line.next blocks
-open_places s old now rest frames source blocks b state may leaf kind opens known held begins =
+open_places s old now rest frames source blocks b state may leaf kind other opens known held begins =
     leaf_places s old now rest frames source blocks b nil (Some b) state may leaf refl
-    (None, (kind, opens), (known, held)) begins
+    (None, (kind, opens), (known, held, may.lines)) (λ is. absurd (true≢false (sym is ∙ other))) begins
 
 -- ---- nothing
 
@@ -189,6 +195,9 @@ nothing_places s old now rest frames source at blocks state found same steps =
             opened.loose;
         filled = refl;
         before = none_held now.lines.items rest.line.next lines;
+        unheld = λ e. ap (λ (p : Pass). p.blanks.items) same ∙ opened.blanks;
+        earlier = opened.earlier;
+        alone = tt;
       };
       whole = whole;
     }
@@ -205,7 +214,7 @@ html_places s old now rest frames source blocks kind true b is state may placed 
     (record { filled = ap is_blank_block is; ends = ap (block_ends_blank false) is }) (ap is_over is) placed begins
 html_places s old now rest frames source blocks kind false b is state may opens known begins =
     open_places s old now rest frames source blocks b state may
-    (record { filled = ap is_blank_block is; ends = ap (block_ends_blank false) is }) (ap is_leaf is) opens
+    (record { filled = ap is_blank_block is; ends = ap (block_ends_blank false) is }) (ap is_leaf is) (ap is_metadata is) opens
     (subst (λ how. IsLeafKind how b.kind) (sym known) (subst (IsLeafKind (leaf.Html kind)) (sym is) refl))
     (subst (HoldsBlanks now.blanks.items) (sym is) may.blanks) begins
 

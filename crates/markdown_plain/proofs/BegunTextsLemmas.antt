@@ -24,7 +24,7 @@ use Rattle.markdown_plain.specs.HeldSources.{AreInOrder, IsTextLine}
 use Rattle.markdown_plain.specs.OpenLeaves.{BeginsText, HoldsParagraph, IsLineRest, leaf_block}
 use Rattle.markdown_plain.specs.Paragraphs.{has_paragraph, lines_end, source_of}
 use Rattle.markdown_plain.specs.Settled.{IsLooseBefore, QuotesEnd}
-use Rattle.markdown_plain.specs.Standing.{PlacesFor}
+use Rattle.markdown_plain.specs.Standing.{AreOpenedBefore, PlacesFor, is_metadata}
 use Rattle.markdown_plain.proofs.BegunBlocksLemmas.{begun_block}
 use Rattle.markdown_plain.proofs.BegunLeavesLemmas.{line_places}
 
@@ -100,12 +100,13 @@ end_begins text position line source is filled =
 pub text_places : (s : Source) (now : Pass) (line : Line) (at : ℕ) (frames : List Frame) (blocks : Forest Block)
     (b : Block) (source : SourceLine) → b.kind ≡ was.paragraph_leaf (source ∷ []) → source_of now ≡ s
     → HoldsParagraph s now frames nil b (source ∷ []) → QuotesEnd line.next frames
-    → IsLooseBefore now.looseness frames nil → now.lines.items ≡ held_from line at ∷ []
+    → AreOpenedBefore line.next frames → IsLooseBefore now.looseness frames nil → now.blanks.items ≡ [] → now.lines.items ≡ held_from line at ∷ []
     → blocks ≡ rebuilt frames (leaf_block b) → AreItemsInLists false blocks → PlacesFor s now line.next blocks
-text_places s now line at frames blocks b source kind same holds quotes loose lines begins items =
+text_places s now line at frames blocks b source kind same holds quotes earlier loose blanks lines begins items =
     line_places s now line.next frames blocks b nil (Some b) refl
     (record {
       filled = ap is_blank_block kind;
       ends = ap (block_ends_blank false) kind;
-    }) same (Some (source ∷ []), holds, tt) quotes loose
+    }) same (Some (source ∷ []), holds, tt)
+    (λ is. absurd (true≢false (sym is ∙ ap is_metadata kind))) quotes earlier loose blanks
     (subst (λ (ls : List HeldLine). lines_end ls ≤ line.next) (sym lines) (omega arith)) begins items

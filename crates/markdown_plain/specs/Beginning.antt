@@ -10,7 +10,7 @@ use Rattle.markdown_lines.specs.HeldLines.{IsHeldLine}
 use Rattle.markdown_lines.specs.declared.block_start.BlockStart.{BlockStart}
 use Rattle.markdown_lines.specs.declared.block_start.BlockStart.TheVariants as start
 use Rattle.markdown_plain.specs.Fitting.{BracesStand}
-use Rattle.markdown_plain.specs.Standing.{PlacesFor}
+use Rattle.markdown_plain.specs.Standing.{AreOpenedBefore, PlacesFor}
 use Rattle.markdown_lines.specs.declared.line.Line.{Line}
 use Rattle.markdown_block_rules.specs.BlockGrowth.{Block, begun_by, content_of}
 use Rattle.markdown_plain.specs.declared.block_pass.LineRest.{LineRest}
@@ -39,14 +39,14 @@ pub record IsFound (s : Source) (rest : LineRest) (source : SourceLine) (at : �
   pub begins : at ≡ content_of source
 
 -- the rest of a line from a byte offset on, which is a line of text or HTML
-abbrev pub IsTextFrom : List ℕ → Line → ℕ → Type 0
-IsTextFrom text line at =
+abbrev pub StandsAsText : List ℕ → Line → ℕ → Type 0
+StandsAsText text line at =
     IsHeldLine text (record { start = at; stop = line.stop; next = line.next; owed = 0 })
 
 -- what was found lies between characters of the text
 abbrev pub FoundStands : List ℕ → Line → ℕ → BlockStart → Type 0
-FoundStands text line at start.Text = IsTextFrom text line at
-FoundStands text line at (start.Html kind) = IsTextFrom text line at
+FoundStands text line at start.Text = StandsAsText text line at
+FoundStands text line at (start.Html kind) = StandsAsText text line at
 FoundStands text line at (start.Heading heading) = BracesStand text heading.braces
 FoundStands text line at (start.Fence opening) = InfoStands text opening
 FoundStands text line at other = Unit
@@ -66,6 +66,7 @@ pub record IsOpened (s : Source) (pass : Pass) (line : Line) (frames : List Fram
   pub quotes : QuotesEnd line.next frames
   pub items : AreItemsOpenedIn line frames
   pub first : placed_end 0 frames nil ≡ line.next
+  pub earlier : AreOpenedBefore line.next frames
 
 -- The rest of a line is still to be read inside these containers, and makes the blocks so far these ones.
 pub record IsInside (s : Source) (pass : Pass) (rest : LineRest) (frames : List Frame) (source : SourceLine)

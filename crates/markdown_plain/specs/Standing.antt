@@ -1,9 +1,11 @@
 -- What the pass stands for between two lines, where no table is open: the blocks of the lines so far. And what it stands
 -- for once a line that is not blank is placed, before that is recorded.
-use Rattle.std.specs.Prelude.{◌≡◌, ℕ, ◌≤◌, true, false, List, [], ◌++◌, Option, Some, None}
+use Rattle.std.specs.Prelude.{◌≡◌, ℕ, ◌<◌, ◌≤◌, Bool, true, false, List, [], ◌∷◌, ◌++◌, Option, Some, None}
+use Rattle.std.specs.Str.{IsCharBoundary}
 use Rattle.markdown_base.specs.Forest.{Forest}
 use Rattle.markdown_builder.specs.TreeLevels.{followed_by}
 use Rattle.markdown_lines.specs.BlockBeginnings.{Source}
+use Rattle.markdown_lines.specs.Lines.{IsLineFrom}
 use Rattle.markdown_lines.specs.SourceLines.{SourceLine, stop_of}
 use Rattle.markdown_lines.specs.declared.held_line.HeldLine.{HeldLine}
 use Rattle.markdown_lines.specs.declared.line.Line.{Line}
@@ -15,7 +17,7 @@ use Rattle.markdown_plain.specs.declared.pass.LeafKind.TheVariants as leaf
 use Rattle.markdown_plain.specs.declared.pass.Pass.{Pass}
 use Rattle.markdown_plain.specs.Closing.{AreItemsInLists, MayClose, MayEnd}
 use Rattle.markdown_plain.specs.Containers.{whole_line}
-use Rattle.markdown_plain.specs.Frames.{AreOver, Frame, rebuilt}
+use Rattle.markdown_plain.specs.Frames.{AreOver, Frame, is_item, rebuilt}
 use Rattle.markdown_plain.specs.HeldSources.{AreHeld}
 use Rattle.markdown_plain.specs.OpenLeaves.{IsPlaced, IsUnended, leaf_block}
 use Rattle.markdown_plain.specs.Paragraphs.{lines_end, source_of}
@@ -40,10 +42,11 @@ HoldsBlanks held (was.indented_leaf lines) =
     (blank : List SourceLine) × (lines ≡ code_lines lines ++ blank) × AreHeld held blank
 HoldsBlanks held other = held ≡ []
 
--- the pass remembers how the last block goes on: a paragraph's lines are held back, a leaf is open
+-- the pass remembers how the last block goes on: a paragraph's lines are held back, or a leaf is open and none are
 abbrev pub KnowsLast : Pass → Block → Option (List SourceLine) → Type 0
 KnowsLast pass b (Some sources) = Unit
-KnowsLast pass b None = IsLeafKind pass.leaf b.kind × HoldsBlanks pass.blanks.items b.kind
+KnowsLast pass b None =
+    IsLeafKind pass.leaf b.kind × HoldsBlanks pass.blanks.items b.kind × (pass.lines.items ≡ [])
 
 -- which block has not ended
 abbrev pub HasLast : Source → Pass → List Frame → Forest Block → Option Block → Type 0
@@ -51,6 +54,27 @@ HasLast s pass frames inside None =
     MayClose s pass frames inside × (pass.lines.items ≡ []) × AreOver s inside
 HasLast s pass frames inside (Some b) =
     (held : Option (List SourceLine)) × MayEnd s pass frames inside b held × KnowsLast pass b held
+
+-- a block was opened in a line before a byte offset
+pub record IsOpenedBefore (from : ℕ) (b : Block) : Type 0 where
+  pub start : b.start < from
+  pub first : b.first ≤ from
+
+-- this is so for each open item
+abbrev pub AreOpenedBefore : ℕ → List Frame → Type 0
+AreOpenedBefore from [] = Unit
+AreOpenedBefore from (f ∷ frames) =
+    (is_item f.block.kind ≡ true → IsOpenedBefore from f.block) × AreOpenedBefore from frames
+
+-- the kind is that of metadata
+abbrev pub is_metadata : Kind → Bool
+is_metadata (was.metadata_leaf kind closed lines) = true
+is_metadata other = false
+
+-- metadata is open in no container
+abbrev pub MetadataAlone : Option Block → List Frame → Type 0
+MetadataAlone None frames = Unit
+MetadataAlone (Some b) frames = is_metadata b.kind ≡ true → frames ≡ []
 
 -- Between two lines, of which the second begins at a byte offset: these containers are open, with these blocks in the
 -- innermost, the last of which has not ended, or all of them have.
@@ -61,6 +85,9 @@ pub record Stands (s : Source) (pass : Pass) (frames : List Frame) (inside : For
   pub loose : IsLooseAs pass.looseness frames (with_last inside last)
   pub blanks : BlanksKnown pass.looseness.blank_from 0 frames (with_last inside last)
   pub before : lines_end pass.lines.items ≤ from
+  pub unheld : pass.placing.builder.leaf ≡ false → pass.blanks.items ≡ []
+  pub earlier : AreOpenedBefore from frames
+  pub alone : MetadataAlone last frames
 
 -- the pass stands for these blocks between two lines
 pub record StandsFor (s : Source) (pass : Pass) (from : ℕ) (blocks : Forest Block) : Type 0 where
@@ -77,6 +104,8 @@ pub record IsSource (pass : Pass) (line : Line) (source : SourceLine) : Type 0 w
   pub next : line.next ≡ source.next
   pub outermost : source.outermost ≡ true
   pub indent : source.indent ≡ None
+  pub from : IsLineFrom pass.placing.builder.text line.start line
+  pub boundary : IsCharBoundary pass.placing.builder.text line.start
 
 -- which block has not ended, once a line is placed
 abbrev pub PlacesLast : Source → Pass → List Frame → Forest Block → Option Block → Type 0
@@ -96,6 +125,9 @@ pub record Places (s : Source) (pass : Pass) (frames : List Frame) (inside : For
   pub loose : IsLooseAs pass.looseness frames (with_last inside last)
   pub filled : ends_blank false (with_last inside last) ≡ false
   pub before : lines_end pass.lines.items ≤ to
+  pub unheld : pass.placing.builder.leaf ≡ false → pass.blanks.items ≡ []
+  pub earlier : AreOpenedBefore to frames
+  pub alone : MetadataAlone last frames
 
 -- the pass has placed a line that makes these blocks
 pub record PlacesFor (s : Source) (pass : Pass) (to : ℕ) (blocks : Forest Block) : Type 0 where

@@ -44,8 +44,8 @@ returns-clause-inside c = λ s frames source blocks state found fitted.
     let filled = found_filled s rest source c.args.at alert begins state.before found refl in
     let texts = ap (λ (r : Source). r.text) after.source in
     let loose = loose_inside quote.looseness frames a (record { filled = refl; free = refl; empty = refl }) after.loose in
-    let more = in_line_more s rest source kind frames state.left
-    (record { quotes = opened.quotes; items = opened.items }) in
+    let more = in_line_more s rest source kind frames state.left filled
+    (record { quotes = opened.quotes; items = opened.items; earlier = opened.earlier }) in
     let none = none_open quote after.lines in
     let there = (c.in_ok-add_text.ensures.begins none fitted).0 in
     let opens = c.in_ok-open_quote.ensures.frame s frames nil a may.1 opened.free.free (sym found.begins) refl there in
@@ -61,7 +61,8 @@ returns-clause-inside c = λ s frames source blocks state found fitted.
     (end_begins s.text rest.position rest.line source state.left.is filled)) more.items in (
       subst (λ (p : Pass). AllFitted p.placing) made.0 opens.0,
       text_places s now rest.line rest.line.stop inner blocks b (end_of_line source) refl
-          (source_kept s quote now bytes options after.source) paragraph more.quotes same.1
+          (source_kept s quote now bytes options after.source) paragraph more.quotes more.earlier same.1
+          (ap (λ (p : Pass). p.blanks.items) same.0 ∙ after.blanks)
           (c.in_ok-add_text.ensures.line
           ∙ ap (λ (has : Bool). (if has then quote.lines.items else []) ++ held ∷ []) none)
           (state.whole ∙ (ap (rebuilt frames) (begun_found s rest source c.args.at alert begins state.before found refl)

@@ -3,7 +3,7 @@ use Rattle.std.proofs.Common.{refl, sym, subst}
 use Rattle.std.proofs.lemmas.Result.{IfOk-weaker}
 use Rattle.markdown_lines.specs.BlockBeginnings as line
 use Rattle.markdown_lines.specs.declared.block_start.BlockStart.TheVariants as start
-use Rattle.markdown_plain.specs.Beginning.{HasBegun, IsTextFrom}
+use Rattle.markdown_plain.specs.Beginning.{HasBegun, StandsAsText}
 use Rattle.markdown_plain.specs.Fitting.{AllFitted, BracesStand}
 use Rattle.markdown_plain.specs.OpenLeaves.{InfoStands}
 use Rattle.markdown_plain.specs.declared.block_pass.LineRest.{LineRest}
@@ -37,7 +37,7 @@ returns-in-Text-clause-inside c =
     c.in_ok-begun.begun.start start.Text kept c.in-Text.is c.in_ok-begun.ensures.same
     c.in_ok-begun.ensures.begins c.in_ok-begun.ensures.at state in
     let done = told.0 s frames source blocks both.0 both.1
-    (subst (λ (p : Pass). IsTextFrom p.placing.builder.text rest.line at) (sym kept) (stands at start.Text c.beginning.new.self both.1)) fitted in (
+    (subst (λ (p : Pass). StandsAsText p.placing.builder.text rest.line at) (sym kept) (stands at start.Text c.beginning.new.self both.1)) fitted in (
       subst (λ (p : Pass). AllFitted p.placing) kept done.0,
       subst (HasBegun s _ (record rest { reader = c.beginning.new.self }) blocks) (sym told.1) done.1,
     )) (both_ok c.read_text.result _ _ c.read_text.ensures.inside c.read_text.ensures.more)
@@ -126,7 +126,7 @@ returns-in-Html-clause-inside c =
     c.in_ok-begun.begun.start (start.Html c.in-Html.kind) kept c.in-Html.is c.in_ok-begun.ensures.same
     c.in_ok-begun.ensures.begins c.in_ok-begun.ensures.at state in
     let done = told.0 s frames source at blocks both.0 both.1
-    (subst (λ (p : Pass). IsTextFrom p.placing.builder.text rest.line at) (sym kept) (stands at (start.Html c.in-Html.kind) c.beginning.new.self both.1)) fitted in (
+    (subst (λ (p : Pass). StandsAsText p.placing.builder.text rest.line at) (sym kept) (stands at (start.Html c.in-Html.kind) c.beginning.new.self both.1)) fitted in (
       subst (λ (p : Pass). AllFitted p.placing) kept done.0,
       subst (HasBegun s _ (record rest { reader = c.beginning.new.self }) blocks) (sym told.1) done.1,
     )) (both_ok c.read_html.result _ _ c.read_html.ensures.inside c.read_html.ensures.more)

@@ -8,6 +8,7 @@ use Rattle.markdown_lines.specs.declared.block_start.BlockStart.TheVariants as s
 use Rattle.markdown_block_rules.specs.BlockGrowth as was
 use Rattle.markdown_plain.specs.Frames.{rebuilt}
 use Rattle.markdown_plain.specs.declared.pass.Pass.{Pass}
+use Rattle.markdown_plain.proofs.BegunBlocksLemmas.{found_filled}
 use Rattle.markdown_plain.proofs.BegunBlocksLemmas.{begun_block, begun_found, container_inside, opened_in, rest_found}
 use Rattle.markdown_plain.proofs.BegunBlocksLemmas.{source_kept}
 use Rattle.markdown_plain.proofs.pass.Pass.read_footnote.Goals as goal
@@ -27,7 +28,7 @@ returns-clause-inside c = λ s frames source blocks state found fitted.
     fitted in (
       opens.0,
       container_inside s now rest c.go_inside.new.rest frames source blocks c.args.inside kind state.left
-          c.go_inside.ensures.goes
+          (found_filled s rest source c.args.at note begins state.before found refl) c.go_inside.ensures.goes
           (rest_found s rest source c.args.at note begins state.before state.left found refl)
           (opened_in s now frames b (record {
             source = source_kept s old now c.in_ok-open_footnote.ensures.text (ap (λ (p : Pass). p.options) same.0)
@@ -36,7 +37,7 @@ returns-clause-inside c = λ s frames source blocks state found fitted.
             blanks = ap (λ (p : Pass). p.blanks.items) same.0 ∙ opened.blanks;
             loose = same.1;
           }) opens.1 (record { filled = refl; free = refl; empty = refl }))
-          (record { quotes = opened.quotes; items = opened.items })
+          (record { quotes = opened.quotes; items = opened.items; earlier = opened.earlier })
           (state.whole ∙ ap (rebuilt frames) (begun_found s rest source c.args.at note begins state.before found refl))
           state.items,
     )

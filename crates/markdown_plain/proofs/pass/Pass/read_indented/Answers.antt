@@ -45,7 +45,7 @@ returns-clause-inside c = λ s frames source at blocks state found fitted.
     let after = still_may s room now frames may.0
     (keeps_rest room now c.open_indented.ensures.same c.in_ok-open_indented.ensures.text) in (
       subst (λ (p : Pass). AllFitted p.placing) made.0 leaf.0,
-      open_places s old now rest frames source blocks b state after (record { filled = refl; ends = filled }) refl
+      open_places s old now rest frames source blocks b state after (record { filled = refl; ends = filled }) refl refl
           leaf.1 (subst (λ (how : LeafKind). IsLeafKind how kind) (sym c.in_ok-open_indented.ensures.kind) tt)
           (code_holds now.blanks.items l filled after.blanks)
           (begun_found s rest source at indented begins state.before found refl),

@@ -12,6 +12,7 @@ use Rattle.markdown_plain.specs.Frames.{Frame, rebuilt}
 use Rattle.markdown_plain.specs.OpenedFrames.{with_frame}
 use Rattle.markdown_plain.specs.Paragraphs.{source_of}
 use Rattle.markdown_plain.specs.declared.pass.Pass.{Pass}
+use Rattle.markdown_plain.proofs.BegunBlocksLemmas.{found_filled}
 use Rattle.markdown_plain.proofs.BegunBlocksLemmas.{begun_block, begun_found, container_inside, in_line_more}
 use Rattle.markdown_plain.proofs.BegunBlocksLemmas.{rest_found, source_kept}
 use Rattle.markdown_plain.proofs.FramesLemmas.{rebuilt_more}
@@ -34,7 +35,8 @@ returns-clause-inside c = λ s frames source blocks state found fitted.
     (sym found.begins) refl fitted in (
       opens.0,
       container_inside s now rest c.go_inside.new.rest (with_frame frames nil l) source blocks item.inside
-          (was.item_container item.indent) state.left c.go_inside.ensures.goes
+          (was.item_container item.indent) state.left
+          (found_filled s rest source c.args.at (start.Item item) begins state.before found refl) c.go_inside.ensures.goes
           (rest_found s rest source c.args.at (start.Item item) begins state.before state.left found refl)
           (record {
             source = source_kept s old now c.in_ok-open_item.ensures.text (ap (λ (p : Pass). p.options) same.0)
@@ -46,7 +48,8 @@ returns-clause-inside c = λ s frames source blocks state found fitted.
             free = refl;
           })
           (in_line_more s rest source (was.list_container item.marker) frames state.left
-          (record { quotes = opened.quotes; items = opened.items }))
+          (found_filled s rest source c.args.at (start.Item item) begins state.before found refl)
+          (record { quotes = opened.quotes; items = opened.items; earlier = opened.earlier }))
           (state.whole ∙ (ap (rebuilt frames)
           (begun_found s rest source c.args.at (start.Item item) begins state.before found refl)
           ∙ sym (rebuilt_more frames f inner)))

@@ -8,6 +8,7 @@ use Rattle.markdown_block_rules.specs.BlockGrowth as was
 use Rattle.markdown_plain.specs.Fitting.{AllFitted}
 use Rattle.markdown_plain.specs.Frames.{rebuilt}
 use Rattle.markdown_plain.specs.declared.pass.Pass.{Pass}
+use Rattle.markdown_plain.proofs.BegunBlocksLemmas.{found_filled}
 use Rattle.markdown_plain.proofs.BegunBlocksLemmas.{begun_block, begun_found, container_inside, keeps_leaf, opened_in}
 use Rattle.markdown_plain.proofs.BegunBlocksLemmas.{rest_found, room_made, still_may}
 use Rattle.markdown_plain.proofs.pass.Pass.read_quote.Goals as goal
@@ -29,10 +30,11 @@ returns-clause-inside c = λ s frames source blocks state found fitted.
     (keeps_leaf room now c.open_quote.ensures.same c.in_ok-open_quote.ensures.text) in (
       subst (λ (p : Pass). AllFitted p.placing) made.0 opens.0,
       container_inside s now rest c.go_inside.new.rest frames source blocks c.args.inside was.quote_container
-          state.left c.go_inside.ensures.goes
+          state.left
+          (found_filled s rest source c.args.at quote begins state.before found refl) c.go_inside.ensures.goes
           (rest_found s rest source c.args.at quote begins state.before state.left found refl)
           (opened_in s now frames b after opens.1 (record { filled = refl; free = refl; empty = refl }))
-          (record { quotes = opened.quotes; items = opened.items })
+          (record { quotes = opened.quotes; items = opened.items; earlier = opened.earlier })
           (state.whole ∙ ap (rebuilt frames) (begun_found s rest source c.args.at quote begins state.before found refl))
           state.items,
     )

@@ -38,7 +38,8 @@ returns-clause-inside c = λ s frames source blocks state found holds fitted.
       subst (λ (p : Pass). AllFitted p.placing) same.0 fitted,
       text_places s now rest.line c.args.at frames blocks b l refl
           (source_kept s old now (ap (λ (p : Pass). p.placing.builder.text) same.0)
-          (ap (λ (p : Pass). p.options) same.0) opened.source) paragraph opened.quotes same.1
+          (ap (λ (p : Pass). p.options) same.0) opened.source) paragraph opened.quotes opened.earlier same.1
+          (ap (λ (p : Pass). p.blanks.items) same.0 ∙ opened.blanks)
           (c.in_ok-add_text.ensures.line
           ∙ ap (λ (has : Bool). (if has then old.lines.items else []) ++ held ∷ []) none)
           (state.whole ∙ ap (rebuilt frames)
