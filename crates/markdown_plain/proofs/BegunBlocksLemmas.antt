@@ -21,21 +21,18 @@ use Rattle.markdown_plain.proofs.OpenedFramesLemmas.{as_many_containers, innermo
 use Rattle.std.proofs.lemmas.Option.{none-some}
 use Rattle.std.specs.Prelude.{unwrap_or}
 use Rattle.markdown_base.specs.Forest.{Forest, nil, node}
-use Rattle.markdown_builder.specs.TreeLevels.{followed_by}
-use Rattle.markdown_lines.specs.BlockBeginnings as line
 use Rattle.markdown_lines.specs.BlockBeginnings.{Beginning, Source, begins}
 use Rattle.markdown_lines.specs.SourceLines.{SourceLine, is_blank_rest, rest_inside}
 use Rattle.markdown_lines.specs.declared.block_start.Before.TheVariants as paragraph
 use Rattle.markdown_lines.specs.declared.block_start.BlockStart.{BlockStart}
 use Rattle.markdown_lines.specs.declared.line.Line.{Line}
 use Rattle.markdown_lines.specs.BlockStarts.{begins_unless_blank, beginning_found, left_at}
-use Rattle.markdown_block_rules.specs.BlockGrowth as was
 use Rattle.markdown_block_rules.specs.BlockGrowth.{Block, Kind, begun_by, content_of, inside_of, new_blocks}
 use Rattle.markdown_block_rules.specs.BlockRules.{is_blank_block, is_loose}
 use Rattle.markdown_plain.specs.declared.block_pass.LineRest.{LineRest}
 use Rattle.markdown_plain.specs.declared.looseness.Looseness.{Looseness}
 use Rattle.markdown_plain.specs.Beginning.{GoesInside, IsFound, IsLeft, IsOpened, begun_in_rest}
-use Rattle.markdown_plain.specs.Frames.{Frame, is_list, is_quote, rebuilt}
+use Rattle.markdown_plain.specs.Frames.{Frame, is_list, rebuilt}
 use Rattle.markdown_plain.specs.OpenLeaves.{AreItemsOpenedIn, IsOpenedIn}
 use Rattle.markdown_plain.specs.OpenedFrames.{with_frame}
 use Rattle.markdown_plain.specs.Settled.{EmptyKnown, EmptyKnownIn, IsLooseAs, IsLooseBefore, QuotesEnd, are_loose}

@@ -1,5 +1,5 @@
 -- Paragraphs that begin with the rest of a line, inside containers that were opened in this line.
-use Rattle.std.proofs.Common.{◌≡◌, ℕ, ◌<◌, ◌≤◌, ◌+◌, ◌-◌, Bool, true, false, List, [], ◌∷◌, Option, Some, None, refl, sym}
+use Rattle.std.proofs.Common.{◌≡◌, ℕ, ◌<◌, ◌≤◌, ◌+◌, ◌-◌, Bool, true, false, List, [], ◌∷◌, Some, refl, sym}
 use Rattle.std.proofs.Common.{ap, ◌∙◌, subst, arith, length, not, ◌&&◌, ◌==◌, drop, slice_range}
 use Rattle.std.proofs.lemmas.Bool.Decides.{nat_tests}
 use Rattle.std.proofs.lemmas.Bool.{true≢false}
@@ -20,7 +20,7 @@ use Rattle.markdown_block_rules.specs.BlockRules.{block_ends_blank, is_blank_blo
 use Rattle.markdown_plain.specs.declared.pass.Pass.{Pass}
 use Rattle.markdown_plain.specs.Closing.{AreItemsInLists}
 use Rattle.markdown_plain.specs.Frames.{Frame, rebuilt}
-use Rattle.markdown_plain.specs.HeldSources.{AreInOrder, IsTextLine}
+use Rattle.markdown_plain.specs.HeldSources.{AreInOrder}
 use Rattle.markdown_plain.specs.OpenLeaves.{BeginsText, HoldsParagraph, IsLineRest, leaf_block}
 use Rattle.markdown_plain.specs.Paragraphs.{has_paragraph, lines_end, source_of}
 use Rattle.markdown_plain.specs.Settled.{IsLooseBefore, QuotesEnd}

@@ -1,7 +1,6 @@
 -- The paragraph that may follow the alert's marker is the block inside it.
-use Rattle.std.proofs.Common.{◌≡◌, ◌∙◌, ◌++◌, ◌∷◌, [], Bool, refl, sym, subst, ap, if◌then◌else◌}
-use Rattle.std.specs.Prelude.{None, Some}
-use Rattle.markdown_base.specs.Forest.{nil, node}
+use Rattle.std.proofs.Common.{◌∙◌, ◌++◌, ◌∷◌, [], Bool, refl, sym, subst, ap, if◌then◌else◌}
+use Rattle.markdown_base.specs.Forest.{nil}
 use Rattle.markdown_lines.specs.BlockBeginnings as line
 use Rattle.markdown_lines.specs.BlockBeginnings.{Source}
 use Rattle.markdown_lines.specs.SourceLines.{end_of_line}
@@ -11,11 +10,11 @@ use Rattle.markdown_plain.specs.Fitting.{AllFitted}
 use Rattle.markdown_plain.specs.Frames.{Frame, is_list, rebuilt}
 use Rattle.markdown_plain.specs.OpenLeaves.{BeginsText, leaf_block}
 use Rattle.markdown_plain.specs.OpenedFrames.{with_frame}
-use Rattle.markdown_plain.specs.Settled.{IsBuilt, IsLooseBefore}
+use Rattle.markdown_plain.specs.Settled.{IsBuilt}
 use Rattle.markdown_plain.specs.declared.pass.Pass.{Pass}
 use Rattle.markdown_plain.proofs.BegunBlocksLemmas.{begun_block, begun_found, found_filled, in_line_more, keeps_leaf}
 use Rattle.markdown_plain.proofs.BegunBlocksLemmas.{loose_inside}
-use Rattle.markdown_plain.proofs.BegunBlocksLemmas.{opened_in, room_made, source_kept, still_may}
+use Rattle.markdown_plain.proofs.BegunBlocksLemmas.{room_made, source_kept, still_may}
 use Rattle.markdown_plain.proofs.BegunTextsLemmas.{end_begins, end_block, held_from, none_open, text_places}
 use Rattle.markdown_plain.proofs.FramesLemmas.{rebuilt_more}
 use Rattle.markdown_plain.proofs.OpenedFramesLemmas.{as_many_containers, innermost_of_more}

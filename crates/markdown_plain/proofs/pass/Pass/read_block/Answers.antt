@@ -6,7 +6,6 @@ use Rattle.markdown_lines.specs.declared.block_start.BlockStart.TheVariants as s
 use Rattle.markdown_plain.specs.Beginning.{HasBegun, StandsAsText}
 use Rattle.markdown_plain.specs.Fitting.{AllFitted, BracesStand}
 use Rattle.markdown_plain.specs.OpenLeaves.{InfoStands}
-use Rattle.markdown_plain.specs.declared.block_pass.LineRest.{LineRest}
 use Rattle.markdown_plain.specs.declared.pass.Pass.{Pass}
 use Rattle.markdown_plain.proofs.FoundBlocksLemmas.{inside_found}
 use Rattle.markdown_plain.proofs.InnerBeginningsLemmas.{found_inside}

@@ -1,5 +1,5 @@
 -- The HTML block is the block that the rest of the line begins.
-use Rattle.std.proofs.Common.{◌≡◌, ◌∙◌, ◌∷◌, [], refl, sym, subst, ap}
+use Rattle.std.proofs.Common.{◌≡◌, ◌∷◌, [], refl, sym, subst, ap}
 use Rattle.std.specs.Prelude.{Some}
 use Rattle.markdown_base.specs.Forest.{nil}
 use Rattle.markdown_lines.specs.BlockBeginnings as line

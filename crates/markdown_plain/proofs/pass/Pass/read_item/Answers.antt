@@ -1,6 +1,6 @@
 -- The rest of the line is read inside the item.
-use Rattle.std.proofs.Common.{◌≡◌, ◌∙◌, refl, sym, ap}
-use Rattle.markdown_base.specs.Forest.{Forest, nil, node}
+use Rattle.std.proofs.Common.{◌∙◌, refl, sym, ap}
+use Rattle.markdown_base.specs.Forest.{nil, node}
 use Rattle.markdown_lines.specs.BlockBeginnings as line
 use Rattle.markdown_lines.specs.BlockStarts.{left_at}
 use Rattle.markdown_lines.specs.SourceLines.{rest_inside}
@@ -10,7 +10,6 @@ use Rattle.markdown_block_rules.specs.BlockGrowth.{Block}
 use Rattle.markdown_plain.specs.Beginning.{begun_in_rest}
 use Rattle.markdown_plain.specs.Frames.{Frame, rebuilt}
 use Rattle.markdown_plain.specs.OpenedFrames.{with_frame}
-use Rattle.markdown_plain.specs.Paragraphs.{source_of}
 use Rattle.markdown_plain.specs.declared.pass.Pass.{Pass}
 use Rattle.markdown_plain.proofs.BegunBlocksLemmas.{found_filled}
 use Rattle.markdown_plain.proofs.BegunBlocksLemmas.{begun_block, begun_found, container_inside, in_line_more}
