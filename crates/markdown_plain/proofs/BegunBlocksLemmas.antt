@@ -1,5 +1,5 @@
 -- Blocks that begin with the rest of a line, inside containers that were opened in this line.
-use Rattle.std.proofs.Common.{◌≡◌, ℕ, ◌<◌, ◌≤◌, Bool, true, false, List, [], ◌∷◌, ◌++◌, Option, Some, None, refl, sym}
+use Rattle.std.proofs.Common.{◌≡◌, ℕ, ◌<◌, ◌≤◌, Bool, true, false, List, [], ◌∷◌, ◌++◌, None, refl, sym}
 use Rattle.std.proofs.Common.{ap, ◌∙◌, subst, arith, append-nil, length, if◌then◌else◌, ◌&&◌, ◌==◌, nat_le}
 use Rattle.std.proofs.lemmas.Bool.Decides.{nat_tests}
 use Rattle.markdown_scan.specs.LineStart.{LineLeft}
@@ -15,82 +15,26 @@ use Rattle.markdown_plain.proofs.ReachedFramesLemmas.{blank_at, end_of}
 use Rattle.markdown_plain.specs.Closing.{AreItemsInLists}
 use Rattle.markdown_plain.specs.Paragraphs.{source_of}
 use Rattle.markdown_plain.specs.Settled.{IsBuilt}
-use Rattle.markdown_plain.proofs.BegunRestsLemmas.{HoldsRest, IsRestOf, begins_rest}
+use Rattle.markdown_plain.proofs.BegunRestsLemmas.{IsRestOf}
 use Rattle.markdown_plain.proofs.FramesLemmas.{rebuilt_more}
 use Rattle.markdown_plain.proofs.OpenedFramesLemmas.{as_many_containers, innermost_of_more}
-use Rattle.std.proofs.lemmas.Option.{none-some}
-use Rattle.std.specs.Prelude.{unwrap_or}
 use Rattle.markdown_base.specs.Forest.{Forest, nil, node}
-use Rattle.markdown_lines.specs.BlockBeginnings.{Beginning, Source, begins}
+use Rattle.markdown_lines.specs.BlockBeginnings.{Source}
 use Rattle.markdown_lines.specs.SourceLines.{SourceLine, is_blank_rest, rest_inside}
 use Rattle.markdown_lines.specs.declared.block_start.Before.TheVariants as paragraph
-use Rattle.markdown_lines.specs.declared.block_start.BlockStart.{BlockStart}
 use Rattle.markdown_lines.specs.declared.line.Line.{Line}
-use Rattle.markdown_lines.specs.BlockStarts.{begins_unless_blank, beginning_found, left_at}
-use Rattle.markdown_block_rules.specs.BlockGrowth.{Block, Kind, begun_by, content_of, inside_of, new_blocks}
+use Rattle.markdown_lines.specs.BlockStarts.{left_at}
+use Rattle.markdown_block_rules.specs.BlockGrowth.{Block, Kind, content_of}
 use Rattle.markdown_block_rules.specs.BlockRules.{is_blank_block, is_loose}
 use Rattle.markdown_plain.specs.declared.block_pass.LineRest.{LineRest}
 use Rattle.markdown_plain.specs.declared.looseness.Looseness.{Looseness}
-use Rattle.markdown_plain.specs.Beginning.{GoesInside, IsFound, IsLeft, IsOpened, begun_in_rest}
+use Rattle.markdown_plain.specs.Beginning.{GoesInside, IsLeft, IsOpened, begun_in_rest}
 use Rattle.markdown_plain.specs.Frames.{Frame, is_list, rebuilt}
 use Rattle.markdown_plain.specs.OpenLeaves.{AreItemsOpenedIn, IsOpenedIn}
 use Rattle.markdown_plain.specs.OpenedFrames.{with_frame}
 use Rattle.markdown_plain.specs.Settled.{EmptyKnown, EmptyKnownIn, IsLooseAs, IsLooseBefore, QuotesEnd, are_loose}
 use Rattle.markdown_plain.specs.Settled.{placed_end}
-use Rattle.markdown_plain.proofs.BegunLemmas.{begun_once}
 use Rattle.markdown_plain.proofs.LooseFramesLemmas.{loose_more}
-
--- ---- what was found
-
--- a line that begins something is not blank, and what it begins is this
-found_some : (s : Source) (source : SourceLine) (b : Beginning) (blank : Bool)
-    → Some b ≡ (if blank then None else Some (begins s paragraph.NoParagraph source))
-    → (if blank then nil else begun_by s source) ≡ new_blocks (inside_of (begun_by s) source) source b
-found_some s source b true is = absurd (none-some b (sym is))
-found_some s source b false is =
-    begun_once s source ∙ ap (new_blocks (inside_of (begun_by s) source) source) (sym (same b is))
-  where
-    same : (b : Beginning) → Some b ≡ Some (begins s paragraph.NoParagraph source)
-        → b ≡ begins s paragraph.NoParagraph source
-    same b is = ap (λ (o : Option Beginning). unwrap_or o b) is
-
--- the blocks that begin are those of what was found
-pub begun_found : (s : Source) (rest : LineRest) (source : SourceLine) (at : ℕ) (start : BlockStart) (b : Beginning)
-    → rest.before ≡ paragraph.NoParagraph → IsFound s rest source at start
-    → beginning_found rest.reader start ≡ Some b
-    → begun_in_rest s source ≡ new_blocks (inside_of (begun_by s) source) source b
-begun_found s rest source at start b before is found =
-    found_some s source b (is_blank_rest source)
-    (sym found ∙ (is.is ∙ ap (λ p. begins_unless_blank s p source) before))
-
--- the rest inside what was found
-rest_some : (s : Source) (source : SourceLine) (b : Beginning) (blank : Bool) → source.left.owed ≤ 3
-    → Some b ≡ (if blank then None else Some (begins s paragraph.NoParagraph source)) → HoldsRest source.left b
-rest_some s source b true few is = absurd (none-some b (sym is))
-rest_some s source b false few is =
-    subst (HoldsRest source.left) (ap (λ (o : Option Beginning). unwrap_or o b) (sym is))
-    (begins_rest s paragraph.NoParagraph source few)
-
-pub rest_found : (s : Source) (rest : LineRest) (source : SourceLine) (at : ℕ) (start : BlockStart) (b : Beginning)
-    → rest.before ≡ paragraph.NoParagraph → IsLeft s rest source → IsFound s rest source at start
-    → beginning_found rest.reader start ≡ Some b → HoldsRest source.left b
-rest_found s rest source at start b before left is found =
-    rest_some s source b (is_blank_rest source)
-    (subst (λ n. n ≤ 3) (ap (λ (l : LineLeft). l.owed) left.is.rest.left) left.is.rest.few)
-    (sym found ∙ (is.is ∙ ap (λ p. begins_unless_blank s p source) before))
-
--- it is not blank
-filled_some : (s : Source) (source : SourceLine) (b : Beginning) (blank : Bool)
-    → Some b ≡ (if blank then None else Some (begins s paragraph.NoParagraph source)) → blank ≡ false
-filled_some s source b true is = absurd (none-some b (sym is))
-filled_some s source b false is = refl
-
-pub found_filled : (s : Source) (rest : LineRest) (source : SourceLine) (at : ℕ) (start : BlockStart) (b : Beginning)
-    → rest.before ≡ paragraph.NoParagraph → IsFound s rest source at start
-    → beginning_found rest.reader start ≡ Some b → is_blank_rest source ≡ false
-found_filled s rest source at start b before is found =
-    filled_some s source b (is_blank_rest source)
-    (sym found ∙ (is.is ∙ ap (λ p. begins_unless_blank s p source) before))
 
 -- ---- what the calls leave as it is
 

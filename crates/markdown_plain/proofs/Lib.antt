@@ -41,6 +41,8 @@ pub mod EndedLeavesLemmas
 pub mod AddedLinesLemmas
 pub mod HtmlLeavesLemmas
 pub mod IndentedLeavesLemmas
+-- on what the pass stands for between two lines
+pub mod StandingLemmas
 -- on blocks that begin inside containers which a line opened
 pub mod BegunBlocksLemmas
 pub mod BegunRestsLemmas

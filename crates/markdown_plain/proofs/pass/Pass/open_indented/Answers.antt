@@ -1,5 +1,5 @@
 -- The block is opened, and has its first line.
-use Rattle.std.proofs.Common.{◌∙◌, ap, arith, sym, subst, rules, false}
+use Rattle.std.proofs.Common.{◌∙◌, ap, arith, sym, subst, false}
 use Rattle.std.proofs.lemmas.Result.{IfOk-weaker}
 use Rattle.markdown_base.specs.declared.item.ItemBody.TheVariants as body
 use Rattle.markdown_block_rules.specs.LineContents.{source_line}

@@ -12,7 +12,8 @@ use Rattle.markdown_plain.specs.OpenLeaves.{BeginsText, leaf_block}
 use Rattle.markdown_plain.specs.OpenedFrames.{with_frame}
 use Rattle.markdown_plain.specs.Settled.{IsBuilt}
 use Rattle.markdown_plain.specs.declared.pass.Pass.{Pass}
-use Rattle.markdown_plain.proofs.BegunBlocksLemmas.{begun_block, begun_found, found_filled, in_line_more, keeps_leaf}
+use Rattle.markdown_plain.proofs.FoundBlocksLemmas.{begun_found, found_filled}
+use Rattle.markdown_plain.proofs.BegunBlocksLemmas.{begun_block, in_line_more, keeps_leaf}
 use Rattle.markdown_plain.proofs.BegunBlocksLemmas.{loose_inside}
 use Rattle.markdown_plain.proofs.BegunBlocksLemmas.{room_made, source_kept, still_may}
 use Rattle.markdown_plain.proofs.BegunTextsLemmas.{end_begins, end_block, held_from, none_open, text_places}

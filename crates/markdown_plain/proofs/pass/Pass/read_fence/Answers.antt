@@ -11,7 +11,8 @@ use Rattle.markdown_plain.specs.OpenLeaves.{InfoStands}
 use Rattle.markdown_plain.specs.Standing.{IsLeafKind}
 use Rattle.markdown_plain.specs.declared.pass.LeafKind.{LeafKind}
 use Rattle.markdown_plain.specs.declared.pass.Pass.{Pass}
-use Rattle.markdown_plain.proofs.BegunBlocksLemmas.{begun_block, begun_found, keeps_rest, room_made, still_may}
+use Rattle.markdown_plain.proofs.FoundBlocksLemmas.{begun_found}
+use Rattle.markdown_plain.proofs.BegunBlocksLemmas.{begun_block, keeps_rest, room_made, still_may}
 use Rattle.markdown_plain.proofs.BegunLeavesLemmas.{open_places}
 use Rattle.markdown_plain.proofs.pass.Pass.read_fence.Goals as goal
 

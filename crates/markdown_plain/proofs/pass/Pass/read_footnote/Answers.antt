@@ -8,8 +8,8 @@ use Rattle.markdown_lines.specs.declared.block_start.BlockStart.TheVariants as s
 use Rattle.markdown_block_rules.specs.BlockGrowth as was
 use Rattle.markdown_plain.specs.Frames.{rebuilt}
 use Rattle.markdown_plain.specs.declared.pass.Pass.{Pass}
-use Rattle.markdown_plain.proofs.BegunBlocksLemmas.{found_filled}
-use Rattle.markdown_plain.proofs.BegunBlocksLemmas.{begun_block, begun_found, container_inside, opened_in, rest_found}
+use Rattle.markdown_plain.proofs.FoundBlocksLemmas.{begun_found, found_filled, rest_found}
+use Rattle.markdown_plain.proofs.BegunBlocksLemmas.{begun_block, container_inside, opened_in}
 use Rattle.markdown_plain.proofs.BegunBlocksLemmas.{source_kept}
 use Rattle.markdown_plain.proofs.pass.Pass.read_footnote.Goals as goal
 

@@ -8,7 +8,8 @@ use Rattle.markdown_lines.specs.declared.block_start.BlockStart.TheVariants as s
 use Rattle.markdown_block_rules.specs.BlockGrowth as was
 use Rattle.markdown_plain.specs.Fitting.{AllFitted, BracesStand}
 use Rattle.markdown_plain.specs.declared.pass.Pass.{Pass}
-use Rattle.markdown_plain.proofs.BegunBlocksLemmas.{begun_block, begun_found, keeps_leaf, room_made, still_may}
+use Rattle.markdown_plain.proofs.FoundBlocksLemmas.{begun_found}
+use Rattle.markdown_plain.proofs.BegunBlocksLemmas.{begun_block, keeps_leaf, room_made, still_may}
 use Rattle.markdown_plain.proofs.BegunLeavesLemmas.{built_at, ended_places}
 use Rattle.markdown_plain.proofs.pass.Pass.read_heading.Goals as goal
 

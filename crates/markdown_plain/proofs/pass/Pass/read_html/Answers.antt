@@ -9,7 +9,8 @@ use Rattle.markdown_block_rules.specs.BlockGrowth as was
 use Rattle.markdown_plain.specs.Fitting.{AllFitted}
 use Rattle.markdown_plain.specs.OpenLeaves.{IsLineRest}
 use Rattle.markdown_plain.specs.declared.pass.Pass.{Pass}
-use Rattle.markdown_plain.proofs.BegunBlocksLemmas.{begun_block, begun_found, keeps_rest, room_made, still_may}
+use Rattle.markdown_plain.proofs.FoundBlocksLemmas.{begun_found}
+use Rattle.markdown_plain.proofs.BegunBlocksLemmas.{begun_block, keeps_rest, room_made, still_may}
 use Rattle.markdown_lines.specs.HeldLines.{IsHeldLine}
 use Rattle.markdown_lines.specs.Lines.{IsNextContent}
 use Rattle.markdown_block_rules.specs.BlockGrowth.{content_of, ends_html}

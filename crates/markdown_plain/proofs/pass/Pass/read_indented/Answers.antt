@@ -8,13 +8,13 @@ use Rattle.markdown_block_rules.specs.BlockGrowth as was
 use Rattle.markdown_plain.specs.Fitting.{AllFitted}
 use Rattle.markdown_plain.specs.OpenLeaves.{IsLineRest}
 use Rattle.markdown_plain.specs.declared.pass.Pass.{Pass}
-use Rattle.markdown_plain.proofs.BegunBlocksLemmas.{begun_found, keeps_rest, room_made, still_may}
+use Rattle.markdown_plain.proofs.FoundBlocksLemmas.{begun_found, found_filled, rest_found}
+use Rattle.markdown_plain.proofs.BegunBlocksLemmas.{keeps_rest, room_made, still_may}
 use Rattle.markdown_lines.specs.BlockStarts.{left_at}
 use Rattle.markdown_lines.specs.SourceLines.{SourceLine}
 use Rattle.markdown_block_rules.specs.BlockGrowth.{Block}
 use Rattle.markdown_plain.specs.Standing.{IsLeafKind}
 use Rattle.markdown_plain.specs.declared.pass.LeafKind.{LeafKind}
-use Rattle.markdown_plain.proofs.BegunBlocksLemmas.{found_filled, rest_found}
 use Rattle.markdown_plain.proofs.BegunLeavesLemmas.{code_holds, code_left, open_places}
 use Rattle.markdown_plain.proofs.BegunRestsLemmas.{blank_alike}
 use Rattle.markdown_plain.proofs.pass.Pass.read_indented.Goals as goal

@@ -11,9 +11,9 @@ use Rattle.markdown_plain.specs.Beginning.{begun_in_rest}
 use Rattle.markdown_plain.specs.Frames.{Frame, rebuilt}
 use Rattle.markdown_plain.specs.OpenedFrames.{with_frame}
 use Rattle.markdown_plain.specs.declared.pass.Pass.{Pass}
-use Rattle.markdown_plain.proofs.BegunBlocksLemmas.{found_filled}
-use Rattle.markdown_plain.proofs.BegunBlocksLemmas.{begun_block, begun_found, container_inside, in_line_more}
-use Rattle.markdown_plain.proofs.BegunBlocksLemmas.{rest_found, source_kept}
+use Rattle.markdown_plain.proofs.FoundBlocksLemmas.{begun_found, found_filled, rest_found}
+use Rattle.markdown_plain.proofs.BegunBlocksLemmas.{begun_block, container_inside, in_line_more}
+use Rattle.markdown_plain.proofs.BegunBlocksLemmas.{source_kept}
 use Rattle.markdown_plain.proofs.FramesLemmas.{rebuilt_more}
 use Rattle.markdown_plain.proofs.pass.Pass.read_item.Goals as goal
 

@@ -8,9 +8,9 @@ use Rattle.markdown_block_rules.specs.BlockGrowth as was
 use Rattle.markdown_plain.specs.Fitting.{AllFitted}
 use Rattle.markdown_plain.specs.Frames.{rebuilt}
 use Rattle.markdown_plain.specs.declared.pass.Pass.{Pass}
-use Rattle.markdown_plain.proofs.BegunBlocksLemmas.{found_filled}
-use Rattle.markdown_plain.proofs.BegunBlocksLemmas.{begun_block, begun_found, container_inside, keeps_leaf, opened_in}
-use Rattle.markdown_plain.proofs.BegunBlocksLemmas.{rest_found, room_made, still_may}
+use Rattle.markdown_plain.proofs.FoundBlocksLemmas.{begun_found, found_filled, rest_found}
+use Rattle.markdown_plain.proofs.BegunBlocksLemmas.{begun_block, container_inside, keeps_leaf, opened_in}
+use Rattle.markdown_plain.proofs.BegunBlocksLemmas.{room_made, still_may}
 use Rattle.markdown_plain.proofs.pass.Pass.read_quote.Goals as goal
 
 pub returns-clause-inside : goal.returns-clause-inside

@@ -12,7 +12,8 @@ use Rattle.markdown_plain.specs.Frames.{rebuilt}
 use Rattle.markdown_plain.specs.OpenLeaves.{BeginsText}
 use Rattle.markdown_plain.specs.Settled.{IsBuilt}
 use Rattle.markdown_plain.specs.declared.pass.Pass.{Pass}
-use Rattle.markdown_plain.proofs.BegunBlocksLemmas.{begun_block, begun_found, source_kept}
+use Rattle.markdown_plain.proofs.FoundBlocksLemmas.{begun_found}
+use Rattle.markdown_plain.proofs.BegunBlocksLemmas.{begun_block, source_kept}
 use Rattle.markdown_plain.proofs.BegunTextsLemmas.{held_from, none_open, text_begins, text_places}
 use Rattle.markdown_plain.proofs.pass.Pass.read_text.Goals as goal
 
