@@ -56,3 +56,10 @@ pub mod PlacedTextLemmas
 pub mod TextStepsLemmas
 pub mod TextReachedLemmas
 pub mod TextLinesLemmas
+-- on blocks that begin inside containers which a line opened
+pub mod BegunBlocksLemmas
+pub mod BegunRestsLemmas
+pub mod BegunLeavesLemmas
+pub mod BegunTextsLemmas
+pub mod FoundBlocksLemmas
+pub mod InnerBeginningsLemmas

@@ -23,3 +23,4 @@ pub mod OpenLeaves
 pub mod Standing
 pub mod ReachedLines
 pub mod TextLines
+pub mod Beginning

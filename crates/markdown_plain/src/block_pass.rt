@@ -1,7 +1,7 @@
 //! The block pass, line by line: which open blocks continue, which blocks begin, and what a lazy continuation line
 //! continues (CommonMark, appendix on parsing). Functions that return a `Result` fail only where memory is refused;
 //! what was built by then is not used.
-ghost use Rattle.std.specs.Prelude.{◌≡◌, [], true, false, Some, length, slice_range, IfOk};
+ghost use Rattle.std.specs.Prelude.{◌≡◌, [], true, false, Some, length, slice_range, IfOk, ℕ, None, List};
 ghost use Rattle.std.specs.List.{list_all};
 ghost use Rattle.std.specs.Str.{IsCharBoundary};
 ghost use Rattle.markdown_base.specs.BlockTree.{tree_of};
@@ -10,14 +10,24 @@ ghost use Rattle.markdown_block_rules.specs.BlockGrowth.{Block, with_line};
 ghost use Rattle.markdown_lines.specs.BlockBeginnings.{Source};
 ghost use Rattle.markdown_lines.specs.SourceLines.{SourceLine, is_blank_rest};
 ghost use Rattle.markdown_lines.specs.Lines.{is_space_or_tab};
-ghost use Rattle.markdown_plain.specs.Fitting.{IfFitted};
+ghost use Rattle.markdown_plain.specs.Fitting.{IfFitted, BracesStand};
 ghost use Rattle.markdown_plain.specs.ListLooseness.{blank_from};
 ghost use Rattle.markdown_plain.specs.ReachedLines as lines;
-ghost use Rattle.markdown_plain.specs.ReachedLines.{IsReachedBy, LeavesOff, blocks_before, blocks_in, reached_of};
+ghost use Rattle.markdown_plain.specs.ReachedLines.{IsReachedBy, LeavesOff, blocks_before, blocks_in};
+ghost use Rattle.markdown_plain.specs.ReachedLines.{reached_of};
 ghost use Rattle.markdown_plain.specs.Standing.{IsSource, PlacesFor, Stands, StandsFor};
 ghost use Rattle.markdown_lines.specs.declared.position.Position.{Position};
 ghost use Rattle.markdown_block_rules.specs.TableLines.{reads_tables};
 ghost use Rattle.markdown_plain.specs.TextLines.{BeginsNoBlock, IsTextFrom, IsTextHere};
+ghost use Rattle.markdown_lines.specs.declared.block_start.Before.TheVariants as before;
+ghost use Rattle.markdown_lines.specs.declared.block_start.BlockStart.{BlockStart};
+ghost use Rattle.markdown_lines.specs.declared.block_start.BlockStart.TheVariants as start;
+ghost use Rattle.markdown_lines.specs.declared.line_reader.LineReader.{LineReader};
+ghost use Rattle.markdown_plain.specs.Beginning.{FoundStands, GoesInside, HasBegun, IsFound, IsInside};
+ghost use Rattle.markdown_plain.specs.Frames.{Frame};
+ghost use Rattle.markdown_lines.specs.HeldLines.{IsHeldLine};
+ghost use Rattle.markdown_plain.specs.OpenLeaves.{InfoStands};
+ghost use Rattle.markdown_plain.specs.declared.block_pass.LineRest.{LineRest};
 ghost use Rattle.markdown_base.specs.Coverage.{Covers};
 ghost use Rattle.markdown_base.specs.WellFormed.{IsWellFormed};
 ghost use Rattle.markdown_builder.specs.EvenRows.{HasEvenRows};
@@ -336,7 +346,16 @@ impl<'a> Pass<'a> {
     /// Reads the block that begins here. Returns whether the rest of the line is still to be read: inside a container,
     /// or once more.
     fn read_block(&mut self, rest: &mut LineRest<'a>) -> Result<bool, AllocError>
-        ensures { IfOk result (λ _. self.new.placing.builder.text ≡ self.old.placing.builder.text) }
+        ensures text { IfOk result (λ _. self.new.placing.builder.text
+            ≡ self.old.placing.builder.text) }
+        ensures inside { IfOk result (λ more. (s : Source) (frames : List Frame)
+            (source : SourceLine) (blocks : Forest Block)
+            → IsInside s self.old rest.old frames source blocks → rest.old.unless_row ≡ None
+            → ((at : ℕ) (start : BlockStart) (reader : LineReader)
+            → IsFound s (record rest.old { reader = reader }) source at start
+            → FoundStands self.old.placing.builder.text rest.old.line at start)
+            → IfFitted self.old.placing self.new.placing
+            (HasBegun s self.new rest.new blocks more)) }
     {
         if self.reads_table(rest)? {
             return Ok(false);
@@ -372,7 +391,10 @@ impl<'a> Pass<'a> {
 
     /// Reads the delimiter row of a table, where tables are read, and returns whether the rest of the line is one.
     fn reads_table(&mut self, rest: &LineRest<'a>) -> Result<bool, AllocError>
-        ensures { IfOk result (λ _. self.new.placing.builder.text ≡ self.old.placing.builder.text) }
+        ensures text { IfOk result (λ _. self.new.placing.builder.text
+            ≡ self.old.placing.builder.text) }
+        ensures none { IfOk result (λ is. rest.now.before ≡ before.NoParagraph → (is ≡ false)
+            × (self.new ≡ self.old)) }
     {
         match rest.before {
             Before::Reached if is_read(Options::ENABLE_TABLES, self.options) => {
@@ -384,7 +406,14 @@ impl<'a> Pass<'a> {
 
     /// Passes over the rest of a line that is blank. Returns false, as for all blocks that are not containers.
     fn skip_blank(&mut self, line: Line) -> Result<bool, AllocError>
-        ensures { IfOk result (λ _. self.new.placing.builder.text ≡ self.old.placing.builder.text) }
+        ensures text { IfOk result (λ _. self.new.placing.builder.text
+            ≡ self.old.placing.builder.text) }
+        ensures more { IfOk result (λ more. more ≡ false) }
+        ensures inside { IfOk result (λ _. (s : Source) (rest : LineRest) (frames : List Frame)
+            (source : SourceLine) (at : ℕ) (blocks : Forest Block)
+            → IsInside s self.old rest frames source blocks → rest.line ≡ line
+            → IsFound s rest source at start.Nothing → IfFitted self.old.placing self.new.placing
+            (PlacesFor s self.new line.next blocks)) }
     {
         self.placing.step_to(line.next);
         Ok(false)
@@ -402,6 +431,18 @@ impl<'a> Pass<'a> {
             (reached_of s before source)
             → IfFitted self.old.placing self.new.placing (PlacesFor s self.new rest.now.line.next
             (with_line s (blocks_before before) source))) }
+        ensures more { IfOk result (λ more. more ≡ false) }
+        ensures inside { IfOk result (λ _. (s : Source) (frames : List Frame) (source : SourceLine)
+            (blocks : Forest Block) → IsInside s self.old rest.now frames source blocks
+            → IsFound s rest.now source at start.Text
+            → IsHeldLine self.old.placing.builder.text (record {
+              start = at;
+              stop = rest.now.line.stop;
+              next = rest.now.line.next;
+              owed = 0;
+            })
+            → IfFitted self.old.placing self.new.placing
+            (PlacesFor s self.new rest.now.line.next blocks)) }
     {
         self.add_text(rest.line, at, rest.depth)?;
         Ok(false)
@@ -409,7 +450,14 @@ impl<'a> Pass<'a> {
 
     /// Reads the first line of indented code, from a place on. Returns false.
     fn read_indented(&mut self, rest: &LineRest<'a>, code: Position) -> Result<bool, AllocError>
-        ensures { IfOk result (λ _. self.new.placing.builder.text ≡ self.old.placing.builder.text) }
+        ensures text { IfOk result (λ _. self.new.placing.builder.text
+            ≡ self.old.placing.builder.text) }
+        ensures more { IfOk result (λ more. more ≡ false) }
+        ensures inside { IfOk result (λ _. (s : Source) (frames : List Frame) (source : SourceLine)
+            (at : ℕ) (blocks : Forest Block) → IsInside s self.old rest.now frames source blocks
+            → IsFound s rest.now source at (start.IndentedCode code)
+            → IfFitted self.old.placing self.new.placing
+            (PlacesFor s self.new rest.now.line.next blocks)) }
     {
         self.make_room(rest.depth)?;
         self.open_indented(rest.line, code)?;
@@ -417,7 +465,14 @@ impl<'a> Pass<'a> {
     }
 
     /// Moves to a place inside the container that was opened last, and returns true.
-    fn go_inside(&self, rest: &mut LineRest<'a>, inside: Position) -> bool {
+    fn go_inside(&self, rest: &mut LineRest<'a>, inside: Position) -> bool
+        ensures more { result ≡ true }
+        ensures goes { rest.new ≡ record rest.old {
+          position = inside;
+          depth = length self.now.placing.builder.blocks;
+          before = before.NoParagraph;
+        } }
+    {
         rest.position = inside;
         rest.depth = self.depth();
         rest.before = Before::NoParagraph;
@@ -431,7 +486,14 @@ impl<'a> Pass<'a> {
         at: usize,
         inside: Position,
     ) -> Result<bool, AllocError>
-        ensures { IfOk result (λ _. self.new.placing.builder.text ≡ self.old.placing.builder.text) }
+        ensures text { IfOk result (λ _. self.new.placing.builder.text
+            ≡ self.old.placing.builder.text) }
+        ensures more { IfOk result (λ more. more ≡ true) }
+        ensures inside { IfOk result (λ _. (s : Source) (frames : List Frame) (source : SourceLine)
+            (blocks : Forest Block) → IsInside s self.old rest.old frames source blocks
+            → IsFound s rest.old source at (start.Quote inside)
+            → IfFitted self.old.placing self.new.placing
+            (GoesInside s self.new rest.new blocks)) }
     {
         self.make_room(rest.depth)?;
         self.open_quote(at, None)?;
@@ -446,7 +508,14 @@ impl<'a> Pass<'a> {
         at: usize,
         kind: BlockQuoteKind,
     ) -> Result<bool, AllocError>
-        ensures { IfOk result (λ _. self.new.placing.builder.text ≡ self.old.placing.builder.text) }
+        ensures text { IfOk result (λ _. self.new.placing.builder.text
+            ≡ self.old.placing.builder.text) }
+        ensures more { IfOk result (λ more. more ≡ false) }
+        ensures inside { IfOk result (λ _. (s : Source) (frames : List Frame) (source : SourceLine)
+            (blocks : Forest Block) → IsInside s self.old rest.now frames source blocks
+            → IsFound s rest.now source at (start.Alert kind)
+            → IfFitted self.old.placing self.new.placing
+            (PlacesFor s self.new rest.now.line.next blocks)) }
     {
         self.make_room(rest.depth)?;
         self.open_quote(at, Some(kind))?;
@@ -461,7 +530,15 @@ impl<'a> Pass<'a> {
         at: usize,
         heading: AtxHeading,
     ) -> Result<bool, AllocError>
-        ensures { IfOk result (λ _. self.new.placing.builder.text ≡ self.old.placing.builder.text) }
+        ensures text { IfOk result (λ _. self.new.placing.builder.text
+            ≡ self.old.placing.builder.text) }
+        ensures more { IfOk result (λ more. more ≡ false) }
+        ensures inside { IfOk result (λ _. (s : Source) (frames : List Frame) (source : SourceLine)
+            (blocks : Forest Block) → IsInside s self.old rest.now frames source blocks
+            → IsFound s rest.now source at (start.Heading heading)
+            → BracesStand self.old.placing.builder.text heading.braces
+            → IfFitted self.old.placing self.new.placing
+            (PlacesFor s self.new rest.now.line.next blocks)) }
     {
         self.make_room(rest.depth)?;
         self.placing.step_to(at);
@@ -476,7 +553,15 @@ impl<'a> Pass<'a> {
         at: usize,
         opening: OpeningFence,
     ) -> Result<bool, AllocError>
-        ensures { IfOk result (λ _. self.new.placing.builder.text ≡ self.old.placing.builder.text) }
+        ensures text { IfOk result (λ _. self.new.placing.builder.text
+            ≡ self.old.placing.builder.text) }
+        ensures more { IfOk result (λ more. more ≡ false) }
+        ensures inside { IfOk result (λ _. (s : Source) (frames : List Frame) (source : SourceLine)
+            (blocks : Forest Block) → IsInside s self.old rest.now frames source blocks
+            → IsFound s rest.now source at (start.Fence opening)
+            → InfoStands self.old.placing.builder.text opening
+            → IfFitted self.old.placing self.new.placing
+            (PlacesFor s self.new rest.now.line.next blocks)) }
     {
         self.make_room(rest.depth)?;
         self.open_fenced(rest.line, at, opening)?;
@@ -485,7 +570,20 @@ impl<'a> Pass<'a> {
 
     /// Reads the first line of an HTML block. Returns false.
     fn read_html(&mut self, rest: &LineRest<'a>, kind: HtmlKind) -> Result<bool, AllocError>
-        ensures { IfOk result (λ _. self.new.placing.builder.text ≡ self.old.placing.builder.text) }
+        ensures text { IfOk result (λ _. self.new.placing.builder.text
+            ≡ self.old.placing.builder.text) }
+        ensures more { IfOk result (λ more. more ≡ false) }
+        ensures inside { IfOk result (λ _. (s : Source) (frames : List Frame) (source : SourceLine)
+            (at : ℕ) (blocks : Forest Block) → IsInside s self.old rest.now frames source blocks
+            → IsFound s rest.now source at (start.Html kind)
+            → IsHeldLine self.old.placing.builder.text (record {
+              start = at;
+              stop = rest.now.line.stop;
+              next = rest.now.line.next;
+              owed = 0;
+            })
+            → IfFitted self.old.placing self.new.placing
+            (PlacesFor s self.new rest.now.line.next blocks)) }
     {
         self.make_room(rest.depth)?;
         self.open_html(rest.line, rest.position, kind)?;
@@ -500,7 +598,14 @@ impl<'a> Pass<'a> {
         label: CowStr<'a>,
         inside: Position,
     ) -> Result<bool, AllocError>
-        ensures { IfOk result (λ _. self.new.placing.builder.text ≡ self.old.placing.builder.text) }
+        ensures text { IfOk result (λ _. self.new.placing.builder.text
+            ≡ self.old.placing.builder.text) }
+        ensures more { IfOk result (λ more. more ≡ true) }
+        ensures inside { IfOk result (λ _. (s : Source) (frames : List Frame) (source : SourceLine)
+            (blocks : Forest Block) → IsInside s self.old rest.old frames source blocks
+            → IsFound s rest.old source at (start.Footnote label.entry inside)
+            → IfFitted self.old.placing self.new.placing
+            (GoesInside s self.new rest.new blocks)) }
     {
         self.open_footnote(at, label, rest.depth)?;
         Ok(self.go_inside(rest, inside))
@@ -522,7 +627,14 @@ impl<'a> Pass<'a> {
 
     /// Reads a thematic break. Returns false.
     fn read_break(&mut self, rest: &LineRest<'a>, at: usize) -> Result<bool, AllocError>
-        ensures { IfOk result (λ _. self.new.placing.builder.text ≡ self.old.placing.builder.text) }
+        ensures text { IfOk result (λ _. self.new.placing.builder.text
+            ≡ self.old.placing.builder.text) }
+        ensures more { IfOk result (λ more. more ≡ false) }
+        ensures inside { IfOk result (λ _. (s : Source) (frames : List Frame) (source : SourceLine)
+            (blocks : Forest Block) → IsInside s self.old rest.now frames source blocks
+            → IsFound s rest.now source at start.ThematicBreak
+            → IfFitted self.old.placing self.new.placing
+            (PlacesFor s self.new rest.now.line.next blocks)) }
     {
         self.make_room(rest.depth)?;
         self.placing.step_to(at);
@@ -537,7 +649,14 @@ impl<'a> Pass<'a> {
         at: usize,
         item: ItemStart,
     ) -> Result<bool, AllocError>
-        ensures { IfOk result (λ _. self.new.placing.builder.text ≡ self.old.placing.builder.text) }
+        ensures text { IfOk result (λ _. self.new.placing.builder.text
+            ≡ self.old.placing.builder.text) }
+        ensures more { IfOk result (λ more. more ≡ true) }
+        ensures inside { IfOk result (λ _. (s : Source) (frames : List Frame) (source : SourceLine)
+            (blocks : Forest Block) → IsInside s self.old rest.old frames source blocks
+            → IsFound s rest.old source at (start.Item item)
+            → IfFitted self.old.placing self.new.placing
+            (GoesInside s self.new rest.new blocks)) }
     {
         self.open_item(item, at, rest.depth)?;
         Ok(self.go_inside(rest, item.inside))

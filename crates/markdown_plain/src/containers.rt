@@ -285,7 +285,9 @@ impl<'a> Pass<'a> {
     ghost use Rattle.markdown_plain.specs.Frames.{room_depth};
     ghost use Rattle.markdown_plain.specs.OpenedFrames.{MayOpen, is_list_for, quote_kind, with_frame};
     ghost use Rattle.markdown_plain.specs.OpenedFrames.{with_item};
-    ghost use Rattle.markdown_plain.specs.Settled.{IsBuilt};
+    ghost use Rattle.markdown_plain.specs.Frames.{is_item};
+    ghost use Rattle.markdown_block_rules.specs.BlockGrowth.{is_nil};
+    ghost use Rattle.markdown_plain.specs.Settled.{BlanksKnown, IsBuilt, IsLooseAs, IsLooseBefore};
 
     /// Opens a block quote, an alert of a kind or none, whose marker is at the byte offset `at`.
     pub fn open_quote(&mut self, at: usize, kind: Option<BlockQuoteKind>) -> Result<(), AllocError>
@@ -326,6 +328,15 @@ impl<'a> Pass<'a> {
             → IfFitted self.old.placing self.new.placing
             (IsBuilt s self.new.placing.builder
             (with_frame (with_frame frames inside list) nil b) nil)) }
+        ensures inside { IfOk result (λ _. (s : Source) (frames : List Frame) (list b : Block)
+            → MayOpen s self.old frames nil → depth ≡ length frames
+            → IsLooseAs self.old.looseness frames nil
+            → is_list list.kind ≡ true → is_item b.kind ≡ true
+            → (self.new ≡ record self.old {
+              placing = self.new.placing;
+              looseness = self.new.looseness;
+            })
+            × IsLooseAs self.new.looseness (with_frame (with_frame frames nil list) nil b) nil) }
         ensures frame { IfOk result (λ _. (s : Source) (frames : List Frame)
             (inside : Forest Block) (list b : Block) → self.old.lines.items ≡ []
             → MayClose s self.old frames inside
@@ -370,6 +381,14 @@ impl<'a> Pass<'a> {
             → is_list f.block.kind ≡ true → is_list_for marker f.block.kind ≡ false → b.start ≡ at
             → b.kind ≡ list_container marker → IfFitted self.old.placing self.new.placing
             (IsBuilt s self.new.placing.builder (with_frame frames (forgotten f inside) b) nil)) }
+        ensures loose_begins { IfOk result (λ _. (s : Source) (frames : List Frame)
+            (inside : Forest Block) (list b : Block)
+            → IsBuilt s self.old.placing.builder frames inside
+            → innermost_is is_list frames ≡ false → IsLooseAs self.old.looseness frames inside
+            → (is_nil inside ≡ false
+            → BlanksKnown self.old.looseness.blank_from 0 frames inside)
+            → is_list list.kind ≡ true → is_item b.kind ≡ true
+            → IsLooseAs self.new.looseness (with_frame (with_frame frames inside list) nil b) nil) }
         ensures empty { IfOk result (λ _. self.new.looseness.item_is_empty ≡ true) }
         ensures same { self.new ≡ record self.old {
           placing = self.new.placing;
@@ -414,6 +433,14 @@ impl<'a> Pass<'a> {
             → b.start ≡ at → b.kind ≡ footnote_container (text_of label.entry)
             → IfFitted self.old.placing self.new.placing
             (IsBuilt s self.new.placing.builder (with_frame frames inside b) nil)) }
+        ensures inside { IfOk result (λ _. (s : Source) (frames : List Frame)
+            → MayOpen s self.old frames nil → depth ≡ length frames
+            → IsLooseAs self.old.looseness frames nil
+            → (self.new ≡ record self.old {
+              placing = self.new.placing;
+              looseness = self.new.looseness;
+            })
+            × IsLooseBefore self.new.looseness frames nil) }
         ensures frame { IfOk result (λ _. (s : Source) (frames : List Frame)
             (inside : Forest Block) (b : Block) → self.old.lines.items ≡ []
             → MayClose s self.old frames inside → depth ≤ length frames → b.start ≡ at

@@ -1,39 +1,38 @@
 //! A paragraph: its lines, the breaks between them, and what else it may turn out to be (CommonMark 4.3, 4.7, 4.8).
 //! Functions that return a `Result` fail only where memory is refused.
-ghost use Rattle.std.specs.Prelude.{◌≡◌, ℕ, ◌<◌, ◌≤◌, ◌++◌, ◌∷◌, [], true, false, None, List, length, IfOk, MatchOption};
-ghost use Rattle.std.specs.Prelude.{◌+◌, ◌==◌, drop, not, slice_get, take, if◌then◌else◌};
+ghost use Rattle.std.specs.Prelude.{◌≡◌, ℕ, ◌<◌, ◌≤◌, ◌++◌, ◌∷◌, [], true, false, None, List, length, IfOk};
+ghost use Rattle.std.specs.Prelude.{MatchOption, ◌+◌, ◌==◌, drop, not, slice_get, take, if◌then◌else◌};
 ghost use Rattle.markdown_base.specs.declared.item.ItemBody.TheVariants as body;
 ghost use Rattle.markdown_builder.specs.BuilderView.{Opens};
-ghost use Rattle.markdown_plain.specs.Fitting.{BracesStand, IfFitted, GoesOn, OpensHeading, OpensHeadingOf, defining};
+ghost use Rattle.markdown_plain.specs.Fitting.{BracesStand, IfFitted, GoesOn, OpensHeading, OpensHeadingOf};
+ghost use Rattle.markdown_plain.specs.Fitting.{defining};
 ghost use Rattle.markdown_plain.specs.OpenBlocks.{room_in, without_leaf};
-ghost use Rattle.markdown_plain.specs.Paragraphs.{end_of, has_paragraph, is_item_in, lines_end, paragraph_end};
-ghost use Rattle.markdown_plain.specs.Paragraphs.{divided_of, first_task, shown_ended, source_of, task_at};
-ghost use Rattle.markdown_plain.specs.Paragraphs.{EndsFrom, IsDivided};
-ghost use Rattle.markdown_plain.specs.Paragraphs.{IsPlacedTo};
-ghost use Rattle.markdown_plain.specs.HeldSources.{IsParagraph};
+ghost use Rattle.markdown_plain.specs.Paragraphs.{end_of, has_paragraph, is_item_in, lines_end};
+ghost use Rattle.markdown_plain.specs.Paragraphs.{paragraph_end, divided_of, first_task, shown_ended};
+ghost use Rattle.markdown_plain.specs.Paragraphs.{source_of, task_at, EndsFrom, IsDivided, IsPlacedTo};
+ghost use Rattle.markdown_plain.specs.HeldSources.{IsParagraph, AreTextLines, IsTextLine};
 ghost use Rattle.markdown_plain.specs.LeafTrees.{HasItems, HasMoreTexts, HasTrees};
-ghost use Rattle.markdown_plain.specs.ParagraphItems.{after_task, heading_braces, line_or_nothing, task_items, text_items};
-ghost use Rattle.markdown_plain.specs.ParagraphItems.{AreSome, BeginsWithTask, HaveEnds, IsLeft};
-ghost use Rattle.markdown_base.specs.Forest.{Forest};
+ghost use Rattle.markdown_plain.specs.ParagraphItems.{after_task, heading_braces, line_or_nothing};
+ghost use Rattle.markdown_plain.specs.ParagraphItems.{task_items, text_items, AreSome, BeginsWithTask};
+ghost use Rattle.markdown_plain.specs.ParagraphItems.{HaveEnds, IsLeft};
+ghost use Rattle.markdown_base.specs.Forest.{Forest, nil};
 ghost use Rattle.markdown_builder.specs.Shown.{Shown};
 ghost use Rattle.std.specs.Option.{option_map_or};
 ghost use Rattle.markdown_items.specs.LineItems.{item_extensions};
 ghost use Rattle.markdown_block_rules.specs.BlockRules.{before_braces};
 ghost use Rattle.markdown_block_rules.specs.LineContents.{lines_items};
-ghost use Rattle.markdown_plain.specs.HeldSources.{AreTextLines, IsTextLine};
 ghost use Rattle.markdown_plain.specs.TakenDefinitions.{TakesDefinitions};
 ghost use Rattle.markdown_lines.specs.DefinitionRules.{divided};
 ghost use Rattle.markdown_lines.specs.SourceLines.{SourceLine};
 ghost use Rattle.markdown_lines.specs.BlockBeginnings.{Source};
-ghost use Rattle.markdown_block_rules.specs.BlockGrowth.{Block, paragraph_leaf};
+ghost use Rattle.markdown_block_rules.specs.BlockGrowth.{Block, paragraph_leaf, is_nil};
 ghost use Rattle.markdown_plain.specs.Closing.{MayClose, MayEnd, StandsFor};
 ghost use Rattle.markdown_builder.specs.TreeLevels.{followed_by};
-ghost use Rattle.markdown_plain.specs.Frames.{Frame, rebuilt, room_depth};
+ghost use Rattle.markdown_plain.specs.Frames.{Frame, rebuilt, room_depth, AreNested};
 ghost use Rattle.markdown_plain.specs.OpenLeaves.{HoldsParagraph, IsPlaced, ended_block, leaf_block};
 ghost use Rattle.markdown_plain.specs.OpenLeaves.{AreItemsOpenedIn, BeginsText, ComesAfter};
-ghost use Rattle.markdown_block_rules.specs.BlockGrowth.{is_nil};
-ghost use Rattle.markdown_plain.specs.Frames.{AreNested};
 ghost use Rattle.markdown_plain.specs.Settled.{AreOpen, BlanksKnown, IsBuilt, IsLooseAs, IsLooseBefore};
+ghost use Rattle.markdown_plain.specs.OpenedFrames.{MayOpen};
 
 use crate::leaves::open_heading;
 use crate::pass::Pass;
@@ -378,6 +377,15 @@ impl<'a> Pass<'a> {
         ensures line { IfOk result (λ _. self.new.lines.items
             ≡ (if has_paragraph self.old then self.old.lines.items else [])
             ++ record { start = start; stop = line.stop; next = line.next; owed = 0 } ∷ []) }
+        ensures inside { IfOk result (λ _. (s : Source) (frames : List Frame)
+            → MayOpen s self.old frames nil → depth ≡ length frames
+            → IsLooseAs self.old.looseness frames nil
+            → (self.new ≡ record self.old {
+              lines = self.new.lines;
+              task = self.new.task;
+              looseness = self.new.looseness;
+            })
+            × IsLooseBefore self.new.looseness frames nil) }
         ensures forgets { IfOk result (λ _. (s : Source) (frames : List Frame)
             (inside : Forest Block) → self.old.lines.items ≡ [] → depth ≤ length frames
             → MayClose s self.old frames inside → IfFitted self.old.placing self.new.placing

@@ -3,7 +3,7 @@
 ghost use Rattle.std.specs.Prelude.{◌≡◌, ◌≤◌, List, [], ◌∷◌, ◌++◌, ◌&&◌, true, false, not, length, take};
 ghost use Rattle.std.specs.Prelude.{drop, IfOk, ℕ, Option};
 ghost use Rattle.std.specs.Option.{option_map};
-ghost use Rattle.markdown_base.specs.Forest.{Forest};
+ghost use Rattle.markdown_base.specs.Forest.{Forest, nil};
 ghost use Rattle.markdown_base.specs.declared.item.ItemBody.TheVariants as body;
 ghost use Rattle.markdown_block_rules.specs.BlockGrowth.{Block, is_nil};
 ghost use Rattle.markdown_builder.specs.BuilderView.{BuilderView, innermost_block, nothing_made};
@@ -14,6 +14,7 @@ ghost use Rattle.markdown_builder.specs.TreeLevels.{followed_by};
 ghost use Rattle.markdown_lines.specs.SourceLines.{SourceLine};
 ghost use Rattle.markdown_plain.specs.OpenLeaves.{IsPlaced, IsUnended, leaf_block};
 ghost use Rattle.markdown_plain.specs.Fitting.{AllFitted, HasBody, IfFitted, PutsBlock, closed};
+ghost use Rattle.markdown_plain.specs.OpenedFrames.{MayOpen};
 ghost use Rattle.markdown_plain.specs.OpenBlocks.{innermost_is, is_list, room_in, without_leaf};
 ghost use Rattle.markdown_plain.specs.Containers.{closing_place};
 ghost use Rattle.markdown_plain.specs.Paragraphs.{has_paragraph};
@@ -253,6 +254,11 @@ impl<'a> Pass<'a> {
             → IfFitted self.old.placing self.new.placing (IsLooseBefore self.new.looseness
             (take (room_depth depth frames) frames)
             (rebuilt (drop (room_depth depth frames) frames) inside))) }
+        ensures inside { IfOk result (λ _. (s : Source) (frames : List Frame)
+            → MayOpen s self.old frames nil → depth ≡ length frames
+            → IsLooseAs self.old.looseness frames nil
+            → (self.new ≡ record self.old { looseness = self.new.looseness })
+            × IsLooseBefore self.new.looseness frames nil) }
         ensures finishes { IfOk result (λ _. (s : Source) (frames : List Frame)
             (inside : Forest Block) (b : Block) (held : Option (List SourceLine))
             → depth ≤ length frames → MayEnd s self.old frames inside b held

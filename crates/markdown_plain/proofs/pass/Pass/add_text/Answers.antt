@@ -5,6 +5,10 @@ use Rattle.markdown_plain.proofs.AddedLinesLemmas.{has_held, line_added, no_leaf
 use Rattle.markdown_plain.proofs.ClosedFramesLemmas.{stands_on}
 use Rattle.markdown_plain.specs.Fitting.{AllFitted}
 use Rattle.markdown_plain.specs.Paragraphs.{has_paragraph, task_at}
+use Rattle.markdown_base.specs.Forest.{nil}
+use Rattle.markdown_plain.proofs.BegunTextsLemmas.{none_open}
+use Rattle.markdown_plain.specs.Settled.{IsLooseBefore}
+use Rattle.markdown_plain.specs.declared.looseness.Looseness.{Looseness}
 use Rattle.markdown_plain.specs.declared.pass.Pass.{Pass}
 use Rattle.markdown_plain.proofs.pass.Pass.add_text.Goals.{then-not-has_paragraph+in_ok-make_room}
 use Rattle.markdown_plain.proofs.pass.Pass.add_text.Goals.{else-not-has_paragraph}
@@ -49,4 +53,24 @@ returns-clause-further c = λ s frames inside b sources source holds comes.
           let lines : c.push.new.self.items ≡ now.lines.items ++ line_of c ∷ [] = search rules in
           line_added s now _ frames inside b sources (line_of c) source
           (ap (λ (p : Pass). record p { lines = c.push.new.self }) w.self-is) lines holds comes
+    ]
+
+-- nothing is closed inside a container that was opened last
+pub returns-clause-inside : goal.returns-clause-inside
+returns-clause-inside c = λ s frames may deep loose.
+    elim c.if-not-has_paragraph.branch [
+      | then-not-has_paragraph+in_ok-make_room w ↦
+          let made = w.in_ok-make_room.ensures.inside s frames may deep loose in
+          let looseness = ap (λ (p : Pass). p.looseness) w.self-is in
+          let now : Pass → Pass = λ p. record p {
+            lines = c.push.new.self;
+            task = c.if-not-has_paragraph.self.task;
+            looseness = c.if-not-has_paragraph.self.looseness;
+          } in (
+            ap now w.self-is ∙ ap now made.0,
+            subst (λ (n : Looseness). IsLooseBefore n frames nil) (sym looseness) made.1,
+          )
+      | else-not-has_paragraph w ↦
+          let held : has_paragraph c.args.self.now ≡ true = search rules in
+          absurd (true≢false (sym held ∙ none_open c.args.self.now may.lines))
     ]

@@ -1,7 +1,8 @@
 -- The blocks are the same, with a list forgotten that is in the way.
-use Rattle.std.proofs.Common.{◌∙◌, refl, sym, subst, take, drop, ◌≡◌, List, true, false, ap, rules, ◌≤◌, length}
+use Rattle.std.proofs.Common.{arith, ◌∙◌, refl, sym, subst, take, drop, ◌≡◌, List, true, false, ap, rules, ◌≤◌, length}
 use Rattle.markdown_plain.specs.Closing.{StandsFor, MayClose}
-use Rattle.markdown_base.specs.Forest.{Forest}
+use Rattle.markdown_base.specs.Forest.{Forest, nil}
+use Rattle.std.proofs.lemmas.Bool.{true≢false}
 use Rattle.markdown_builder.specs.BuilderView.{BuilderView}
 use Rattle.markdown_builder.specs.TreeLevels.{followed_by}
 use Rattle.markdown_lines.specs.BlockBeginnings.{Source}
@@ -11,6 +12,8 @@ use Rattle.markdown_plain.specs.Frames.{Frame, rebuilt, room_depth}
 use Rattle.markdown_plain.specs.OpenLeaves.{leaf_block}
 use Rattle.markdown_plain.specs.declared.pass.Pass.{Pass}
 use Rattle.markdown_plain.proofs.ClosedFramesLemmas.{list_in_the_way, no_list_closed, stands_on}
+use Rattle.markdown_plain.proofs.OpenedFramesLemmas.{as_many_containers, list_innermost}
+use Rattle.markdown_plain.specs.Settled.{AreOpen, IsLooseAs}
 use Rattle.markdown_plain.proofs.pass.Pass.make_room.Goals.{then-is_in_list, else-is_in_list}
 use Rattle.markdown_plain.proofs.pass.Pass.make_room.Goals as goal
 use Rattle.markdown_builder.specs.declared.open_block.OpenBlock.{OpenBlock}
@@ -101,4 +104,30 @@ returns-clause-loose c = λ texts frames inside these nested loose within known 
           (subst (λ (bs : List OpenBlock). AddsBlock texts bs now.looseness c.add_block.new.self) c.open_blocks.ensures
           (record { loose = c.add_block.ensures.begins texts })) nested
           (λ some. subst (λ from. BlanksKnown from 0 frames inside) (sym from) (known some)) room.1,
+    )
+
+-- nothing is closed inside a container that was opened last
+pub returns-clause-inside : goal.returns-clause-inside
+returns-clause-inside c = λ s frames may deep loose.
+    let old = c.args.self.now in
+    let now = c.if-is_in_list.self in
+    let texts = old.placing.builder.texts in
+    let many = as_many_containers s old.placing.builder frames nil may.built in
+    let kept = c.in_ok-close_down.ensures.kept may.built.outside may.lines (omega (arith, many, deep)) in
+    let free : innermost_is is_list c.close_down.new.self.placing.builder.blocks ≡ false =
+    ap (λ (p : Pass). innermost_is is_list p.placing.builder.blocks) kept
+    ∙ (list_innermost s old.placing.builder frames nil may.built ∙ may.free) in
+    let same : now ≡ old = elim c.if-is_in_list.branch [
+      | then-is_in_list w ↦
+          absurd (true≢false (sym (sym c.is_in_list.ensures ∙ w.if-is_in_list.true) ∙ free))
+      | else-is_in_list w ↦ w.self-is ∙ kept
+    ] in
+    let adds = subst (λ (bs : List OpenBlock). AddsBlock texts bs now.looseness c.add_block.new.self)
+    c.open_blocks.ensures (record { loose = c.add_block.ensures.begins texts }) in (
+      ap (λ (p : Pass). record p { looseness = c.add_block.new.self }) same,
+      adds.loose frames nil
+          (subst (λ (p : Pass). AreOpen texts p.placing.builder.blocks frames) (sym same) may.built.blocks)
+          may.built.nested may.free
+          (subst (λ (p : Pass). IsLooseAs p.looseness frames nil) (sym same) loose)
+          (λ some. absurd (true≢false some)),
     )

@@ -11,6 +11,7 @@ use Rattle.markdown_plain.specs.Fitting.{AllFitted, stepped}
 use Rattle.markdown_plain.specs.Frames.{Frame, innermost_is, is_list}
 use Rattle.markdown_plain.specs.OpenedFrames.{with_frame}
 use Rattle.markdown_plain.specs.Settled.{IsBuilt}
+use Rattle.markdown_plain.specs.declared.pass.Pass.{Pass}
 use Rattle.markdown_plain.specs.declared.placing.Placing.{Placing}
 use Rattle.markdown_plain.proofs.OpenedFramesLemmas.{as_many_containers, both_ok, list_innermost, note_is_built}
 use Rattle.markdown_plain.proofs.OpenedFramesLemmas.{room_is_free}
@@ -58,3 +59,10 @@ returns-clause-frame c =
       note_in c s _ _ b last.1 (told.1 fitted).1 first.1 start same
           (room_is_free c.args.depth frames few may.stands.built.nested) room.1.built,
     )) (both_ok c.open_note.result _ _ c.open_note.ensures.opens c.open_note.ensures.listed)
+
+-- nothing is closed inside a container that was opened last
+pub returns-clause-inside : goal.returns-clause-inside
+returns-clause-inside c =
+    IfOk-weaker c.open_note.result _ _ (λ done opens s frames may deep loose.
+    let made = c.in_ok-make_room.ensures.inside s frames may deep loose in
+    (ap (λ (p : Pass). record p { placing = c.open_note.new.self }) made.0, made.1)) c.open_note.ensures.opens

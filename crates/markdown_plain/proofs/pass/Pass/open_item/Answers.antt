@@ -1,5 +1,6 @@
 -- The item is one more open container, in a list that goes on or is one more as well.
 use Rattle.std.proofs.Common.{◌≡◌, ◌∙◌, List, sym, subst, ap, arith, true, take, drop}
+use Rattle.std.proofs.lemmas.Bool.{true≢false}
 use Rattle.std.proofs.lemmas.Result.{IfOk-weaker}
 use Rattle.markdown_base.specs.Forest.{Forest, nil}
 use Rattle.markdown_base.specs.declared.item.ItemBody.TheVariants as body
@@ -10,7 +11,7 @@ use Rattle.markdown_plain.specs.Closing.{MayClose}
 use Rattle.markdown_plain.specs.Fitting.{AllFitted, stepped}
 use Rattle.markdown_plain.specs.Frames.{Frame, forgotten, innermost_is, is_list, rebuilt}
 use Rattle.markdown_plain.specs.OpenedFrames.{with_frame}
-use Rattle.markdown_plain.specs.Settled.{IsBuilt}
+use Rattle.markdown_plain.specs.Settled.{IsBuilt, IsLooseAs}
 use Rattle.markdown_plain.specs.declared.pass.Pass.{Pass}
 use Rattle.markdown_plain.proofs.OpenedFramesLemmas.{as_many_containers, innermost_of_more, item_is, item_placed}
 use Rattle.markdown_plain.proofs.OpenedFramesLemmas.{list_for_item, plain_is_built}
@@ -43,6 +44,23 @@ returns-clause-begins c =
       subst (λ (p : Pass). AllFitted p.placing) kept listed.0,
       item_in c s (with_frame frames inside list) nil b last.1 first.1 start same
           (innermost_of_more is_list frames (record { before = inside; block = list }) ∙ ap is_list is) listed.1,
+    )) c.open_block.ensures.opens
+
+-- nothing is closed inside a container that was opened last
+pub returns-clause-inside : goal.returns-clause-inside
+returns-clause-inside c =
+    IfOk-weaker c.open_block.result _ _ (λ done opens s frames list b may deep loose lists items.
+    let old = c.args.self.now in
+    let now = c.open_list.new.self in
+    let many = as_many_containers s old.placing.builder frames nil may.built in
+    let kept = c.in_ok-close_down.ensures.kept may.built.outside may.lines (omega (arith, many, deep)) in (
+      ap (λ (p : Pass). record p { placing = c.open_block.new.self; looseness = now.looseness })
+          (c.open_list.ensures.same ∙ ap (λ (p : Pass). record p { placing = now.placing; looseness = now.looseness })
+          kept),
+      c.in_ok-open_list.ensures.loose_begins s frames nil list b
+          (subst (λ (p : Pass). IsBuilt s p.placing.builder frames nil) (sym kept) may.built) may.free
+          (subst (λ (p : Pass). IsLooseAs p.looseness frames nil) (sym kept) loose) (λ some. absurd (true≢false some))
+          lists items,
     )) c.open_block.ensures.opens
 
 pub returns-clause-frame : goal.returns-clause-frame

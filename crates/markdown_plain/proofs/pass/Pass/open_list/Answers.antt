@@ -1,11 +1,12 @@
 -- The list goes on, or is one more open container.
-use Rattle.std.proofs.Common.{◌≡◌, ◌∙◌, ◌++◌, ◌∷◌, [], List, sym, subst, rules, true, false}
+use Rattle.std.proofs.Common.{append_assoc, ◌≡◌, ◌∙◌, ◌++◌, ◌∷◌, [], List, sym, subst, rules, true, false}
 use Rattle.std.proofs.lemmas.Bool.{true≢false}
 use Rattle.std.proofs.lemmas.Result.{IfOk-weaker}
 use Rattle.markdown_base.specs.declared.item.ItemBody.TheVariants as body
 use Rattle.markdown_builder.specs.BuilderView.{BuilderView, Opens}
 use Rattle.markdown_block_rules.specs.BlockGrowth.{Block, list_container}
-use Rattle.markdown_base.specs.Forest.{Forest}
+use Rattle.markdown_base.specs.Forest.{Forest, nil}
+use Rattle.markdown_builder.specs.declared.open_block.OpenBlock.{OpenBlock}
 use Rattle.markdown_lines.specs.BlockBeginnings.{Source}
 use Rattle.markdown_plain.specs.Closing.{MayClose}
 use Rattle.markdown_plain.specs.Fitting.{AllFitted, IfFitted, stepped}
@@ -14,6 +15,8 @@ use Rattle.markdown_plain.specs.OpenedFrames.{is_list_for}
 use Rattle.markdown_plain.specs.NewContainers.{is_list_of}
 use Rattle.markdown_plain.specs.OpenBlocks as own
 use Rattle.markdown_plain.specs.declared.pass.Pass.{Pass}
+use Rattle.markdown_plain.specs.Settled.{AreOpen, BlanksKnown, IsLooseAs}
+use Rattle.markdown_plain.proofs.ClosedListsLemmas.{AddsBlock}
 use Rattle.markdown_plain.proofs.OpenedFramesLemmas.{innermost_of_more, list_goes_on, list_innermost, list_is}
 use Rattle.markdown_plain.proofs.OpenedFramesLemmas.{list_outside, plain_is_built}
 use Rattle.markdown_plain.proofs.pass.Pass.open_list.Goals.{in-Some-List+else-character-marker}
@@ -97,3 +100,26 @@ returns-clause-changes c =
           (subst (λ (v : BuilderView). Opens v now list) first.1 last.1) start same
           (list_outside frames f is may.stands.built.nested) closed.1.stands.built,
     )) c.open_list.ensures.read
+
+pub returns-then-character-marker-clause-loose_begins : goal.returns-then-character-marker-clause-loose_begins
+returns-then-character-marker-clause-loose_begins c = λ s frames inside list b built none loose known lists items.
+    let listed : own.innermost_is own.is_list c.args.self.now.placing.builder.blocks ≡ true = search rules in
+    absurd (true≢false (sym listed ∙ (list_innermost s c.args.self.now.placing.builder frames inside built ∙ none)))
+
+pub returns-clause-loose_begins : goal.returns-clause-loose_begins
+returns-clause-loose_begins c =
+    IfOk-weaker c.open_list.result _ _ (λ done begins s frames inside list b built none loose known lists items.
+    let old = c.args.self.now in
+    let now = c.match-innermost.self in
+    let texts = old.placing.builder.texts in
+    let f : Frame = record { before = inside; block = list } in
+    let g : Frame = record { before = nil; block = b } in
+    let kept = none_closed c (list_innermost s old.placing.builder frames inside built ∙ none) in
+    let adds = subst (λ (bs : List OpenBlock). AddsBlock texts bs now.looseness c.add_block.new.self)
+    c.open_blocks-2.ensures (record { loose = c.add_block.ensures.begins texts }) in
+    let before = adds.loose frames inside
+    (subst (λ (p : Pass). AreOpen texts p.placing.builder.blocks frames) (sym kept) built.blocks) built.nested none
+    (subst (λ (p : Pass). IsLooseAs p.looseness frames inside) (sym kept) loose)
+    (λ some. subst (λ (p : Pass). BlanksKnown p.looseness.blank_from 0 frames inside) (sym kept) (known some)) in
+    subst (λ fs. IsLooseAs c.open_list.new.self fs nil) (sym (append_assoc frames (f ∷ []) (g ∷ [])))
+    (begins frames inside list b before lists items)) c.open_list.ensures.begins

@@ -1,0 +1,278 @@
+-- Leaves that begin with the rest of a line, inside containers that were opened in this line.
+use Rattle.std.proofs.Common.{◌≡◌, ℕ, ◌≤◌, Bool, true, false, List, [], ◌∷◌, Option, Some, None, refl, sym, ap, ◌∙◌}
+use Rattle.std.proofs.Common.{subst, arith}
+use Rattle.markdown_base.specs.Forest.{Forest, nil, node}
+use Rattle.markdown_builder.specs.BuilderView.{BuilderView}
+use Rattle.std.proofs.lemmas.Option.{none-some}
+use Rattle.std.specs.Prelude.{if◌then◌else◌}
+use Rattle.markdown_lines.specs.BlockBeginnings.{Source, begins}
+use Rattle.markdown_lines.specs.BlockStarts.{begins_unless_blank}
+use Rattle.markdown_lines.specs.SourceLines.{SourceLine, is_blank_rest}
+use Rattle.markdown_lines.specs.declared.block_start.Before.TheVariants as paragraph
+use Rattle.markdown_lines.specs.declared.block_start.BlockStart.TheVariants as start
+use Rattle.markdown_lines.specs.declared.held_line.HeldLine.{HeldLine}
+use Rattle.markdown_block_rules.specs.BlockGrowth as was
+use Rattle.markdown_block_rules.specs.BlockGrowth.{Block, Kind, begun_by}
+use Rattle.markdown_block_rules.specs.BlockRules.{block_ends_blank, ends_blank, is_blank_block}
+use Rattle.std.proofs.Common.{◌++◌}
+use Rattle.markdown_lines.specs.BlockStarts.{left_at}
+use Rattle.markdown_lines.specs.Positions.{left_from}
+use Rattle.markdown_plain.specs.HeldSources.{AreHeld}
+use Rattle.markdown_plain.specs.Beginning.{IsLeft}
+use Rattle.markdown_plain.proofs.ReachedFramesLemmas.{AreAlike}
+use Rattle.std.proofs.Common.{◌<◌, ◌+◌, ◌-◌, ◌||◌, drop, slice_range}
+use Rattle.std.proofs.lemmas.List.{get_or-drop, get_or-take}
+use Rattle.std.proofs.lemmas.List.Sums.{prefix_len-le-length, prefix_len_passes}
+use Rattle.std.specs.List.{prefix_len}
+use Rattle.std.specs.Prelude.{slice_index}
+use Rattle.markdown_scan.specs.LineStart.{LineLeft}
+use Rattle.markdown_lines.specs.HeldLines.{IsHeldLine}
+use Rattle.markdown_lines.specs.Lines.{IsNextContent, is_line_ending, is_space_or_tab}
+use Rattle.markdown_lines.specs.declared.html_kind.HtmlKind.{HtmlKind}
+use Rattle.markdown_lines.specs.declared.line.Line.{Line}
+use Rattle.markdown_lines.specs.declared.position.Position.{Position}
+use Rattle.markdown_block_rules.specs.BlockGrowth.{content_of}
+use Rattle.markdown_plain.specs.declared.pass.LeafKind.TheVariants as leaf
+use Rattle.markdown_plain.specs.declared.block_pass.LineRest.{LineRest}
+use Rattle.markdown_plain.specs.declared.looseness.Looseness.{Looseness}
+use Rattle.markdown_plain.specs.declared.pass.Pass.{Pass}
+use Rattle.markdown_plain.specs.Beginning.{IsFound, IsInside, begun_in_rest}
+use Rattle.markdown_plain.specs.Closing.{AreItemsInLists}
+use Rattle.markdown_plain.specs.Fitting.{stepped}
+use Rattle.markdown_plain.specs.Frames.{Frame, rebuilt}
+use Rattle.markdown_plain.specs.OpenLeaves.{IsLeafIn, IsLineRest, IsOpenIn, IsPlaced, is_leaf, leaf_block}
+use Rattle.markdown_plain.specs.Paragraphs.{lines_end, source_of}
+use Rattle.markdown_plain.specs.Settled.{EmptyKnown, EmptyKnownIn, IsBuilt, IsLooseAs, IsLooseBefore, QuotesEnd}
+use Rattle.markdown_plain.specs.Standing.{AreOpenedBefore, HoldsBlanks, IsLeafKind, MetadataAlone, PlacesFor, PlacesLast}
+use Rattle.markdown_plain.specs.Standing.{is_metadata, with_last}
+use Rattle.std.proofs.lemmas.Bool.{true≢false}
+use Rattle.markdown_plain.proofs.BegunBlocksLemmas.{MayBegin, source_kept}
+use Rattle.markdown_plain.proofs.LastBlocksLemmas.{is_over, leaf_is_over, nothing_is_over}
+
+-- what is built does not depend on the place
+pub built_at : (s : Source) (old new : BuilderView) (to : ℕ) (frames : List Frame) (inside : Forest Block)
+    → new ≡ stepped old to → IsBuilt s old frames inside → IsBuilt s new frames inside
+built_at s old new to frames inside is built =
+    subst (λ (v : BuilderView). IsBuilt s v frames inside) (sym is) (record {
+      text = built.text;
+      blocks = built.blocks;
+      nested = built.nested;
+      outside = built.outside;
+      levels = built.levels;
+      definitions = built.definitions;
+      footnotes = built.footnotes;
+    })
+
+-- ---- what is remembered of lists
+
+-- an item with a block in it is not empty
+filled_in : (kind : Kind) (b : Block) (below after : Forest Block) → EmptyKnownIn false (node b below after) kind
+filled_in (was.item_container indent) b below after = refl
+filled_in (was.list_container marker) b below after = tt
+filled_in other b below after = refl
+
+filled_known : (frames : List Frame) (b : Block) (below after : Forest Block)
+    → EmptyKnown false frames (node b below after)
+filled_known [] b below after = tt
+filled_known (f ∷ []) b below after = filled_in f.block.kind b below after
+filled_known (f ∷ g ∷ frames) b below after = filled_known (g ∷ frames) b below after
+
+-- a leaf that begins loosens as any block does
+leaf_loosens : (now : Looseness) (frames : List Frame) (b : Block) → is_blank_block b.kind ≡ false
+    → IsLooseBefore now frames nil → IsLooseAs now frames (leaf_block b)
+leaf_loosens now frames b filled before = record {
+  lists = before.lists (leaf_block b) (filled, refl);
+  empty = subst (λ empty. EmptyKnown empty frames (leaf_block b)) (sym before.empty) (filled_known frames b nil nil);
+}
+
+-- ---- the leaf
+
+-- a leaf begins with a line, and ends with none that is blank
+pub record IsLeafOf (b : Block) : Type 0 where
+  pub filled : is_blank_block b.kind ≡ false
+  pub ends : block_ends_blank false b.kind ≡ false
+
+none_held : (lines : List HeldLine) (to : ℕ) → lines ≡ [] → lines_end lines ≤ to
+none_held lines to none = subst (λ (ls : List HeldLine). lines_end ls ≤ to) (sym none) (omega arith)
+
+-- the line is placed, by a block that is the last, ended or not
+pub line_places : (s : Source) (now : Pass) (to : ℕ) (frames : List Frame) (blocks : Forest Block) (b : Block)
+    (inside : Forest Block) (last : Option Block) → with_last inside last ≡ leaf_block b → IsLeafOf b
+    → source_of now ≡ s → PlacesLast s now frames inside last → MetadataAlone last frames
+    → QuotesEnd to frames → AreOpenedBefore to frames → IsLooseBefore now.looseness frames nil
+    → now.blanks.items ≡ [] → lines_end now.lines.items ≤ to
+    → blocks ≡ rebuilt frames (leaf_block b) → AreItemsInLists false blocks → PlacesFor s now to blocks
+line_places s now to frames blocks b inside last is leaf source unended alone quotes earlier loose blanks before begins items =
+    let whole : blocks ≡ rebuilt frames (with_last inside last) = begins ∙ ap (rebuilt frames) (sym is) in
+    record {
+      frames = frames;
+      inside = inside;
+      last = last;
+      places = record {
+        source = source;
+        unended = unended;
+        quotes = quotes;
+        items = subst (AreItemsInLists false) whole items;
+        loose = subst (IsLooseAs now.looseness frames) (sym is)
+            (leaf_loosens now.looseness frames b leaf.filled loose);
+        filled = ap (ends_blank false) is ∙ leaf.ends;
+        before = before;
+        unheld = λ e. blanks;
+        earlier = earlier;
+        alone = alone;
+      };
+      whole = whole;
+    }
+
+leaf_places : (s : Source) (old now : Pass) (rest : LineRest) (frames : List Frame) (source : SourceLine)
+    (blocks : Forest Block) (b : Block) (inside : Forest Block) (last : Option Block)
+    → IsInside s old rest frames source blocks → MayBegin s now frames → IsLeafOf b
+    → with_last inside last ≡ leaf_block b → PlacesLast s now frames inside last → MetadataAlone last frames
+    → begun_in_rest s source ≡ leaf_block b → PlacesFor s now rest.line.next blocks
+leaf_places s old now rest frames source blocks b inside last state may leaf is unended alone begins =
+    line_places s now rest.line.next frames blocks b inside last is leaf may.source unended alone state.opened.quotes
+    state.opened.earlier may.loose may.blanks (none_held now.lines.items rest.line.next may.lines) (state.whole ∙ ap (rebuilt frames) begins)
+    state.items
+
+-- by one that has ended
+pub ended_places : (s : Source) (old now : Pass) (rest : LineRest) (frames : List Frame) (source : SourceLine)
+    (blocks : Forest Block) (b : Block) → IsInside s old rest frames source blocks → MayBegin s now frames
+    → IsLeafOf b → is_over b.kind ≡ true → IsPlaced s now.placing.builder frames (leaf_block b)
+    → begun_in_rest s source ≡ leaf_block b → PlacesFor s now rest.line.next blocks
+ended_places s old now rest frames source blocks b state may leaf over placed begins =
+    leaf_places s old now rest frames source blocks b (leaf_block b) None state may leaf refl
+    (placed, may.lines, leaf_is_over s nil b over) tt begins
+
+-- by one that is open
+pub open_places : (s : Source) (old now : Pass) (rest : LineRest) (frames : List Frame) (source : SourceLine)
+    (blocks : Forest Block) (b : Block) → IsInside s old rest frames source blocks → MayBegin s now frames
+    → IsLeafOf b → is_leaf b.kind ≡ true → is_metadata b.kind ≡ false → IsOpenIn s now.placing.builder frames nil true b
+    → IsLeafKind now.leaf b.kind → HoldsBlanks now.blanks.items b.kind
+    → begun_in_rest s source ≡ leaf_block b → PlacesFor s now rest.line.next blocks
+open_places s old now rest frames source blocks b state may leaf kind other opens known held begins =
+    leaf_places s old now rest frames source blocks b nil (Some b) state may leaf refl
+    (None, (kind, opens), (known, held, may.lines)) (λ is. absurd (true≢false (sym is ∙ other))) begins
+
+-- ---- nothing
+
+-- a rest of a line that begins nothing is blank
+blank_begins : (s : Source) (source : SourceLine) (blank : Bool)
+    → None ≡ (if blank then None else Some (begins s paragraph.NoParagraph source))
+    → (if blank then nil else begun_by s source) ≡ nil
+blank_begins s source true is = refl
+blank_begins s source false is = absurd (none-some (begins s paragraph.NoParagraph source) is)
+
+-- the line is placed by the containers alone
+pub nothing_places : (s : Source) (old now : Pass) (rest : LineRest) (frames : List Frame) (source : SourceLine)
+    (at : ℕ) (blocks : Forest Block) → IsInside s old rest frames source blocks
+    → IsFound s rest source at start.Nothing → now ≡ record old { placing = now.placing }
+    → now.placing.builder ≡ stepped old.placing.builder rest.line.next → PlacesFor s now rest.line.next blocks
+nothing_places s old now rest frames source at blocks state found same steps =
+    let opened = state.opened in
+    let lines : now.lines.items ≡ [] = ap (λ (p : Pass). p.lines.items) same ∙ opened.free.lines in
+    let whole : blocks ≡ rebuilt frames nil =
+    state.whole ∙ ap (rebuilt frames) (blank_begins s source (is_blank_rest source)
+    (found.is ∙ ap (λ p. begins_unless_blank s p source) state.before)) in
+    record {
+      frames = frames;
+      inside = nil;
+      last = None;
+      places = record {
+        source = source_kept s old now (ap (λ (v : BuilderView). v.text) steps) (ap (λ (p : Pass). p.options) same)
+            opened.source;
+        unended = (
+          record {
+            built = built_at s old.placing.builder now.placing.builder rest.line.next frames nil steps
+                opened.free.built;
+            at = ap (λ (v : BuilderView). v.at) steps ∙ sym opened.first;
+          },
+          lines,
+          nothing_is_over s,
+        );
+        quotes = opened.quotes;
+        items = subst (AreItemsInLists false) whole state.items;
+        loose = subst (λ (n : Looseness). IsLooseAs n frames nil) (sym (ap (λ (p : Pass). p.looseness) same))
+            opened.loose;
+        filled = refl;
+        before = none_held now.lines.items rest.line.next lines;
+        unheld = λ e. ap (λ (p : Pass). p.blanks.items) same ∙ opened.blanks;
+        earlier = opened.earlier;
+        alone = tt;
+      };
+      whole = whole;
+    }
+
+-- ---- an HTML block
+
+pub html_places : (s : Source) (old now : Pass) (rest : LineRest) (frames : List Frame) (source : SourceLine)
+    (blocks : Forest Block) (kind : HtmlKind) (ended : Bool) (b : Block) → b.kind ≡ was.html_leaf kind ended (source ∷ [])
+    → IsInside s old rest frames source blocks → MayBegin s now frames
+    → IsLeafIn s now.placing.builder frames nil b ended → now.leaf ≡ leaf.Html kind
+    → begun_in_rest s source ≡ leaf_block b → PlacesFor s now rest.line.next blocks
+html_places s old now rest frames source blocks kind true b is state may placed known begins =
+    ended_places s old now rest frames source blocks b state may
+    (record { filled = ap is_blank_block is; ends = ap (block_ends_blank false) is }) (ap is_over is) placed begins
+html_places s old now rest frames source blocks kind false b is state may opens known begins =
+    open_places s old now rest frames source blocks b state may
+    (record { filled = ap is_blank_block is; ends = ap (block_ends_blank false) is }) (ap is_leaf is) (ap is_metadata is) opens
+    (subst (λ how. IsLeafKind how b.kind) (sym known) (subst (IsLeafKind (leaf.Html kind)) (sym is) refl))
+    (subst (HoldsBlanks now.blanks.items) (sym is) may.blanks) begins
+
+-- the byte that begins the content of a line's rest is the next that is in no blank line
+pub content_next : (text : List ℕ) (position : Position) (line : Line) (source : SourceLine) (held : HeldLine)
+    → IsLineRest text position line source → held.start ≡ content_of source → IsHeldLine text held
+    → IsNextContent text position.at (Some (content_of source))
+content_next text position line source held is place holds =
+    let bytes : slice_range text position.at line.stop ≡ source.left.bytes =
+    ap (λ (l : LineLeft). l.bytes) is.rest.left in
+    let here : position.at ≡ source.left.scanned = ap (λ (l : LineLeft). l.scanned) is.rest.left in
+    let white = prefix_len is_space_or_tab source.left.bytes in
+    let within = prefix_len-le-length is_space_or_tab source.left.bytes in
+    subst (λ n. IsNextContent text position.at (Some n)) place (
+      omega (arith, holds.some, holds.content.high),
+      record {
+        low = omega (arith, place, here);
+        boundary = holds.boundary;
+        passes = λ at from before.
+            let k : position.at + (at - position.at) ≡ at = omega (arith, from) in
+            let few : at - position.at < white = omega (arith, from, before, place, here) in
+            let some : at - position.at < line.stop - position.at =
+            omega (arith, few, within, is.stop, here) in
+            let byte : slice_index source.left.bytes (at - position.at) ≡ slice_index text at =
+            ap (λ (bs : List ℕ). slice_index bs (at - position.at)) (sym bytes)
+            ∙ (get_or-take (line.stop - position.at) (drop position.at text) (at - position.at) 0 some
+            ∙ (get_or-drop position.at text (at - position.at) 0 ∙ ap (slice_index text) k)) in
+            ap (λ b. b || is_line_ending (slice_index text at))
+            (ap is_space_or_tab (sym byte)
+            ∙ prefix_len_passes is_space_or_tab source.left.bytes (at - position.at) 0 few);
+        stops = λ more.
+            ap (λ b. b || is_line_ending (slice_index text held.start)) holds.first
+            ∙ holds.content.content held.start (omega arith) holds.some;
+      },
+    )
+
+-- ---- indented code
+
+-- a line of code that is not blank is held back with no blank lines
+pub code_holds : (held : List HeldLine) (l : SourceLine) → is_blank_rest l ≡ false → held ≡ []
+    → HoldsBlanks held (was.indented_leaf (l ∷ []))
+code_holds held l filled none = (
+  [],
+  sym (ap (λ blank. (if blank then [] else l ∷ []) ++ []) filled),
+  subst (λ lines. AreHeld lines []) (sym none) tt,
+)
+
+-- what is left of a line after the space of indented code
+pub code_left : (s : Source) (rest : LineRest) (source : SourceLine) (code : Position) → IsLeft s rest source
+    → AreAlike (left_at rest.reader code) source.left → code.owed ≤ 3
+    → IsLineRest s.text code rest.line (record source { left = left_at rest.reader code })
+code_left s rest source code left alike few = record {
+  rest = record {
+    left = ap (λ stop. left_from s.text code stop) (sym left.stop)
+        ∙ ap (λ (r : Source). left_from r.text code rest.reader.stop) (sym left.text);
+    few = few;
+    next = left.is.rest.next;
+  };
+  stop = left.is.stop ∙ sym alike.end;
+  ends = left.is.ends;
+}

@@ -1,0 +1,19 @@
+-- Nothing begins with the rest of the line.
+use Rattle.std.proofs.Common.{◌∙◌, refl, sym, subst, ap}
+use Rattle.markdown_lines.specs.declared.line.Line.{Line}
+use Rattle.markdown_plain.specs.Fitting.{stepped}
+use Rattle.markdown_plain.specs.Standing.{PlacesFor}
+use Rattle.markdown_plain.specs.declared.pass.Pass.{Pass}
+use Rattle.markdown_plain.proofs.BegunLeavesLemmas.{nothing_places}
+use Rattle.markdown_plain.proofs.pass.Pass.skip_blank.Goals as goal
+
+pub returns-clause-inside : goal.returns-clause-inside
+returns-clause-inside c = λ s rest frames source at blocks state same found fitted.
+    let old = c.args.self.now in
+    let now : Pass = record old { placing = c.step_to.new.self } in
+    let step = c.step_to.ensures.steps fitted in (
+      step.0,
+      subst (λ (l : Line). PlacesFor s now l.next blocks) same
+          (nothing_places s old now rest frames source at blocks state found refl
+          (step.1 ∙ ap (λ (l : Line). stepped old.placing.builder l.next) (sym same))),
+    )
