@@ -1,5 +1,4 @@
 -- The pass stands for what the line makes of its blocks.
-use Rattle.markdown_plain.proofs.TextReachedLemmas.{reached_within}
 use Rattle.std.proofs.Common.{subst}
 use Rattle.markdown_plain.specs.Fitting.{AllFitted}
 use Rattle.markdown_plain.proofs.TextStepsLemmas.{AddsText, text_places}
