@@ -16,7 +16,7 @@ use Rattle.markdown_plain.proofs.FoundBlocksLemmas.{begun_found, found_filled}
 use Rattle.markdown_plain.proofs.BegunBlocksLemmas.{begun_block, in_line_more, keeps_leaf}
 use Rattle.markdown_plain.proofs.BegunBlocksLemmas.{loose_inside}
 use Rattle.markdown_plain.proofs.BegunBlocksLemmas.{room_made, source_kept, still_may}
-use Rattle.markdown_plain.proofs.BegunTextsLemmas.{end_begins, end_block, held_from, none_open, text_places}
+use Rattle.markdown_plain.proofs.BegunTextsLemmas.{end_begins, end_block, held_from, none_open, text_inside}
 use Rattle.markdown_plain.proofs.FramesLemmas.{rebuilt_more}
 use Rattle.markdown_plain.proofs.OpenedFramesLemmas.{as_many_containers, innermost_of_more}
 use Rattle.markdown_plain.proofs.pass.Pass.read_alert.Goals as goal
@@ -60,7 +60,7 @@ returns-clause-inside c = λ s frames source blocks state found fitted.
     (subst (λ text. BeginsText text held (end_of_line source) b) (sym (bytes ∙ texts))
     (end_begins s.text rest.position rest.line source state.left.is filled)) more.items in (
       subst (λ (p : Pass). AllFitted p.placing) made.0 opens.0,
-      text_places s now rest.line rest.line.stop inner blocks b (end_of_line source) refl
+      text_inside s now rest.line rest.line.stop inner blocks b (end_of_line source) refl
           (source_kept s quote now bytes options after.source) paragraph more.quotes more.earlier same.1
           (ap (λ (p : Pass). p.blanks.items) same.0 ∙ after.blanks)
           (c.in_ok-add_text.ensures.line
