@@ -128,7 +128,8 @@ pub record BeginsLine (s : Source) (new : Pass) (line : Line) (start : ℕ) (out
       → HoldsParagraph s new outer inside b (source ∷ [])
 
 -- what is left of a line that is text makes a paragraph
-text_made : (s : Source) (l : SourceLine) → is_blank_rest l ≡ false → begins s paragraph.NoParagraph l ≡ beginning.begins_text
+text_made : (s : Source) (l : SourceLine) → is_blank_rest l ≡ false
+    → begins s paragraph.NoParagraph l ≡ beginning.begins_text
     → line_block s l ≡ leaf_block (text_block l)
 text_made s l filled text =
     block_begun s l filled ∙ ap (new_blocks (inside_of (begun_by s) l) l) text
@@ -165,7 +166,8 @@ text_begun s old new line start frames inside source of same is are nested items
     (begins_block old.placing.builder.text line r.rest start at is.from) in
     placed_text s new source line outer now b (text_line r.rest ∷ []) (rebuilt frames inside) of
     (begun.first b (text_line r.rest) begins_it
-    (none_opened old.placing.builder.text line r.rest start at is.from outer (earlier_taken line.start n frames earlier)))
+    (none_opened old.placing.builder.text line r.rest start at is.from outer
+    (earlier_taken line.start n frames earlier)))
     is.next (sym at.next) (omega (arith, after)) (earlier_taken line.start n frames earlier) begun.unheld
     (loose_with_leaf new.looseness outer now b refl begun.loose) items
     (begins_in_room s frames inside source are nested none

@@ -1,7 +1,7 @@
 -- What a line reaches is text: it begins between characters, and nothing but a paragraph goes on in it.
 use Rattle.std.proofs.Common.{◌≡◌, ℕ, zero, suc, ◌+◌, ◌-◌, ◌<◌, ◌≤◌, Bool, true, false, not, ◌&&◌, ◌||◌, ◌==◌, List, []}
-use Rattle.std.proofs.Common.{◌∷◌, ◌++◌, Option, Some, None, length, get_or, codes, nat_le, nat_lt, arith, refl, sym, ap, ◌∙◌}
-use Rattle.std.proofs.Common.{map, subst, true≢false}
+use Rattle.std.proofs.Common.{◌∷◌, ◌++◌, Option, Some, None, length, get_or, codes, nat_le, nat_lt, arith, refl, sym, ap}
+use Rattle.std.proofs.Common.{◌∙◌, map, subst, true≢false}
 use Rattle.std.specs.Prelude.{slice_range, if◌then◌else◌}
 use Rattle.std.specs.List.{prefix_len}
 use Rattle.std.specs.Option.{IfSome, option_map}
@@ -26,8 +26,8 @@ use Rattle.markdown_lines.specs.SourceLines.{SourceLine, is_blank_rest, rest_ins
 use Rattle.markdown_lines.proofs.BlockStartsLemmas.{slice_same}
 use Rattle.markdown_lines.proofs.PositionsLemmas.{in_part}
 use Rattle.markdown_block_rules.specs.BlockGrowth as was
-use Rattle.markdown_block_rules.specs.BlockGrowth.{Block, Kind, content_of, goes_on, is_nil, is_text, lazily, leaf_with, past_footnote}
-use Rattle.markdown_block_rules.specs.BlockGrowth.{past_indentation, past_quote, with_lazy}
+use Rattle.markdown_block_rules.specs.BlockGrowth.{Block, Kind, content_of, goes_on, is_nil, is_text, lazily, leaf_with}
+use Rattle.markdown_block_rules.specs.BlockGrowth.{past_footnote, past_indentation, past_quote, with_lazy}
 use Rattle.markdown_plain.specs.declared.containers.Reached as code
 use Rattle.markdown_plain.specs.declared.pass.Pass.{Pass}
 use Rattle.markdown_plain.specs.Closing.{MayEnd}
@@ -91,7 +91,8 @@ module _ (text : List ℕ) (from : ℕ) (utf8 : IsUtf8 text) where
       on_test (λ (s : Space). IsWithin text from s.after) ((n == 0) || (width == 0)) _ _
       (λ e. is)
       (λ some. on_test (λ (s : Space). IsWithin text from s.after) (nat_lt n width) _ _
-      (λ more. next_within scanned 0 (width - n) column next b bytes (narrow column b (second (n == 0) (width == 0) some))
+      (λ more. next_within scanned 0 (width - n) column next b bytes
+      (narrow column b (second (n == 0) (width == 0) some))
       is)
       (λ less. space_from_within (n - width) (scanned + 1) next bytes
       (next_within scanned 0 0 column next b bytes (narrow column b (second (n == 0) (width == 0) some)) is)))
@@ -355,7 +356,12 @@ text_outside s pass line before source stands is none position here nothing colu
   where
     same_left : (text : List ℕ) → left_from text position line.stop ≡ whole_line text line
     same_left text =
-        ap (λ n. record { scanned = n; owed = position.owed; column = position.column; bytes = slice_range text n line.stop })
+        ap (λ n. record {
+          scanned = n;
+          owed = position.owed;
+          column = position.column;
+          bytes = slice_range text n line.stop;
+        })
         here
         ∙ (ap (λ n. record {
           scanned = line.start;

@@ -179,7 +179,8 @@ module _ (s : Source) (old new : Pass) (line : Line) (start depth : ℕ) (source
       } in (
         there.0,
         text_begun s old new line start frames blocks source now text is
-            (open_are_containers around.texts (without_leaf old.placing.builder) frames around.are) around.nested around.items
+            (open_are_containers around.texts (without_leaf old.placing.builder) frames around.are) around.nested
+            around.items
             stands.earlier here.content (here.over around.none)
             (ap (λ test. begins s (if test then (if are_none r.inner then paragraph.Reached else paragraph.Lazy)
             else paragraph.NoParagraph) r.rest) (sym around.none) ∙ here.text)
