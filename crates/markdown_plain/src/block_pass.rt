@@ -14,7 +14,7 @@ ghost use Rattle.markdown_plain.specs.Fitting.{IfFitted};
 ghost use Rattle.markdown_plain.specs.ListLooseness.{blank_from};
 ghost use Rattle.markdown_plain.specs.ReachedLines as lines;
 ghost use Rattle.markdown_plain.specs.ReachedLines.{IsReachedBy, LeavesOff, blocks_before, reached_of};
-ghost use Rattle.markdown_plain.specs.Standing.{PlacesFor, StandsFor};
+ghost use Rattle.markdown_plain.specs.Standing.{IsSource, PlacesFor, Stands, StandsFor};
 ghost use Rattle.markdown_base.specs.Coverage.{Covers};
 ghost use Rattle.markdown_base.specs.WellFormed.{IsWellFormed};
 ghost use Rattle.markdown_builder.specs.EvenRows.{HasEvenRows};
@@ -162,6 +162,11 @@ impl<'a> Pass<'a> {
         ensures text { IfOk result (λ _. self.new.placing.builder.text
             ≡ self.old.placing.builder.text) }
         ensures ahead { ahead.new.text.now ≡ ahead.old.text.now }
+        ensures blank { IfOk result (λ _. (s : Source) (before : lines.Before) (source : SourceLine)
+            → Stands s self.old before.frames before.inside before.last line.start
+            → IsSource self.old line source → is_blank_rest (reached_of s before source).rest ≡ true
+            → IfFitted self.old.placing self.new.placing
+            (StandsFor s self.new line.next (with_line s (blocks_before before) source))) }
     {
         let reached = reach(self, line);
         if reached.all && self.placing.is_in_leaf() && self.goes_on(line, reached)? {
