@@ -290,11 +290,11 @@ all_reached s frames now l none =
 
 -- a line after indented code, which reaches all containers
 record HoldsBlank (s : Source) (old mid : Pass) (b : Block) (lines : List SourceLine) (rest : SourceLine) : Type 0
-    where
-  kind : b.kind ≡ was.indented_leaf lines
-  how : old.leaf ≡ leaf.Indented
-  blank : is_blank_rest rest ≡ true
-  holds : HoldsBlanks mid.blanks.items (was.indented_leaf (lines ++ cut 4 rest ∷ []))
+  where
+    kind : b.kind ≡ was.indented_leaf lines
+    how : old.leaf ≡ leaf.Indented
+    blank : is_blank_rest rest ≡ true
+    holds : HoldsBlanks mid.blanks.items (was.indented_leaf (lines ++ cut 4 rest ∷ []))
 
 abbrev pub last_of : List Frame → Forest Block → Block → Before
 last_of frames inside b = record { frames = frames; inside = inside; last = Some b }

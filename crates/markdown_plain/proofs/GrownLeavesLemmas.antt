@@ -68,13 +68,13 @@ pub record MayGrow (kind now : Kind) : Type 0 where
 
 -- the pass has added a line to the open leaf
 pub record AddsTo (s : Source) (old new : Pass) (frames : List Frame) (inside : Forest Block) (c : Block) : Type 0
-    where
-  pub source : source_of new ≡ source_of old
-  pub lines : new.lines.items ≡ old.lines.items
-  pub looseness : new.looseness ≡ old.looseness
-  pub is : IsLeafIn s new.placing.builder frames inside c (has_ended c.kind)
-  pub held : has_ended c.kind ≡ true → new.blanks.items ≡ []
-  pub knows : has_ended c.kind ≡ false → IsLeafKind new.leaf c.kind × HoldsBlanks new.blanks.items c.kind
+  where
+    pub source : source_of new ≡ source_of old
+    pub lines : new.lines.items ≡ old.lines.items
+    pub looseness : new.looseness ≡ old.looseness
+    pub is : IsLeafIn s new.placing.builder frames inside c (has_ended c.kind)
+    pub held : has_ended c.kind ≡ true → new.blanks.items ≡ []
+    pub knows : has_ended c.kind ≡ false → IsLeafKind new.leaf c.kind × HoldsBlanks new.blanks.items c.kind
 
 pub grown_places : (s : Source) (old new : Pass) (line : Line) (found : code.Reached) (frames : List Frame)
     (inside : Forest Block) (b : Block) (source : SourceLine) (now : Kind)
@@ -155,8 +155,11 @@ grown_places s old new line found frames inside b source now by none may empty g
         source = adds.source ∙ by.stands.source;
         unended = (
           None,
-          (grows.leaf, open_leaf_touched source s new.placing.builder frames inside true
-              (grown_to b (reached_of s (last_of frames inside b) source).rest.next now) is),
+          (
+            grows.leaf,
+            open_leaf_touched source s new.placing.builder frames inside true
+                (grown_to b (reached_of s (last_of frames inside b) source).rest.next now) is,
+          ),
           ((adds.knows ends).0, (adds.knows ends).1, adds.lines ∙ empty),
         );
         quotes = quotes_touched source line.next (sym by.is.next) frames;
@@ -272,8 +275,8 @@ html_grown s rest kind lines more = record {
 
 -- a leaf that holds no blank lines back
 kept_places : (s : Source) (old new : Pass) (line : Line) (found : code.Reached) (frames : List Frame)
-    (inside : Forest Block) (b : Block) (source : SourceLine) → IsReachedBy s old line found (last_of frames inside b) source
-    → (reached_of s (last_of frames inside b) source).inner ≡ []
+    (inside : Forest Block) (b : Block) (source : SourceLine)
+    → IsReachedBy s old line found (last_of frames inside b) source → (reached_of s (last_of frames inside b) source).inner ≡ []
     → MayEnd s old frames inside b None → old.lines.items ≡ [] → old.blanks.items ≡ []
     → new ≡ record old { placing = new.placing } → new.placing.builder.text ≡ old.placing.builder.text
     → (grown : GrownFrom s (reached_of s (last_of frames inside b) source).rest old.leaf b.kind)

@@ -267,7 +267,7 @@ impl<'a> Pass<'a> {
     fn see_blank(&mut self, line: Line, quoted: usize)
         ensures same { self.new ≡ record self.old {
           looseness = record self.old.looseness {
-            blank_from = Some (blank_from self.old.looseness.blank_from quoted)
+            blank_from = Some (blank_from self.old.looseness.blank_from quoted);
           };
           placed = self.new.placed;
         } }
