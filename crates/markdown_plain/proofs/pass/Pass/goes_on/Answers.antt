@@ -1,12 +1,15 @@
 -- The open leaf has one more line, by its kind.
-use Rattle.std.proofs.Common.{◌≡◌, ◌∙◌, true, false, ap, sym, rules, arith}
+use Rattle.std.proofs.Common.{◌≡◌, ◌∙◌, true, false, ap, refl, sym, rules, arith}
 use Rattle.std.proofs.Math.Bool.{and-false}
 use Rattle.std.proofs.lemmas.Bool.Decides.{nat_tests}
 use Rattle.std.specs.Prelude.{◌==◌, ◌&&◌, nat_le}
 use Rattle.markdown_lines.specs.HtmlKinds.{ends_at_blank}
 use Rattle.markdown_lines.specs.Positions.{left_from}
 use Rattle.markdown_scan.specs.LineStart.{leading_space}
-use Rattle.markdown_plain.proofs.GrownLeavesLemmas.{fenced_places, html_places, indented_places, metadata_places}
+use Rattle.markdown_plain.proofs.GrownLeavesLemmas.{fenced_places, html_leaves_off, html_places, indented_leaves_off}
+use Rattle.markdown_plain.proofs.GrownLeavesLemmas.{indented_places, metadata_places}
+use Rattle.markdown_plain.proofs.pass.Pass.goes_on.Goals.{then-blank-2-via-then-blank-2}
+use Rattle.markdown_plain.proofs.pass.Pass.goes_on.Goals.{then-blank-2-via-else-blank-2+then-before-lt4}
 use Rattle.markdown_plain.proofs.pass.Pass.goes_on.Goals.{else-blank-via-then-blank+else-ends_at_blank}
 use Rattle.markdown_plain.proofs.pass.Pass.goes_on.Goals.{else-blank-via-else-blank}
 use Rattle.markdown_plain.proofs.pass.Pass.goes_on.Goals as goal
@@ -58,3 +61,33 @@ returns-in_ok-add_metadata-in-Metadata-clause-places c = λ goes s before source
     metadata_places s c.args.self.now c.add_metadata.new.self c.args.line c.args.reached before source
     c.in-Metadata.kind c.in-Metadata.is leaf c.in_ok-add_metadata-in-Metadata.ensures.same
     c.in_ok-add_metadata-in-Metadata.ensures.text (c.in_ok-add_metadata-in-Metadata.ensures.leaf s) by by none fits
+
+pub returns-then-ends_at_blank-clause-leaves_off : goal.returns-then-ends_at_blank-clause-leaves_off
+returns-then-ends_at_blank-clause-leaves_off c = λ goes. (
+  refl,
+  λ s before source by leaf.
+      let kind = c.in-Html.kind in
+      let content = c.if-blank.true in
+      let white : nat_le c.args.line.stop c.args.reached.content ≡ true = grind (arith, nat_tests, content) in
+      html_leaves_off s c.args.self.now c.args.line c.args.reached before source kind c.in-Html.is leaf
+      (ap (λ t. t && ends_at_blank kind) white ∙ (sym c.ends_at_blank.ensures ∙ c.if-ends_at_blank.true)) by by,
+)
+
+pub returns-then-blank-2-clause-leaves_off : goal.returns-then-blank-2-clause-leaves_off
+returns-then-blank-2-clause-leaves_off c = λ goes. (
+  refl,
+  λ s before source by leaf.
+      let left = left_from c.args.self.now.placing.builder.text c.args.reached.position c.args.line.stop in
+      let columns : c.read_space-before.result.columns ≡ (leading_space 4 left).columns = search rules in
+      let few : nat_le c.args.line.stop c.args.reached.content ≡ false
+      → ((leading_space 4 left).columns == 4) ≡ false = λ filled.
+      elim c.then-blank-2.branch [
+        | then-blank-2-via-then-blank-2 w ↦
+            let content = w.if-blank-2.true in
+            absurd (grind (arith, nat_tests, content, filled))
+        | then-blank-2-via-else-blank-2+then-before-lt4 w ↦
+            let less = w.if-before-lt4.true in
+            grind (arith, nat_tests, less, columns)
+      ] in
+      indented_leaves_off s c.args.self.now c.args.line c.args.reached before source c.in-Indented.is leaf few by by,
+)
