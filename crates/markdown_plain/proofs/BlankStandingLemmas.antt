@@ -1,10 +1,10 @@
 -- What the pass stands for after a blank line: the containers that the line does not reach are closed, and the line
 -- follows in the innermost one that it reaches; or it goes on with indented code.
-use Rattle.std.proofs.Common.{◌≡◌, ℕ, ◌≤◌, Bool, true, false, not, ◌&&◌, List, [], ◌∷◌, ◌++◌, Option, Some, None}
+use Rattle.std.proofs.Common.{◌≡◌, ℕ, ◌≤◌, Bool, true, false, ◌&&◌, List, [], ◌∷◌, ◌++◌, Option, Some, None}
 use Rattle.std.proofs.Common.{drop, take, length, map, refl, sym, ap, ◌∙◌, subst, true≢false, arith, append_assoc, append-nil}
 use Rattle.std.specs.Prelude.{if◌then◌else◌}
 use Rattle.std.specs.Option.{option_map}
-use Rattle.markdown_base.specs.Forest.{Forest, nil, node}
+use Rattle.markdown_base.specs.Forest.{Forest, nil}
 use Rattle.markdown_builder.specs.TreeLevels.{followed_by}
 use Rattle.markdown_lines.specs.BlockBeginnings.{Source}
 use Rattle.markdown_lines.specs.SourceLines.{SourceLine, cut, is_blank_rest}
@@ -36,7 +36,7 @@ use Rattle.markdown_plain.specs.ReachedLines.{Before, IsReachedBy, LeavesOff, bl
 use Rattle.markdown_plain.specs.ReachedLines.{reached_of}
 use Rattle.markdown_plain.specs.declared.containers.Reached as code
 use Rattle.markdown_plain.specs.Standing.{AreOpenedBefore, HasLast, HoldsBlanks, IsLeafKind, IsSource, KnowsLast}
-use Rattle.markdown_plain.specs.Standing.{Stands, StandsFor, with_last}
+use Rattle.markdown_plain.specs.Standing.{StandsFor, with_last}
 use Rattle.markdown_plain.proofs.AppendedBlocksLemmas.{blank_is_at_end, blank_is_built}
 use Rattle.markdown_plain.proofs.BlankLinesLemmas.{blank_quotes, empty_blank, item_reached}
 use Rattle.markdown_plain.proofs.BlanksKnownLemmas.{blank_at_end, blank_known, known_touched, same_touched}

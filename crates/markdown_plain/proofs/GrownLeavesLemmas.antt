@@ -1,8 +1,8 @@
 -- An open leaf with one more line: what the pass has placed then.
-use Rattle.std.proofs.Common.{◌≡◌, ℕ, ◌≤◌, Bool, true, false, ◌&&◌, ◌||◌, List, [], ◌∷◌, ◌++◌, Option, Some, None}
+use Rattle.std.proofs.Common.{◌≡◌, ℕ, ◌≤◌, Bool, true, false, ◌&&◌, List, [], ◌∷◌, ◌++◌, Option, Some, None}
 use Rattle.std.proofs.Common.{map, refl, sym, ap, ◌∙◌, subst, append-nil, true≢false, arith}
-use Rattle.std.specs.Prelude.{◌==◌, nat_le, nat_lt, if◌then◌else◌}
-use Rattle.markdown_base.specs.Forest.{Forest, nil, node}
+use Rattle.std.specs.Prelude.{◌==◌, nat_le}
+use Rattle.markdown_base.specs.Forest.{Forest}
 use Rattle.markdown_builder.specs.BuilderView.{BuilderView}
 use Rattle.markdown_builder.specs.TreeLevels.{followed_by}
 use Rattle.markdown_lines.specs.BlockBeginnings.{Source}
@@ -25,14 +25,15 @@ use Rattle.markdown_block_rules.specs.BlockRules.{block_ends_blank, code_lines, 
 use Rattle.markdown_lines.specs.Positions.{left_from}
 use Rattle.markdown_scan.specs.LineStart.{LineLeft, leading_space}
 use Rattle.markdown_plain.specs.HeldSources.{AreHeld}
-use Rattle.std.proofs.Math.Bool.{or-true}
+use Rattle.std.proofs.Math.Bool.{and-true, or-true}
 use Rattle.markdown_plain.specs.declared.containers.Reached as code
 use Rattle.markdown_plain.specs.declared.pass.Pass.{Pass}
 use Rattle.markdown_plain.specs.Closing.{AreItemsInLists, MayEnd}
 use Rattle.markdown_plain.specs.Frames.{Frame, reached, rebuilt, touched}
 use Rattle.markdown_plain.specs.OpenLeaves.{IsLeafIn, IsLineRest, IsPlaced, has_ended, is_leaf, leaf_block}
 use Rattle.markdown_plain.specs.Paragraphs.{lines_end, source_of}
-use Rattle.markdown_plain.specs.ReachedLines.{Before, IsReachedBy, blocks_before, reached_of}
+use Rattle.markdown_plain.specs.ReachedLines.{Before, IsReachedBy, LeavesOff, blocks_before, is_indented}
+use Rattle.markdown_plain.specs.ReachedLines.{reached_of}
 use Rattle.markdown_plain.specs.Settled.{IsLooseAs}
 use Rattle.markdown_plain.specs.Standing.{HasLast, HoldsBlanks, IsLeafKind, KnowsLast, PlacesFor}
 use Rattle.markdown_plain.specs.Standing.{is_metadata}
@@ -275,8 +276,8 @@ html_grown s rest kind lines more = record {
 
 -- a leaf that holds no blank lines back
 kept_places : (s : Source) (old new : Pass) (line : Line) (found : code.Reached) (frames : List Frame)
-    (inside : Forest Block) (b : Block) (source : SourceLine) → IsReachedBy s old line found (last_of frames inside b) source
-    → (reached_of s (last_of frames inside b) source).inner ≡ []
+    (inside : Forest Block) (b : Block) (source : SourceLine)
+    → IsReachedBy s old line found (last_of frames inside b) source → (reached_of s (last_of frames inside b) source).inner ≡ []
     → MayEnd s old frames inside b None → old.lines.items ≡ [] → old.blanks.items ≡ []
     → new ≡ record old { placing = new.placing } → new.placing.builder.text ≡ old.placing.builder.text
     → (grown : GrownFrom s (reached_of s (last_of frames inside b) source).rest old.leaf b.kind)
@@ -518,3 +519,55 @@ indented_places s old new line found before source after how open_leaf same empt
           }),
         )
     by_kind b kind same_kind may is unheld empty = absurd is
+
+-- ---- where it leaves off
+
+-- the open leaf does not go on in what is left of a line
+abbrev pub LeavesLine : Source → Pass → Line → code.Reached → SourceLine → Before → Type 0
+LeavesLine s old line found source before =
+    IsReachedBy s old line found before source → LeavesOff s (reached_of s before source).rest before.last
+
+pub html_leaves_off : (s : Source) (old : Pass) (line : Line) (found : code.Reached) (before : Before)
+    (source : SourceLine) (kind : HtmlKind) → old.leaf ≡ leaf.Html kind → old.placing.builder.leaf ≡ true
+    → (nat_le line.stop found.content && ends_at_blank kind) ≡ true
+    → IsReachedBy s old line found before source → LeavesLine s old line found source before
+html_leaves_off s old line found before source kind how open_leaf ends by =
+    leaf_case (LeavesLine s old line found source) s old before by.stands.unended open_leaf
+    (λ b may knows. by_kind b b.kind refl (subst (λ h. IsLeafKind h b.kind) how knows.0))
+  where
+    by_kind : (b : Block) (now : Kind) → b.kind ≡ now → IsLeafKind (leaf.Html kind) now
+        → LeavesLine s old line found source (last_of before.frames before.inside b)
+    by_kind b (was.html_leaf found_kind false lines) now is = λ by leaf other.
+        let rest = (reached_of s (last_of before.frames before.inside b) source).rest in
+        let white = ap (λ t. t && ends_at_blank kind) (sym by.reaches.blank) ∙ ends in
+        ap (leaf_with s rest) (now ∙ ap (λ k. was.html_leaf k false lines) is) ∙ over rest lines white
+      where
+        over : (rest : SourceLine) (lines : List SourceLine) → (is_blank_rest rest && ends_at_blank kind) ≡ true
+            → leaf_with s rest (was.html_leaf kind false lines) ≡ None
+        over rest lines white = rw white refl
+    by_kind b now same_kind is = absurd is
+
+pub indented_leaves_off : (s : Source) (old : Pass) (line : Line) (found : code.Reached) (before : Before)
+    (source : SourceLine) → old.leaf ≡ leaf.Indented → old.placing.builder.leaf ≡ true
+    → (nat_le line.stop found.content ≡ false
+    → ((leading_space 4 (left_from old.placing.builder.text found.position line.stop)).columns == 4) ≡ false)
+    → IsReachedBy s old line found before source → LeavesLine s old line found source before
+indented_leaves_off s old line found before source how open_leaf few by =
+    leaf_case (LeavesLine s old line found source) s old before by.stands.unended open_leaf
+    (λ b may knows. by_kind b b.kind refl (subst (λ h. IsLeafKind h b.kind) how knows.0))
+  where
+    over : (rest : SourceLine) (lines : List SourceLine) → is_blank_rest rest ≡ false
+        → ((leading_space 4 rest.left).columns == 4) ≡ false
+        → leaf_with s rest (was.indented_leaf lines) ≡ None
+    over rest lines filled fewer = rw (filled, fewer) refl
+
+    by_kind : (b : Block) (now : Kind) → b.kind ≡ now → IsLeafKind leaf.Indented now
+        → LeavesLine s old line found source (last_of before.frames before.inside b)
+    by_kind b (was.indented_leaf lines) now is = λ by leaf other.
+        let rest = (reached_of s (last_of before.frames before.inside b) source).rest in
+        let filled : is_blank_rest rest ≡ false =
+        sym (and-true (is_blank_rest rest)) ∙ (ap (λ k. is_blank_rest rest && is_indented k) (sym now) ∙ other) in
+        let fewer = ap (λ left. (leading_space 4 left).columns == 4) (sym by.reaches.rest.left)
+        ∙ few (by.reaches.blank ∙ filled) in
+        ap (leaf_with s rest) now ∙ over rest lines filled fewer
+    by_kind b now same_kind is = absurd is

@@ -1,6 +1,6 @@
 -- What is open before a line; and an open leaf that goes on in the line, or leaves off.
 use Rattle.std.proofs.Common.{◌≡◌, ℕ, Bool, true, false, not, ◌&&◌, ◌||◌, List, [], ◌∷◌, ◌++◌, Option, Some, None}
-use Rattle.std.proofs.Common.{map, refl, sym, ap, ◌∙◌, subst, append-nil, true≢false}
+use Rattle.std.proofs.Common.{◌<◌, arith, length, map, refl, sym, ap, ◌∙◌, append-nil, true≢false}
 use Rattle.std.proofs.Math.Bool.{and-false, or-false}
 use Rattle.std.specs.Prelude.{if◌then◌else◌}
 use Rattle.std.specs.Option.{option_map}
@@ -29,12 +29,14 @@ use Rattle.markdown_plain.specs.Frames.{AreContainers, AreNested, Frame, is_list
 use Rattle.markdown_plain.specs.OpenBlocks.{outer_of, without_leaf}
 use Rattle.markdown_plain.specs.OpenLeaves.{IsOpenIn, is_leaf, leaf_block}
 use Rattle.markdown_plain.specs.OpenedFrames.{around_innermost}
-use Rattle.markdown_plain.specs.ReachedFrames.{IsAtMostLeaf, IsBefore}
+use Rattle.markdown_plain.specs.ReachedFrames.{IsAtMostLeaf, IsBefore, IsReached}
+use Rattle.markdown_plain.specs.ReachedLines.{Before, IsReachedBy, LeavesOff, blocks_in, is_indented}
+use Rattle.markdown_plain.specs.declared.containers.Reached as code
 use Rattle.markdown_plain.specs.Settled.{AreOpen, EmptyKnown, EmptyKnownIn, IsLooseAs, are_loose, placed_end}
 use Rattle.markdown_plain.specs.Standing.{HasLast, IsLeafKind, IsSource, KnowsLast, Stands, with_last}
 use Rattle.markdown_plain.proofs.BlanksKnownLemmas.{same_touched}
 use Rattle.markdown_plain.proofs.FramesLemmas.{goes_on_last}
-use Rattle.markdown_plain.proofs.LeavesInPlaceLemmas.{shown_alone, shown_leaf, shown_of_kind}
+use Rattle.markdown_plain.proofs.LeavesInPlaceLemmas.{shown_alone, shown_leaf}
 use Rattle.markdown_plain.proofs.LinedLeavesLemmas.{grown_to}
 use Rattle.markdown_plain.proofs.LooseFramesLemmas.{closed_separated, loose_by_last, same_last}
 use Rattle.markdown_plain.proofs.OpenBlocksLemmas.{outer_of_these}
@@ -161,6 +163,21 @@ before_line s pass line frames inside last source stands is =
       next = is.next;
     }
 
+-- and with that, what the line is read by
+pub reached_by : (s : Source) (pass : Pass) (line : Line) (found : code.Reached) (before : Before)
+    (source : SourceLine) → Stands s pass before.frames before.inside before.last line.start
+    → IsSource pass line source
+    → ((frames : List Frame) (inside : Forest Block) (source : SourceLine)
+    → IsBefore pass line s frames inside source
+    → IsReached pass.placing.builder.text line source found (reached s frames inside source))
+    → IsReachedBy s pass line found before source
+reached_by s pass line found before source stands is reaches = record {
+  stands = stands;
+  is = is;
+  reaches = reaches before.frames (blocks_in before) source
+      (before_line s pass line before.frames before.inside before.last source stands is);
+}
+
 -- ---- whether a leaf goes on
 
 no_table : (s : Source) (l : SourceLine) (b : Block) (kind : Kind) → is_leaf kind ≡ true → table_with s l b kind ≡ None
@@ -218,6 +235,34 @@ leaf_grows s frames inside b l now are nested none leaf grown =
     (ap (λ (fs : List Frame). goes_on s (rebuilt fs before) r.rest) none
     ∙ leaf_goes_on s r.rest inside b now leaf grown)
     ∙ ap (λ (fs : List Frame). rebuilt (map (touched l) fs) after) all
+
+-- where no leaf is open, none goes on
+pub no_leaf_goes_on : (s : Source) (pass : Pass) (frames : List Frame) (inside : Forest Block) (last : Option Block)
+    (rest : SourceLine) → HasLast s pass frames inside last → pass.placing.builder.leaf ≡ false
+    → LeavesOff s rest last
+no_leaf_goes_on s pass frames inside None rest has outside = tt
+no_leaf_goes_on s pass frames inside (Some b) rest has outside = λ is filled. by_held has.0 has.1 is
+  where
+    by_held : (held : Option (List SourceLine)) → MayEnd s pass frames inside b held → is_leaf b.kind ≡ true
+        → leaf_with s rest b.kind ≡ None
+    by_held None may is = absurd (true≢false (sym may.unended.1.leaf ∙ outside))
+    by_held (Some sources) may is = absurd (true≢false (sym is ∙ ap is_leaf may.unended.kind))
+
+-- where no paragraph is open, nothing goes on in the rest of a line that is not blank, once the leaf leaves off
+pub nothing_goes_on_in : (s : Source) (pass : Pass) (frames : List Frame) (inside : Forest Block)
+    (last : Option Block) (rest : SourceLine) → HasLast s pass frames inside last → pass.lines.items ≡ []
+    → is_blank_rest rest ≡ false → LeavesOff s rest last → goes_on s (with_last inside last) rest ≡ None
+nothing_goes_on_in s pass frames inside None rest has none filled off = (has.2 rest).0
+nothing_goes_on_in s pass frames inside (Some b) rest has none filled off = by_held has.0 has.1
+  where
+    none_some : (count : ℕ) → 0 < count → count ≡ 0 → ⊥
+    none_some count some none = omega (arith, some, none)
+
+    by_held : (held : Option (List SourceLine)) → MayEnd s pass frames inside b held
+        → goes_on s (followed_by inside (leaf_block b)) rest ≡ None
+    by_held None may = leaf_leaves_off s rest inside b may.unended.0
+        (off may.unended.0 (ap (λ t. t && is_indented b.kind) filled))
+    by_held (Some sources) may = absurd (none_some (length pass.lines.items) may.unended.some (ap length none))
 
 -- ---- which lists are loose, with one leaf instead of another
 

@@ -1,5 +1,5 @@
 -- Open containers that go on in a line are open as before: what is known of the blocks in them stays.
-use Rattle.std.proofs.Common.{◌≡◌, ℕ, ◌<◌, ◌≤◌, Bool, true, List, [], ◌∷◌, ◌++◌, arith, map, refl, sym, ap, ◌∙◌, subst}
+use Rattle.std.proofs.Common.{◌≡◌, ℕ, ◌≤◌, Bool, List, [], ◌∷◌, ◌++◌, arith, map, refl, sym, ap, ◌∙◌, subst}
 use Rattle.markdown_base.specs.Forest.{Forest, nil, node}
 use Rattle.markdown_builder.specs.declared.open_block.OpenBlock.{OpenBlock}
 use Rattle.markdown_builder.specs.BuilderView.{BuilderView}
@@ -11,12 +11,12 @@ use Rattle.markdown_block_rules.specs.BlockGrowth.{Block, Kind}
 use Rattle.markdown_block_rules.specs.BlockRules.{Around, definitions_in, footnotes_in, in_no_item, shown_blocks}
 use Rattle.markdown_plain.specs.declared.pass.Pass.{Pass}
 use Rattle.markdown_plain.specs.Closing.{AreItemsInLists}
-use Rattle.markdown_plain.specs.Frames.{AreNested, Frame, is_list, is_quote, rebuilt, touched}
+use Rattle.markdown_plain.specs.Frames.{AreNested, Frame, is_list, rebuilt, touched}
 use Rattle.markdown_plain.specs.OpenLeaves.{HoldsParagraph}
 use Rattle.markdown_plain.specs.OpenedFrames.{around_innermost}
 use Rattle.markdown_plain.specs.Paragraphs.{EndsFrom, first_task}
 use Rattle.markdown_plain.specs.Settled.{AreOpen, IsBuilt, QuotesEnd, around_in, levels_shown}
-use Rattle.markdown_plain.specs.Standing.{AreOpenedBefore, IsOpenedBefore}
+use Rattle.markdown_plain.specs.Standing.{AreOpenedBefore}
 use Rattle.markdown_plain.proofs.AppendedBlocksLemmas.{IsGathered, definitions_gathered, footnotes_gathered}
 use Rattle.markdown_plain.proofs.AppendedBlocksLemmas.{gathered_around}
 

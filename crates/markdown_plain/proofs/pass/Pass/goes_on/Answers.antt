@@ -1,0 +1,93 @@
+-- The open leaf has one more line, by its kind.
+use Rattle.std.proofs.Common.{◌≡◌, ◌∙◌, true, false, ap, refl, sym, rules, arith}
+use Rattle.std.proofs.Math.Bool.{and-false}
+use Rattle.std.proofs.lemmas.Bool.Decides.{nat_tests}
+use Rattle.std.specs.Prelude.{◌==◌, ◌&&◌, nat_le}
+use Rattle.markdown_lines.specs.HtmlKinds.{ends_at_blank}
+use Rattle.markdown_lines.specs.Positions.{left_from}
+use Rattle.markdown_scan.specs.LineStart.{leading_space}
+use Rattle.markdown_plain.proofs.GrownLeavesLemmas.{fenced_places, html_leaves_off, html_places, indented_leaves_off}
+use Rattle.markdown_plain.proofs.GrownLeavesLemmas.{indented_places, metadata_places}
+use Rattle.markdown_plain.proofs.pass.Pass.goes_on.Goals.{then-blank-2-via-then-blank-2}
+use Rattle.markdown_plain.proofs.pass.Pass.goes_on.Goals.{then-blank-2-via-else-blank-2+then-before-lt4}
+use Rattle.markdown_plain.proofs.pass.Pass.goes_on.Goals.{else-blank-via-then-blank+else-ends_at_blank}
+use Rattle.markdown_plain.proofs.pass.Pass.goes_on.Goals.{else-blank-via-else-blank}
+use Rattle.markdown_plain.proofs.pass.Pass.goes_on.Goals as goal
+
+pub returns-in_ok-add_fenced-in-Fenced-clause-places :
+    goal.returns-in_ok-add_fenced-in-Fenced-clause-places
+returns-in_ok-add_fenced-in-Fenced-clause-places c = λ goes s before source by leaf none fits.
+    fenced_places s c.args.self.now c.add_fenced.new.self c.args.line c.args.reached before source c.in-Fenced.fence
+    c.in-Fenced.is leaf c.in_ok-add_fenced-in-Fenced.ensures.same c.in_ok-add_fenced-in-Fenced.ensures.text
+    (c.in_ok-add_fenced-in-Fenced.ensures.leaf s) by by none fits
+
+pub returns-in_ok-add_html-in-Html-clause-places : goal.returns-in_ok-add_html-in-Html-clause-places
+returns-in_ok-add_html-in-Html-clause-places c = λ goes s before source by leaf none fits.
+    let kind = c.in-Html.kind in
+    let blank = nat_le c.args.line.stop c.args.reached.content in
+    let more : (blank && ends_at_blank kind) ≡ false =
+    elim c.else-blank.branch [
+      | else-blank-via-then-blank+else-ends_at_blank w ↦
+          ap (λ t. blank && t) (sym w.ends_at_blank.ensures ∙ w.if-ends_at_blank.false) ∙ and-false blank
+      | else-blank-via-else-blank w ↦
+          let content = w.if-blank.false in
+          let filled : blank ≡ false = grind (arith, nat_tests, content) in
+          ap (λ t. t && ends_at_blank kind) filled
+    ] in
+    html_places s c.args.self.now c.add_html.new.self c.args.line c.args.reached before source kind c.in-Html.is leaf
+    c.in_ok-add_html-in-Html.ensures.same c.in_ok-add_html-in-Html.ensures.text
+    (c.in_ok-add_html-in-Html.ensures.leaf s) more by by none fits
+
+pub returns-in_ok-add_indented-in-Indented-clause-places :
+    goal.returns-in_ok-add_indented-in-Indented-clause-places
+returns-in_ok-add_indented-in-Indented-clause-places c = λ goes s before source by leaf none fits.
+    let old = c.args.self.now in
+    let left = left_from old.placing.builder.text c.args.reached.position c.args.line.stop in
+    let read = c.read_space-before in
+    let columns : read.result.columns ≡ (leading_space 4 left).columns = search rules in
+    let few = read.ensures.few in
+    let more = c.if-before-lt4.false in
+    let content = c.if-blank-2.false in
+    let filled : nat_le c.args.line.stop c.args.reached.content ≡ false = grind (arith, nat_tests, content) in
+    let four : ((leading_space 4 left).columns == 4) ≡ true = grind (arith, nat_tests, columns, few, more) in
+    indented_places s old c.add_indented.new.self c.args.line c.args.reached before source read.result.after
+    c.in-Indented.is leaf c.in_ok-add_indented-in-Indented.ensures.same
+    c.in_ok-add_indented-in-Indented.ensures.emptied c.in_ok-add_indented-in-Indented.ensures.text
+    (c.in_ok-add_indented-in-Indented.ensures.leaf s) (search rules) filled four by by none fits
+
+pub returns-in_ok-add_metadata-in-Metadata-clause-places :
+    goal.returns-in_ok-add_metadata-in-Metadata-clause-places
+returns-in_ok-add_metadata-in-Metadata-clause-places c = λ goes s before source by leaf none fits.
+    metadata_places s c.args.self.now c.add_metadata.new.self c.args.line c.args.reached before source
+    c.in-Metadata.kind c.in-Metadata.is leaf c.in_ok-add_metadata-in-Metadata.ensures.same
+    c.in_ok-add_metadata-in-Metadata.ensures.text (c.in_ok-add_metadata-in-Metadata.ensures.leaf s) by by none fits
+
+pub returns-then-ends_at_blank-clause-leaves_off : goal.returns-then-ends_at_blank-clause-leaves_off
+returns-then-ends_at_blank-clause-leaves_off c = λ goes. (
+  refl,
+  λ s before source by leaf.
+      let kind = c.in-Html.kind in
+      let content = c.if-blank.true in
+      let white : nat_le c.args.line.stop c.args.reached.content ≡ true = grind (arith, nat_tests, content) in
+      html_leaves_off s c.args.self.now c.args.line c.args.reached before source kind c.in-Html.is leaf
+      (ap (λ t. t && ends_at_blank kind) white ∙ (sym c.ends_at_blank.ensures ∙ c.if-ends_at_blank.true)) by by,
+)
+
+pub returns-then-blank-2-clause-leaves_off : goal.returns-then-blank-2-clause-leaves_off
+returns-then-blank-2-clause-leaves_off c = λ goes. (
+  refl,
+  λ s before source by leaf.
+      let left = left_from c.args.self.now.placing.builder.text c.args.reached.position c.args.line.stop in
+      let columns : c.read_space-before.result.columns ≡ (leading_space 4 left).columns = search rules in
+      let few : nat_le c.args.line.stop c.args.reached.content ≡ false
+      → ((leading_space 4 left).columns == 4) ≡ false = λ filled.
+      elim c.then-blank-2.branch [
+        | then-blank-2-via-then-blank-2 w ↦
+            let content = w.if-blank-2.true in
+            absurd (grind (arith, nat_tests, content, filled))
+        | then-blank-2-via-else-blank-2+then-before-lt4 w ↦
+            let less = w.if-before-lt4.true in
+            grind (arith, nat_tests, less, columns)
+      ] in
+      indented_leaves_off s c.args.self.now c.args.line c.args.reached before source c.in-Indented.is leaf few by by,
+)
