@@ -200,11 +200,6 @@ impl<'a> Pass<'a> {
         ensures text { IfOk result (λ _. self.new.placing.builder.text
             ≡ self.old.placing.builder.text) }
         ensures ahead { ahead.new.text.now ≡ ahead.old.text.now }
-        ensures blank { IfOk result (λ _. (s : Source) (before : lines.Before) (source : SourceLine)
-            → Stands s self.old before.frames before.inside before.last line.start
-            → IsSource self.old line source → is_blank_rest (reached_of s before source).rest ≡ true
-            → IfFitted self.old.placing self.new.placing
-            (StandsFor s self.new line.next (with_line s (blocks_before before) source))) }
     {
         let reached = reach(self, line);
         if reached.all && self.placing.is_in_leaf() && self.goes_on(line, reached)? {
