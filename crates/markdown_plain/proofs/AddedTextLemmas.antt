@@ -1,15 +1,13 @@
 -- A paragraph with one more line of text, which it reaches or continues lazily, as the definition of blocks says.
-use Rattle.std.proofs.Common.{◌≡◌, ℕ, ◌<◌, ◌≤◌, Bool, true, false, not, ◌&&◌, List, [], ◌∷◌, ◌++◌, Option, Some, None}
-use Rattle.std.proofs.Common.{arith, map, refl, sym, ap, ◌∙◌, subst}
-use Rattle.std.specs.Prelude.{◌||◌, unwrap_or, if◌then◌else◌}
-use Rattle.std.specs.Option.{option_map, option_or}
+use Rattle.std.proofs.Common.{◌≡◌, ℕ, Bool, false, List, [], ◌∷◌, Some}
+use Rattle.std.proofs.Common.{map, refl, sym, ap, ◌∙◌}
+use Rattle.std.specs.Prelude.{unwrap_or, if◌then◌else◌}
+use Rattle.std.specs.Option.{option_map}
 use Rattle.markdown_base.specs.Forest.{Forest, nil, node}
 use Rattle.markdown_lines.specs.declared.block_start.Before.TheVariants as paragraph
-use Rattle.markdown_lines.specs.declared.line.Line.{Line}
 use Rattle.markdown_lines.specs.BlockBeginnings as line
 use Rattle.markdown_lines.specs.BlockBeginnings.{Source, begins}
-use Rattle.markdown_lines.specs.Lines.{IsLineFrom}
-use Rattle.markdown_lines.specs.SourceLines.{SourceLine, is_blank_rest, text_line}
+use Rattle.markdown_lines.specs.SourceLines.{SourceLine, is_blank_rest}
 use Rattle.markdown_builder.specs.TreeLevels.{followed_by}
 use Rattle.markdown_block_rules.specs.BlockGrowth as was
 use Rattle.markdown_block_rules.specs.BlockGrowth.{Block, Kind, goes_on, is_nil, is_text, leaf_with, table_with}
@@ -17,11 +15,10 @@ use Rattle.markdown_block_rules.specs.BlockGrowth.{with_lazy, with_line}
 use Rattle.markdown_block_rules.specs.BlockRules.{are_separated, is_blank_block, is_loose}
 use Rattle.markdown_block_rules.specs.TableLines.{reads_tables}
 use Rattle.markdown_plain.specs.declared.looseness.Looseness.{Looseness}
-use Rattle.markdown_plain.specs.declared.pass.Pass.{Pass}
 use Rattle.markdown_plain.specs.Closing.{AreItemsInLists}
-use Rattle.markdown_plain.specs.Frames.{AreContainers, AreNested, Frame, Reached, forgotten, innermost_is, is_item}
+use Rattle.markdown_plain.specs.Frames.{AreContainers, AreNested, Frame, Reached, innermost_is, is_item}
 use Rattle.markdown_plain.specs.Frames.{is_list, reached, rebuilt, touched}
-use Rattle.markdown_plain.specs.OpenLeaves.{HoldsParagraph, leaf_block}
+use Rattle.markdown_plain.specs.OpenLeaves.{leaf_block}
 use Rattle.markdown_plain.specs.Settled.{EmptyKnown, EmptyKnownIn, IsLooseAs, IsLooseBefore, are_loose}
 use Rattle.markdown_plain.specs.TextLines.{with_text}
 use Rattle.markdown_plain.proofs.FramesLemmas.{goes_on_last, innermost_inner, with_lazy_last}

@@ -1,21 +1,20 @@
 -- The rest of a line that is text, as a line of a paragraph.
-use Rattle.std.proofs.Common.{◌≡◌, inl, inr, ℕ, ◌+◌, ◌<◌, ◌≤◌, Bool, true, false, List, [], ◌∷◌, length, drop}
-use Rattle.std.proofs.Common.{get_or, arith, refl, sym, ap, ◌∙◌, subst}
+use Rattle.std.proofs.Common.{◌≡◌, inl, inr, ℕ, ◌<◌, ◌≤◌, false, List, [], ◌∷◌, length, drop}
+use Rattle.std.proofs.Common.{arith, refl, sym, ap, ◌∙◌, subst}
 use Rattle.std.specs.Prelude.{slice_range, slice_index, nat_le, ◌==◌}
 use Rattle.std.specs.List.{prefix_len}
 use Rattle.std.proofs.lemmas.Bool.{true≢false}
 use Rattle.std.proofs.lemmas.Bool.Decides.{eqb_tells, nat_tests}
 use Rattle.std.proofs.lemmas.List.Sums.{prefix_len-le-length, prefix_len_stops}
-use Rattle.markdown_lines.specs.HeldLines.{AreHeldFrom, IsHeldLine}
-use Rattle.markdown_lines.specs.Lines.{IsLineEnd, IsLineFrom, ending_length, is_space_or_tab}
-use Rattle.markdown_lines.specs.SourceLines.{SourceLine, is_blank_rest, stop_of, text_line}
+use Rattle.markdown_lines.specs.HeldLines.{IsHeldLine}
+use Rattle.markdown_lines.specs.Lines.{IsLineFrom, is_space_or_tab}
+use Rattle.markdown_lines.specs.SourceLines.{SourceLine, is_blank_rest, text_line}
 use Rattle.markdown_lines.specs.declared.held_line.HeldLine.{HeldLine}
 use Rattle.markdown_lines.specs.declared.line.Line.{Line}
 use Rattle.markdown_lines.proofs.BlockStartsLemmas.{is_blank}
 use Rattle.markdown_lines.proofs.PositionsLemmas.{in_part, rest_of_part}
-use Rattle.markdown_block_rules.specs.BlockGrowth.{Block}
 use Rattle.markdown_plain.specs.Frames.{Frame}
-use Rattle.markdown_plain.specs.HeldSources.{AreInParagraph, IsTextLine}
+use Rattle.markdown_plain.specs.HeldSources.{IsTextLine}
 use Rattle.markdown_plain.specs.OpenLeaves.{AreItemsOpenedIn, BeginsText, ComesAfter}
 use Rattle.markdown_plain.specs.Paragraphs.{lines_end}
 use Rattle.markdown_plain.specs.Standing.{AreOpenedBefore}

@@ -1,7 +1,7 @@
 -- What the pass has placed with a line of text: a paragraph with one more line, or one that begins.
-use Rattle.std.proofs.Common.{◌≡◌, ℕ, zero, suc, ◌+◌, ◌≤◌, Bool, true, false, List, [], ◌∷◌, ◌++◌, Option, Some, None}
+use Rattle.std.proofs.Common.{◌≡◌, ℕ, zero, suc, ◌≤◌, false, List, [], ◌∷◌, ◌++◌, Some, None}
 use Rattle.std.proofs.Common.{arith, length, map, take, drop, refl, sym, ap, ◌∙◌, subst, true≢false}
-use Rattle.std.specs.Prelude.{slice_range, if◌then◌else◌}
+use Rattle.std.specs.Prelude.{slice_range}
 use Rattle.markdown_base.specs.Forest.{Forest}
 use Rattle.markdown_builder.specs.TreeLevels.{followed_by}
 use Rattle.markdown_lines.specs.declared.block_start.Before.TheVariants as paragraph
@@ -19,10 +19,10 @@ use Rattle.markdown_plain.specs.declared.looseness.Looseness.{Looseness}
 use Rattle.markdown_plain.specs.declared.pass.Pass.{Pass}
 use Rattle.markdown_plain.specs.Closing as closing
 use Rattle.markdown_plain.specs.Closing.{AreItemsInLists, MayEnd}
-use Rattle.markdown_plain.specs.Frames.{AreContainers, AreNested, Frame, Reached, reached, rebuilt, room_depth, touched}
+use Rattle.markdown_plain.specs.Frames.{AreContainers, AreNested, Frame, reached, rebuilt, room_depth, touched}
 use Rattle.markdown_plain.specs.OpenLeaves.{AreItemsOpenedIn, BeginsText, ComesAfter, HoldsParagraph, leaf_block}
-use Rattle.markdown_plain.specs.Paragraphs.{lines_end, source_of}
-use Rattle.markdown_plain.specs.Settled.{IsBuilt, IsLooseAs, IsLooseBefore}
+use Rattle.markdown_plain.specs.Paragraphs.{source_of}
+use Rattle.markdown_plain.specs.Settled.{IsLooseAs, IsLooseBefore}
 use Rattle.markdown_plain.specs.Standing.{AreOpenedBefore, IsSource, PlacesFor, Stands, is_metadata}
 use Rattle.markdown_plain.specs.TextLines.{IsContentAt, held_line, text_block, with_text}
 use Rattle.markdown_plain.proofs.AddedTextLemmas.{GoesAs, loose_as_leaf, loose_with_leaf, paragraph_line}

@@ -1,6 +1,6 @@
 -- A block that begins in a line, inside the containers that the line reaches, and around a list among these.
 use Rattle.std.proofs.Common.{◌≡◌, ℕ, ◌-◌, Bool, true, false, List, [], ◌∷◌, ◌++◌, None, arith, append_assoc, length}
-use Rattle.std.proofs.Common.{map, take, drop, refl, sym, ap, ◌∙◌, subst}
+use Rattle.std.proofs.Common.{map, take, drop, refl, sym, ap, ◌∙◌}
 use Rattle.std.proofs.lemmas.List.{drop_at, length-append, take_at}
 use Rattle.std.specs.Prelude.{if◌then◌else◌}
 use Rattle.markdown_base.specs.Forest.{Forest}
@@ -8,12 +8,11 @@ use Rattle.markdown_lines.specs.declared.list_marker.ListMarker.{ListMarker}
 use Rattle.markdown_lines.specs.BlockBeginnings.{Source}
 use Rattle.markdown_lines.specs.SourceLines.{SourceLine}
 use Rattle.markdown_builder.specs.TreeLevels.{followed_by}
-use Rattle.markdown_block_rules.specs.BlockGrowth as was
 use Rattle.markdown_block_rules.specs.BlockGrowth.{Block, goes_on, line_block, next_item, with_line}
-use Rattle.markdown_plain.specs.Frames.{AreContainers, AreNested, Frame, Reached, forgotten, innermost_is, is_list}
+use Rattle.markdown_plain.specs.Frames.{AreContainers, AreNested, Frame, Reached, innermost_is, is_list}
 use Rattle.markdown_plain.specs.Frames.{reached, rebuilt, room_depth, touched}
 use Rattle.markdown_plain.proofs.FramesLemmas.{HasMarker, Innermost, innermost_apart, marker_of_list}
-use Rattle.markdown_plain.proofs.ReachedLemmas.{block_begins, inner_left, list_ends, outer_taken, reached_parts}
+use Rattle.markdown_plain.proofs.ReachedLemmas.{block_begins, list_ends, outer_taken, reached_parts}
 
 -- the containers around such a block, of those that a line reaches: all, or all but the list
 record IsRoomOf (frames outer inner : List Frame) (n : ℕ) : Type 0 where

@@ -1,13 +1,12 @@
 -- Lines whose first byte shows that they are text.
-use Rattle.std.proofs.Common.{◌≡◌, ℕ, ◌+◌, ◌<◌, Bool, true, false, List, ◌∷◌, Option, Some, None, length, get_or}
+use Rattle.std.proofs.Common.{◌≡◌, ℕ, ◌+◌, ◌<◌, Bool, true, false, List, ◌∷◌, Some, None, length}
 use Rattle.std.proofs.Common.{arith, refl, sym, ap, ◌∙◌, subst}
-use Rattle.std.specs.Prelude.{◌==◌, ◌||◌, slice_get, slice_range, slice_index, nat_le, unwrap_or, if◌then◌else◌}
-use Rattle.std.specs.Char.{is_ascii_alphabetic, is_ascii_digit}
+use Rattle.std.specs.Prelude.{◌==◌, slice_get, slice_range, unwrap_or, if◌then◌else◌}
+use Rattle.std.specs.Char.{is_ascii_alphabetic}
 use Rattle.std.specs.List.{list_all, prefix_len}
 use Rattle.std.specs.Option.{option_and_then}
 use Rattle.std.proofs.lemmas.Bool.Decides.{nat_tests}
 use Rattle.std.proofs.lemmas.Option.{get_or_from_slice_get, slice_get_within}
-use Rattle.markdown_base.specs.declared.tag.MetadataBlockKind.{MetadataBlockKind}
 use Rattle.markdown_scan.specs.LineStart.{LineLeft, Space, leading_space, no_space}
 use Rattle.markdown_lines.specs.declared.block_start.Before.{Before}
 use Rattle.markdown_lines.specs.declared.position.Position.{Position}
@@ -17,10 +16,9 @@ use Rattle.markdown_lines.specs.BlockBeginnings.{metadata_in_line}
 use Rattle.markdown_lines.specs.Lines.{is_space_or_tab}
 use Rattle.markdown_lines.specs.MetadataBlocks.{line_opens, opened_before}
 use Rattle.markdown_lines.specs.Positions.{left_from}
-use Rattle.markdown_lines.specs.SourceLines.{SourceLine, is_blank_rest}
+use Rattle.markdown_lines.specs.SourceLines.{SourceLine}
 use Rattle.markdown_lines.proofs.BlockStartsLemmas.{BeginsNoFirst, after_other, begins_few, is_mark, slice_same}
 use Rattle.markdown_lines.proofs.PositionsLemmas.{part_next}
-use Rattle.markdown_block_rules.specs.BlockGrowth.{content_of}
 use Rattle.markdown_plain.specs.TextLines.{BeginsNoBlock, IsTextFrom}
 
 -- ---- the byte

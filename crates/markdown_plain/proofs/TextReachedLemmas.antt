@@ -1,5 +1,5 @@
 -- What a line reaches is text: it begins between characters, and nothing but a paragraph goes on in it.
-use Rattle.std.proofs.Common.{◌≡◌, ℕ, zero, suc, ◌+◌, ◌-◌, ◌<◌, ◌≤◌, Bool, true, false, not, ◌&&◌, ◌||◌, ◌==◌, List, []}
+use Rattle.std.proofs.Common.{◌≡◌, ℕ, ◌+◌, ◌-◌, ◌<◌, ◌≤◌, Bool, true, false, not, ◌&&◌, ◌||◌, ◌==◌, List, []}
 use Rattle.std.proofs.Common.{◌∷◌, ◌++◌, Option, Some, None, length, get_or, codes, nat_le, nat_lt, arith, refl, sym, ap}
 use Rattle.std.proofs.Common.{◌∙◌, map, subst, true≢false}
 use Rattle.std.specs.Prelude.{slice_range, if◌then◌else◌}

@@ -1,6 +1,6 @@
 -- A step of the pass that adds a line of text: what it has placed then, whether a paragraph was open or not.
 use Rattle.std.proofs.Common.{◌≡◌, ℕ, ◌≤◌, Bool, true, false, not, List, [], ◌∷◌, ◌++◌, Option, Some, None, arith}
-use Rattle.std.proofs.Common.{length, take, drop, refl, sym, ap, ◌∙◌, subst, true≢false}
+use Rattle.std.proofs.Common.{length, take, drop, refl, sym, ap, ◌∙◌, subst}
 use Rattle.std.specs.Prelude.{◌==◌, ◌&&◌, if◌then◌else◌}
 use Rattle.std.proofs.Math.Bool.{and-false}
 use Rattle.std.proofs.lemmas.List.{length-append}
@@ -16,7 +16,6 @@ use Rattle.markdown_lines.specs.SourceLines.{SourceLine}
 use Rattle.markdown_block_rules.specs.BlockGrowth as was
 use Rattle.markdown_block_rules.specs.BlockGrowth.{Block, goes_on, is_nil, with_line}
 use Rattle.markdown_block_rules.specs.TableLines.{reads_tables}
-use Rattle.markdown_plain.specs.declared.looseness.Looseness.{Looseness}
 use Rattle.markdown_plain.specs.declared.pass.Pass.{Pass}
 use Rattle.markdown_plain.specs.Closing as closing
 use Rattle.markdown_plain.specs.Closing.{AreItemsInLists, MayClose, MayEnd}
@@ -27,13 +26,13 @@ use Rattle.markdown_plain.specs.OpenLeaves.{AreItemsOpenedIn, BeginsText, ComesA
 use Rattle.markdown_plain.specs.Paragraphs.{has_paragraph, source_of}
 use Rattle.markdown_plain.specs.ReachedFrames.{are_none}
 use Rattle.markdown_plain.specs.Settled.{AreOpen, BlanksKnown, IsBuilt, IsLooseAs, IsLooseBefore}
-use Rattle.markdown_plain.specs.Standing.{HasLast, IsSource, PlacesFor, Stands, with_last}
+use Rattle.markdown_plain.specs.Standing.{IsSource, PlacesFor, Stands, with_last}
 use Rattle.markdown_plain.specs.TextLines.{IsTextHere, held_line, paragraph_before}
 use Rattle.markdown_plain.proofs.AddedLinesLemmas.{has_held}
 use Rattle.markdown_plain.proofs.AddedTextLemmas.{GoesAs, continues, reaches}
 use Rattle.markdown_plain.proofs.LastBlocksLemmas.{open_are_containers}
 use Rattle.markdown_plain.proofs.OpenBlocksLemmas.{outer_of_these}
-use Rattle.markdown_plain.proofs.PlacedTextLemmas.{AddsLine, BeginsLine, text_added, text_begun}
+use Rattle.markdown_plain.proofs.PlacedTextLemmas.{BeginsLine, text_added, text_begun}
 use Rattle.markdown_plain.proofs.ReachedLemmas.{reached_parts}
 
 -- a line was added from a byte offset on, inside the outermost `depth` of the open blocks
