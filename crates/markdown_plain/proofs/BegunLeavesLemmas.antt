@@ -1,50 +1,44 @@
 -- Leaves that begin with the rest of a line, inside containers that were opened in this line.
 use Rattle.std.proofs.Common.{◌≡◌, ℕ, ◌≤◌, Bool, true, false, List, [], ◌∷◌, Option, Some, None, refl, sym, ap, ◌∙◌}
-use Rattle.std.proofs.Common.{subst, arith}
+use Rattle.std.proofs.Common.{subst, arith, ◌++◌, ◌<◌, ◌+◌, ◌-◌, ◌||◌, drop, slice_range}
 use Rattle.markdown_base.specs.Forest.{Forest, nil, node}
 use Rattle.markdown_builder.specs.BuilderView.{BuilderView}
 use Rattle.std.proofs.lemmas.Option.{none-some}
-use Rattle.std.specs.Prelude.{if◌then◌else◌}
+use Rattle.std.specs.Prelude.{if◌then◌else◌, slice_index}
 use Rattle.markdown_lines.specs.BlockBeginnings.{Source, begins}
-use Rattle.markdown_lines.specs.BlockStarts.{begins_unless_blank}
+use Rattle.markdown_lines.specs.BlockStarts.{begins_unless_blank, left_at}
 use Rattle.markdown_lines.specs.SourceLines.{SourceLine, is_blank_rest}
 use Rattle.markdown_lines.specs.declared.block_start.Before.TheVariants as paragraph
 use Rattle.markdown_lines.specs.declared.block_start.BlockStart.TheVariants as start
 use Rattle.markdown_lines.specs.declared.held_line.HeldLine.{HeldLine}
 use Rattle.markdown_block_rules.specs.BlockGrowth as was
-use Rattle.markdown_block_rules.specs.BlockGrowth.{Block, Kind, begun_by}
+use Rattle.markdown_block_rules.specs.BlockGrowth.{Block, Kind, begun_by, content_of}
 use Rattle.markdown_block_rules.specs.BlockRules.{block_ends_blank, ends_blank, is_blank_block}
-use Rattle.std.proofs.Common.{◌++◌}
-use Rattle.markdown_lines.specs.BlockStarts.{left_at}
 use Rattle.markdown_lines.specs.Positions.{left_from}
 use Rattle.markdown_plain.specs.HeldSources.{AreHeld}
-use Rattle.markdown_plain.specs.Beginning.{IsLeft}
+use Rattle.markdown_plain.specs.Beginning.{IsLeft, IsFound, IsInside, begun_in_rest}
 use Rattle.markdown_plain.proofs.ReachedFramesLemmas.{AreAlike}
-use Rattle.std.proofs.Common.{◌<◌, ◌+◌, ◌-◌, ◌||◌, drop, slice_range}
 use Rattle.std.proofs.lemmas.List.{get_or-drop, get_or-take}
 use Rattle.std.proofs.lemmas.List.Sums.{prefix_len-le-length, prefix_len_passes}
 use Rattle.std.specs.List.{prefix_len}
-use Rattle.std.specs.Prelude.{slice_index}
 use Rattle.markdown_scan.specs.LineStart.{LineLeft}
 use Rattle.markdown_lines.specs.HeldLines.{IsHeldLine}
 use Rattle.markdown_lines.specs.Lines.{IsNextContent, is_line_ending, is_space_or_tab}
 use Rattle.markdown_lines.specs.declared.html_kind.HtmlKind.{HtmlKind}
 use Rattle.markdown_lines.specs.declared.line.Line.{Line}
 use Rattle.markdown_lines.specs.declared.position.Position.{Position}
-use Rattle.markdown_block_rules.specs.BlockGrowth.{content_of}
 use Rattle.markdown_plain.specs.declared.pass.LeafKind.TheVariants as leaf
 use Rattle.markdown_plain.specs.declared.block_pass.LineRest.{LineRest}
 use Rattle.markdown_plain.specs.declared.looseness.Looseness.{Looseness}
 use Rattle.markdown_plain.specs.declared.pass.Pass.{Pass}
-use Rattle.markdown_plain.specs.Beginning.{IsFound, IsInside, begun_in_rest}
 use Rattle.markdown_plain.specs.Closing.{AreItemsInLists}
 use Rattle.markdown_plain.specs.Fitting.{stepped}
 use Rattle.markdown_plain.specs.Frames.{Frame, rebuilt}
 use Rattle.markdown_plain.specs.OpenLeaves.{IsLeafIn, IsLineRest, IsOpenIn, IsPlaced, is_leaf, leaf_block}
 use Rattle.markdown_plain.specs.Paragraphs.{lines_end, source_of}
 use Rattle.markdown_plain.specs.Settled.{EmptyKnown, EmptyKnownIn, IsBuilt, IsLooseAs, IsLooseBefore, QuotesEnd}
-use Rattle.markdown_plain.specs.Standing.{AreOpenedBefore, HoldsBlanks, IsLeafKind, MetadataAlone, PlacesFor, PlacesLast}
-use Rattle.markdown_plain.specs.Standing.{is_metadata, with_last}
+use Rattle.markdown_plain.specs.Standing.{AreOpenedBefore, HoldsBlanks, IsLeafKind, MetadataAlone, PlacesFor}
+use Rattle.markdown_plain.specs.Standing.{PlacesLast, is_metadata, with_last}
 use Rattle.std.proofs.lemmas.Bool.{true≢false}
 use Rattle.markdown_plain.proofs.BegunBlocksLemmas.{MayBegin, source_kept}
 use Rattle.markdown_plain.proofs.LastBlocksLemmas.{is_over, leaf_is_over, nothing_is_over}
@@ -102,7 +96,8 @@ pub line_places : (s : Source) (now : Pass) (to : ℕ) (frames : List Frame) (bl
     → QuotesEnd to frames → AreOpenedBefore to frames → IsLooseBefore now.looseness frames nil
     → now.blanks.items ≡ [] → lines_end now.lines.items ≤ to
     → blocks ≡ rebuilt frames (leaf_block b) → AreItemsInLists false blocks → PlacesFor s now to blocks
-line_places s now to frames blocks b inside last is leaf source unended alone quotes earlier loose blanks before begins items =
+line_places s now to frames blocks b inside last is leaf source unended alone quotes earlier loose blanks before
+    begins items =
     let whole : blocks ≡ rebuilt frames (with_last inside last) = begins ∙ ap (rebuilt frames) (sym is) in
     record {
       frames = frames;
@@ -131,7 +126,8 @@ leaf_places : (s : Source) (old now : Pass) (rest : LineRest) (frames : List Fra
     → begun_in_rest s source ≡ leaf_block b → PlacesFor s now rest.line.next blocks
 leaf_places s old now rest frames source blocks b inside last state may leaf is unended alone begins =
     line_places s now rest.line.next frames blocks b inside last is leaf may.source unended alone state.opened.quotes
-    state.opened.earlier may.loose may.blanks (none_held now.lines.items rest.line.next may.lines) (state.whole ∙ ap (rebuilt frames) begins)
+    state.opened.earlier may.loose may.blanks (none_held now.lines.items rest.line.next may.lines)
+    (state.whole ∙ ap (rebuilt frames) begins)
     state.items
 
 -- by one that has ended
@@ -205,7 +201,8 @@ nothing_places s old now rest frames source at blocks state found same steps =
 -- ---- an HTML block
 
 pub html_places : (s : Source) (old now : Pass) (rest : LineRest) (frames : List Frame) (source : SourceLine)
-    (blocks : Forest Block) (kind : HtmlKind) (ended : Bool) (b : Block) → b.kind ≡ was.html_leaf kind ended (source ∷ [])
+    (blocks : Forest Block) (kind : HtmlKind) (ended : Bool) (b : Block) → b.kind
+    ≡ was.html_leaf kind ended (source ∷ [])
     → IsInside s old rest frames source blocks → MayBegin s now frames
     → IsLeafIn s now.placing.builder frames nil b ended → now.leaf ≡ leaf.Html kind
     → begun_in_rest s source ≡ leaf_block b → PlacesFor s now rest.line.next blocks
@@ -214,7 +211,8 @@ html_places s old now rest frames source blocks kind true b is state may placed 
     (record { filled = ap is_blank_block is; ends = ap (block_ends_blank false) is }) (ap is_over is) placed begins
 html_places s old now rest frames source blocks kind false b is state may opens known begins =
     open_places s old now rest frames source blocks b state may
-    (record { filled = ap is_blank_block is; ends = ap (block_ends_blank false) is }) (ap is_leaf is) (ap is_metadata is) opens
+    (record { filled = ap is_blank_block is; ends = ap (block_ends_blank false) is }) (ap is_leaf is)
+    (ap is_metadata is) opens
     (subst (λ how. IsLeafKind how b.kind) (sym known) (subst (IsLeafKind (leaf.Html kind)) (sym is) refl))
     (subst (HoldsBlanks now.blanks.items) (sym is) may.blanks) begins
 

@@ -56,7 +56,8 @@ abbrev IfHoldsTo : LineLeft → Option Beginning → Type 0
 IfHoldsTo whole None = Unit
 IfHoldsTo whole (Some b) = HoldsTo whole b
 
-space_ends : (whole : LineLeft) (n : ℕ) (left : LineLeft) → EndsAt whole left → EndsAt whole (leading_space n left).after
+space_ends : (whole : LineLeft) (n : ℕ) (left : LineLeft) → EndsAt whole left
+    → EndsAt whole (leading_space n left).after
 space_ends whole n left ends = ((space_alike n left).end ∙ ends.0, few_owed n left ends.1)
 
 -- some bytes that are there are passed
@@ -81,7 +82,8 @@ marker_ends whole here marker ends =
     past_first scanned [] marker = absurd (true≢false (sym marker))
     past_first scanned (b ∷ bytes) marker = omega arith
 
-in_quote : (s : Source) (whole : LineLeft) (here : LineLeft) → EndsAt whole here → IfHoldsTo whole (quote_in_line s here)
+in_quote : (s : Source) (whole : LineLeft) (here : LineLeft) → EndsAt whole here
+    → IfHoldsTo whole (quote_in_line s here)
 in_quote s whole here ends =
     on_test (IfHoldsTo whole) (begins_with (codes ">") here.bytes) (Some (quote_of s.options (past_marker here))) None
     (λ marker. quote_ends whole (past_marker here) (alert_read s.options (past_marker here))
@@ -150,7 +152,8 @@ more_within : (n m : ℕ) (found : Option ListMarker) → n ≤ m → IsWithin n
 more_within n m None more within = tt
 more_within n m (Some marker) more within = omega (arith, more, within)
 
-item_ends : (whole : LineLeft) (columns : ℕ) (here : LineLeft) (found : Option ListMarker) → IsWithin (length here.bytes) found
+item_ends : (whole : LineLeft) (columns : ℕ) (here : LineLeft) (found : Option ListMarker)
+    → IsWithin (length here.bytes) found
     → EndsAt whole here → IfHoldsTo whole (option_map (item_of columns here) found)
 item_ends whole columns here None within ends = tt
 item_ends whole columns here (Some marker) within ends =
@@ -185,7 +188,8 @@ abbrev IfHoldAll : LineLeft → List (Option Beginning) → Type 0
 IfHoldAll whole [] = Unit
 IfHoldAll whole (o ∷ others) = IfHoldsTo whole o × IfHoldAll whole others
 
-first_ends : (whole : LineLeft) (found : List (Option Beginning)) → IfHoldAll whole found → HoldsTo whole (first_found found)
+first_ends : (whole : LineLeft) (found : List (Option Beginning)) → IfHoldAll whole found
+    → HoldsTo whole (first_found found)
 first_ends whole [] all = tt
 first_ends whole (None ∷ others) all = first_ends whole others all.1
 first_ends whole (Some b ∷ others) all = all.0
@@ -233,7 +237,8 @@ after_ends s before whole columns here ends =
       ),
     )
 
-metadata_ends : (whole : LineLeft) (before : Before) (kind : MetadataBlockKind) → IfHoldsTo whole (metadata_begun before kind)
+metadata_ends : (whole : LineLeft) (before : Before) (kind : MetadataBlockKind)
+    → IfHoldsTo whole (metadata_begun before kind)
 metadata_ends whole before metadata.YamlStyle =
     either (IfHoldsTo whole) (is_reached before) None (Some (line.begins_metadata metadata.YamlStyle)) tt tt
 metadata_ends whole before metadata.PlusesStyle =

@@ -100,7 +100,8 @@ end_begins text position line source is filled =
 pub text_inside : (s : Source) (now : Pass) (line : Line) (at : ℕ) (frames : List Frame) (blocks : Forest Block)
     (b : Block) (source : SourceLine) → b.kind ≡ was.paragraph_leaf (source ∷ []) → source_of now ≡ s
     → HoldsParagraph s now frames nil b (source ∷ []) → QuotesEnd line.next frames
-    → AreOpenedBefore line.next frames → IsLooseBefore now.looseness frames nil → now.blanks.items ≡ [] → now.lines.items ≡ held_from line at ∷ []
+    → AreOpenedBefore line.next frames → IsLooseBefore now.looseness frames nil → now.blanks.items ≡ []
+    → now.lines.items ≡ held_from line at ∷ []
     → blocks ≡ rebuilt frames (leaf_block b) → AreItemsInLists false blocks → PlacesFor s now line.next blocks
 text_inside s now line at frames blocks b source kind same holds quotes earlier loose blanks lines begins items =
     line_places s now line.next frames blocks b nil (Some b) refl

@@ -1,7 +1,8 @@
 -- What the pass stands for after a blank line: the containers that the line does not reach are closed, and the line
 -- follows in the innermost one that it reaches; or it goes on with indented code.
-use Rattle.std.proofs.Common.{◌≡◌, ℕ, ◌≤◌, Bool, true, false, ◌&&◌, List, [], ◌∷◌, ◌++◌, Option, Some, None}
-use Rattle.std.proofs.Common.{drop, take, length, map, refl, sym, ap, ◌∙◌, subst, true≢false, arith, append_assoc, append-nil}
+use Rattle.std.proofs.Common.{◌≡◌, ℕ, ◌≤◌, Bool, true, false, ◌&&◌, List, [], ◌∷◌, ◌++◌, Option, Some, None, drop}
+use Rattle.std.proofs.Common.{take, length, map, refl, sym, ap, ◌∙◌, subst, true≢false, arith, append_assoc}
+use Rattle.std.proofs.Common.{append-nil}
 use Rattle.std.specs.Prelude.{if◌then◌else◌}
 use Rattle.std.specs.Option.{option_map}
 use Rattle.markdown_base.specs.Forest.{Forest, nil}
@@ -13,14 +14,14 @@ use Rattle.markdown_lines.specs.declared.line.Line.{Line}
 use Rattle.markdown_lines.specs.declared.list_marker.ListMarker.{ListMarker}
 use Rattle.markdown_scan.specs.LineStart.{LineLeft}
 use Rattle.markdown_block_rules.specs.BlockGrowth as was
-use Rattle.markdown_block_rules.specs.BlockGrowth.{Block, begun_by, goes_on, lazily, leaf_with, line_block, next_item}
-use Rattle.markdown_block_rules.specs.BlockGrowth.{Kind, with_line}
+use Rattle.markdown_block_rules.specs.BlockGrowth.{Block, begun_by, goes_on, lazily, leaf_with, line_block}
+use Rattle.markdown_block_rules.specs.BlockGrowth.{next_item, Kind, with_line}
 use Rattle.markdown_block_rules.specs.BlockRules.{code_lines, is_blank_block, last_is_blank}
 use Rattle.markdown_plain.specs.declared.pass.LeafKind.TheVariants as leaf
 use Rattle.markdown_plain.specs.declared.pass.Pass.{Pass}
 use Rattle.markdown_plain.specs.Closing.{AreItemsInLists, MayClose, MayEnd}
-use Rattle.markdown_plain.specs.Frames.{AreContainers, AreNested, Frame, innermost_is, is_list, reached}
-use Rattle.markdown_plain.specs.Frames.{rebuilt, touched}
+use Rattle.markdown_plain.specs.Frames.{AreContainers, AreNested, Frame, innermost_is, is_list, reached, rebuilt}
+use Rattle.markdown_plain.specs.Frames.{touched}
 use Rattle.markdown_plain.specs.HeldSources.{AreHeld}
 use Rattle.markdown_plain.specs.ListLooseness.{blank_from}
 use Rattle.markdown_plain.specs.OpenLeaves.{is_leaf, leaf_block}
@@ -49,8 +50,8 @@ use Rattle.markdown_plain.proofs.LeafLinesLemmas.{loose_grown, open_leaf_touched
 use Rattle.markdown_plain.proofs.LinedLeavesLemmas.{grown_to}
 use Rattle.markdown_plain.proofs.LooseFramesLemmas.{ends_more}
 use Rattle.markdown_plain.proofs.IndentedLeavesLemmas.{blank_cut, blank_held, code_before_blank}
-use Rattle.markdown_plain.proofs.ReachedLemmas.{block_begins, inner_goes_lazily, inner_left, item_begins, outer_taken}
-use Rattle.markdown_plain.proofs.ReachedLemmas.{reached_parts}
+use Rattle.markdown_plain.proofs.ReachedLemmas.{block_begins, inner_goes_lazily, inner_left, item_begins}
+use Rattle.markdown_plain.proofs.ReachedLemmas.{outer_taken, reached_parts}
 use Rattle.markdown_plain.proofs.TouchedFramesLemmas.{built_touched, earlier_touched, quotes_touched}
 
 -- ---- what goes on in a blank line
@@ -126,7 +127,8 @@ blank_follows : (s : Source) (frames : List Frame) (now : Forest Block) (l : Sou
     ≡ with_after s frames now l (reached s frames now l).outer (leaf_block (blank_of (reached s frames now l).rest))
 blank_follows s frames now l are nested none blank =
     decided (innermost_is is_list (reached s frames now l).outer) refl
-    ∙ ap (with_after s frames now l (reached s frames now l).outer) (is_blank_line s (reached s frames now l).rest blank)
+    ∙ ap (with_after s frames now l (reached s frames now l).outer)
+    (is_blank_line s (reached s frames now l).rest blank)
   where
     line : Forest Block
     line = line_block s (reached s frames now l).rest
@@ -265,7 +267,8 @@ blank_stands s old mid line reached before source placed by blank off closed quo
 
 -- ---- a blank line in indented code
 
-last_blank : (lines : List SourceLine) (l : SourceLine) → is_blank_rest l ≡ true → last_is_blank (lines ++ l ∷ []) ≡ true
+last_blank : (lines : List SourceLine) (l : SourceLine) → is_blank_rest l ≡ true → last_is_blank (lines ++ l ∷ [])
+    ≡ true
 last_blank [] l blank = blank
 last_blank (m ∷ []) l blank = blank
 last_blank (m ∷ n ∷ lines) l blank = last_blank (n ∷ lines) l blank

@@ -177,7 +177,8 @@ grown_places s old new line found frames inside b source now by none may empty g
       whole = whole;
     }
 
-last_filled : (lines : List SourceLine) (l : SourceLine) → is_blank_rest l ≡ false → last_is_blank (lines ++ l ∷ []) ≡ false
+last_filled : (lines : List SourceLine) (l : SourceLine) → is_blank_rest l ≡ false → last_is_blank (lines ++ l ∷ [])
+    ≡ false
 last_filled [] l some = some
 last_filled (m ∷ []) l some = some
 last_filled (m ∷ n ∷ lines) l some = last_filled (n ∷ lines) l some
@@ -277,7 +278,8 @@ html_grown s rest kind lines more = record {
 -- a leaf that holds no blank lines back
 kept_places : (s : Source) (old new : Pass) (line : Line) (found : code.Reached) (frames : List Frame)
     (inside : Forest Block) (b : Block) (source : SourceLine)
-    → IsReachedBy s old line found (last_of frames inside b) source → (reached_of s (last_of frames inside b) source).inner ≡ []
+    → IsReachedBy s old line found (last_of frames inside b) source
+    → (reached_of s (last_of frames inside b) source).inner ≡ []
     → MayEnd s old frames inside b None → old.lines.items ≡ [] → old.blanks.items ≡ []
     → new ≡ record old { placing = new.placing } → new.placing.builder.text ≡ old.placing.builder.text
     → (grown : GrownFrom s (reached_of s (last_of frames inside b) source).rest old.leaf b.kind)

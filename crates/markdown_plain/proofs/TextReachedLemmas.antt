@@ -1,6 +1,6 @@
 -- What a line reaches is text: it begins between characters, and nothing but a paragraph goes on in it.
-use Rattle.std.proofs.Common.{◌≡◌, ℕ, ◌+◌, ◌-◌, ◌<◌, ◌≤◌, Bool, true, false, not, ◌&&◌, ◌||◌, ◌==◌, List, []}
-use Rattle.std.proofs.Common.{◌∷◌, ◌++◌, Option, Some, None, length, get_or, codes, nat_le, nat_lt, arith, refl, sym, ap}
+use Rattle.std.proofs.Common.{◌≡◌, ℕ, ◌+◌, ◌-◌, ◌<◌, ◌≤◌, Bool, true, false, not, ◌&&◌, ◌||◌, ◌==◌, List, [], ◌∷◌}
+use Rattle.std.proofs.Common.{◌++◌, Option, Some, None, length, get_or, codes, nat_le, nat_lt, arith, refl, sym, ap}
 use Rattle.std.proofs.Common.{◌∙◌, map, subst, true≢false}
 use Rattle.std.specs.Prelude.{slice_range, if◌then◌else◌}
 use Rattle.std.specs.List.{prefix_len}
@@ -26,13 +26,13 @@ use Rattle.markdown_lines.specs.SourceLines.{SourceLine, is_blank_rest, rest_ins
 use Rattle.markdown_lines.proofs.BlockStartsLemmas.{slice_same}
 use Rattle.markdown_lines.proofs.PositionsLemmas.{in_part}
 use Rattle.markdown_block_rules.specs.BlockGrowth as was
-use Rattle.markdown_block_rules.specs.BlockGrowth.{Block, Kind, content_of, goes_on, is_nil, is_text, lazily, leaf_with}
-use Rattle.markdown_block_rules.specs.BlockGrowth.{past_footnote, past_indentation, past_quote, with_lazy}
+use Rattle.markdown_block_rules.specs.BlockGrowth.{Block, Kind, content_of, goes_on, is_nil, is_text, lazily}
+use Rattle.markdown_block_rules.specs.BlockGrowth.{leaf_with, past_footnote, past_indentation, past_quote, with_lazy}
 use Rattle.markdown_plain.specs.declared.containers.Reached as code
 use Rattle.markdown_plain.specs.declared.pass.Pass.{Pass}
 use Rattle.markdown_plain.specs.Closing.{MayEnd}
-use Rattle.markdown_plain.specs.Frames.{AreContainers, Frame, Reached, inside_container, reached, reached_past, rebuilt}
-use Rattle.markdown_plain.specs.Frames.{touched}
+use Rattle.markdown_plain.specs.Frames.{AreContainers, Frame, Reached, inside_container, reached, reached_past}
+use Rattle.markdown_plain.specs.Frames.{rebuilt, touched}
 use Rattle.markdown_plain.specs.OpenLeaves.{is_leaf, leaf_block}
 use Rattle.markdown_plain.specs.Paragraphs.{has_paragraph}
 use Rattle.markdown_plain.specs.ReachedFrames.{are_none}

@@ -186,7 +186,8 @@ impl<'a> Pass<'a> {
     /// Records that a line was read that is not blank for the innermost blocks that continue in it.
     fn see_content(&mut self, line: Line)
         ensures placing { self.new.placing ≡ self.old.placing }
-        ensures stands { (s : Source) (blocks : Forest Block) → PlacesFor s self.old line.next blocks
+        ensures stands { (s : Source) (blocks : Forest Block)
+            → PlacesFor s self.old line.next blocks
             → StandsFor s self.new line.next blocks }
     {
         self.placed = line.next;

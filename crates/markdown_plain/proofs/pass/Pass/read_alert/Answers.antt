@@ -43,7 +43,8 @@ returns-clause-inside c = λ s frames source blocks state found fitted.
     let begins = line.begins_alert c.args.kind in
     let filled = found_filled s rest source c.args.at alert begins state.before found refl in
     let texts = ap (λ (r : Source). r.text) after.source in
-    let loose = loose_inside quote.looseness frames a (record { filled = refl; free = refl; empty = refl }) after.loose in
+    let loose = loose_inside quote.looseness frames a (record { filled = refl; free = refl; empty = refl })
+    after.loose in
     let more = in_line_more s rest source kind frames state.left filled
     (record { quotes = opened.quotes; items = opened.items; earlier = opened.earlier }) in
     let none = none_open quote after.lines in

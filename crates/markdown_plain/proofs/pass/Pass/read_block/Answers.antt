@@ -21,7 +21,8 @@ returns-in-Nothing-clause-inside c =
     let both = inside_found s c.args.self.now c.reads_table.new.self rest c.beginning.new.self frames source blocks at
     c.in_ok-begun.begun.start start.Nothing kept c.in-Nothing.is c.in_ok-begun.ensures.same
     c.in_ok-begun.ensures.begins c.in_ok-begun.ensures.at state in
-    let done = told.0 s (record rest { reader = c.beginning.new.self }) frames source at blocks both.0 refl both.1 fitted in (
+    let done = told.0 s (record rest { reader = c.beginning.new.self }) frames source at blocks both.0 refl both.1
+    fitted in (
       subst (λ (p : Pass). AllFitted p.placing) kept done.0,
       subst (HasBegun s _ (record rest { reader = c.beginning.new.self }) blocks) (sym told.1) done.1,
     )) (both_ok c.skip_blank.result _ _ c.skip_blank.ensures.inside c.skip_blank.ensures.more)
@@ -36,7 +37,8 @@ returns-in-Text-clause-inside c =
     c.in_ok-begun.begun.start start.Text kept c.in-Text.is c.in_ok-begun.ensures.same
     c.in_ok-begun.ensures.begins c.in_ok-begun.ensures.at state in
     let done = told.0 s frames source blocks both.0 both.1
-    (subst (λ (p : Pass). StandsAsText p.placing.builder.text rest.line at) (sym kept) (stands at start.Text c.beginning.new.self both.1)) fitted in (
+    (subst (λ (p : Pass). StandsAsText p.placing.builder.text rest.line at) (sym kept)
+    (stands at start.Text c.beginning.new.self both.1)) fitted in (
       subst (λ (p : Pass). AllFitted p.placing) kept done.0,
       subst (HasBegun s _ (record rest { reader = c.beginning.new.self }) blocks) (sym told.1) done.1,
     )) (both_ok c.read_text.result _ _ c.read_text.ensures.inside c.read_text.ensures.more)
@@ -48,7 +50,8 @@ returns-in-IndentedCode-clause-inside c =
     let at = c.in_ok-begun.begun.at in
     let kept = (c.in_ok-reads_table.ensures.none state.before).1 in
     let both = inside_found s c.args.self.now c.reads_table.new.self rest c.beginning.new.self frames source blocks at
-    c.in_ok-begun.begun.start (start.IndentedCode c.in-IndentedCode.code) kept c.in-IndentedCode.is c.in_ok-begun.ensures.same
+    c.in_ok-begun.begun.start (start.IndentedCode c.in-IndentedCode.code) kept c.in-IndentedCode.is
+    c.in_ok-begun.ensures.same
     c.in_ok-begun.ensures.begins c.in_ok-begun.ensures.at state in
     let done = told.0 s frames source at blocks both.0 both.1 fitted in (
       subst (λ (p : Pass). AllFitted p.placing) kept done.0,
@@ -125,7 +128,8 @@ returns-in-Html-clause-inside c =
     c.in_ok-begun.begun.start (start.Html c.in-Html.kind) kept c.in-Html.is c.in_ok-begun.ensures.same
     c.in_ok-begun.ensures.begins c.in_ok-begun.ensures.at state in
     let done = told.0 s frames source at blocks both.0 both.1
-    (subst (λ (p : Pass). StandsAsText p.placing.builder.text rest.line at) (sym kept) (stands at (start.Html c.in-Html.kind) c.beginning.new.self both.1)) fitted in (
+    (subst (λ (p : Pass). StandsAsText p.placing.builder.text rest.line at) (sym kept)
+    (stands at (start.Html c.in-Html.kind) c.beginning.new.self both.1)) fitted in (
       subst (λ (p : Pass). AllFitted p.placing) kept done.0,
       subst (HasBegun s _ (record rest { reader = c.beginning.new.self }) blocks) (sym told.1) done.1,
     )) (both_ok c.read_html.result _ _ c.read_html.ensures.inside c.read_html.ensures.more)
@@ -137,7 +141,8 @@ returns-in-Footnote-clause-inside c =
     let at = c.in_ok-begun.begun.at in
     let kept = (c.in_ok-reads_table.ensures.none state.before).1 in
     let both = inside_found s c.args.self.now c.reads_table.new.self rest c.beginning.new.self frames source blocks at
-    c.in_ok-begun.begun.start (start.Footnote c.in-Footnote.label c.in-Footnote.inside) kept c.in-Footnote.is c.in_ok-begun.ensures.same
+    c.in_ok-begun.begun.start (start.Footnote c.in-Footnote.label c.in-Footnote.inside) kept c.in-Footnote.is
+    c.in_ok-begun.ensures.same
     c.in_ok-begun.ensures.begins c.in_ok-begun.ensures.at state in
     let done = told.0 s frames source blocks both.0
     (rw (c.in-Footnote.label-is, c.in-Footnote.inside-is) both.1) fitted in (
@@ -182,7 +187,8 @@ returns-in-Underline-clause-inside c =
     let both = inside_found s c.args.self.now c.reads_table.new.self rest c.beginning.new.self frames source blocks at
     c.in_ok-begun.begun.start (start.Underline c.in-Underline.level) kept c.in-Underline.is c.in_ok-begun.ensures.same
     c.in_ok-begun.ensures.begins c.in_ok-begun.ensures.at state in
-    absurd (found_inside s (record rest { reader = c.beginning.new.self }) source at (start.Underline c.in-Underline.level) (line.begins_underline c.in-Underline.level) state.before state.inner
+    absurd (found_inside s (record rest { reader = c.beginning.new.self }) source at
+    (start.Underline c.in-Underline.level) (line.begins_underline c.in-Underline.level) state.before state.inner
     both.1 refl)) c.read_underline.ensures
 
 pub returns-in-Metadata-clause-inside : goal.returns-in-Metadata-clause-inside
@@ -194,5 +200,6 @@ returns-in-Metadata-clause-inside c =
     let both = inside_found s c.args.self.now c.reads_table.new.self rest c.beginning.new.self frames source blocks at
     c.in_ok-begun.begun.start (start.Metadata c.in-Metadata.kind) kept c.in-Metadata.is c.in_ok-begun.ensures.same
     c.in_ok-begun.ensures.begins c.in_ok-begun.ensures.at state in
-    absurd (found_inside s (record rest { reader = c.beginning.new.self }) source at (start.Metadata c.in-Metadata.kind) (line.begins_metadata c.in-Metadata.kind) state.before state.inner
+    absurd (found_inside s (record rest { reader = c.beginning.new.self }) source at
+    (start.Metadata c.in-Metadata.kind) (line.begins_metadata c.in-Metadata.kind) state.before state.inner
     both.1 refl)) c.read_metadata.ensures

@@ -27,7 +27,8 @@ returns-clause-inside c = λ s frames source blocks state found fitted.
     (built_at s room.placing.builder c.step_to.new.self.builder c.args.at frames nil step.1 may.1) refl
     (sym found.begins ∙ sym (ap (λ (v : BuilderView). v.at) step.1)) (sym state.left.is.rest.next) fitted in
     let after = still_may s room now frames may.0
-    (keeps_leaf room now c.add_thematic_break.ensures.same (c.in_ok-add_thematic_break.ensures.text ∙ c.step_to.ensures.text)) in (
+    (keeps_leaf room now c.add_thematic_break.ensures.same
+    (c.in_ok-add_thematic_break.ensures.text ∙ c.step_to.ensures.text)) in (
       subst (λ (p : Pass). AllFitted p.placing) made.0 step.0,
       ended_places s old now rest frames source blocks b state after (record { filled = refl; ends = refl }) refl
           leaf.1 (begun_found s rest source c.args.at start.ThematicBreak line.begins_break state.before found refl),

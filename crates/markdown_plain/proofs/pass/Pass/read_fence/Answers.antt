@@ -34,7 +34,8 @@ returns-clause-inside c = λ s frames source blocks state found stand fitted.
     let after = still_may s room now frames may.0
     (keeps_rest room now c.open_fenced.ensures.same c.in_ok-open_fenced.ensures.text) in (
       subst (λ (p : Pass). AllFitted p.placing) made.0 leaf.0,
-      open_places s old now rest frames source blocks b state after (record { filled = refl; ends = refl }) refl refl leaf.1
+      open_places s old now rest frames source blocks b state after (record { filled = refl; ends = refl }) refl refl
+          leaf.1
           (subst (λ (kind : LeafKind). IsLeafKind kind b.kind) (sym c.in_ok-open_fenced.ensures.kind) refl)
           after.blanks
           (begun_found s rest source c.args.at (start.Fence opening) (line.begins_fence opening) state.before found

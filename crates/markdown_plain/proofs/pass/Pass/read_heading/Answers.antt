@@ -34,5 +34,6 @@ returns-clause-inside c = λ s frames source blocks state found stand fitted.
     (keeps_leaf room now c.add_heading.ensures.same (c.in_ok-add_heading.ensures.text ∙ c.step_to.ensures.text)) in (
       subst (λ (p : Pass). AllFitted p.placing) made.0 step.0,
       ended_places s old now rest frames source blocks b state after (record { filled = refl; ends = refl }) refl
-          leaf.1 (begun_found s rest source c.args.at (start.Heading c.args.heading) (line.begins_heading c.args.heading) state.before found refl),
+          leaf.1 (begun_found s rest source c.args.at (start.Heading c.args.heading)
+          (line.begins_heading c.args.heading) state.before found refl),
     )

@@ -35,7 +35,8 @@ returns-clause-inside c = λ s frames source blocks state found fitted.
       opens.0,
       container_inside s now rest c.go_inside.new.rest (with_frame frames nil l) source blocks item.inside
           (was.item_container item.indent) state.left
-          (found_filled s rest source c.args.at (start.Item item) begins state.before found refl) c.go_inside.ensures.goes
+          (found_filled s rest source c.args.at (start.Item item) begins state.before found refl)
+          c.go_inside.ensures.goes
           (rest_found s rest source c.args.at (start.Item item) begins state.before state.left found refl)
           (record {
             source = source_kept s old now c.in_ok-open_item.ensures.text (ap (λ (p : Pass). p.options) same.0)

@@ -19,7 +19,8 @@ use Rattle.markdown_plain.proofs.TextStepsLemmas.{AddsText, text_places}
 use Rattle.markdown_plain.proofs.pass.Pass.read_text.Goals as goal
 
 -- the line is added
-adds : (c : goal.In_ok-add_text) → AddsText c.args.self.now c.add_text.new.self c.args.rest.now.line c.args.at c.args.rest.now.depth
+adds : (c : goal.In_ok-add_text)
+    → AddsText c.args.self.now c.add_text.new.self c.args.rest.now.line c.args.at c.args.rest.now.depth
 adds c =
     let done = c.in_ok-add_text.ensures in
     record {
@@ -37,7 +38,8 @@ adds c =
 
 pub returns-clause-places : goal.returns-clause-places
 returns-clause-places c = λ s before source tables stands is here.
-    text_places s c.args.self.now c.add_text.new.self c.args.rest.now.line c.args.at c.args.rest.now.depth source (adds c) is
+    text_places s c.args.self.now c.add_text.new.self c.args.rest.now.line c.args.at c.args.rest.now.depth source
+    (adds c) is
     tables before.frames before.inside before.last stands here
 
 -- a paragraph is the block that the rest of the line begins, inside what it opened

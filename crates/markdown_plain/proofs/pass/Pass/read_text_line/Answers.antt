@@ -24,5 +24,6 @@ adds c =
 pub returns-clause-stands : goal.returns-clause-stands
 returns-clause-stands c = λ s before source tables stands is here fitted.
     let placed = text_places s c.args.self.now c.add_text.new.self c.args.line c.args.start c.args.depth source (adds c)
-    is tables before.frames before.inside before.last stands here (subst AllFitted c.see_content.ensures.placing fitted) in
+    is tables before.frames before.inside before.last stands here
+    (subst AllFitted c.see_content.ensures.placing fitted) in
     (placed.0, c.see_content.ensures.stands s _ placed.1)
