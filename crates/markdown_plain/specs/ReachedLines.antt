@@ -1,6 +1,5 @@
 -- A line whose containers that go on were found: what the pass stands for before it, and whether an open leaf goes on
--- in
--- the rest of it.
+-- in the rest of it.
 use Rattle.std.specs.Prelude.{◌≡◌, Bool, true, false, ◌&&◌, List, Option, Some, None}
 use Rattle.markdown_base.specs.Forest.{Forest}
 use Rattle.markdown_lines.specs.BlockBeginnings.{Source}

@@ -76,8 +76,7 @@ text_block rest = record {
 }
 
 -- What was reached in a line leaves text, whose first byte of content is at a byte offset, and where no paragraph is
--- open
--- that it may go on with, none of these blocks goes on.
+-- open that it may go on with, none of these blocks goes on.
 pub record IsTextHere (s : Source) (pass : Pass) (line : Line) (start depth : ℕ) (inside : Forest Block) (r : Reached)
     : Type 0 where
   pub depth_is : depth ≡ length r.outer
