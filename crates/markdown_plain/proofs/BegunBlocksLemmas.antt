@@ -1,40 +1,19 @@
--- Blocks that begin with the rest of a line, inside containers that were opened in this line.
-use Rattle.std.proofs.Common.{◌≡◌, ℕ, ◌<◌, ◌≤◌, Bool, true, false, List, [], ◌∷◌, ◌++◌, None, refl, sym}
-use Rattle.std.proofs.Common.{ap, ◌∙◌, subst, arith, append-nil, length, if◌then◌else◌, ◌&&◌, ◌==◌, nat_le}
-use Rattle.std.proofs.lemmas.Bool.Decides.{nat_tests}
-use Rattle.markdown_scan.specs.LineStart.{LineLeft}
-use Rattle.markdown_lines.specs.Positions.{left_from}
-use Rattle.markdown_lines.specs.declared.block_start.Before.{Before}
-use Rattle.markdown_lines.specs.declared.position.Position.{Position}
-use Rattle.markdown_plain.specs.declared.pass.Pass.{Pass}
-use Rattle.std.specs.List.{list_all}
-use Rattle.markdown_lines.specs.Lines.{is_space_or_tab}
-use Rattle.markdown_plain.specs.Containers.{content_of as left_content}
-use Rattle.markdown_plain.specs.Standing.{AreOpenedBefore, IsOpenedBefore}
-use Rattle.markdown_plain.proofs.ReachedFramesLemmas.{blank_at, end_of}
-use Rattle.markdown_plain.specs.Closing.{AreItemsInLists}
-use Rattle.markdown_plain.specs.Paragraphs.{source_of}
-use Rattle.markdown_plain.specs.Settled.{IsBuilt}
-use Rattle.markdown_plain.proofs.BegunRestsLemmas.{IsRestOf}
-use Rattle.markdown_plain.proofs.FramesLemmas.{rebuilt_more}
-use Rattle.markdown_plain.proofs.OpenedFramesLemmas.{as_many_containers, innermost_of_more}
-use Rattle.markdown_base.specs.Forest.{Forest, nil, node}
-use Rattle.markdown_lines.specs.BlockBeginnings.{Source}
-use Rattle.markdown_lines.specs.SourceLines.{SourceLine, is_blank_rest, rest_inside}
-use Rattle.markdown_lines.specs.declared.block_start.Before.TheVariants as paragraph
+-- A block that begins with the rest of a line, in the containers where there is room for it.
+use Rattle.std.proofs.Common.{◌≡◌, List, sym, ap, ◌∙◌, subst}
+use Rattle.markdown_base.specs.Forest.{Forest}
+use Rattle.markdown_builder.specs.TreeLevels.{followed_by}
+use Rattle.markdown_lines.specs.BlockBeginnings.{Beginning, Source}
+use Rattle.markdown_lines.specs.SourceLines.{SourceLine}
 use Rattle.markdown_lines.specs.declared.line.Line.{Line}
-use Rattle.markdown_lines.specs.BlockStarts.{left_at}
-use Rattle.markdown_block_rules.specs.BlockGrowth.{Block, Kind, content_of}
-use Rattle.markdown_block_rules.specs.BlockRules.{is_blank_block, is_loose}
+use Rattle.markdown_block_rules.specs.BlockGrowth.{Block, Kind, begun_by, content_of, inside_of, new_blocks}
 use Rattle.markdown_plain.specs.declared.block_pass.LineRest.{LineRest}
 use Rattle.markdown_plain.specs.declared.looseness.Looseness.{Looseness}
-use Rattle.markdown_plain.specs.Beginning.{GoesInside, IsLeft, IsOpened, begun_in_rest}
-use Rattle.markdown_plain.specs.Frames.{Frame, is_list, rebuilt}
-use Rattle.markdown_plain.specs.OpenLeaves.{AreItemsOpenedIn, IsOpenedIn}
-use Rattle.markdown_plain.specs.OpenedFrames.{with_frame}
-use Rattle.markdown_plain.specs.Settled.{EmptyKnown, EmptyKnownIn, IsLooseAs, IsLooseBefore, QuotesEnd, are_loose}
-use Rattle.markdown_plain.specs.Settled.{placed_end}
-use Rattle.markdown_plain.proofs.LooseFramesLemmas.{loose_more}
+use Rattle.markdown_plain.specs.declared.pass.Pass.{Pass}
+use Rattle.markdown_plain.specs.Beginning.{HasRoom, MayBegin}
+use Rattle.markdown_plain.specs.Frames.{Frame, rebuilt}
+use Rattle.markdown_plain.specs.Paragraphs.{source_of}
+use Rattle.markdown_plain.specs.Settled.{IsLooseBefore}
+use Rattle.markdown_plain.proofs.BegunLemmas.{begun_once}
 
 -- ---- what the calls leave as it is
 
@@ -67,238 +46,31 @@ pub source_kept : (s : Source) (old now : Pass) → now.placing.builder.text ≡
     → now.options ≡ old.options → source_of old ≡ s → source_of now ≡ s
 source_kept s old now text options source = rw (text, options) source
 
--- a block begins in the innermost of these containers, which is empty
-pub record MayBegin (s : Source) (now : Pass) (frames : List Frame) : Type 0 where
-  pub source : source_of now ≡ s
-  pub lines : now.lines.items ≡ []
-  pub blanks : now.blanks.items ≡ []
-  pub loose : IsLooseBefore now.looseness frames nil
-
--- there is room for it
-pub room_made : (s : Source) (old room : Pass) (line : Line) (frames : List Frame) → IsOpened s old line frames
-    → room ≡ record old { looseness = room.looseness } → IsLooseBefore room.looseness frames nil
-    → MayBegin s room frames × IsBuilt s room.placing.builder frames nil
-room_made s old room line frames opened same loose = (
-  record {
-    source = ap (λ (p : Pass). source_of p) same ∙ opened.source;
-    lines = ap (λ (p : Pass). p.lines.items) same ∙ opened.free.lines;
-    blanks = ap (λ (p : Pass). p.blanks.items) same ∙ opened.blanks;
-    loose = loose;
-  },
-  subst (λ (p : Pass). IsBuilt s p.placing.builder frames nil) (sym same) opened.free.built,
-)
-
--- and still once it was made
-pub still_may : (s : Source) (room now : Pass) (frames : List Frame) → MayBegin s room frames → KeepsRest room now
-    → MayBegin s now frames
-still_may s room now frames may keeps = record {
+-- a block may still begin once it was made
+pub still_may : (s : Source) (room now : Pass) (line : Line) (frames : List Frame) (inside : Forest Block)
+    → MayBegin s room line frames inside → KeepsRest room now → MayBegin s now line frames inside
+still_may s room now line frames inside may keeps = record {
   source = source_kept s room now keeps.text keeps.options may.source;
   lines = keeps.lines ∙ may.lines;
   blanks = keeps.blanks ∙ may.blanks;
-  loose = subst (λ (n : Looseness). IsLooseBefore n frames nil) (sym keeps.looseness) may.loose;
+  loose = subst (λ (n : Looseness). IsLooseBefore n frames inside) (sym keeps.looseness) may.loose;
+  quotes = may.quotes;
+  items = may.items;
+  earlier = may.earlier;
 }
 
--- ---- one more container
-
--- quotes go on in a line that opens another container
-quotes_more : (to : ℕ) (frames : List Frame) (inside : Forest Block) (b : Block) → QuotesEnd to frames
-    → b.last ≡ to → QuotesEnd to (with_frame frames inside b)
-quotes_more to [] inside b ends last = (λ quote. last, tt)
-quotes_more to (f ∷ frames) inside b ends last = (ends.0, quotes_more to frames inside b ends.1 last)
-
--- items were opened in a line, or not
-items_more : (line : Line) (frames : List Frame) (inside : Forest Block) (b : Block)
-    → AreItemsOpenedIn line frames → IsOpenedIn line b → AreItemsOpenedIn line (with_frame frames inside b)
-items_more line [] inside b items opened = (λ item. opened, tt)
-items_more line (f ∷ frames) inside b items opened = (items.0, items_more line frames inside b items.1 opened)
-
--- the innermost container is known not to be an empty item
-empty_more : (frames : List Frame) (f : Frame) (inside : Forest Block) (empty : Bool)
-    → EmptyKnownIn empty inside f.block.kind → EmptyKnown empty (frames ++ f ∷ []) inside
-empty_more [] f inside empty known = known
-empty_more (g ∷ []) f inside empty known = known
-empty_more (g ∷ h ∷ frames) f inside empty known = empty_more (h ∷ frames) f inside empty known
-
--- nothing is in it, so that its first line is the last
-first_more : (frames : List Frame) (f : Frame) (before : ℕ)
-    → placed_end before (frames ++ f ∷ []) nil ≡ f.block.first
-first_more [] f before = refl
-first_more (g ∷ frames) f before = first_more frames f g.block.first
-
--- a kind of container that holds no items, and is none
-pub record HoldsBlocks (kind : Kind) : Type 0 where
-  pub filled : is_blank_block kind ≡ false
-  pub free : is_list kind ≡ false
-  pub empty : EmptyKnownIn false nil kind
-
--- a container that begins loosens as any block does
-pub loose_inside : (now : Looseness) (frames : List Frame) (b : Block) → HoldsBlocks b.kind
-    → IsLooseBefore now frames nil → IsLooseAs now (with_frame frames nil b) nil
-loose_inside now frames b holds before =
-    let f : Frame = record { before = nil; block = b } in
-    record {
-      lists = before.lists (node b nil nil) (holds.filled, refl)
-          ∙ (sym (append-nil (are_loose frames (node b nil nil)))
-          ∙ (ap (λ bs. are_loose frames (node b nil nil) ++ bs)
-          (sym (ap (λ list. if list then was_loose ∷ [] else []) holds.free))
-          ∙ sym (loose_more frames (f ∷ []) nil)));
-      empty = empty_more frames f nil now.item_is_empty
-          (subst (λ empty. EmptyKnownIn empty nil b.kind) (sym before.empty) holds.empty);
-    }
-  where
-    was_loose : Bool
-    was_loose = is_loose nil
-
--- ---- what is left inside it
-
-and_false : (b : Bool) → (b && false) ≡ false
-and_false true = refl
-and_false false = refl
-
--- the rest of a line inside a container that it begins
-left_inside : (s : Source) (rest : LineRest) (source : SourceLine) (inside : Position) (depth : ℕ)
-    (before : Before) → IsLeft s rest source → IsRestOf source.left (left_at rest.reader inside)
-    → IsLeft s (record rest { position = inside; depth = depth; before = before })
-    (rest_inside (left_at rest.reader inside) source)
-left_inside s rest source inside depth before left is =
-    let here : rest.position.at ≡ source.left.scanned = ap (λ (l : LineLeft). l.scanned) left.is.rest.left in
-    let later : rest.reader.start < inside.at = omega (arith, left.start, left.after, here, is.after) in
-    let other : (inside.at == rest.reader.start) ≡ false = grind (arith, nat_tests, later) in
-    let next : rest.reader.next ≡ source.next = ap (λ (l : SourceLine). l.next) left.line in
-    let indent : None ≡ source.indent = ap (λ (l : SourceLine). l.indent) left.line in
-    record {
-      is = record {
-        rest = record {
-          left = ap (λ stop. left_from s.text inside stop) (sym left.stop)
-              ∙ ap (λ (r : Source). left_from r.text inside rest.reader.stop) (sym left.text);
-          few = is.few;
-          next = left.is.rest.next;
-        };
-        stop = left.is.stop ∙ sym is.end;
-        ends = left.is.ends;
-      };
-      text = left.text;
-      stop = left.stop;
-      start = left.start;
-      line = rw (other, and_false rest.reader.outermost, next, indent) refl;
-      after = omega (arith, left.after, here, is.after);
-    }
+-- ---- the block
 
 -- a block that begins with the rest of a line
 abbrev pub begun_block : SourceLine → Kind → Block
 begun_block l kind = record { start = content_of l; first = l.next; last = l.next; kind = kind }
 
--- it was opened in that line
-opened_here : (s : Source) (rest : LineRest) (source : SourceLine) (kind : Kind) → IsLeft s rest source
-    → IsOpenedIn rest.line (begun_block source kind)
-opened_here s rest source kind left =
-    let here : rest.position.at ≡ source.left.scanned = ap (λ (l : LineLeft). l.scanned) left.is.rest.left in
-    let next = left.is.rest.next in
-    let from : rest.line.start ≤ content_of source = omega (arith, left.after, here) in
-    let starts : nat_le rest.line.start (content_of source) ≡ true = grind (arith, nat_tests, from) in
-    let ends : (rest.line.next == source.next) ≡ true = grind (arith, nat_tests, next) in
-    record { same = starts ∙ sym ends; before = omega (arith, next) }
-
--- a container that begins with the rest of a line is open inside others
-pub record OpensIn (s : Source) (now : Pass) (outer : List Frame) (b : Block) : Type 0 where
-  pub source : source_of now ≡ s
-  pub built : IsBuilt s now.placing.builder (with_frame outer nil b) nil
-  pub lines : now.lines.items ≡ []
-  pub blanks : now.blanks.items ≡ []
-  pub loose : IsLooseAs now.looseness (with_frame outer nil b) nil
-  pub free : is_list b.kind ≡ false
-
--- these containers go on in a line, or were opened in it
-pub record AreInLine (line : Line) (frames : List Frame) : Type 0 where
-  pub quotes : QuotesEnd line.next frames
-  pub items : AreItemsOpenedIn line frames
-  pub earlier : AreOpenedBefore line.next frames
-
--- the content of a rest that is not blank begins before its end
-content_before : (left : LineLeft) → list_all is_space_or_tab left.bytes ≡ false
-    → left_content left < end_of left
-content_before left filled =
-    let order = blank_at left ∙ filled in grind (arith, nat_tests, order)
-
--- a block that begins with such a rest begins before the end of its line
-earlier_here : (s : Source) (rest : LineRest) (source : SourceLine) (kind : Kind) → IsLeft s rest source
-    → is_blank_rest source ≡ false → IsOpenedBefore rest.line.next (begun_block source kind)
-earlier_here s rest source kind left filled =
-    let before = content_before source.left filled in
-    record {
-      start = omega (arith, before, left.is.stop, left.is.ends);
-      first = omega (arith, left.is.rest.next);
-    }
-
-earlier_more : (to : ℕ) (frames : List Frame) (b : Block) → AreOpenedBefore to frames → IsOpenedBefore to b
-    → AreOpenedBefore to (with_frame frames nil b)
-earlier_more to [] b are is = (λ item. is, tt)
-earlier_more to (f ∷ frames) b are is = (are.0, earlier_more to frames b are.1 is)
-
--- one more that begins with the rest of a line
-pub in_line_more : (s : Source) (rest : LineRest) (source : SourceLine) (kind : Kind) (frames : List Frame)
-    → IsLeft s rest source → is_blank_rest source ≡ false → AreInLine rest.line frames
-    → AreInLine rest.line (with_frame frames nil (begun_block source kind))
-in_line_more s rest source kind frames left filled are = record {
-  quotes = quotes_more rest.line.next frames nil (begun_block source kind) are.quotes (sym left.is.rest.next);
-  items = items_more rest.line frames nil (begun_block source kind) are.items (opened_here s rest source kind left);
-  earlier = earlier_more rest.line.next frames (begun_block source kind) are.earlier
-      (earlier_here s rest source kind left filled);
-}
-
--- one that is no list, where a block may begin
-pub opened_in : (s : Source) (now : Pass) (frames : List Frame) (b : Block) → MayBegin s now frames
-    → IsBuilt s now.placing.builder (with_frame frames nil b) nil → HoldsBlocks b.kind → OpensIn s now frames b
-opened_in s now frames b may built holds = record {
-  source = may.source;
-  built = built;
-  lines = may.lines;
-  blanks = may.blanks;
-  loose = loose_inside now.looseness frames b holds may.loose;
-  free = holds.free;
-}
-
--- the rest of the line is read inside it
-pub container_inside : (s : Source) (now : Pass) (rest next : LineRest) (outer : List Frame) (source : SourceLine)
-    (blocks : Forest Block) (inside : Position) (kind : Kind) → IsLeft s rest source
-    → is_blank_rest source ≡ false → next ≡ record rest {
-      position = inside;
-      depth = length now.placing.builder.blocks;
-      before = paragraph.NoParagraph;
-    }
-    → IsRestOf source.left (left_at rest.reader inside) → OpensIn s now outer (begun_block source kind)
-    → AreInLine rest.line outer
-    → blocks ≡ rebuilt outer (node (begun_block source kind)
-    (begun_in_rest s (rest_inside (left_at rest.reader inside) source)) nil)
-    → AreItemsInLists false blocks → GoesInside s now next blocks
-container_inside s now rest next outer source blocks inside kind left filled goes is opens are whole items =
-    let b = begun_block source kind in
-    let f : Frame = record { before = nil; block = b } in
-    let more = in_line_more s rest source kind outer left filled are in
-    subst (λ (r : LineRest). GoesInside s now r blocks) (sym goes) (record {
-      frames = with_frame outer nil b;
-      source = rest_inside (left_at rest.reader inside) source;
-      inside = record {
-        opened = record {
-          source = opens.source;
-          free = record {
-            built = opens.built;
-            lines = opens.lines;
-            free = innermost_of_more is_list outer f ∙ opens.free;
-          };
-          blanks = opens.blanks;
-          loose = opens.loose;
-          quotes = more.quotes;
-          items = more.items;
-          first = first_more outer f 0 ∙ sym left.is.rest.next;
-          earlier = more.earlier;
-        };
-        left = left_inside s rest source inside (length now.placing.builder.blocks) paragraph.NoParagraph left is;
-        inner = refl;
-        depth = as_many_containers s now.placing.builder (with_frame outer nil b) nil opens.built;
-        before = refl;
-        whole = whole ∙ sym (rebuilt_more outer f
-            (begun_in_rest s (rest_inside (left_at rest.reader inside) source)));
-        items = items;
-      };
-    })
+-- the line makes the blocks so far these ones with the block that it begins
+pub begun_in_room : (s : Source) (pass : Pass) (rest : LineRest) (source : SourceLine) (b : Beginning)
+    (blocks : Forest Block) → (room : HasRoom s pass rest source b blocks)
+    → blocks
+    ≡ rebuilt room.frames (followed_by room.inside (new_blocks (inside_of (begun_by s) source) source b))
+begun_in_room s pass rest source b blocks room =
+    room.whole
+    ∙ ap (λ made. rebuilt room.frames (followed_by room.inside made))
+    (begun_once s source ∙ ap (new_blocks (inside_of (begun_by s) source) source) room.is)

@@ -40,7 +40,11 @@ use Rattle.markdown_plain.specs.Settled.{EmptyKnown, EmptyKnownIn, IsBuilt, IsLo
 use Rattle.markdown_plain.specs.Standing.{AreOpenedBefore, HoldsBlanks, IsLeafKind, MetadataAlone, PlacesFor}
 use Rattle.markdown_plain.specs.Standing.{PlacesLast, is_metadata, with_last}
 use Rattle.std.proofs.lemmas.Bool.{true≢false}
-use Rattle.markdown_plain.proofs.BegunBlocksLemmas.{MayBegin, source_kept}
+use Rattle.markdown_builder.specs.TreeLevels.{followed_by}
+use Rattle.markdown_plain.specs.Beginning.{MayBegin}
+use Rattle.markdown_plain.proofs.AddedTextLemmas.{loose_with_leaf}
+use Rattle.markdown_plain.proofs.BegunBlocksLemmas.{source_kept}
+use Rattle.markdown_plain.proofs.LooseFramesLemmas.{ends_more}
 use Rattle.markdown_plain.proofs.LastBlocksLemmas.{is_over, leaf_is_over, nothing_is_over}
 
 -- what is built does not depend on the place
@@ -90,13 +94,14 @@ none_held : (lines : List HeldLine) (to : ℕ) → lines ≡ [] → lines_end li
 none_held lines to none = subst (λ (ls : List HeldLine). lines_end ls ≤ to) (sym none) (omega arith)
 
 -- the line is placed, by a block that is the last, ended or not
-pub line_places : (s : Source) (now : Pass) (to : ℕ) (frames : List Frame) (blocks : Forest Block) (b : Block)
-    (inside : Forest Block) (last : Option Block) → with_last inside last ≡ leaf_block b → IsLeafOf b
-    → source_of now ≡ s → PlacesLast s now frames inside last → MetadataAlone last frames
-    → QuotesEnd to frames → AreOpenedBefore to frames → IsLooseBefore now.looseness frames nil
+pub line_places : (s : Source) (now : Pass) (to : ℕ) (frames : List Frame) (before blocks : Forest Block) (b : Block)
+    (inside : Forest Block) (last : Option Block) → with_last inside last ≡ followed_by before (leaf_block b)
+    → IsLeafOf b → source_of now ≡ s → PlacesLast s now frames inside last → MetadataAlone last frames
+    → QuotesEnd to frames → AreOpenedBefore to frames → IsLooseBefore now.looseness frames before
     → now.blanks.items ≡ [] → lines_end now.lines.items ≤ to
-    → blocks ≡ rebuilt frames (leaf_block b) → AreItemsInLists false blocks → PlacesFor s now to blocks
-line_places s now to frames blocks b inside last is leaf source unended alone quotes earlier loose blanks before
+    → blocks ≡ rebuilt frames (followed_by before (leaf_block b)) → AreItemsInLists false blocks
+    → PlacesFor s now to blocks
+line_places s now to frames before blocks b inside last is leaf source unended alone quotes earlier loose blanks ends
     begins items =
     let whole : blocks ≡ rebuilt frames (with_last inside last) = begins ∙ ap (rebuilt frames) (sym is) in
     record {
@@ -109,9 +114,9 @@ line_places s now to frames blocks b inside last is leaf source unended alone qu
         quotes = quotes;
         items = subst (AreItemsInLists false) whole items;
         loose = subst (IsLooseAs now.looseness frames) (sym is)
-            (leaf_loosens now.looseness frames b leaf.filled loose);
-        filled = ap (ends_blank false) is ∙ leaf.ends;
-        before = before;
+            (loose_with_leaf now.looseness frames before b leaf.filled loose);
+        filled = ap (ends_blank false) is ∙ (ends_more false before (leaf_block b) ∙ leaf.ends);
+        before = ends;
         unheld = λ e. blanks;
         earlier = earlier;
         alone = alone;

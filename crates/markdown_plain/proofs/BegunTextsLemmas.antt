@@ -4,7 +4,8 @@ use Rattle.std.proofs.Common.{ap, ◌∙◌, subst, arith, length, not, ◌&&◌
 use Rattle.std.proofs.lemmas.Bool.Decides.{nat_tests}
 use Rattle.std.proofs.lemmas.Bool.{true≢false}
 use Rattle.std.specs.List.{list_all, prefix_len}
-use Rattle.markdown_base.specs.Forest.{Forest, nil}
+use Rattle.markdown_base.specs.Forest.{Forest}
+use Rattle.markdown_builder.specs.TreeLevels.{followed_by}
 use Rattle.markdown_scan.specs.LineStart.{LineLeft}
 use Rattle.markdown_lines.specs.BlockBeginnings.{Source}
 use Rattle.markdown_lines.specs.HeldLines.{IsHeldLine}
@@ -97,14 +98,16 @@ end_begins text position line source is filled =
     }
 
 -- the line is placed by a paragraph that begins
-pub text_inside : (s : Source) (now : Pass) (line : Line) (at : ℕ) (frames : List Frame) (blocks : Forest Block)
+pub text_inside : (s : Source) (now : Pass) (line : Line) (at : ℕ) (frames : List Frame) (before blocks : Forest Block)
     (b : Block) (source : SourceLine) → b.kind ≡ was.paragraph_leaf (source ∷ []) → source_of now ≡ s
-    → HoldsParagraph s now frames nil b (source ∷ []) → QuotesEnd line.next frames
-    → AreOpenedBefore line.next frames → IsLooseBefore now.looseness frames nil → now.blanks.items ≡ []
+    → HoldsParagraph s now frames before b (source ∷ []) → QuotesEnd line.next frames
+    → AreOpenedBefore line.next frames → IsLooseBefore now.looseness frames before → now.blanks.items ≡ []
     → now.lines.items ≡ held_from line at ∷ []
-    → blocks ≡ rebuilt frames (leaf_block b) → AreItemsInLists false blocks → PlacesFor s now line.next blocks
-text_inside s now line at frames blocks b source kind same holds quotes earlier loose blanks lines begins items =
-    line_places s now line.next frames blocks b nil (Some b) refl
+    → blocks ≡ rebuilt frames (followed_by before (leaf_block b)) → AreItemsInLists false blocks
+    → PlacesFor s now line.next blocks
+text_inside s now line at frames before blocks b source kind same holds quotes earlier loose blanks lines begins
+    items =
+    line_places s now line.next frames before blocks b before (Some b) refl
     (record {
       filled = ap is_blank_block kind;
       ends = ap (block_ends_blank false) kind;

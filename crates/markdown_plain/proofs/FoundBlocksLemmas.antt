@@ -45,8 +45,11 @@ left_same s rest new source same left = record {
   text = rw (same.text, same.options) left.text;
   stop = same.stop ∙ left.stop;
   start = same.start ∙ left.start;
-  line = rw (same.text, same.stop, same.next, same.outermost, same.start) left.line;
+  next = same.next ∙ left.next;
+  indent = left.indent;
+  outermost = rw (same.outermost, same.start) left.outermost;
   after = left.after;
+  boundary = left.boundary;
 }
 
 inside_same : (s : Source) (pass : Pass) (rest : LineRest) (new : LineReader) (frames : List Frame)

@@ -56,8 +56,9 @@ pub mod PlacedTextLemmas
 pub mod TextStepsLemmas
 pub mod TextReachedLemmas
 pub mod TextLinesLemmas
--- on blocks that begin inside containers which a line opened
+-- on blocks that begin with the rest of a line
 pub mod BegunBlocksLemmas
+pub mod BegunContainersLemmas
 pub mod BegunRestsLemmas
 pub mod BegunLeavesLemmas
 pub mod BegunTextsLemmas

@@ -5,12 +5,13 @@ ghost use Rattle.std.specs.Prelude.{◌≡◌, [], true, false, Some, length, sl
 ghost use Rattle.std.specs.List.{list_all};
 ghost use Rattle.std.specs.Str.{IsCharBoundary};
 ghost use Rattle.markdown_base.specs.BlockTree.{tree_of};
-ghost use Rattle.markdown_base.specs.Forest.{Forest};
-ghost use Rattle.markdown_block_rules.specs.BlockGrowth.{Block, with_line};
+ghost use Rattle.markdown_base.specs.Forest.{Forest, nil};
+ghost use Rattle.markdown_block_rules.specs.BlockGrowth.{Block, blocks_of, with_line};
 ghost use Rattle.markdown_lines.specs.BlockBeginnings.{Source};
 ghost use Rattle.markdown_lines.specs.SourceLines.{SourceLine, is_blank_rest};
 ghost use Rattle.markdown_lines.specs.Lines.{is_space_or_tab};
-ghost use Rattle.markdown_plain.specs.Fitting.{IfFitted, BracesStand};
+ghost use Rattle.markdown_plain.specs.Fitting.{AllFitted, IfFitted, BracesStand};
+ghost use Rattle.markdown_plain.specs.Settled.{IsBuilt};
 ghost use Rattle.markdown_plain.specs.ListLooseness.{blank_from};
 ghost use Rattle.markdown_plain.specs.ReachedLines as lines;
 ghost use Rattle.markdown_plain.specs.ReachedLines.{IsReachedBy, LeavesOff, blocks_before, blocks_in};
@@ -23,8 +24,11 @@ ghost use Rattle.markdown_lines.specs.declared.block_start.Before.TheVariants as
 ghost use Rattle.markdown_lines.specs.declared.block_start.BlockStart.{BlockStart};
 ghost use Rattle.markdown_lines.specs.declared.block_start.BlockStart.TheVariants as start;
 ghost use Rattle.markdown_lines.specs.declared.line_reader.LineReader.{LineReader};
-ghost use Rattle.markdown_plain.specs.Beginning.{FoundStands, GoesInside, HasBegun, IsFound, IsInside};
-ghost use Rattle.markdown_plain.specs.Frames.{Frame};
+ghost use Rattle.markdown_lines.specs.BlockBeginnings.{Beginning};
+ghost use Rattle.markdown_lines.specs.BlockStarts.{beginning_found};
+ghost use Rattle.markdown_plain.specs.Beginning.{FoundStands, HasBegun, HasRoom, IsFound, IsHere, NeedsRoom};
+ghost use Rattle.markdown_plain.specs.Beginning.{ReadsOn, Turn, reads_metadata};
+ghost use Rattle.markdown_plain.specs.Paragraphs.{source_of};
 ghost use Rattle.markdown_lines.specs.HeldLines.{IsHeldLine};
 ghost use Rattle.markdown_plain.specs.OpenLeaves.{InfoStands};
 ghost use Rattle.markdown_plain.specs.declared.block_pass.LineRest.{LineRest};
@@ -121,7 +125,9 @@ fn is_text(start: &BlockStart<'_>) -> bool {
 }
 
 /// Returns whether metadata of some kind is read.
-fn reads_metadata(options: Options) -> bool {
+fn reads_metadata(options: Options) -> bool
+    ensures { result ≡ reads_metadata options }
+{
     is_read(Options::ENABLE_YAML_STYLE_METADATA_BLOCKS, options)
         || is_read(Options::ENABLE_PLUSES_DELIMITED_METADATA_BLOCKS, options)
 }
@@ -154,6 +160,11 @@ impl<'a> Pass<'a> {
         ensures text { IfOk result (λ _. self.new.placing.builder.text
             ≡ self.old.placing.builder.text) }
         ensures ahead { ahead.new.text.now ≡ ahead.old.text.now }
+        ensures stands { IfOk result (λ _. (s : Source) (before : lines.Before)
+            (source : SourceLine) → reads_tables s ≡ false → ahead.old.text.now ≡ s.text
+            → Stands s self.old before.frames before.inside before.last line.start
+            → IsSource self.old line source → IfFitted self.old.placing self.new.placing
+            (StandsFor s self.new line.next (with_line s (blocks_before before) source))) }
     {
         if !self.placing.open_blocks().is_empty()
             || !begins_text(self.placing.text(), line.start, line.stop)
@@ -201,6 +212,11 @@ impl<'a> Pass<'a> {
         ensures text { IfOk result (λ _. self.new.placing.builder.text
             ≡ self.old.placing.builder.text) }
         ensures ahead { ahead.new.text.now ≡ ahead.old.text.now }
+        ensures stands { IfOk result (λ _. (s : Source) (before : lines.Before)
+            (source : SourceLine) → reads_tables s ≡ false → ahead.old.text.now ≡ s.text
+            → Stands s self.old before.frames before.inside before.last line.start
+            → IsSource self.old line source → IfFitted self.old.placing self.new.placing
+            (StandsFor s self.new line.next (with_line s (blocks_before before) source))) }
     {
         let reached = reach(self, line);
         if reached.all && self.placing.is_in_leaf() && self.goes_on(line, reached)? {
@@ -327,7 +343,13 @@ impl<'a> Pass<'a> {
     /// Reads what the open containers left of a line: opens blocks as long as some begin.
     #[inline(always)]
     fn read_rest(&mut self, rest: &mut LineRest<'a>) -> Result<(), AllocError>
-        ensures { IfOk result (λ _. self.new.placing.builder.text ≡ self.old.placing.builder.text) }
+        ensures text { IfOk result (λ _. self.new.placing.builder.text
+            ≡ self.old.placing.builder.text) }
+        ensures places { IfOk result (λ _. (s : Source) (turn : Turn) (source : SourceLine)
+            (blocks : Forest Block) → reads_tables s ≡ false
+            → IsHere s self.old rest.old turn source blocks → rest.old.unless_row ≡ None
+            → IfFitted self.old.placing self.new.placing
+            (PlacesFor s self.new rest.old.line.next blocks)) }
     {
         // each container takes at least one byte of the line; what is left after the last one is read too, and a line
         // that underlines definitions, or ends a table, is read twice
@@ -349,14 +371,11 @@ impl<'a> Pass<'a> {
     fn read_block(&mut self, rest: &mut LineRest<'a>) -> Result<bool, AllocError>
         ensures text { IfOk result (λ _. self.new.placing.builder.text
             ≡ self.old.placing.builder.text) }
-        ensures inside { IfOk result (λ more. (s : Source) (frames : List Frame)
-            (source : SourceLine) (blocks : Forest Block)
-            → IsInside s self.old rest.old frames source blocks → rest.old.unless_row ≡ None
-            → ((at : ℕ) (start : BlockStart) (reader : LineReader)
-            → IsFound s (record rest.old { reader = reader }) source at start
-            → FoundStands self.old.placing.builder.text rest.old.line at start)
+        ensures begins { IfOk result (λ more. (s : Source) (turn : Turn) (source : SourceLine)
+            (blocks : Forest Block) → reads_tables s ≡ false
+            → IsHere s self.old rest.old turn source blocks → rest.old.unless_row ≡ None
             → IfFitted self.old.placing self.new.placing
-            (HasBegun s self.new rest.new blocks more)) }
+            (HasBegun s self.new rest.old rest.new blocks more)) }
     {
         if self.reads_table(rest)? {
             return Ok(false);
@@ -396,6 +415,8 @@ impl<'a> Pass<'a> {
             ≡ self.old.placing.builder.text) }
         ensures none { IfOk result (λ is. rest.now.before ≡ before.NoParagraph → (is ≡ false)
             × (self.new ≡ self.old)) }
+        ensures off { IfOk result (λ is. reads_tables (source_of self.old) ≡ false → (is ≡ false)
+            × (self.new ≡ self.old)) }
     {
         match rest.before {
             Before::Reached if is_read(Options::ENABLE_TABLES, self.options) => {
@@ -410,9 +431,9 @@ impl<'a> Pass<'a> {
         ensures text { IfOk result (λ _. self.new.placing.builder.text
             ≡ self.old.placing.builder.text) }
         ensures more { IfOk result (λ more. more ≡ false) }
-        ensures inside { IfOk result (λ _. (s : Source) (rest : LineRest) (frames : List Frame)
+        ensures places { IfOk result (λ _. (s : Source) (rest : LineRest) (turn : Turn)
             (source : SourceLine) (at : ℕ) (blocks : Forest Block)
-            → IsInside s self.old rest frames source blocks → rest.line ≡ line
+            → IsHere s self.old rest turn source blocks → rest.line ≡ line
             → IsFound s rest source at start.Nothing → IfFitted self.old.placing self.new.placing
             (PlacesFor s self.new line.next blocks)) }
     {
@@ -424,17 +445,9 @@ impl<'a> Pass<'a> {
     fn read_text(&mut self, rest: &LineRest<'a>, at: usize) -> Result<bool, AllocError>
         ensures text { IfOk result (λ _. self.new.placing.builder.text
             ≡ self.old.placing.builder.text) }
-        ensures places { IfOk result (λ _. (s : Source) (before : lines.Before)
-            (source : SourceLine) → reads_tables s ≡ false
-            → Stands s self.old before.frames before.inside before.last rest.now.line.start
-            → IsSource self.old rest.now.line source
-            → IsTextHere s self.old rest.now.line at rest.now.depth (blocks_in before)
-            (reached_of s before source)
-            → IfFitted self.old.placing self.new.placing (PlacesFor s self.new rest.now.line.next
-            (with_line s (blocks_before before) source))) }
         ensures more { IfOk result (λ more. more ≡ false) }
-        ensures inside { IfOk result (λ _. (s : Source) (frames : List Frame) (source : SourceLine)
-            (blocks : Forest Block) → IsInside s self.old rest.now frames source blocks
+        ensures places { IfOk result (λ _. (s : Source) (turn : Turn) (source : SourceLine)
+            (blocks : Forest Block) → IsHere s self.old rest.now turn source blocks
             → IsFound s rest.now source at start.Text
             → IsHeldLine self.old.placing.builder.text (record {
               start = at;
@@ -454,15 +467,37 @@ impl<'a> Pass<'a> {
         ensures text { IfOk result (λ _. self.new.placing.builder.text
             ≡ self.old.placing.builder.text) }
         ensures more { IfOk result (λ more. more ≡ false) }
-        ensures inside { IfOk result (λ _. (s : Source) (frames : List Frame) (source : SourceLine)
-            (at : ℕ) (blocks : Forest Block) → IsInside s self.old rest.now frames source blocks
+        ensures places { IfOk result (λ _. (s : Source) (turn : Turn) (source : SourceLine)
+            (at : ℕ) (blocks : Forest Block) → IsHere s self.old rest.now turn source blocks
             → IsFound s rest.now source at (start.IndentedCode code)
             → IfFitted self.old.placing self.new.placing
             (PlacesFor s self.new rest.now.line.next blocks)) }
     {
-        self.make_room(rest.depth)?;
+        self.make_room_for(rest)?;
         self.open_indented(rest.line, code)?;
         Ok(false)
+    }
+
+    /// Makes room for the block that the rest of a line begins, which is no item: ends the open leaf, and closes the
+    /// containers that it is not in.
+    #[inline(always)]
+    fn make_room_for(&mut self, rest: &LineRest<'a>) -> Result<(), AllocError>
+        ensures text { IfOk result (λ _. self.new.placing.builder.text
+            ≡ self.old.placing.builder.text) }
+        ensures room { IfOk result (λ _. (s : Source) (turn : Turn) (source : SourceLine)
+            (at : ℕ) (start : BlockStart) (b : Beginning) (blocks : Forest Block)
+            → IsHere s self.old rest.now turn source blocks → IsFound s rest.now source at start
+            → beginning_found rest.now.reader start ≡ Some b → NeedsRoom b
+            → IfFitted self.old.placing self.new.placing
+            (HasRoom s self.new rest.now source b blocks)) }
+        ensures same { self.new ≡ record self.old {
+          placing = self.new.placing;
+          lines = self.new.lines;
+          blanks = self.new.blanks;
+          looseness = self.new.looseness;
+        } }
+    {
+        self.make_room(rest.depth)
     }
 
     /// Moves to a place inside the container that was opened last, and returns true.
@@ -490,13 +525,14 @@ impl<'a> Pass<'a> {
         ensures text { IfOk result (λ _. self.new.placing.builder.text
             ≡ self.old.placing.builder.text) }
         ensures more { IfOk result (λ more. more ≡ true) }
-        ensures inside { IfOk result (λ _. (s : Source) (frames : List Frame) (source : SourceLine)
-            (blocks : Forest Block) → IsInside s self.old rest.old frames source blocks
+        ensures reads_on { IfOk result (λ _. (s : Source) (turn : Turn) (source : SourceLine)
+            (blocks : Forest Block) → IsHere s self.old rest.old turn source blocks
             → IsFound s rest.old source at (start.Quote inside)
+            → IsCharBoundary self.old.placing.builder.text inside.at
             → IfFitted self.old.placing self.new.placing
-            (GoesInside s self.new rest.new blocks)) }
+            (ReadsOn s self.new rest.old rest.new blocks)) }
     {
-        self.make_room(rest.depth)?;
+        self.make_room_for(rest)?;
         self.open_quote(at, None)?;
         Ok(self.go_inside(rest, inside))
     }
@@ -512,13 +548,13 @@ impl<'a> Pass<'a> {
         ensures text { IfOk result (λ _. self.new.placing.builder.text
             ≡ self.old.placing.builder.text) }
         ensures more { IfOk result (λ more. more ≡ false) }
-        ensures inside { IfOk result (λ _. (s : Source) (frames : List Frame) (source : SourceLine)
-            (blocks : Forest Block) → IsInside s self.old rest.now frames source blocks
+        ensures places { IfOk result (λ _. (s : Source) (turn : Turn) (source : SourceLine)
+            (blocks : Forest Block) → IsHere s self.old rest.now turn source blocks
             → IsFound s rest.now source at (start.Alert kind)
             → IfFitted self.old.placing self.new.placing
             (PlacesFor s self.new rest.now.line.next blocks)) }
     {
-        self.make_room(rest.depth)?;
+        self.make_room_for(rest)?;
         self.open_quote(at, Some(kind))?;
         self.add_text(rest.line, rest.line.stop, self.depth())?;
         Ok(false)
@@ -534,14 +570,14 @@ impl<'a> Pass<'a> {
         ensures text { IfOk result (λ _. self.new.placing.builder.text
             ≡ self.old.placing.builder.text) }
         ensures more { IfOk result (λ more. more ≡ false) }
-        ensures inside { IfOk result (λ _. (s : Source) (frames : List Frame) (source : SourceLine)
-            (blocks : Forest Block) → IsInside s self.old rest.now frames source blocks
+        ensures places { IfOk result (λ _. (s : Source) (turn : Turn) (source : SourceLine)
+            (blocks : Forest Block) → IsHere s self.old rest.now turn source blocks
             → IsFound s rest.now source at (start.Heading heading)
             → BracesStand self.old.placing.builder.text heading.braces
             → IfFitted self.old.placing self.new.placing
             (PlacesFor s self.new rest.now.line.next blocks)) }
     {
-        self.make_room(rest.depth)?;
+        self.make_room_for(rest)?;
         self.placing.step_to(at);
         self.add_heading(rest.line, heading)?;
         Ok(false)
@@ -557,14 +593,14 @@ impl<'a> Pass<'a> {
         ensures text { IfOk result (λ _. self.new.placing.builder.text
             ≡ self.old.placing.builder.text) }
         ensures more { IfOk result (λ more. more ≡ false) }
-        ensures inside { IfOk result (λ _. (s : Source) (frames : List Frame) (source : SourceLine)
-            (blocks : Forest Block) → IsInside s self.old rest.now frames source blocks
+        ensures places { IfOk result (λ _. (s : Source) (turn : Turn) (source : SourceLine)
+            (blocks : Forest Block) → IsHere s self.old rest.now turn source blocks
             → IsFound s rest.now source at (start.Fence opening)
             → InfoStands self.old.placing.builder.text opening
             → IfFitted self.old.placing self.new.placing
             (PlacesFor s self.new rest.now.line.next blocks)) }
     {
-        self.make_room(rest.depth)?;
+        self.make_room_for(rest)?;
         self.open_fenced(rest.line, at, opening)?;
         Ok(false)
     }
@@ -574,8 +610,8 @@ impl<'a> Pass<'a> {
         ensures text { IfOk result (λ _. self.new.placing.builder.text
             ≡ self.old.placing.builder.text) }
         ensures more { IfOk result (λ more. more ≡ false) }
-        ensures inside { IfOk result (λ _. (s : Source) (frames : List Frame) (source : SourceLine)
-            (at : ℕ) (blocks : Forest Block) → IsInside s self.old rest.now frames source blocks
+        ensures places { IfOk result (λ _. (s : Source) (turn : Turn) (source : SourceLine)
+            (at : ℕ) (blocks : Forest Block) → IsHere s self.old rest.now turn source blocks
             → IsFound s rest.now source at (start.Html kind)
             → IsHeldLine self.old.placing.builder.text (record {
               start = at;
@@ -586,7 +622,7 @@ impl<'a> Pass<'a> {
             → IfFitted self.old.placing self.new.placing
             (PlacesFor s self.new rest.now.line.next blocks)) }
     {
-        self.make_room(rest.depth)?;
+        self.make_room_for(rest)?;
         self.open_html(rest.line, rest.position, kind)?;
         Ok(false)
     }
@@ -602,13 +638,15 @@ impl<'a> Pass<'a> {
         ensures text { IfOk result (λ _. self.new.placing.builder.text
             ≡ self.old.placing.builder.text) }
         ensures more { IfOk result (λ more. more ≡ true) }
-        ensures inside { IfOk result (λ _. (s : Source) (frames : List Frame) (source : SourceLine)
-            (blocks : Forest Block) → IsInside s self.old rest.old frames source blocks
+        ensures reads_on { IfOk result (λ _. (s : Source) (turn : Turn) (source : SourceLine)
+            (blocks : Forest Block) → IsHere s self.old rest.old turn source blocks
             → IsFound s rest.old source at (start.Footnote label.entry inside)
+            → IsCharBoundary self.old.placing.builder.text inside.at
             → IfFitted self.old.placing self.new.placing
-            (GoesInside s self.new rest.new blocks)) }
+            (ReadsOn s self.new rest.old rest.new blocks)) }
     {
-        self.open_footnote(at, label, rest.depth)?;
+        self.make_room_for(rest)?;
+        self.open_footnote(at, label)?;
         Ok(self.go_inside(rest, inside))
     }
 
@@ -619,7 +657,14 @@ impl<'a> Pass<'a> {
         rest: &mut LineRest<'a>,
         level: HeadingLevel,
     ) -> Result<bool, AllocError>
-        ensures { IfOk result (λ _. self.new.placing.builder.text ≡ self.old.placing.builder.text) }
+        ensures text { IfOk result (λ _. self.new.placing.builder.text
+            ≡ self.old.placing.builder.text) }
+        ensures begins { IfOk result (λ more. (s : Source) (turn : Turn) (source : SourceLine)
+            (at : ℕ) (blocks : Forest Block) → reads_tables s ≡ false
+            → IsHere s self.old rest.old turn source blocks
+            → IsFound s rest.old source at (start.Underline level)
+            → IfFitted self.old.placing self.new.placing
+            (HasBegun s self.new rest.old rest.new blocks more)) }
     {
         rest.before = Before::NoParagraph;
         let is_heading = self.end_paragraph(Some((level, rest.line)))?;
@@ -631,13 +676,13 @@ impl<'a> Pass<'a> {
         ensures text { IfOk result (λ _. self.new.placing.builder.text
             ≡ self.old.placing.builder.text) }
         ensures more { IfOk result (λ more. more ≡ false) }
-        ensures inside { IfOk result (λ _. (s : Source) (frames : List Frame) (source : SourceLine)
-            (blocks : Forest Block) → IsInside s self.old rest.now frames source blocks
+        ensures places { IfOk result (λ _. (s : Source) (turn : Turn) (source : SourceLine)
+            (blocks : Forest Block) → IsHere s self.old rest.now turn source blocks
             → IsFound s rest.now source at start.ThematicBreak
             → IfFitted self.old.placing self.new.placing
             (PlacesFor s self.new rest.now.line.next blocks)) }
     {
-        self.make_room(rest.depth)?;
+        self.make_room_for(rest)?;
         self.placing.step_to(at);
         self.add_thematic_break(rest.line)?;
         Ok(false)
@@ -653,11 +698,12 @@ impl<'a> Pass<'a> {
         ensures text { IfOk result (λ _. self.new.placing.builder.text
             ≡ self.old.placing.builder.text) }
         ensures more { IfOk result (λ more. more ≡ true) }
-        ensures inside { IfOk result (λ _. (s : Source) (frames : List Frame) (source : SourceLine)
-            (blocks : Forest Block) → IsInside s self.old rest.old frames source blocks
+        ensures reads_on { IfOk result (λ _. (s : Source) (turn : Turn) (source : SourceLine)
+            (blocks : Forest Block) → IsHere s self.old rest.old turn source blocks
             → IsFound s rest.old source at (start.Item item)
+            → IsCharBoundary self.old.placing.builder.text item.inside.at
             → IfFitted self.old.placing self.new.placing
-            (GoesInside s self.new rest.new blocks)) }
+            (ReadsOn s self.new rest.old rest.new blocks)) }
     {
         self.open_item(item, at, rest.depth)?;
         Ok(self.go_inside(rest, item.inside))
@@ -669,16 +715,27 @@ impl<'a> Pass<'a> {
         rest: &LineRest<'a>,
         kind: MetadataBlockKind,
     ) -> Result<bool, AllocError>
-        ensures { IfOk result (λ _. self.new.placing.builder.text ≡ self.old.placing.builder.text) }
+        ensures text { IfOk result (λ _. self.new.placing.builder.text
+            ≡ self.old.placing.builder.text) }
+        ensures more { IfOk result (λ more. more ≡ false) }
+        ensures places { IfOk result (λ _. (s : Source) (turn : Turn) (source : SourceLine)
+            (at : ℕ) (blocks : Forest Block) → IsHere s self.old rest.now turn source blocks
+            → IsFound s rest.now source at (start.Metadata kind)
+            → IfFitted self.old.placing self.new.placing
+            (PlacesFor s self.new rest.now.line.next blocks)) }
     {
-        self.make_room(rest.depth)?;
+        self.make_room_for(rest)?;
         self.open_metadata(kind, rest.line)?;
         Ok(false)
     }
 
     /// Reads all lines of the text, and closes all blocks.
     fn read_lines(&mut self) -> Result<(), AllocError>
-        ensures { IfOk result (λ _. self.new.placing.builder.text ≡ self.old.placing.builder.text) }
+        ensures text { IfOk result (λ _. self.new.placing.builder.text
+            ≡ self.old.placing.builder.text) }
+        ensures made { IfOk result (λ _. (s : Source) → reads_tables s ≡ false
+            → Stands s self.old [] nil None 0 → IfFitted self.old.placing self.new.placing
+            (IsBuilt s self.new.placing.builder [] (blocks_of s))) }
     {
         let text = self.placing.text();
         let mut ahead = LinesAhead::new(text);
@@ -697,6 +754,9 @@ fn place_all<'a>(alloc: Global, text: &'a str, options: Options) -> Result<Placi
     ensures text { IfOk result (λ made. made.builder.text ≡ text.now) }
     ensures closed { IfOk result (λ made. made.builder.blocks ≡ []) }
     ensures read { IfOk result (λ made. made.builder.at ≡ length text.now) }
+    ensures made { IfOk result (λ made. AllFitted made → (s : Source)
+        → s ≡ record { text = text.now; options = options } → reads_tables s ≡ false
+        → IsBuilt s made.builder [] (blocks_of s)) }
 {
     let mut pass = Pass::new(alloc, text, options)?;
     pass.read_lines()?;

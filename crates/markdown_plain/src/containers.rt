@@ -409,53 +409,24 @@ impl<'a> Pass<'a> {
         self.looseness.open_list()
     }
 
-    /// Opens a footnote definition whose marker is at the byte offset `at`, inside the outermost `depth` of the open
-    /// blocks.
-    pub fn open_footnote(
-        &mut self,
-        at: usize,
-        label: CowStr<'a>,
-        depth: usize,
-    ) -> Result<(), AllocError>
+    /// Opens a footnote definition whose marker is at the byte offset `at`.
+    pub fn open_footnote(&mut self, at: usize, label: CowStr<'a>) -> Result<(), AllocError>
         ensures text { IfOk result (λ _. self.new.placing.builder.text
             ≡ self.old.placing.builder.text) }
         ensures opens { IfOk result (λ _.
             IfFitted self.old.placing self.new.placing ((ix : _)
-            × (self.new.placing.builder.blocks
-            ≡ room_in depth (without_leaf self.old.placing.builder)
+            × (self.new.placing.builder.blocks ≡ self.old.placing.builder.blocks
             ++ record { start = at; body = body.FootnoteDefinition ix } ∷ []))) }
         ensures here { IfOk result (λ _. IfFitted self.old.placing self.new.placing
             (self.new.placing.builder.at ≡ at)) }
-        ensures ended { IfOk result (λ _. self.new.lines.items ≡ []) }
-        ensures begins { IfOk result (λ _. (s : Source) (frames : List Frame)
-            (inside : Forest Block) (b : Block) → MayOpen s self.old frames inside
-            → depth ≡ length frames
-            → b.start ≡ at → b.kind ≡ footnote_container (text_of label.entry)
+        ensures frame { IfOk result (λ _. (s : Source) (frames : List Frame)
+            (inside : Forest Block) (b : Block) → IsBuilt s self.old.placing.builder frames inside
+            → innermost_is is_list frames ≡ false → b.start ≡ at
+            → b.kind ≡ footnote_container (text_of label.entry)
             → IfFitted self.old.placing self.new.placing
             (IsBuilt s self.new.placing.builder (with_frame frames inside b) nil)) }
-        ensures inside { IfOk result (λ _. (s : Source) (frames : List Frame)
-            → MayOpen s self.old frames nil → depth ≡ length frames
-            → IsLooseAs self.old.looseness frames nil
-            → (self.new ≡ record self.old {
-              placing = self.new.placing;
-              looseness = self.new.looseness;
-            })
-            × IsLooseBefore self.new.looseness frames nil) }
-        ensures frame { IfOk result (λ _. (s : Source) (frames : List Frame)
-            (inside : Forest Block) (b : Block) → self.old.lines.items ≡ []
-            → MayClose s self.old frames inside → depth ≤ length frames → b.start ≡ at
-            → b.kind ≡ footnote_container (text_of label.entry)
-            → IfFitted self.old.placing self.new.placing (IsBuilt s self.new.placing.builder
-            (with_frame (take (room_depth depth frames) frames)
-            (rebuilt (drop (room_depth depth frames) frames) inside) b) nil)) }
-        ensures same { self.new ≡ record self.old {
-          placing = self.new.placing;
-          lines = self.new.lines;
-          blanks = self.new.blanks;
-          looseness = self.new.looseness;
-        } }
+        ensures same { self.new ≡ record self.old { placing = self.new.placing } }
     {
-        self.make_room(depth)?;
         self.placing.step_to(at);
         let listed = label.try_clone(self.alloc)?;
         self.placing.open_note(label, listed)
