@@ -64,3 +64,6 @@ pub mod BegunLeavesLemmas
 pub mod BegunTextsLemmas
 pub mod FoundBlocksLemmas
 pub mod InnerBeginningsLemmas
+-- on where blocks end
+pub mod BlockEndsLemmas
+pub mod LastEndsLemmas

@@ -14,6 +14,7 @@ pub mod Containers
 pub mod NewContainers
 pub mod ParagraphItems
 -- the blocks that it stands for
+pub mod BlockEnds
 pub mod Frames
 pub mod Settled
 pub mod ReachedFrames
