@@ -57,7 +57,7 @@ quote_inside : (rest : LineLeft) (alert : Option BlockQuoteKind) → BeginsInsid
 quote_inside rest None = tt
 quote_inside rest (Some kind) = tt
 
-after_inside : (s : Source) (columns : ℕ) (here : LineLeft)
+pub after_inside : (s : Source) (columns : ℕ) (here : LineLeft)
     → BeginsInside (begins_after s paragraph.NoParagraph columns here)
 after_inside s columns here =
     let n = length here.bytes in

@@ -64,3 +64,4 @@ pub mod BegunLeavesLemmas
 pub mod BegunTextsLemmas
 pub mod FoundBlocksLemmas
 pub mod InnerBeginningsLemmas
+pub mod BegunMetadataLemmas
