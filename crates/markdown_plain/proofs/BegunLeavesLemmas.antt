@@ -72,7 +72,7 @@ pub record IsLeafOf (b : Block) : Type 0 where
   pub filled : is_blank_block b.kind ≡ false
   pub ends : block_ends_blank false b.kind ≡ false
 
-none_held : (lines : List HeldLine) (to : ℕ) → lines ≡ [] → lines_end lines ≤ to
+pub none_held : (lines : List HeldLine) (to : ℕ) → lines ≡ [] → lines_end lines ≤ to
 none_held lines to none = subst (λ (ls : List HeldLine). lines_end ls ≤ to) (sym none) (omega arith)
 
 -- the line is placed, by a block that is the last, ended or not

@@ -98,7 +98,7 @@ metadata_begins s l kind is = by_columns (space.columns == 4) is
     after = begins_after s paragraph.NoParagraph space.columns space.after
 
     not_after : after ≡ line.begins_metadata kind → ⊥
-    not_after is = subst BeginsInside is (after_inside s space.columns space.after)
+    not_after is = subst BeginsInside is (after_inside s paragraph.NoParagraph space.columns space.after refl)
 
     by_opened : (outermost : Bool) (opened : Option MetadataBlockKind) → l.outermost ≡ outermost
         → metadata_opened s.options s.text l.left.bytes l.next ≡ opened

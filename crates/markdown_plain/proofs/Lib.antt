@@ -65,3 +65,4 @@ pub mod BegunTextsLemmas
 pub mod FoundBlocksLemmas
 pub mod InnerBeginningsLemmas
 pub mod BegunMetadataLemmas
+pub mod UnderlinesLemmas
