@@ -2,7 +2,7 @@
 -- nothing.
 use Rattle.std.proofs.Common.{◌≡◌, ℕ, ◌≤◌, Bool, true, false, List, [], ◌∷◌, Option, Some, None, refl, sym, ap, ◌∙◌}
 use Rattle.std.proofs.Common.{subst, arith, ◌++◌, ◌<◌, ◌+◌, ◌-◌, ◌||◌, drop, slice_range}
-use Rattle.markdown_base.specs.Forest.{Forest, nil, node}
+use Rattle.markdown_base.specs.Forest.{Forest, nil}
 use Rattle.markdown_builder.specs.BuilderView.{BuilderView}
 use Rattle.std.proofs.lemmas.Option.{none-some}
 use Rattle.std.specs.Prelude.{if◌then◌else◌, slice_index}
@@ -40,7 +40,7 @@ use Rattle.markdown_plain.specs.Fitting.{AllFitted, IfFitted, stepped}
 use Rattle.markdown_plain.specs.Frames.{Frame, rebuilt}
 use Rattle.markdown_plain.specs.OpenLeaves.{IsLeafIn, IsLineRest, IsOpenIn, IsPlaced, is_leaf, leaf_block}
 use Rattle.markdown_plain.specs.Paragraphs.{lines_end, source_of}
-use Rattle.markdown_plain.specs.Settled.{EmptyKnown, EmptyKnownIn, IsBuilt, IsLooseAs, IsLooseBefore, QuotesEnd}
+use Rattle.markdown_plain.specs.Settled.{IsBuilt, IsLooseAs, IsLooseBefore, QuotesEnd}
 use Rattle.markdown_plain.specs.Standing.{AreOpenedBefore, HoldsBlanks, IsLeafKind, MetadataAlone, PlacesFor}
 use Rattle.markdown_plain.specs.Standing.{PlacesLast, is_metadata, with_last}
 use Rattle.std.proofs.lemmas.Bool.{true≢false}

@@ -19,8 +19,8 @@ use Rattle.markdown_lines.specs.BlockBeginnings.{Beginning, Source, begins, begi
 use Rattle.markdown_lines.specs.BlockBeginnings.{metadata_in_line}
 use Rattle.markdown_lines.specs.ExtendedOnly.{is_read}
 use Rattle.markdown_lines.specs.Lines.{is_space_or_tab}
-use Rattle.markdown_lines.specs.MetadataBlocks.{are_of_metadata, is_three_of, lines_at, metadata_opened, metadata_option}
-use Rattle.markdown_lines.specs.MetadataBlocks.{opened_before}
+use Rattle.markdown_lines.specs.MetadataBlocks.{are_of_metadata, is_three_of, lines_at, metadata_opened}
+use Rattle.markdown_lines.specs.MetadataBlocks.{metadata_option, opened_before}
 use Rattle.markdown_lines.specs.SourceLines.{SourceLine}
 use Rattle.markdown_lines.specs.declared.block_start.Before.TheVariants as paragraph
 use Rattle.markdown_block_rules.specs.BlockGrowth.{Block, content_of}
@@ -111,7 +111,8 @@ metadata_begins s l kind is = by_columns (space.columns == 4) is
         record { outermost = under; read = of.read; solid = of.solid }
 
     by_columns : (full : Bool)
-        → (if full then line.begins_indented space.after else unwrap_or (metadata_in_line s paragraph.NoParagraph l) after)
+        → (if full then line.begins_indented space.after
+        else unwrap_or (metadata_in_line s paragraph.NoParagraph l) after)
         ≡ line.begins_metadata kind → IsMetadata s l
     by_columns true is = absurd (subst BeginsInside is tt)
     by_columns false is =

@@ -68,6 +68,7 @@ after_inside s before columns here off =
     let html = html_kind_of here.bytes (is_paragraph before) in
     let heading = atx_heading_at s.text here.scanned (here.scanned + n) in
     let note = footnote_marker here.bytes in
+    let underline = setext_level here.bytes in
     first_inside (quote_in_line s here ∷ heading_in_line s here ∷ fence_in_line s columns here
     ∷ html_in_line before here ∷ footnote_in_line s.options here
     ∷ underline_in_line before here ∷ break_in_line here
@@ -87,8 +88,8 @@ after_inside s before columns here off =
                   (option_map (λ marker. line.begins_footnote marker.0 (past_bytes marker.1 here)) note) None
                   (mapped (λ marker. line.begins_footnote marker.0 (past_bytes marker.1 here)) note (λ a. tt)) tt,
               (
-                subst (λ reached. IfInside
-                (if reached then option_map line.begins_underline (setext_level here.bytes) else None)) (sym off) tt,
+                subst (λ reached. IfInside (if reached then option_map line.begins_underline underline else None))
+                    (sym off) tt,
                 (
                   either IfInside (is_thematic_break here.bytes) (Some line.begins_break) None tt tt,
                   (

@@ -1,14 +1,13 @@
--- A line that underlines the paragraph that it reaches: that becomes a heading, or, where it holds definitions alone, it
+-- A line that underlines the paragraph that it reaches: this becomes a heading, or, where it holds definitions alone,
 -- ends, and the line is read once more.
-use Rattle.std.proofs.Common.{◌≡◌, ℕ, ◌+◌, ◌<◌, ◌≤◌, ◌==◌, Bool, true, false, not, List, [], ◌∷◌, Option, Some, None}
+use Rattle.std.proofs.Common.{◌≡◌, ℕ, ◌==◌, Bool, true, false, not, List, [], Option, Some, None}
 use Rattle.std.proofs.Common.{map, length, refl, sym, ap, ◌∙◌, subst, arith}
-use Rattle.std.proofs.Math.Bool.{and-false}
 use Rattle.std.proofs.lemmas.Bool.{true≢false}
 use Rattle.std.proofs.lemmas.Option.{none-some}
 use Rattle.std.specs.Prelude.{◌&&◌, if◌then◌else◌, unwrap_or}
 use Rattle.std.specs.Option.{option_and_then, option_map}
 use Rattle.std.specs.Str.{IsCharBoundary}
-use Rattle.markdown_base.specs.Forest.{Forest, nil, node}
+use Rattle.markdown_base.specs.Forest.{Forest, nil}
 use Rattle.markdown_base.specs.declared.tag.HeadingLevel.{HeadingLevel}
 use Rattle.markdown_base.specs.declared.tag.MetadataBlockKind.{MetadataBlockKind}
 use Rattle.markdown_base.specs.declared.tag.MetadataBlockKind.TheVariants as metadata
@@ -25,7 +24,6 @@ use Rattle.markdown_lines.specs.SourceLines.{SourceLine, is_blank_rest}
 use Rattle.markdown_lines.specs.declared.block_start.Before as block_start
 use Rattle.markdown_lines.specs.declared.block_start.Before.TheVariants as paragraph
 use Rattle.markdown_lines.specs.declared.block_start.BlockStart.TheVariants as start
-use Rattle.markdown_lines.specs.declared.held_line.HeldLine.{HeldLine}
 use Rattle.markdown_lines.specs.declared.line.Line.{Line}
 use Rattle.markdown_block_rules.specs.BlockGrowth as was
 use Rattle.markdown_block_rules.specs.BlockGrowth.{Block, goes_on, with_line}
@@ -42,7 +40,7 @@ use Rattle.markdown_plain.specs.Fitting.{AllFitted, IfFitted}
 use Rattle.markdown_plain.specs.Frames.{Frame, is_item, reached, rebuilt, touched}
 use Rattle.markdown_plain.specs.HeldSources.{IsParagraph}
 use Rattle.markdown_plain.specs.OpenLeaves.{HoldsParagraph, IsPlaced, ended_block, leaf_block}
-use Rattle.markdown_plain.specs.Paragraphs.{divided_of, has_paragraph, source_of}
+use Rattle.markdown_plain.specs.Paragraphs.{divided_of, has_paragraph}
 use Rattle.markdown_plain.specs.ReachedFrames.{are_none}
 use Rattle.markdown_plain.specs.ReachedLines.{reached_of}
 use Rattle.markdown_plain.specs.Settled.{BlanksKnown, IsLooseAs, QuotesEnd}
@@ -50,6 +48,7 @@ use Rattle.markdown_plain.specs.Standing.{PlacesFor, with_last}
 use Rattle.markdown_plain.proofs.AddedTextLemmas.{around_text, loose_as_leaf}
 use Rattle.markdown_plain.proofs.BegunBlocksLemmas.{source_kept}
 use Rattle.markdown_plain.proofs.BegunLeavesLemmas.{none_held}
+use Rattle.markdown_plain.proofs.BegunTextsLemmas.{none_open}
 use Rattle.markdown_plain.proofs.BlanksKnownLemmas.{same_touched}
 use Rattle.markdown_plain.proofs.BlankStandingLemmas.{next_after, none_inside}
 use Rattle.markdown_plain.proofs.FramesLemmas.{goes_on_last}
@@ -136,15 +135,9 @@ is_reached_one paragraph.NoParagraph reaches = absurd (true≢false (sym reaches
 is_reached_one paragraph.Lazy reaches = absurd (true≢false (sym reaches))
 is_reached_one paragraph.Reached reaches = refl
 
--- no paragraph is held back where no line is
-pub none_left : (pass : Pass) → pass.lines.items ≡ [] → has_paragraph pass ≡ false
-none_left pass none =
-    ap (λ (lines : List HeldLine). not pass.placing.builder.leaf && not (length lines == 0)) none
-    ∙ and-false (not pass.placing.builder.leaf)
-
 -- ---- what the line makes of a paragraph
 
--- something is left of a paragraph's lines after its definitions, or nothing
+-- nothing is left of a paragraph's lines after its definitions
 abbrev pub is_defining : Source → List SourceLine → Bool
 is_defining s lines = length (divided (entity_names s.options) s.text lines).lines == 0
 
@@ -196,7 +189,7 @@ last_ends s l before b lines level tables is filled underlines none =
 
 -- ---- what the pass makes of it
 
--- the paragraph was ended with its underline, and something was left of it after its definitions, or not
+-- the open paragraph was ended with its underline, and something was left of it after its definitions, or not
 pub record EndsUnderlined (old new : Pass) (level : HeadingLevel) (line : Line) (some : Bool) : Type 0 where
   pub same : new ≡ record old { placing = new.placing; lines = new.lines }
   pub text : new.placing.builder.text ≡ old.placing.builder.text
@@ -217,7 +210,7 @@ ends_not : (test : Bool) → false ≡ not test → test ≡ true
 ends_not true is = refl
 ends_not false is = absurd (true≢false (sym is))
 
--- the line makes these blocks of a paragraph that is held back, and that it reaches
+-- a line reaches a paragraph whose lines are held back, and is its underline
 module _ (s : Source) (old new : Pass) (rest : LineRest) (level : HeadingLevel) (l source : SourceLine)
     (blocks : Forest Block) (frames : List Frame) (inside : Forest Block) (b : Block) (sources : List SourceLine)
     (here : IsFirst s old rest (record { frames = frames; inside = inside; last = Some b }) l source blocks)
@@ -234,7 +227,7 @@ module _ (s : Source) (old new : Pass) (rest : LineRest) (level : HeadingLevel) 
       → some ≡ not (is_defining s sources)
   defining some left = subst (λ (r : Source). some ≡ not (is_defining r sources)) here.holds.source left
 
-  -- a heading
+  -- where something is left of it, the line makes a heading of it
   heading_made : is_defining s sources ≡ false
       → blocks ≡ rebuilt (map (touched l) frames) (followed_by inside
       (leaf_block (headed b level sources rest.line.next)))
@@ -288,7 +281,7 @@ module _ (s : Source) (old new : Pass) (rest : LineRest) (level : HeadingLevel) 
         whole = whole;
       }
 
-  -- the line, once more
+  -- otherwise the line is still to be read
   abbrev rest_again : LineRest
   rest_again = record rest { before = paragraph.NoParagraph }
 
@@ -355,13 +348,13 @@ module _ (s : Source) (old new : Pass) (rest : LineRest) (level : HeadingLevel) 
         left = left_again;
         depth = here.depth;
         paragraph = ap (λ has. if has then (if are_none (reached s frames now l).inner then paragraph.Reached
-            else paragraph.Lazy) else paragraph.NoParagraph) (sym (none_left new ends.emptied));
+            else paragraph.Lazy) else paragraph.NoParagraph) (sym (none_open new ends.emptied));
         filled = here.filled;
         over = λ free. over_again none;
         whole = here.whole;
       }
 
-  -- what is begun
+  -- either way, that is what the line has begun
   begun_with : (some : Bool) → rest.before ≡ paragraph.Reached → EndsUnderlined old new level rest.line some
       → IfFitted old.placing new.placing (HasBegun s new rest rest_again blocks (not some))
   begun_with true reaches ends fitted = ((ends.left sources holds.lines fitted).0, heading_placed ends fitted)
@@ -381,7 +374,7 @@ module _ (s : Source) (old new : Pass) (rest : LineRest) (level : HeadingLevel) 
 
 -- ---- where that is
 
--- the paragraph is the last block
+-- the last block is the paragraph whose lines are held back
 paragraph_underlined : (s : Source) (old new : Pass) (rest : LineRest) (level : HeadingLevel) (some : Bool)
     (frames : List Frame) (inside : Forest Block) (last : Option Block) (l source : SourceLine) (blocks : Forest Block)
     → IsFirst s old rest (record { frames = frames; inside = inside; last = last }) l source blocks
@@ -391,7 +384,7 @@ paragraph_underlined : (s : Source) (old new : Pass) (rest : LineRest) (level : 
     → IfFitted old.placing new.placing
     (HasBegun s new rest (record rest { before = paragraph.NoParagraph }) blocks (not some))
 paragraph_underlined s old new rest level some frames inside None l source blocks here underlines reaches has all ends =
-    absurd (true≢false (sym has ∙ none_left old here.holds.unended.1))
+    absurd (true≢false (sym has ∙ none_open old here.holds.unended.1))
 paragraph_underlined s old new rest level some frames inside (Some b) l source blocks here underlines reaches has all
     ends =
     by_held here.holds.unended.0 here.holds.unended.1
@@ -402,9 +395,10 @@ paragraph_underlined s old new rest level some frames inside (Some b) l source b
     by_held None may =
         absurd (true≢false (sym has ∙ ap (λ leaf. not leaf && not (length old.lines.items == 0)) may.unended.1.leaf))
     by_held (Some sources) may =
-        begun_with s old new rest level l source blocks frames inside b sources here may underlines all some reaches ends
+        begun_with s old new rest level l source blocks frames inside b sources here may underlines all some reaches
+        ends
 
--- an underline was found
+-- the line begins an underline
 pub underline_begun : (s : Source) (old new : Pass) (rest : LineRest) (turn : Turn) (source : SourceLine) (at : ℕ)
     (blocks : Forest Block) (level : HeadingLevel) (some : Bool) → IsHere s old rest turn source blocks
     → IsFound s rest source at (start.Underline level) → EndsUnderlined old new level rest.line some

@@ -29,7 +29,8 @@ returns-clause-places c = λ s turn source at blocks here found holds fitted.
     let has = made.1 in
     let text : room.placing.builder.text ≡ s.text = ap (λ (r : Source). r.text) has.may.source in
     let next = content_next s.text rest.position rest.line source (held_line rest.line at) has.left.is found.begins
-    (subst (λ bytes. IsHeldLine bytes (held_line rest.line at)) (sym c.in_ok-make_room_for.ensures.text ∙ text) holds) in
+    (subst (λ bytes. IsHeldLine bytes (held_line rest.line at)) (sym c.in_ok-make_room_for.ensures.text ∙ text) holds)
+    in
     let leaf = c.in_ok-open_html.ensures.leaf s has.frames has.inside b source has.built
     (subst (λ bytes. IsLineRest bytes rest.position rest.line source) (sym text) has.left.is) refl
     (subst (λ bytes. IsNextContent bytes rest.position.at (Some (content_of source))) (sym text) next) refl fitted in (
