@@ -65,6 +65,8 @@ pub mod BegunLeavesLemmas
 pub mod BegunTextsLemmas
 pub mod FoundBlocksLemmas
 pub mod InnerBeginningsLemmas
+pub mod BegunMetadataLemmas
+pub mod UnderlinesLemmas
 pub mod RoomForBlocksLemmas
 -- on where blocks end
 pub mod BlockEndsLemmas
