@@ -52,6 +52,7 @@ impl<'a> Placing<'a> {
     ghost use Rattle.markdown_lines.specs.Lines.{IsNextContent};
     ghost use Rattle.markdown_plain.specs.Fitting.{AllFitted, IfFitted, IsAhead, IsWhiteOutside};
     ghost use Rattle.markdown_plain.specs.Fitting.{BeginsAtContent, GoesOn, HasBody, PutsBlock, closed, defining, stepped};
+    ghost use Rattle.markdown_plain.specs.Fits.{HasContent};
     ghost use Rattle.markdown_plain.specs.LeafTrees.{HasMoreTexts};
     ghost use Rattle.markdown_builder.specs.EvenRows.{is_in_row};
     ghost use Rattle.markdown_items.specs.ContentItems.{AddsItems};
@@ -301,6 +302,7 @@ impl<'a> Placing<'a> {
             ≡ record self.old.builder { blocks = self.new.builder.blocks } }
         ensures begins { IfFitted self.old self.new
             (BeginsAtContent self.old.builder self.new.builder) }
+        ensures fits { HasContent self.old.builder → self.new.misfits ≡ self.old.misfits }
     {
         match self.content_of_block() {
             Some(content) => self.builder.begin_later(content),
@@ -316,6 +318,8 @@ impl<'a> Placing<'a> {
             ≡ record self.old.builder { blocks = self.new.builder.blocks } }
         ensures changes { IfFitted self.old self.new
             (HasBody self.old.builder self.new.builder body) }
+        ensures fits { self.old.builder.leaf ≡ false → (self.old.builder.blocks ≡ [] → ⊥)
+            → self.new.misfits ≡ self.old.misfits }
     {
         if self.builder.is_in_leaf() || self.builder.open_blocks().is_empty() {
             self.miss();
