@@ -64,3 +64,5 @@ pub mod BegunLeavesLemmas
 pub mod BegunTextsLemmas
 pub mod FoundBlocksLemmas
 pub mod InnerBeginningsLemmas
+-- on calls that fit
+pub mod FittingLemmas

@@ -17,7 +17,7 @@ pub record MayStep (builder : BuilderView) (to : ℕ) : Type 0 where
   pub ahead : IsAhead builder to
   pub white : IsWhiteOutside builder to
 
--- a leaf is open that is neither a row nor a cell, so items fit, and closing it does
+-- a leaf is open, which is no row: items fit, and so does closing it
 pub record IsInLeaf (builder : BuilderView) : Type 0 where
   pub leaf : builder.leaf ≡ true
   pub some : builder.blocks ≡ [] → ⊥

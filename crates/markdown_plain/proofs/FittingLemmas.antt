@@ -1,0 +1,155 @@
+-- Calls that fit: where a builder is after one of them, the next fits.
+use Rattle.std.proofs.Common.{◌≡◌, ℕ, zero, suc, ◌+◌, ◌<◌, ◌≤◌, Bool, true, false, max, List, [], ◌∷◌, ◌++◌, Option}
+use Rattle.std.proofs.Common.{Some, None, take, refl, sym, ap, ◌∙◌, subst, arith, true≢false}
+use Rattle.std.specs.Prelude.{slice_get, slice_range}
+use Rattle.std.specs.Option.{option_map_or}
+use Rattle.std.specs.Str.{IsCharBoundary, IsUtf8}
+use Rattle.std.proofs.lemmas.Option.{same_Some}
+use Rattle.markdown_base.specs.declared.item.ItemBody.{ItemBody}
+use Rattle.markdown_base.specs.declared.item.ItemBody.TheVariants as body
+use Rattle.markdown_builder.specs.Bodies.{is_leaf}
+use Rattle.markdown_builder.specs.BuilderView.{BuilderView, Opens, innermost_block}
+use Rattle.markdown_builder.specs.EvenRows.{is_in_row, is_table_row}
+use Rattle.markdown_builder.specs.declared.open_block.OpenBlock.{OpenBlock}
+use Rattle.markdown_scan.specs.LineStart.{LineLeft, leading_space}
+use Rattle.markdown_lines.specs.declared.held_line.HeldLine.{HeldLine}
+use Rattle.markdown_lines.specs.declared.position.Position.{Position}
+use Rattle.markdown_lines.specs.declared.space.Space.{Space}
+use Rattle.markdown_lines.specs.Lines.{IsNextContent}
+use Rattle.markdown_lines.specs.Positions.{IsSpaceAt, left_from}
+use Rattle.markdown_plain.specs.declared.placing.Placing.{Placing}
+use Rattle.markdown_plain.specs.CodeLines.{after_line}
+use Rattle.markdown_plain.specs.Fitting.{AllFitted, BeginsAtContent, GoesOn, IfFitted, IsAhead, IsWhiteOutside, stepped}
+use Rattle.markdown_plain.specs.Fits.{AreLinesFrom, HasContent, HasContentFrom, IsInLeaf, MayAddLine, MayAddLines}
+use Rattle.markdown_plain.specs.Fits.{MayOpenLeaf, MayStep, after_lines}
+use Rattle.markdown_plain.proofs.BegunLemmas.{left_from_is_of}
+use Rattle.markdown_plain.proofs.HtmlLeavesLemmas.{same_content}
+use Rattle.markdown_plain.proofs.OpenBlocksLemmas.{innermost_of_opened}
+use Rattle.markdown_plain.proofs.TextReachedLemmas.{space_within}
+
+-- ---- steps
+
+-- inside a block, a step needs no white space
+pub may_step : (view : BuilderView) (to : ℕ) → view.at ≤ to → IsCharBoundary view.text to
+    → (view.blocks ≡ [] → ⊥) → MayStep view to
+may_step view to low boundary some =
+    record { ahead = (low, boundary); white = λ none. absurd (some none) }
+
+-- a step that fits leads there
+pub step_done : (old new : Placing) (to : ℕ) → IfFitted old new (new.builder ≡ stepped old.builder to)
+    → (IsAhead old.builder to → IsWhiteOutside old.builder to → new.misfits ≡ old.misfits)
+    → MayStep old.builder to → AllFitted old → AllFitted new × (new.builder ≡ stepped old.builder to)
+step_done old new to steps fits may fitted =
+    let now : AllFitted new = fits may.ahead may.white ∙ fitted in (now, (steps now).1)
+
+-- a block is open after one was opened
+pub some_opened : (blocks outer : List OpenBlock) (block : OpenBlock) → blocks ≡ outer ++ block ∷ []
+    → blocks ≡ [] → ⊥
+some_opened blocks [] block is none = cc
+some_opened blocks (first ∷ outer) block is none = cc
+
+-- ---- leaves
+
+-- no leaf is a row
+leaf_is_no_row : (b : ItemBody) → is_leaf b ≡ true → is_table_row b ≡ false
+leaf_is_no_row body.TableHead leaf = absurd (true≢false (sym leaf))
+leaf_is_no_row body.TableRow leaf = absurd (true≢false (sym leaf))
+leaf_is_no_row other leaf = refl
+
+-- a builder whose innermost open block is a leaf is in that leaf
+pub in_leaf : (view : BuilderView) (outer : List OpenBlock) (block : OpenBlock) → view.blocks ≡ outer ++ block ∷ []
+    → view.leaf ≡ true → is_leaf block.body ≡ true → IsInLeaf view
+in_leaf view outer block blocks leaf is = record {
+  leaf = leaf;
+  some = some_opened view.blocks outer block blocks;
+  plain = ap is_in_row blocks
+      ∙ (ap (λ o. option_map_or (λ (b : OpenBlock). is_table_row b.body) o false) (innermost_of_opened outer block)
+      ∙ leaf_is_no_row block.body is);
+}
+
+-- it is in the leaf that was opened
+pub opened_in_leaf : (old now : BuilderView) (b : ItemBody) → Opens old now b → is_leaf b ≡ true → IsInLeaf now
+opened_in_leaf old now b opens leaf =
+    in_leaf now old.blocks (record { start = old.at; body = b }) (ap (λ (v : BuilderView). v.blocks) opens)
+        (ap (λ (v : BuilderView). v.leaf) opens ∙ leaf) leaf
+
+-- it stays there while more is appended
+pub stays_in_leaf : (old new : BuilderView) (to : ℕ) → GoesOn old new to → IsInLeaf old → IsInLeaf new
+stays_in_leaf old new to goes inside =
+    subst IsInLeaf (sym goes) (record { leaf = inside.leaf; some = inside.some; plain = inside.plain })
+
+-- a line fits that goes on from there
+pub goes_on_fits : (old new : BuilderView) (at from to : ℕ) → GoesOn old new at → IsInLeaf old → at ≤ from
+    → IsCharBoundary old.text from → IsCharBoundary old.text to → MayAddLine new from to
+goes_on_fits old new at from to goes inside low boundary next =
+    let text = ap (λ (v : BuilderView). v.text) goes in
+    let here = ap (λ (v : BuilderView). v.at) goes in
+    record {
+      inside = stays_in_leaf old new at goes inside;
+      ahead = (omega (arith, here, low), subst (λ t. IsCharBoundary t from) (sym text) boundary);
+      next = subst (λ t. IsCharBoundary t to) (sym text) next;
+    }
+
+-- ---- lines of code
+
+-- a line of this number comes after those before it
+pub record ComesNext (text : List ℕ) (from : ℕ) (lines : List HeldLine) (number : ℕ) (line : HeldLine) : Type 0 where
+  pub low : after_lines from (take number lines) ≤ line.start
+  pub boundary : IsCharBoundary text line.start
+  pub next : IsCharBoundary text line.next
+
+pub comes_next : (text : List ℕ) (from : ℕ) (lines : List HeldLine) (number : ℕ) (line : HeldLine)
+    → AreLinesFrom text from lines → slice_get lines number ≡ Some line → ComesNext text from lines number line
+comes_next text from [] number line are e = absurd (grind (arith, e))
+comes_next text from (first ∷ lines) zero line are e =
+    subst (λ (l : HeldLine). ComesNext text from (first ∷ lines) zero l) (same_Some first line e)
+    (record { low = are.0; boundary = are.1; next = are.2 })
+comes_next text from (first ∷ lines) (suc number) line are e =
+    let rest = comes_next text (after_line first.start first.next) lines number line are.3 e in
+    record { low = rest.low; boundary = rest.boundary; next = rest.next }
+
+-- after a line of this number, the place is where it ends
+after_next : (from : ℕ) (lines : List HeldLine) (number : ℕ) (line : HeldLine) → slice_get lines number ≡ Some line
+    → after_lines from (take (suc number) lines) ≡ after_line line.start line.next
+after_next from [] number line e = absurd (grind (arith, e))
+after_next from (first ∷ lines) zero line e =
+    ap (λ (l : HeldLine). after_line l.start l.next) (same_Some first line e)
+after_next from (first ∷ lines) (suc number) line e =
+    after_next (after_line first.start first.next) lines number line e
+
+pub after_one_more : (from : ℕ) (lines : List HeldLine) (number : ℕ) (line : HeldLine)
+    → slice_get lines number ≡ Some line
+    → after_lines from (take (number + 1) lines) ≡ after_line line.start line.next
+after_one_more from lines number line e =
+    let one : number + 1 ≡ suc number = omega arith in
+    ap (λ n. after_lines from (take n lines)) one ∙ after_next from lines number line e
+
+-- ---- content and space
+
+-- there is one next content byte
+pub record FindsContent (to : ℕ) (found : Option ℕ) : Type 0 where
+  pub content : ℕ
+  pub is : found ≡ Some content
+  pub within : content ≤ to
+
+pub finds_content : (text : List ℕ) (from to : ℕ) (found : Option ℕ) → IsNextContent text from found
+    → HasContentFrom text from to → FindsContent to found
+finds_content text from to None next has =
+    absurd (true≢false (sym (next has.content has.next.1.low has.next.0) ∙ has.next.1.stops has.next.0))
+finds_content text from to (Some found) next has =
+    let same = same_content text from found has.content next has.next in
+    let within = has.within in
+    record { content = found; is = refl; within = omega (arith, same, within) }
+
+-- white space that is read ends between characters, if it begins there
+pub space_ahead : (text : List ℕ) (position : Position) (stop most : ℕ) (read : Space) → IsUtf8 text
+    → IsSpaceAt text position stop most read → IsCharBoundary text position.at
+    → IsCharBoundary text read.after.at × (position.at ≤ read.after.at)
+space_ahead text position stop most read utf8 is boundary =
+    let within = space_within text position.at utf8 most (left_from text position stop)
+    (record { own = left_from_is_of text position stop _ refl; boundary = boundary; low = omega arith }) in
+    let same : (leading_space most (left_from text position stop)).after.scanned ≡ read.after.at =
+    ap (λ (left : LineLeft). left.scanned) (sym is.after) in (
+      subst (IsCharBoundary text) same within.boundary,
+      subst (λ n. position.at ≤ n) same within.low,
+    )
