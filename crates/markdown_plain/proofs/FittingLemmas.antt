@@ -22,6 +22,7 @@ use Rattle.markdown_plain.specs.CodeLines.{after_line}
 use Rattle.markdown_plain.specs.Fitting.{AllFitted, BeginsAtContent, GoesOn, IfFitted, IsAhead, IsWhiteOutside, stepped}
 use Rattle.markdown_plain.specs.Fits.{AreLinesFrom, HasContent, HasContentFrom, IsInLeaf, MayAddLine, MayAddLines}
 use Rattle.markdown_plain.specs.Fits.{MayOpenLeaf, MayStep, after_lines}
+use Rattle.markdown_plain.specs.OpenBlocks.{outer_of}
 use Rattle.markdown_plain.proofs.BegunLemmas.{left_from_is_of}
 use Rattle.markdown_plain.proofs.HtmlLeavesLemmas.{same_content}
 use Rattle.markdown_plain.proofs.OpenBlocksLemmas.{innermost_of_opened}
@@ -56,38 +57,142 @@ leaf_is_no_row body.TableHead leaf = absurd (true≢false (sym leaf))
 leaf_is_no_row body.TableRow leaf = absurd (true≢false (sym leaf))
 leaf_is_no_row other leaf = refl
 
+-- it is the innermost block of the builder that decides whether a row is open
+row_of : (outer : List OpenBlock) (block : OpenBlock) → is_in_row (outer ++ block ∷ []) ≡ is_table_row block.body
+row_of outer block =
+    ap (λ o. option_map_or (λ (b : OpenBlock). is_table_row b.body) o false) (innermost_of_opened outer block)
+
 -- a builder whose innermost open block is a leaf is in that leaf
 pub in_leaf : (view : BuilderView) (outer : List OpenBlock) (block : OpenBlock) → view.blocks ≡ outer ++ block ∷ []
     → view.leaf ≡ true → is_leaf block.body ≡ true → IsInLeaf view
 in_leaf view outer block blocks leaf is = record {
   leaf = leaf;
   some = some_opened view.blocks outer block blocks;
-  plain = ap is_in_row blocks
-      ∙ (ap (λ o. option_map_or (λ (b : OpenBlock). is_table_row b.body) o false) (innermost_of_opened outer block)
-      ∙ leaf_is_no_row block.body is);
+  plain = ap is_in_row blocks ∙ (row_of outer block ∙ leaf_is_no_row block.body is);
 }
-
--- it is in the leaf that was opened
-pub opened_in_leaf : (old now : BuilderView) (b : ItemBody) → Opens old now b → is_leaf b ≡ true → IsInLeaf now
-opened_in_leaf old now b opens leaf =
-    in_leaf now old.blocks (record { start = old.at; body = b }) (ap (λ (v : BuilderView). v.blocks) opens)
-        (ap (λ (v : BuilderView). v.leaf) opens ∙ leaf) leaf
 
 -- it stays there while more is appended
 pub stays_in_leaf : (old new : BuilderView) (to : ℕ) → GoesOn old new to → IsInLeaf old → IsInLeaf new
 stays_in_leaf old new to goes inside =
     subst IsInLeaf (sym goes) (record { leaf = inside.leaf; some = inside.some; plain = inside.plain })
 
+-- a builder is in a leaf, at a byte offset of a text
+pub record IsInLeafAt (text : List ℕ) (at : ℕ) (view : BuilderView) : Type 0 where
+  pub inside : IsInLeaf view
+  pub same : view.text ≡ text
+  pub here : view.at ≡ at
+
+-- it is in the leaf that was opened
+pub opened_at : (old now : BuilderView) (b : ItemBody) → Opens old now b → is_leaf b ≡ true
+    → IsInLeafAt old.text old.at now
+opened_at old now b opens leaf = record {
+  inside =
+      in_leaf now old.blocks (record { start = old.at; body = b }) (ap (λ (v : BuilderView). v.blocks) opens)
+          (ap (λ (v : BuilderView). v.leaf) opens ∙ leaf) leaf;
+  same = ap (λ (v : BuilderView). v.text) opens;
+  here = ap (λ (v : BuilderView). v.at) opens;
+}
+
+-- more is appended to the leaf
+pub goes_at : (text : List ℕ) (at to : ℕ) (old new : BuilderView) → GoesOn old new to → IsInLeafAt text at old
+    → IsInLeafAt text to new
+goes_at text at to old new goes is = record {
+  inside = stays_in_leaf old new to goes is.inside;
+  same = ap (λ (v : BuilderView). v.text) goes ∙ is.same;
+  here = ap (λ (v : BuilderView). v.at) goes;
+}
+
+-- a step in the leaf fits
+pub stepped_at : (text : List ℕ) (at to : ℕ) (old new : Placing)
+    → IfFitted old new (new.builder ≡ stepped old.builder to)
+    → (IsAhead old.builder to → IsWhiteOutside old.builder to → new.misfits ≡ old.misfits)
+    → IsInLeafAt text at old.builder → at ≤ to → IsCharBoundary text to → AllFitted old
+    → AllFitted new × IsInLeafAt text to new.builder
+stepped_at text at to old new steps fits is low boundary fitted =
+    let here = is.here in
+    let may = may_step old.builder to (omega (arith, here, low)) (subst (λ t. IsCharBoundary t to) (sym is.same) boundary)
+    is.inside.some in
+    let done = step_done old new to steps fits may fitted in (
+      done.0,
+      subst (IsInLeafAt text to) (sym done.1) (record {
+        inside = record { leaf = is.inside.leaf; some = is.inside.some; plain = is.inside.plain };
+        same = is.same;
+        here = refl;
+      }),
+    )
+
+-- a line fits into the leaf
+pub line_at : (text : List ℕ) (at from to : ℕ) (view : BuilderView) → IsInLeafAt text at view → at ≤ from
+    → IsCharBoundary text from → IsCharBoundary text to → MayAddLine view from to
+line_at text at from to view is low boundary next =
+    let here = is.here in
+    record {
+      inside = is.inside;
+      ahead = (omega (arith, here, low), subst (λ t. IsCharBoundary t from) (sym is.same) boundary);
+      next = subst (λ t. IsCharBoundary t to) (sym is.same) next;
+    }
+
 -- a line fits that goes on from there
 pub goes_on_fits : (old new : BuilderView) (at from to : ℕ) → GoesOn old new at → IsInLeaf old → at ≤ from
     → IsCharBoundary old.text from → IsCharBoundary old.text to → MayAddLine new from to
 goes_on_fits old new at from to goes inside low boundary next =
-    let text = ap (λ (v : BuilderView). v.text) goes in
-    let here = ap (λ (v : BuilderView). v.at) goes in
+    line_at old.text at from to new
+        (goes_at old.text old.at at old new goes (record { inside = inside; same = refl; here = refl })) low boundary
+        next
+
+-- a leaf that begins after a step is opened there
+pub leaf_opened : (old mid now : Placing) (b : ItemBody) (from to : ℕ) → is_leaf b ≡ true
+    → IfFitted old mid (mid.builder ≡ stepped old.builder from)
+    → (IsAhead old.builder from → IsWhiteOutside old.builder from → mid.misfits ≡ old.misfits)
+    → IfFitted mid now (Opens mid.builder now.builder b) → (mid.builder.leaf ≡ false → now.misfits ≡ mid.misfits)
+    → MayOpenLeaf old.builder from to → AllFitted old
+    → AllFitted now × IsInLeafAt old.builder.text from now.builder
+leaf_opened old mid now b from to leaf steps step_fits opens open_fits may fitted =
+    let done = step_done old mid from steps step_fits may.begins fitted in
+    let all : AllFitted now = open_fits (ap (λ (v : BuilderView). v.leaf) done.1 ∙ may.outside) ∙ done.0 in
+    let is = opened_at mid.builder now.builder b (opens all).1 leaf in (
+      all,
+      record {
+        inside = is.inside;
+        same = is.same ∙ ap (λ (v : BuilderView). v.text) done.1;
+        here = is.here ∙ ap (λ (v : BuilderView). v.at) done.1;
+      },
+    )
+
+-- the leaf has content, where its first line has
+pub has_content : (old now filled : BuilderView) (b : ItemBody) (at to : ℕ) → Opens (stepped old at) now b
+    → GoesOn now filled (after_line at to) → IsCharBoundary old.text at → HasContentFrom old.text at to
+    → HasContent filled
+has_content old now filled b at to opens goes boundary has =
+    let text : filled.text ≡ old.text =
+    ap (λ (v : BuilderView). v.text) goes ∙ ap (λ (v : BuilderView). v.text) opens in
+    let blocks : filled.blocks ≡ old.blocks ++ record { start = at; body = b } ∷ [] =
+    ap (λ (v : BuilderView). v.blocks) goes ∙ ap (λ (v : BuilderView). v.blocks) opens in
+    let here : filled.at ≡ max at to = ap (λ (v : BuilderView). v.at) goes in
+    let within = has.within in
     record {
-      inside = stays_in_leaf old new at goes inside;
-      ahead = (omega (arith, here, low), subst (λ t. IsCharBoundary t from) (sym text) boundary);
-      next = subst (λ t. IsCharBoundary t to) (sym text) next;
+      block = record { start = at; body = b };
+      innermost = ap innermost_block blocks ∙ innermost_of_opened old.blocks (record { start = at; body = b });
+      boundary = subst (λ t. IsCharBoundary t at) (sym text) boundary;
+      content = record {
+        content = has.content;
+        next = subst (λ t. IsNextContent t at (Some has.content)) (sym text) has.next;
+        within = omega (arith, here, within);
+      };
+    }
+
+-- a leaf that begins later is still that leaf
+pub begun_in_leaf : (old new : BuilderView) → BeginsAtContent old new → new ≡ record old { blocks = new.blocks }
+    → IsInLeaf old → IsInLeaf new
+begun_in_leaf old new begins same inside =
+    let block = begins.blocks.block in
+    let outer = outer_of old.blocks in
+    record {
+      leaf = ap (λ (v : BuilderView). v.leaf) same ∙ inside.leaf;
+      some = some_opened new.blocks outer (record block { start = begins.start }) begins.blocks.becomes;
+      plain = ap is_in_row begins.blocks.becomes
+          ∙ (row_of outer (record block { start = begins.start })
+          ∙ (sym (ap is_in_row begins.blocks.was ∙ row_of outer block) ∙ inside.plain));
     }
 
 -- ---- lines of code
