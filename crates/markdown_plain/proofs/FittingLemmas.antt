@@ -1,14 +1,15 @@
 -- Calls that fit: where a builder is after one of them, the next fits.
 use Rattle.std.proofs.Common.{◌≡◌, ℕ, zero, suc, ◌+◌, ◌<◌, ◌≤◌, Bool, true, false, max, List, [], ◌∷◌, ◌++◌, Option}
-use Rattle.std.proofs.Common.{Some, None, take, refl, sym, ap, ◌∙◌, subst, arith, true≢false}
+use Rattle.std.proofs.Common.{Some, None, length, take, refl, sym, ap, ◌∙◌, subst, arith, true≢false}
 use Rattle.std.specs.Prelude.{slice_get, slice_range}
 use Rattle.std.specs.Option.{option_map_or}
 use Rattle.std.specs.Str.{IsCharBoundary, IsUtf8}
 use Rattle.std.proofs.lemmas.Option.{same_Some}
+use Rattle.markdown_base.specs.declared.index.CowIndex.{CowIndex}
 use Rattle.markdown_base.specs.declared.item.ItemBody.{ItemBody}
 use Rattle.markdown_base.specs.declared.item.ItemBody.TheVariants as body
 use Rattle.markdown_builder.specs.Bodies.{is_leaf}
-use Rattle.markdown_builder.specs.BuilderView.{BuilderView, Opens, innermost_block}
+use Rattle.markdown_builder.specs.BuilderView.{BuilderView, Opens, OpensNaming, innermost_block}
 use Rattle.markdown_builder.specs.EvenRows.{is_in_row, is_table_row}
 use Rattle.markdown_builder.specs.declared.open_block.OpenBlock.{OpenBlock}
 use Rattle.markdown_scan.specs.LineStart.{LineLeft, leading_space}
@@ -156,6 +157,30 @@ leaf_opened old mid now b from to leaf steps step_fits opens open_fits may fitte
         inside = is.inside;
         same = is.same ∙ ap (λ (v : BuilderView). v.text) done.1;
         here = is.here ∙ ap (λ (v : BuilderView). v.at) done.1;
+      },
+    )
+
+-- so is one that refers to a text
+pub named_opened : (old mid now : Placing) (b : CowIndex → ItemBody) (name : List ℕ) (from to : ℕ)
+    → ((ix : CowIndex) → is_leaf (b ix) ≡ true)
+    → IfFitted old mid (mid.builder ≡ stepped old.builder from)
+    → (IsAhead old.builder from → IsWhiteOutside old.builder from → mid.misfits ≡ old.misfits)
+    → IfFitted mid now (OpensNaming mid.builder now.builder b name)
+    → (mid.builder.leaf ≡ false → now.misfits ≡ mid.misfits) → MayOpenLeaf old.builder from to → AllFitted old
+    → AllFitted now × IsInLeafAt old.builder.text from now.builder
+named_opened old mid now b name from to leaf steps step_fits opens open_fits may fitted =
+    let done = step_done old mid from steps step_fits may.begins fitted in
+    let all : AllFitted now = open_fits (ap (λ (v : BuilderView). v.leaf) done.1 ∙ may.outside) ∙ done.0 in
+    let is = (opens all).1 in
+    let block : OpenBlock =
+    record { start = mid.builder.at; body = b (record { 0 = length mid.builder.texts }) } in (
+      all,
+      record {
+        inside = in_leaf now.builder mid.builder.blocks block (ap (λ (v : BuilderView). v.blocks) is)
+            (ap (λ (v : BuilderView). v.leaf) is ∙ leaf (record { 0 = length mid.builder.texts }))
+            (leaf (record { 0 = length mid.builder.texts }));
+        same = ap (λ (v : BuilderView). v.text) is ∙ ap (λ (v : BuilderView). v.text) done.1;
+        here = ap (λ (v : BuilderView). v.at) is ∙ ap (λ (v : BuilderView). v.at) done.1;
       },
     )
 

@@ -282,6 +282,7 @@ impl<'a> Placing<'a> {
             IfSome (innermost_block self.now.builder.blocks) (λ block.
             IsNextContent self.now.builder.text block.start (Some content))) }
         ensures open { IfSome result (λ _. self.now.builder.blocks ≡ [] → ⊥) }
+        ensures nothing { result ≡ None → HasContent self.now.builder → ⊥ }
     {
         let text = self.builder.text();
         let start = self.builder.open_blocks().last()?.start;
