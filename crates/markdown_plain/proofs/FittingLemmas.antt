@@ -1,7 +1,7 @@
 -- Calls that fit: where a builder is after one of them, the next fits.
-use Rattle.std.proofs.Common.{◌≡◌, ℕ, zero, suc, ◌+◌, ◌<◌, ◌≤◌, Bool, true, false, max, List, [], ◌∷◌, ◌++◌, Option}
+use Rattle.std.proofs.Common.{◌≡◌, ℕ, zero, suc, ◌+◌, ◌≤◌, true, false, max, List, [], ◌∷◌, ◌++◌, Option}
 use Rattle.std.proofs.Common.{Some, None, length, take, refl, sym, ap, ◌∙◌, subst, arith, true≢false}
-use Rattle.std.specs.Prelude.{slice_get, slice_range}
+use Rattle.std.specs.Prelude.{slice_get}
 use Rattle.std.specs.Option.{option_map_or}
 use Rattle.std.specs.Str.{IsCharBoundary, IsUtf8}
 use Rattle.std.proofs.lemmas.Option.{same_Some}
@@ -21,7 +21,7 @@ use Rattle.markdown_lines.specs.Positions.{IsSpaceAt, left_from}
 use Rattle.markdown_plain.specs.declared.placing.Placing.{Placing}
 use Rattle.markdown_plain.specs.CodeLines.{after_line}
 use Rattle.markdown_plain.specs.Fitting.{AllFitted, BeginsAtContent, GoesOn, IfFitted, IsAhead, IsWhiteOutside, stepped}
-use Rattle.markdown_plain.specs.Fits.{AreLinesFrom, HasContent, HasContentFrom, IsInLeaf, MayAddLine, MayAddLines}
+use Rattle.markdown_plain.specs.Fits.{AreLinesFrom, HasContent, HasContentFrom, IsInLeaf, MayAddLine}
 use Rattle.markdown_plain.specs.Fits.{MayOpenLeaf, MayStep, after_lines}
 use Rattle.markdown_plain.specs.OpenBlocks.{outer_of}
 use Rattle.markdown_plain.proofs.BegunLemmas.{left_from_is_of}
@@ -89,7 +89,7 @@ pub opened_at : (old now : BuilderView) (b : ItemBody) → Opens old now b → i
 opened_at old now b opens leaf = record {
   inside =
       in_leaf now old.blocks (record { start = old.at; body = b }) (ap (λ (v : BuilderView). v.blocks) opens)
-          (ap (λ (v : BuilderView). v.leaf) opens ∙ leaf) leaf;
+      (ap (λ (v : BuilderView). v.leaf) opens ∙ leaf) leaf;
   same = ap (λ (v : BuilderView). v.text) opens;
   here = ap (λ (v : BuilderView). v.at) opens;
 }
@@ -138,8 +138,8 @@ pub goes_on_fits : (old new : BuilderView) (at from to : ℕ) → GoesOn old new
     → IsCharBoundary old.text from → IsCharBoundary old.text to → MayAddLine new from to
 goes_on_fits old new at from to goes inside low boundary next =
     line_at old.text at from to new
-        (goes_at old.text old.at at old new goes (record { inside = inside; same = refl; here = refl })) low boundary
-        next
+    (goes_at old.text old.at at old new goes (record { inside = inside; same = refl; here = refl })) low boundary
+    next
 
 -- a leaf that begins after a step is opened there
 pub leaf_opened : (old mid now : Placing) (b : ItemBody) (from to : ℕ) → is_leaf b ≡ true
@@ -254,22 +254,7 @@ after_one_more from lines number line e =
     let one : number + 1 ≡ suc number = omega arith in
     ap (λ n. after_lines from (take n lines)) one ∙ after_next from lines number line e
 
--- ---- content and space
-
--- there is one next content byte
-pub record FindsContent (to : ℕ) (found : Option ℕ) : Type 0 where
-  pub content : ℕ
-  pub is : found ≡ Some content
-  pub within : content ≤ to
-
-pub finds_content : (text : List ℕ) (from to : ℕ) (found : Option ℕ) → IsNextContent text from found
-    → HasContentFrom text from to → FindsContent to found
-finds_content text from to None next has =
-    absurd (true≢false (sym (next has.content has.next.1.low has.next.0) ∙ has.next.1.stops has.next.0))
-finds_content text from to (Some found) next has =
-    let same = same_content text from found has.content next has.next in
-    let within = has.within in
-    record { content = found; is = refl; within = omega (arith, same, within) }
+-- ---- space
 
 -- white space that is read ends between characters, if it begins there
 pub space_ahead : (text : List ℕ) (position : Position) (stop most : ℕ) (read : Space) → IsUtf8 text
