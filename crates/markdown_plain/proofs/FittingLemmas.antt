@@ -1,6 +1,6 @@
 -- Calls that fit: where a builder is after one of them, the next fits.
-use Rattle.std.proofs.Common.{◌≡◌, ℕ, zero, suc, ◌+◌, ◌≤◌, true, false, max, List, [], ◌∷◌, ◌++◌, Option}
-use Rattle.std.proofs.Common.{Some, None, length, take, refl, sym, ap, ◌∙◌, subst, arith, true≢false}
+use Rattle.std.proofs.Common.{◌≡◌, ℕ, zero, suc, ◌+◌, ◌-◌, ◌≤◌, Bool, true, false, max, List, [], ◌∷◌, ◌++◌}
+use Rattle.std.proofs.Common.{Option, Some, None, length, drop, take, refl, sym, ap, ◌∙◌, subst, arith, true≢false}
 use Rattle.std.specs.Prelude.{slice_get}
 use Rattle.std.specs.Option.{option_map_or}
 use Rattle.std.specs.Str.{IsCharBoundary, IsUtf8}
@@ -22,7 +22,26 @@ use Rattle.markdown_plain.specs.declared.placing.Placing.{Placing}
 use Rattle.markdown_plain.specs.CodeLines.{after_line}
 use Rattle.markdown_plain.specs.Fitting.{AllFitted, BeginsAtContent, GoesOn, IfFitted, IsAhead, IsWhiteOutside, stepped}
 use Rattle.markdown_plain.specs.Fits.{AreLinesFrom, HasContent, HasContentFrom, IsInLeaf, MayAddLine}
-use Rattle.markdown_plain.specs.Fits.{MayOpenLeaf, MayStep, after_lines}
+use Rattle.markdown_plain.specs.Fits.{MayAddAfter, MayAddBefore, MayOpenLeaf, MayStep, after_lines}
+use Rattle.markdown_base.specs.Forest.{Forest, nil, node}
+use Rattle.markdown_base.specs.declared.tag.HeadingLevel.{HeadingLevel}
+use Rattle.markdown_builder.specs.Shown.{Shown, chain_of, unnumbered}
+use Rattle.markdown_builder.specs.TreeLevels.{followed_by}
+use Rattle.markdown_items.specs.ContentItems.{content_items}
+use Rattle.markdown_items.specs.LineItems.{item_extensions}
+use Rattle.markdown_lines.specs.BlockBeginnings.{Source}
+use Rattle.markdown_lines.specs.SourceLines.{SourceLine}
+use Rattle.markdown_lines.specs.declared.braces.Braces.{Braces}
+use Rattle.markdown_block_rules.specs.BlockGrowth as was
+use Rattle.markdown_block_rules.specs.BlockGrowth.{Block, Kind}
+use Rattle.markdown_block_rules.specs.BlockRules.{Around, block_end, in_no_item, last_end, shown_block, shown_blocks}
+use Rattle.markdown_block_rules.specs.BlockRules.{shown_heading}
+use Rattle.markdown_plain.specs.Frames.{Frame}
+use Rattle.markdown_plain.specs.OpenLeaves.{IsOpenIn, leaf_block}
+use Rattle.markdown_plain.specs.OpenLeaves.{is_leaf as is_leaf_kind}
+use Rattle.markdown_plain.specs.OpenedFrames.{around_innermost}
+use Rattle.markdown_plain.proofs.LinedLeavesLemmas.{cut_within}
+use Rattle.std.proofs.lemmas.List.{length-take}
 use Rattle.markdown_plain.specs.OpenBlocks.{outer_of}
 use Rattle.markdown_plain.proofs.BegunLemmas.{left_from_is_of}
 use Rattle.markdown_plain.proofs.HtmlLeavesLemmas.{same_content}
@@ -254,6 +273,37 @@ after_one_more from lines number line e =
     let one : number + 1 ≡ suc number = omega arith in
     ap (λ n. after_lines from (take n lines)) one ∙ after_next from lines number line e
 
+-- a line more fits after these
+pub lines_more : (text : List ℕ) (from : ℕ) (lines : List HeldLine) (line : HeldLine) → AreLinesFrom text from lines
+    → after_lines from lines ≤ line.start → IsCharBoundary text line.start → IsCharBoundary text line.next
+    → AreLinesFrom text from (lines ++ line ∷ [])
+lines_more text from [] line are low boundary next = (low, boundary, next, tt)
+lines_more text from (first ∷ lines) line are low boundary next = (
+  are.0,
+  are.1,
+  are.2,
+  lines_more text (after_line first.start first.next) lines line are.3 low boundary next,
+)
+
+after_more : (from : ℕ) (lines : List HeldLine) (line : HeldLine)
+    → after_lines from (lines ++ line ∷ []) ≡ after_line line.start line.next
+after_more from [] line = refl
+after_more from (first ∷ lines) line = after_more (after_line first.start first.next) lines line
+
+-- such a line may be held back too
+pub held_fits : (view : BuilderView) (lines : List HeldLine) (line : HeldLine)
+    → MayAddAfter view lines line.start line.next → line.start ≤ line.next
+    → MayAddBefore view (lines ++ line ∷ []) line.next
+held_fits view lines line may ordered =
+    let end = after_more view.at lines line in
+    record {
+      may = record {
+        inside = may.before.may.inside;
+        are = lines_more view.text view.at lines line may.before.may.are may.before.low may.boundary may.next;
+      };
+      low = omega (arith, end, ordered);
+    }
+
 -- ---- space
 
 -- white space that is read ends between characters, if it begins there
@@ -268,3 +318,80 @@ space_ahead text position stop most read utf8 is boundary =
       subst (IsCharBoundary text) same within.boundary,
       subst (λ n. position.at ≤ n) same within.low,
     )
+
+-- it ends in its line
+pub space_stops : (text : List ℕ) (position : Position) (stop most : ℕ) (read : Space)
+    → IsSpaceAt text position stop most read → position.at ≤ stop → read.after.at ≤ stop
+space_stops text position stop most read is within =
+    let l : SourceLine = record {
+      left = left_from text position stop;
+      next = stop;
+      outermost = true;
+      indent = None;
+    } in
+    let after = cut_within most l in
+    let same : read.after.at ≡ (leading_space most (left_from text position stop)).after.scanned =
+    ap (λ (left : LineLeft). left.scanned) is.after in
+    let size = length-take (stop - position.at) (drop position.at text) in
+    omega (arith, after, same, size, within)
+
+-- ---- leaves that are open
+
+-- the first of some trees is a row
+first_is_row : Forest Shown → Bool
+first_is_row nil = false
+first_is_row (node a below after) = is_table_row a.item.body
+
+heading_is_no_row : (s : Source) (start end : ℕ) (level : HeadingLevel) (braces : Option Braces)
+    (below : Forest Shown) → first_is_row (shown_heading s start end level braces below) ≡ false
+unfolding first_is_row
+heading_is_no_row s start end level None below = refl
+heading_is_no_row s start end level (Some braces) below = refl
+
+-- no leaf is shown as a row
+block_is_no_row : (s : Source) (around : Around) (b : Block) (end : ℕ) (below : Forest Block)
+    (inside : Around → Forest Shown) (kind : Kind) → is_leaf_kind kind ≡ true
+    → first_is_row (shown_block s around b end below inside kind) ≡ false
+unfolding first_is_row
+block_is_no_row s around b end below inside (was.heading_leaf found) leaf =
+    heading_is_no_row s b.start end found.level found.braces
+    (chain_of (content_items s.text (item_extensions s.options) found.from found.to))
+block_is_no_row s around b end below inside was.break_leaf leaf = refl
+block_is_no_row s around b end below inside (was.indented_leaf lines) leaf = refl
+block_is_no_row s around b end below inside (was.fenced_leaf opening closed lines) leaf = refl
+block_is_no_row s around b end below inside (was.html_leaf kind closed lines) leaf = refl
+block_is_no_row s around b end below inside (was.metadata_leaf kind closed lines) leaf = refl
+block_is_no_row s around b end below inside (was.table_leaf ended head alignments rows) leaf = refl
+block_is_no_row s around b end below inside other leaf = absurd (true≢false (sym leaf))
+
+before_nothing : (trees : Forest Shown) → first_is_row (followed_by trees nil) ≡ first_is_row trees
+unfolding first_is_row
+before_nothing nil = refl
+before_nothing (node a below after) = refl
+
+blocks_are_no_row : (s : Source) (around : Around) (b : Block) → is_leaf_kind b.kind ≡ true
+    → first_is_row (shown_blocks s around (leaf_block b)) ≡ false
+unfolding shown_blocks
+blocks_are_no_row s around b leaf =
+    before_nothing (shown_block s around b (block_end b (last_end b.first nil) b.kind) nil
+    (λ inside. shown_blocks s inside nil) b.kind)
+    ∙ block_is_no_row s around b (block_end b (last_end b.first nil) b.kind) nil
+    (λ inside. shown_blocks s inside nil) b.kind leaf
+
+same_row : (b : ItemBody) → is_table_row (unnumbered b) ≡ is_table_row b
+same_row (body.Heading level None) = refl
+same_row (body.Heading level (Some ix)) = refl
+same_row other = refl
+
+-- where a leaf is open in the innermost container, items fit
+pub open_in_leaf : (s : Source) (view : BuilderView) (frames : List Frame) (inside : Forest Block) (b : Block)
+    → is_leaf_kind b.kind ≡ true → IsOpenIn s view frames inside true b → IsInLeaf view
+unfolding first_is_row
+open_in_leaf s view frames inside b leaf is = record {
+  leaf = is.leaf;
+  some = some_opened view.blocks is.outer is.block is.blocks;
+  plain = ap is_in_row is.blocks
+      ∙ (row_of is.outer is.block
+      ∙ (sym (same_row is.block.body)
+      ∙ (ap first_is_row is.shown ∙ blocks_are_no_row s (around_innermost in_no_item frames) b leaf)));
+}

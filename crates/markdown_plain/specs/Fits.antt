@@ -46,10 +46,14 @@ pub record MayAddLines (builder : BuilderView) (lines : List HeldLine) : Type 0 
   pub inside : IsInLeaf builder
   pub are : AreLinesFrom builder.text builder.at lines
 
+-- lines fit into the open leaf, and end before a byte offset
+pub record MayAddBefore (builder : BuilderView) (lines : List HeldLine) (to : ℕ) : Type 0 where
+  pub may : MayAddLines builder lines
+  pub low : after_lines builder.at lines ≤ to
+
 -- a line from one byte offset up to another fits into the open leaf after these lines
 pub record MayAddAfter (builder : BuilderView) (lines : List HeldLine) (from to : ℕ) : Type 0 where
-  pub before : MayAddLines builder lines
-  pub low : after_lines builder.at lines ≤ from
+  pub before : MayAddBefore builder lines from
   pub boundary : IsCharBoundary builder.text from
   pub next : IsCharBoundary builder.text to
 

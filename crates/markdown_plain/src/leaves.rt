@@ -24,8 +24,8 @@ ghost use Rattle.markdown_block_rules.specs.LineContents.{source_line, source_li
 ghost use Rattle.markdown_plain.specs.CodeLines.{after_line, code_after, ends_html_at, held, is_closed_at, whole_of};
 ghost use Rattle.markdown_plain.specs.Fitting.{IfFitted, GoesOn, OpensFenced, OpensHeading, OpensHtml, closed, extended, opened};
 ghost use Rattle.markdown_plain.specs.Fitting.{AllFitted, BracesStand, IsAhead, OpensHeadingOf, PutsBlock, stepped};
-ghost use Rattle.markdown_plain.specs.Fits.{IsInLeaf, MayAddAfter, MayAddHeading, MayAddLine, MayAddLines, MayOpenHtml};
-ghost use Rattle.markdown_plain.specs.Fits.{MayOpenLeaf, after_lines};
+ghost use Rattle.markdown_plain.specs.Fits.{IsInLeaf, MayAddAfter, MayAddBefore, MayAddHeading, MayAddLine, MayAddLines};
+ghost use Rattle.markdown_plain.specs.Fits.{MayOpenHtml, MayOpenLeaf, after_lines};
 ghost use Rattle.markdown_plain.specs.Frames.{Frame};
 ghost use Rattle.markdown_plain.specs.HeldSources.{AreHeld, IsHeld, IsRest};
 ghost use Rattle.markdown_plain.specs.LeafTrees.{HasItems, HasMoreTexts, HasTrees, OpensWith};
@@ -619,6 +619,10 @@ impl<'a> Pass<'a> {
             → IsLeafIn s self.new.placing.builder frames inside
             (record b { last = source.next; kind = indented_leaf (lines ++ cut 4 source ∷ []) })
             false) }
+        ensures fits { IfOk result (λ _.
+            MayAddAfter self.old.placing.builder self.old.blanks.items position.at line.next
+            → position.at ≤ line.stop → line.stop ≤ line.next
+            → MayAddBefore self.old.placing.builder self.new.blanks.items line.next) }
         ensures same { self.new ≡ record self.old { blanks = self.new.blanks } }
     {
         let code = read_space(self.placing.text(), position, line.stop, 4).after;

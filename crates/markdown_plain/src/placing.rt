@@ -49,7 +49,7 @@ impl<'a> Placing<'a> {
     ghost use Rattle.markdown_base.specs.HeadingWords.{words_of};
     ghost use Rattle.markdown_items.specs.ContentItems.{content_items};
     ghost use Rattle.markdown_items.specs.LineItems.{item_extensions};
-    ghost use Rattle.markdown_lines.specs.Lines.{IsNextContent};
+    ghost use Rattle.markdown_lines.specs.Lines.{AllPass, IsNextContent, is_in_blank_line};
     ghost use Rattle.markdown_plain.specs.Fitting.{AllFitted, IfFitted, IsAhead, IsWhiteOutside};
     ghost use Rattle.markdown_plain.specs.Fitting.{BeginsAtContent, GoesOn, HasBody, PutsBlock, closed, defining, stepped};
     ghost use Rattle.markdown_plain.specs.Fits.{HasContent};
@@ -562,6 +562,10 @@ impl<'a> Placing<'a> {
         ensures read { IfOk result (λ _. self.new.builder.at ≡ length self.old.builder.text) }
         ensures fitted { IfOk result (λ _. IfFitted self.old self.new
             (self.new.builder ≡ stepped self.old.builder (length self.old.builder.text))) }
+        ensures fits { IfOk result (λ _.
+            AllPass is_in_blank_line self.old.builder.text self.old.builder.at
+            (length self.old.builder.text)
+            → self.new.misfits ≡ self.old.misfits) }
     {
         let text = self.builder.text();
         let end = text.as_bytes().len();
