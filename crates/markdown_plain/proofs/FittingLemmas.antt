@@ -44,7 +44,6 @@ use Rattle.markdown_plain.proofs.LinedLeavesLemmas.{cut_within}
 use Rattle.std.proofs.lemmas.List.{length-take}
 use Rattle.markdown_plain.specs.OpenBlocks.{outer_of}
 use Rattle.markdown_plain.proofs.BegunLemmas.{left_from_is_of}
-use Rattle.markdown_plain.proofs.HtmlLeavesLemmas.{same_content}
 use Rattle.markdown_plain.proofs.OpenBlocksLemmas.{innermost_of_opened}
 use Rattle.markdown_plain.proofs.TextReachedLemmas.{space_within}
 
@@ -130,8 +129,8 @@ pub stepped_at : (text : List ℕ) (at to : ℕ) (old new : Placing)
     → AllFitted new × IsInLeafAt text to new.builder
 stepped_at text at to old new steps fits is low boundary fitted =
     let here = is.here in
-    let may = may_step old.builder to (omega (arith, here, low)) (subst (λ t. IsCharBoundary t to) (sym is.same) boundary)
-    is.inside.some in
+    let may = may_step old.builder to (omega (arith, here, low))
+    (subst (λ t. IsCharBoundary t to) (sym is.same) boundary) is.inside.some in
     let done = step_done old new to steps fits may fitted in (
       done.0,
       subst (IsInLeafAt text to) (sym done.1) (record {

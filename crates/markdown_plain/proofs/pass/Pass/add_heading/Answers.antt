@@ -84,10 +84,11 @@ returns-clause-fits c = λ may fitted.
     c.step_to.ensures.fits there may.from.0 may.from.1 all in
     let to = line_at text c.args.heading.from c.args.heading.to c.args.heading.to c.step_to.new.self.builder first.1
     may.ordered may.to may.to in
-    let filled : AllFitted c.add_items.new.self = c.in_ok-add_items.ensures.fits first.1.inside.leaf to.ahead ∙ first.0 in
+    let filled : AllFitted c.add_items.new.self =
+    c.in_ok-add_items.ensures.fits first.1.inside.leaf to.ahead ∙ first.0 in
     let goes = c.in_ok-add_items.ensures.appends filled in
     let last = stepped_at text c.args.heading.to c.args.line.next c.add_items.new.self c.step_to-2.new.self
     c.step_to-2.ensures.steps c.step_to-2.ensures.fits
-    (goes_at text c.args.heading.from c.args.heading.to c.step_to.new.self.builder c.add_items.new.self.builder goes.1 first.1)
-    may.within may.next filled in
+    (goes_at text c.args.heading.from c.args.heading.to c.step_to.new.self.builder c.add_items.new.self.builder goes.1
+    first.1) may.within may.next filled in
     c.close.ensures.fits last.1.inside.some last.1.inside.plain ∙ last.0

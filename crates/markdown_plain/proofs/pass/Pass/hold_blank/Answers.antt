@@ -29,9 +29,10 @@ returns-clause-fits c = λ may within ends.
     let read = c.read_space.result in
     let line = rest_from c.args.line read.after in
     let pushed : c.push.new.self.items ≡ blanks ++ line ∷ [] = search rules in
-    let there = space_ahead c.text.result.now c.args.position c.args.line.stop 4 read c.text.utf8 c.read_space.ensures.value
-    (subst (λ t. IsCharBoundary t c.args.position.at) (sym c.text.ensures) may.boundary) in
-    let stops = space_stops c.text.result.now c.args.position c.args.line.stop 4 read c.read_space.ensures.value within in
+    let there = space_ahead c.text.result.now c.args.position c.args.line.stop 4 read c.text.utf8
+    c.read_space.ensures.value (subst (λ t. IsCharBoundary t c.args.position.at) (sym c.text.ensures) may.boundary) in
+    let stops = space_stops c.text.result.now c.args.position c.args.line.stop 4 read c.read_space.ensures.value
+    within in
     let low = may.before.low in
     let after = there.1 in
     let fits : MayAddAfter old blanks line.start line.next = record {

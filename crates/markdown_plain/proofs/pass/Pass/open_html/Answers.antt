@@ -132,7 +132,8 @@ returns-clause-fits c = λ may fitted.
     let opens = c.in_ok-open_block.ensures.opens goes.0 in
     let steps = c.step_to.ensures.steps opens.0 in
     let has = has_content old.builder now.builder filled.builder body.HtmlBlock at next
-    (subst (λ (v : BuilderView). Opens v now.builder body.HtmlBlock) steps.1 opens.1) goes.1 may.0.begins.ahead.1 may.1 in
+    (subst (λ (v : BuilderView). Opens v now.builder body.HtmlBlock) steps.1 opens.1) goes.1 may.0.begins.ahead.1
+    may.1 in
     let last : AllFitted begun = c.begin_at_content.ensures.fits has ∙ all in
     let begins = c.begin_at_content.ensures.begins last in
     c.end_html.ensures.fits (begun_in_leaf filled.builder begun.builder begins.1 c.begin_at_content.ensures.same

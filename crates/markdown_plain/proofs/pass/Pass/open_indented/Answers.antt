@@ -46,5 +46,5 @@ returns-clause-fits c =
     c.args.line.next refl c.step_to.ensures.steps c.step_to.ensures.fits c.in_ok-open_block.ensures.opens
     c.in_ok-open_block.ensures.fits may fitted in
     adds (subst (λ (l : HeldLine). MayAddLine c.open_block.new.self.builder l.start l.next) (sym c.rest_of.ensures)
-    (line_at old.builder.text c.args.position.at c.args.position.at c.args.line.next c.open_block.new.self.builder open_.1
-    (omega arith) may.begins.ahead.1 may.next)) open_.0) c.add_code.ensures.fits
+    (line_at old.builder.text c.args.position.at c.args.position.at c.args.line.next c.open_block.new.self.builder
+    open_.1 (omega arith) may.begins.ahead.1 may.next)) open_.0) c.add_code.ensures.fits
