@@ -65,6 +65,8 @@ pub mod BegunLeavesLemmas
 pub mod BegunTextsLemmas
 pub mod FoundBlocksLemmas
 pub mod InnerBeginningsLemmas
+-- on calls that fit
+pub mod FittingLemmas
 pub mod BegunMetadataLemmas
 pub mod UnderlinesLemmas
 pub mod RoomForBlocksLemmas

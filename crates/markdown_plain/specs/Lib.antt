@@ -3,6 +3,7 @@ pub mod OpenBlocks
 pub mod CodeLines
 pub mod HeldSources
 pub mod Fitting
+pub mod Fits
 pub mod LeafTrees
 pub mod TableRows
 -- what the pass keeps between lines

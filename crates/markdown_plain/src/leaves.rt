@@ -1,6 +1,6 @@
 //! Leaf blocks other than paragraphs (CommonMark 4.1 to 4.6): how they are opened, and how they continue. Functions
 //! that return a `Result` fail only where memory is refused.
-ghost use Rattle.std.specs.Prelude.{◌≡◌, ◌++◌, ◌∷◌, [], true, false, ℕ, List, Some, None, IfOk, slice_range};
+ghost use Rattle.std.specs.Prelude.{◌≡◌, ◌≤◌, ◌++◌, ◌∷◌, [], true, false, ℕ, List, Some, None, IfOk, slice_range};
 ghost use Rattle.markdown_base.specs.declared.item.ItemBody.TheVariants as body;
 ghost use Rattle.markdown_scan.specs.Entity.{entity_names};
 ghost use Rattle.markdown_scan.specs.Unescape.{unescaped};
@@ -23,7 +23,9 @@ ghost use Rattle.markdown_items.specs.LineItems.{item_extensions};
 ghost use Rattle.markdown_block_rules.specs.LineContents.{source_line, source_lines};
 ghost use Rattle.markdown_plain.specs.CodeLines.{after_line, code_after, ends_html_at, held, is_closed_at, whole_of};
 ghost use Rattle.markdown_plain.specs.Fitting.{IfFitted, GoesOn, OpensFenced, OpensHeading, OpensHtml, closed, extended, opened};
-ghost use Rattle.markdown_plain.specs.Fitting.{BracesStand, OpensHeadingOf, PutsBlock, stepped};
+ghost use Rattle.markdown_plain.specs.Fitting.{AllFitted, BracesStand, IsAhead, OpensHeadingOf, PutsBlock, stepped};
+ghost use Rattle.markdown_plain.specs.Fits.{IsInLeaf, MayAddAfter, MayAddBefore, MayAddHeading, MayAddLine, MayAddLines};
+ghost use Rattle.markdown_plain.specs.Fits.{MayOpenHtml, MayOpenLeaf, after_lines};
 ghost use Rattle.markdown_plain.specs.Frames.{Frame};
 ghost use Rattle.markdown_plain.specs.HeldSources.{AreHeld, IsHeld, IsRest};
 ghost use Rattle.markdown_plain.specs.LeafTrees.{HasItems, HasMoreTexts, HasTrees, OpensWith};
@@ -60,6 +62,8 @@ fn add_code(placing: &mut Placing<'_>, line: HeldLine) -> Result<(), AllocError>
     ensures items { IfOk result (λ _. (source : SourceLine) → IsHeld line source
         → IfFitted placing.old placing.new (HasItems placing.old.builder placing.new.builder
         (source_line (body.Text false) source))) }
+    ensures fits { IfOk result (λ _. MayAddLine placing.old.builder line.start line.next
+        → AllFitted placing.old → AllFitted placing.new) }
 {
     placing.step_to(line.start);
     placing.add_owed(line.owed)?;
@@ -82,6 +86,10 @@ fn add_codes(placing: &mut Placing<'_>, lines: &[HeldLine]) -> Result<(), AllocE
     ensures items { IfOk result (λ _. (sources : List SourceLine) → AreHeld lines.now sources
         → IfFitted placing.old placing.new (HasItems placing.old.builder placing.new.builder
         (source_lines (body.Text false) sources))) }
+    ensures reached { IfOk result (λ _. IfFitted placing.old placing.new
+        (placing.new.builder.at ≡ after_lines placing.old.builder.at lines.now)) }
+    ensures fits { IfOk result (λ _. MayAddLines placing.old.builder lines.now
+        → AllFitted placing.old → AllFitted placing.new) }
 {
     'lines: for line in lines {
         add_code(placing, *line)?;
@@ -103,6 +111,8 @@ pub fn open_heading(
     ensures heading { IfOk result (λ _. BracesStand placing.old.builder.text braces
         → IfFitted placing.old placing.new
         (OpensHeadingOf placing.old.builder placing.new.builder level braces)) }
+    ensures fits { IfOk result (λ _. placing.old.builder.leaf ≡ false
+        → AllFitted placing.old → AllFitted placing.new) }
 {
     let Some(braces) = braces else {
         return placing.open_block(ItemBody::Heading(level, None));
@@ -152,6 +162,9 @@ impl<'a> Pass<'a> {
             → b.start ≡ self.old.placing.builder.at → b.last ≡ line.next
             → IfFitted self.old.placing self.new.placing
             (IsPlaced s self.new.placing.builder frames (followed_by inside (leaf_block b)))) }
+        ensures fits { IfOk result (λ _.
+            self.old.placing.builder.leaf ≡ false → IsAhead self.old.placing.builder line.next
+            → AllFitted self.old.placing → AllFitted self.new.placing) }
         ensures same { self.new ≡ record self.old { placing = self.new.placing } }
     {
         self.placing.add_rule(line.next)
@@ -178,6 +191,9 @@ impl<'a> Pass<'a> {
             → BracesStand self.old.placing.builder.text heading.braces
             → IfFitted self.old.placing self.new.placing
             (IsPlaced s self.new.placing.builder frames (followed_by inside (leaf_block b)))) }
+        ensures fits { IfOk result (λ _.
+            MayAddHeading self.old.placing.builder line heading
+            → AllFitted self.old.placing → AllFitted self.new.placing) }
         ensures same { self.new ≡ record self.old { placing = self.new.placing } }
     {
         open_heading(self.alloc, &mut self.placing, heading.level, heading.braces)?;
@@ -209,6 +225,9 @@ impl<'a> Pass<'a> {
             → IfFitted self.old.placing self.new.placing
             (IsLeafIn s self.new.placing.builder frames inside b false)) }
         ensures kind { IfOk result (λ _. self.new.leaf ≡ leaf_kind.Fenced opening.fence) }
+        ensures fits { IfOk result (λ _.
+            MayOpenLeaf self.old.placing.builder at line.next
+            → AllFitted self.old.placing → AllFitted self.new.placing) }
         ensures same { self.new
             ≡ record self.old { placing = self.new.placing; leaf = self.new.leaf } }
     {
@@ -261,6 +280,10 @@ impl<'a> Pass<'a> {
             → leaf_with s source b.kind ≡ Some kind → IfFitted self.old.placing self.new.placing
             (IsLeafIn s self.new.placing.builder frames inside
             (record b { last = source.next; kind = kind }) (has_ended kind))) }
+        ensures fits { IfOk result (λ _.
+            MayAddLine self.old.placing.builder position.at line.next
+            → position.at ≤ line.next
+            → AllFitted self.old.placing → AllFitted self.new.placing) }
         ensures same { self.new ≡ record self.old { placing = self.new.placing } }
     {
         let text = self.placing.text();
@@ -289,6 +312,9 @@ impl<'a> Pass<'a> {
             → IfFitted self.old.placing self.new.placing
             (IsLeafIn s self.new.placing.builder frames inside b false)) }
         ensures kind { IfOk result (λ _. self.new.leaf ≡ leaf_kind.Metadata kind) }
+        ensures fits { IfOk result (λ _.
+            MayOpenLeaf self.old.placing.builder line.start line.next
+            → AllFitted self.old.placing → AllFitted self.new.placing) }
         ensures same { self.new
             ≡ record self.old { placing = self.new.placing; leaf = self.new.leaf } }
     {
@@ -331,6 +357,10 @@ impl<'a> Pass<'a> {
             → leaf_with s source b.kind ≡ Some now → IfFitted self.old.placing self.new.placing
             (IsLeafIn s self.new.placing.builder frames inside
             (record b { last = source.next; kind = now }) (has_ended now))) }
+        ensures fits { IfOk result (λ _.
+            MayAddLine self.old.placing.builder line.start line.next
+            → line.start ≤ line.next
+            → AllFitted self.old.placing → AllFitted self.new.placing) }
         ensures same { self.new ≡ record self.old { placing = self.new.placing } }
     {
         let content = bytes_of(self.placing.text(), line.start, line.stop);
@@ -386,6 +416,9 @@ impl<'a> Pass<'a> {
             → b.last ≡ source.next → IfFitted self.old.placing self.new.placing
             (IsLeafIn s self.new.placing.builder frames inside b (ends_html kind source))) }
         ensures kind { IfOk result (λ _. self.new.leaf ≡ leaf_kind.Html kind) }
+        ensures fits { IfOk result (λ _.
+            MayOpenHtml self.old.placing.builder line position
+            → AllFitted self.old.placing → AllFitted self.new.placing) }
         ensures same { self.new
             ≡ record self.old { placing = self.new.placing; leaf = self.new.leaf } }
     {
@@ -441,6 +474,9 @@ impl<'a> Pass<'a> {
             → leaf_with s source b.kind ≡ Some now → IfFitted self.old.placing self.new.placing
             (IsLeafIn s self.new.placing.builder frames inside
             (record b { last = source.next; kind = now }) (has_ended now))) }
+        ensures fits { IfOk result (λ _.
+            MayAddLine self.old.placing.builder position.at line.next
+            → AllFitted self.old.placing → AllFitted self.new.placing) }
         ensures same { self.new ≡ record self.old { placing = self.new.placing } }
     {
         self.add_html_line(line, position)?;
@@ -462,6 +498,9 @@ impl<'a> Pass<'a> {
             → IfFitted self.old.placing self.new.placing
             (HasItems self.old.placing.builder self.new.placing.builder
             (source_line body.Html source))) }
+        ensures fits { IfOk result (λ _.
+            MayAddLine self.old.placing.builder position.at line.next
+            → AllFitted self.old.placing → AllFitted self.new.placing) }
         ensures same { self.new ≡ record self.old { placing = self.new.placing } }
     {
         self.placing.step_to(position.at);
@@ -484,6 +523,8 @@ impl<'a> Pass<'a> {
             (PutsBlock self.old.placing.builder self.new.placing.builder) }
         ensures goes_on { ends_html_at self.old.placing.builder.text position line kind ≡ false
             → self.new ≡ self.old }
+        ensures fits { IsInLeaf self.old.placing.builder
+            → AllFitted self.old.placing → AllFitted self.new.placing }
         ensures same { self.new ≡ record self.old { placing = self.new.placing } }
     {
         if kind.ends_in(bytes_of(self.placing.text(), position.at, line.stop)) {
@@ -515,6 +556,9 @@ impl<'a> Pass<'a> {
             → b.start ≡ position.at → IfFitted self.old.placing self.new.placing
             (IsLeafIn s self.new.placing.builder frames inside b false)) }
         ensures kind { IfOk result (λ _. self.new.leaf ≡ leaf_kind.Indented) }
+        ensures fits { IfOk result (λ _.
+            MayOpenLeaf self.old.placing.builder position.at line.next
+            → AllFitted self.old.placing → AllFitted self.new.placing) }
         ensures same { self.new
             ≡ record self.old { placing = self.new.placing; leaf = self.new.leaf } }
     {
@@ -548,6 +592,9 @@ impl<'a> Pass<'a> {
               last = source.next;
               kind = indented_leaf ((lines ++ blank) ++ source ∷ []);
             }) false)) }
+        ensures fits { IfOk result (λ _.
+            MayAddAfter self.old.placing.builder self.old.blanks.items position.at line.next
+            → AllFitted self.old.placing → AllFitted self.new.placing) }
         ensures emptied { IfOk result (λ _. self.new.blanks.items ≡ []) }
         ensures same { self.new
             ≡ record self.old { placing = self.new.placing; blanks = self.new.blanks } }
@@ -572,6 +619,10 @@ impl<'a> Pass<'a> {
             → IsLeafIn s self.new.placing.builder frames inside
             (record b { last = source.next; kind = indented_leaf (lines ++ cut 4 source ∷ []) })
             false) }
+        ensures fits { IfOk result (λ _.
+            MayAddAfter self.old.placing.builder self.old.blanks.items position.at line.next
+            → position.at ≤ line.stop → line.stop ≤ line.next
+            → MayAddBefore self.old.placing.builder self.new.blanks.items line.next) }
         ensures same { self.new ≡ record self.old { blanks = self.new.blanks } }
     {
         let code = read_space(self.placing.text(), position, line.stop, 4).after;

@@ -49,9 +49,10 @@ impl<'a> Placing<'a> {
     ghost use Rattle.markdown_base.specs.HeadingWords.{words_of};
     ghost use Rattle.markdown_items.specs.ContentItems.{content_items};
     ghost use Rattle.markdown_items.specs.LineItems.{item_extensions};
-    ghost use Rattle.markdown_lines.specs.Lines.{IsNextContent};
+    ghost use Rattle.markdown_lines.specs.Lines.{AllPass, IsNextContent, is_in_blank_line};
     ghost use Rattle.markdown_plain.specs.Fitting.{AllFitted, IfFitted, IsAhead, IsWhiteOutside};
     ghost use Rattle.markdown_plain.specs.Fitting.{BeginsAtContent, GoesOn, HasBody, PutsBlock, closed, defining, stepped};
+    ghost use Rattle.markdown_plain.specs.Fits.{HasContent};
     ghost use Rattle.markdown_plain.specs.LeafTrees.{HasMoreTexts};
     ghost use Rattle.markdown_builder.specs.EvenRows.{is_in_row};
     ghost use Rattle.markdown_items.specs.ContentItems.{AddsItems};
@@ -281,6 +282,7 @@ impl<'a> Placing<'a> {
             IfSome (innermost_block self.now.builder.blocks) (λ block.
             IsNextContent self.now.builder.text block.start (Some content))) }
         ensures open { IfSome result (λ _. self.now.builder.blocks ≡ [] → ⊥) }
+        ensures nothing { result ≡ None → HasContent self.now.builder → ⊥ }
     {
         let text = self.builder.text();
         let start = self.builder.open_blocks().last()?.start;
@@ -301,6 +303,7 @@ impl<'a> Placing<'a> {
             ≡ record self.old.builder { blocks = self.new.builder.blocks } }
         ensures begins { IfFitted self.old self.new
             (BeginsAtContent self.old.builder self.new.builder) }
+        ensures fits { HasContent self.old.builder → self.new.misfits ≡ self.old.misfits }
     {
         match self.content_of_block() {
             Some(content) => self.builder.begin_later(content),
@@ -316,6 +319,8 @@ impl<'a> Placing<'a> {
             ≡ record self.old.builder { blocks = self.new.builder.blocks } }
         ensures changes { IfFitted self.old self.new
             (HasBody self.old.builder self.new.builder body) }
+        ensures fits { self.old.builder.leaf ≡ false → (self.old.builder.blocks ≡ [] → ⊥)
+            → self.new.misfits ≡ self.old.misfits }
     {
         if self.builder.is_in_leaf() || self.builder.open_blocks().is_empty() {
             self.miss();
@@ -557,6 +562,10 @@ impl<'a> Placing<'a> {
         ensures read { IfOk result (λ _. self.new.builder.at ≡ length self.old.builder.text) }
         ensures fitted { IfOk result (λ _. IfFitted self.old self.new
             (self.new.builder ≡ stepped self.old.builder (length self.old.builder.text))) }
+        ensures fits { IfOk result (λ _.
+            AllPass is_in_blank_line self.old.builder.text self.old.builder.at
+            (length self.old.builder.text)
+            → self.new.misfits ≡ self.old.misfits) }
     {
         let text = self.builder.text();
         let end = text.as_bytes().len();

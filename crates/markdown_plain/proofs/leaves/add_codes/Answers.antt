@@ -1,10 +1,13 @@
 -- Each turn adds the next line.
-use Rattle.std.proofs.Common.{◌≡◌, false, length, refl, sym, ◌∙◌, ap, take, rules}
+use Rattle.std.proofs.Common.{◌≡◌, false, length, refl, sym, ◌∙◌, ap, arith, take, rules}
+use Rattle.std.proofs.Math.Seq.{take-length}
 use Rattle.std.proofs.lemmas.Option.{slice_get-get_or}
 use Rattle.markdown_base.specs.declared.item.ItemBody.TheVariants as body
 use Rattle.markdown_block_rules.specs.LineContents.{source_lines}
-use Rattle.markdown_builder.specs.BuilderView.{with_items}
+use Rattle.markdown_builder.specs.BuilderView.{BuilderView, with_items}
 use Rattle.markdown_items.proofs.RestOfLineLemmas.{no_items}
+use Rattle.markdown_plain.specs.Fits.{after_lines}
+use Rattle.markdown_plain.proofs.FittingLemmas.{after_one_more, comes_next, goes_on_fits}
 use Rattle.markdown_plain.proofs.LeafTreesLemmas.{more_lines, no_text, takes_all, texts_after}
 use Rattle.markdown_plain.proofs.leaves.add_codes.Goals as goal
 
@@ -14,6 +17,8 @@ lines-init c = record {
   goes_on = λ fitted. (fitted, refl);
   texts = λ fitted. (fitted, no_text _ _ refl);
   items = λ sources are fitted. (fitted, sym (no_items c.args.placing.now.builder.levels));
+  reached = λ fitted. (fitted, refl);
+  fits = λ may fitted. fitted;
 }
 
 pub lines-preserved : goal.lines-preserved
@@ -34,6 +39,23 @@ lines-preserved c =
                 c.add_code.new.placing.builder.levels (body.Text false) c.args.lines.now sources c.lines.line-index _
                 are line kept.1 (λ source is. (c.in_ok-add_code.ensures.items source is fitted).1),
           );
+      reached = λ fitted.
+          let line = slice_get-get_or c.args.lines.now c.lines.line-index _ c.lines-test.true in
+          let goes = c.in_ok-add_code.ensures.goes_on fitted in (
+            (before.reached goes.0).0,
+            ap (λ (v : BuilderView). v.at) goes.1
+                ∙ sym (after_one_more c.args.placing.now.builder.at c.args.lines.now c.lines.line-index _ line),
+          );
+      fits = λ may fitted.
+          let line = slice_get-get_or c.args.lines.now c.lines.line-index _ c.lines-test.true in
+          let now = before.fits may fitted in
+          let goes = before.goes_on now in
+          let at = (before.reached now).1 in
+          let next = comes_next _ c.args.placing.now.builder.at c.args.lines.now c.lines.line-index _ may.are line in
+          let low = next.low in
+          c.in_ok-add_code.ensures.fits
+          (goes_on_fits c.args.placing.now.builder c.lines.placing.builder c.lines.placing.builder.at _ _ goes.1
+          may.inside (omega (arith, at, low)) next.boundary next.next) now;
     }
 
 pub returns-clause-items : goal.returns-clause-items
@@ -45,4 +67,13 @@ returns-clause-items c = λ sources are fitted.
       done.1 ∙ ap (λ n. with_items c.args.placing.now.builder.levels (source_lines (body.Text false) (take n sources)))
           number
           ∙ ap (λ ls. with_items c.args.placing.now.builder.levels (source_lines (body.Text false) ls)) all,
+    )
+
+pub returns-clause-reached : goal.returns-clause-reached
+returns-clause-reached c = λ fitted.
+    let done = c.lines.invariant.reached fitted in
+    let number : c.lines.line-index ≡ length c.args.lines.now = search rules in (
+      done.0,
+      done.1 ∙ ap (λ n. after_lines c.args.placing.now.builder.at (take n c.args.lines.now)) number
+          ∙ ap (after_lines c.args.placing.now.builder.at) (take-length c.args.lines.now),
     )

@@ -15,6 +15,11 @@ use Rattle.markdown_block_rules.specs.LineContents.{source_line}
 use Rattle.markdown_lines.specs.declared.fence.Fence.{Fence}
 use Rattle.markdown_plain.proofs.LeafKindsLemmas.{closes_alike, fenced_added, fenced_closed}
 use Rattle.markdown_plain.proofs.LinedLeavesLemmas.{after_held, cut_within, ok_three, rest_ends}
+use Rattle.std.proofs.Common.{refl}
+use Rattle.std.specs.Str.{IsCharBoundary}
+use Rattle.markdown_lines.specs.declared.held_line.HeldLine.{HeldLine}
+use Rattle.markdown_plain.specs.Fits.{MayAddLine}
+use Rattle.markdown_plain.proofs.FittingLemmas.{line_at, space_ahead}
 use Rattle.markdown_plain.proofs.pass.Pass.add_fenced.Goals as goal
 
 pub returns-clause-items : goal.returns-clause-items
@@ -81,3 +86,18 @@ returns-clause-leaf c =
           (subst (λ (f : Fence). HasItems old new (source_line (body.Text false) (cut f.indent source))) (sym fence)
           (all.third one held fitted).1),
     )) (ok_three c.add_code.result _ _ _ c.add_code.ensures.goes_on c.add_code.ensures.texts c.add_code.ensures.items)
+
+pub returns-clause-fits : goal.returns-clause-fits
+returns-clause-fits c =
+    IfOk-weaker c.add_code.result _ _ (λ done adds may ordered fitted.
+    let old = c.args.self.now.placing.builder in
+    let there = space_ahead c.text-text.result.now c.args.position c.args.line.stop c.args.fence.indent
+    c.read_space.result c.text-text.utf8 c.read_space.ensures.value
+    (subst (λ t. IsCharBoundary t c.args.position.at) (sym c.text-text.ensures) may.ahead.1) in
+    let low = may.ahead.0 in
+    let after = there.1 in
+    adds (subst (λ (l : HeldLine). MayAddLine old l.start l.next) (sym c.rest_of.ensures)
+    (line_at old.text old.at c.read_space.result.after.at c.args.line.next old
+    (record { inside = may.inside; same = refl; here = refl }) (omega (arith, low, after))
+    (subst (λ t. IsCharBoundary t c.read_space.result.after.at) c.text-text.ensures there.0) may.next)) fitted)
+    c.add_code.ensures.fits

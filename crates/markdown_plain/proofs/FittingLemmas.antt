@@ -1,0 +1,395 @@
+-- Calls that fit: where a builder is after one of them, the next fits.
+use Rattle.std.proofs.Common.{◌≡◌, ℕ, zero, suc, ◌+◌, ◌-◌, ◌≤◌, Bool, true, false, max, List, [], ◌∷◌, ◌++◌}
+use Rattle.std.proofs.Common.{Option, Some, None, length, drop, take, refl, sym, ap, ◌∙◌, subst, arith, true≢false}
+use Rattle.std.specs.Prelude.{slice_get}
+use Rattle.std.specs.Option.{option_map_or}
+use Rattle.std.specs.Str.{IsCharBoundary, IsUtf8}
+use Rattle.std.proofs.lemmas.Option.{same_Some}
+use Rattle.std.proofs.lemmas.List.{length-take}
+use Rattle.markdown_base.specs.declared.index.CowIndex.{CowIndex}
+use Rattle.markdown_base.specs.declared.item.ItemBody.{ItemBody}
+use Rattle.markdown_base.specs.declared.item.ItemBody.TheVariants as body
+use Rattle.markdown_base.specs.Forest.{Forest, nil, node}
+use Rattle.markdown_base.specs.declared.tag.HeadingLevel.{HeadingLevel}
+use Rattle.markdown_builder.specs.Bodies.{is_leaf}
+use Rattle.markdown_builder.specs.BuilderView.{BuilderView, Opens, OpensNaming, innermost_block}
+use Rattle.markdown_builder.specs.EvenRows.{is_in_row, is_table_row}
+use Rattle.markdown_builder.specs.declared.open_block.OpenBlock.{OpenBlock}
+use Rattle.markdown_builder.specs.Shown.{Shown, chain_of, unnumbered}
+use Rattle.markdown_builder.specs.TreeLevels.{followed_by}
+use Rattle.markdown_items.specs.ContentItems.{content_items}
+use Rattle.markdown_items.specs.LineItems.{item_extensions}
+use Rattle.markdown_scan.specs.LineStart.{LineLeft, leading_space}
+use Rattle.markdown_lines.specs.declared.held_line.HeldLine.{HeldLine}
+use Rattle.markdown_lines.specs.declared.position.Position.{Position}
+use Rattle.markdown_lines.specs.declared.space.Space.{Space}
+use Rattle.markdown_lines.specs.Lines.{IsNextContent}
+use Rattle.markdown_lines.specs.Positions.{IsSpaceAt, left_from}
+use Rattle.markdown_lines.specs.BlockBeginnings.{Source}
+use Rattle.markdown_lines.specs.SourceLines.{SourceLine}
+use Rattle.markdown_lines.specs.declared.braces.Braces.{Braces}
+use Rattle.markdown_block_rules.specs.BlockGrowth as was
+use Rattle.markdown_block_rules.specs.BlockGrowth.{Block, Kind}
+use Rattle.markdown_block_rules.specs.BlockRules.{Around, block_end, in_no_item, last_end, shown_block, shown_blocks}
+use Rattle.markdown_block_rules.specs.BlockRules.{shown_heading}
+use Rattle.markdown_plain.specs.declared.placing.Placing.{Placing}
+use Rattle.markdown_plain.specs.CodeLines.{after_line}
+use Rattle.markdown_plain.specs.Fitting.{AllFitted, BeginsAtContent, GoesOn, IfFitted, IsAhead, IsWhiteOutside, stepped}
+use Rattle.markdown_plain.specs.Fits.{AreLinesFrom, HasContent, HasContentFrom, IsInLeaf, MayAddLine}
+use Rattle.markdown_plain.specs.Fits.{MayAddAfter, MayAddBefore, MayOpenLeaf, MayStep, after_lines}
+use Rattle.markdown_plain.specs.Frames.{Frame}
+use Rattle.markdown_plain.specs.OpenLeaves.{IsOpenIn, is_leaf as is_leaf_kind, leaf_block}
+use Rattle.markdown_plain.specs.OpenedFrames.{around_innermost}
+use Rattle.markdown_plain.specs.OpenBlocks.{outer_of}
+use Rattle.markdown_plain.proofs.LinedLeavesLemmas.{cut_within}
+use Rattle.markdown_plain.proofs.BegunLemmas.{left_from_is_of}
+use Rattle.markdown_plain.proofs.OpenBlocksLemmas.{innermost_of_opened}
+use Rattle.markdown_plain.proofs.TextReachedLemmas.{space_within}
+
+-- ---- steps
+
+-- inside a block, a step needs no white space
+pub may_step : (view : BuilderView) (to : ℕ) → view.at ≤ to → IsCharBoundary view.text to
+    → (view.blocks ≡ [] → ⊥) → MayStep view to
+may_step view to low boundary some =
+    record { ahead = (low, boundary); white = λ none. absurd (some none) }
+
+-- a step that fits leads there
+pub step_done : (old new : Placing) (to : ℕ) → IfFitted old new (new.builder ≡ stepped old.builder to)
+    → (IsAhead old.builder to → IsWhiteOutside old.builder to → new.misfits ≡ old.misfits)
+    → MayStep old.builder to → AllFitted old → AllFitted new × (new.builder ≡ stepped old.builder to)
+step_done old new to steps fits may fitted =
+    let now : AllFitted new = fits may.ahead may.white ∙ fitted in (now, (steps now).1)
+
+-- a block is open after one was opened
+pub some_opened : (blocks outer : List OpenBlock) (block : OpenBlock) → blocks ≡ outer ++ block ∷ []
+    → blocks ≡ [] → ⊥
+some_opened blocks [] block is none = cc
+some_opened blocks (first ∷ outer) block is none = cc
+
+-- ---- leaves
+
+-- no leaf is a row
+leaf_is_no_row : (b : ItemBody) → is_leaf b ≡ true → is_table_row b ≡ false
+leaf_is_no_row body.TableHead leaf = absurd (true≢false (sym leaf))
+leaf_is_no_row body.TableRow leaf = absurd (true≢false (sym leaf))
+leaf_is_no_row other leaf = refl
+
+-- it is the innermost block of the builder that decides whether a row is open
+row_of : (outer : List OpenBlock) (block : OpenBlock) → is_in_row (outer ++ block ∷ []) ≡ is_table_row block.body
+row_of outer block =
+    ap (λ o. option_map_or (λ (b : OpenBlock). is_table_row b.body) o false) (innermost_of_opened outer block)
+
+-- a builder whose innermost open block is a leaf is in that leaf
+pub in_leaf : (view : BuilderView) (outer : List OpenBlock) (block : OpenBlock) → view.blocks ≡ outer ++ block ∷ []
+    → view.leaf ≡ true → is_leaf block.body ≡ true → IsInLeaf view
+in_leaf view outer block blocks leaf is = record {
+  leaf = leaf;
+  some = some_opened view.blocks outer block blocks;
+  plain = ap is_in_row blocks ∙ (row_of outer block ∙ leaf_is_no_row block.body is);
+}
+
+-- it stays there while more is appended
+pub stays_in_leaf : (old new : BuilderView) (to : ℕ) → GoesOn old new to → IsInLeaf old → IsInLeaf new
+stays_in_leaf old new to goes inside =
+    subst IsInLeaf (sym goes) (record { leaf = inside.leaf; some = inside.some; plain = inside.plain })
+
+-- a builder is in a leaf, at a byte offset of a text
+pub record IsInLeafAt (text : List ℕ) (at : ℕ) (view : BuilderView) : Type 0 where
+  pub inside : IsInLeaf view
+  pub same : view.text ≡ text
+  pub here : view.at ≡ at
+
+-- it is in the leaf that was opened
+pub opened_at : (old now : BuilderView) (b : ItemBody) → Opens old now b → is_leaf b ≡ true
+    → IsInLeafAt old.text old.at now
+opened_at old now b opens leaf = record {
+  inside =
+      in_leaf now old.blocks (record { start = old.at; body = b }) (ap (λ (v : BuilderView). v.blocks) opens)
+      (ap (λ (v : BuilderView). v.leaf) opens ∙ leaf) leaf;
+  same = ap (λ (v : BuilderView). v.text) opens;
+  here = ap (λ (v : BuilderView). v.at) opens;
+}
+
+-- more is appended to the leaf
+pub goes_at : (text : List ℕ) (at to : ℕ) (old new : BuilderView) → GoesOn old new to → IsInLeafAt text at old
+    → IsInLeafAt text to new
+goes_at text at to old new goes is = record {
+  inside = stays_in_leaf old new to goes is.inside;
+  same = ap (λ (v : BuilderView). v.text) goes ∙ is.same;
+  here = ap (λ (v : BuilderView). v.at) goes;
+}
+
+-- a step in the leaf fits
+pub stepped_at : (text : List ℕ) (at to : ℕ) (old new : Placing)
+    → IfFitted old new (new.builder ≡ stepped old.builder to)
+    → (IsAhead old.builder to → IsWhiteOutside old.builder to → new.misfits ≡ old.misfits)
+    → IsInLeafAt text at old.builder → at ≤ to → IsCharBoundary text to → AllFitted old
+    → AllFitted new × IsInLeafAt text to new.builder
+stepped_at text at to old new steps fits is low boundary fitted =
+    let here = is.here in
+    let may = may_step old.builder to (omega (arith, here, low))
+    (subst (λ t. IsCharBoundary t to) (sym is.same) boundary) is.inside.some in
+    let done = step_done old new to steps fits may fitted in (
+      done.0,
+      subst (IsInLeafAt text to) (sym done.1) (record {
+        inside = record { leaf = is.inside.leaf; some = is.inside.some; plain = is.inside.plain };
+        same = is.same;
+        here = refl;
+      }),
+    )
+
+-- a line fits into the leaf
+pub line_at : (text : List ℕ) (at from to : ℕ) (view : BuilderView) → IsInLeafAt text at view → at ≤ from
+    → IsCharBoundary text from → IsCharBoundary text to → MayAddLine view from to
+line_at text at from to view is low boundary next =
+    let here = is.here in
+    record {
+      inside = is.inside;
+      ahead = (omega (arith, here, low), subst (λ t. IsCharBoundary t from) (sym is.same) boundary);
+      next = subst (λ t. IsCharBoundary t to) (sym is.same) next;
+    }
+
+-- a line fits that goes on from there
+pub goes_on_fits : (old new : BuilderView) (at from to : ℕ) → GoesOn old new at → IsInLeaf old → at ≤ from
+    → IsCharBoundary old.text from → IsCharBoundary old.text to → MayAddLine new from to
+goes_on_fits old new at from to goes inside low boundary next =
+    line_at old.text at from to new
+    (goes_at old.text old.at at old new goes (record { inside = inside; same = refl; here = refl })) low boundary
+    next
+
+-- a leaf that begins after a step is opened there
+pub leaf_opened : (old mid now : Placing) (b : ItemBody) (from to : ℕ) → is_leaf b ≡ true
+    → IfFitted old mid (mid.builder ≡ stepped old.builder from)
+    → (IsAhead old.builder from → IsWhiteOutside old.builder from → mid.misfits ≡ old.misfits)
+    → IfFitted mid now (Opens mid.builder now.builder b) → (mid.builder.leaf ≡ false → now.misfits ≡ mid.misfits)
+    → MayOpenLeaf old.builder from to → AllFitted old
+    → AllFitted now × IsInLeafAt old.builder.text from now.builder
+leaf_opened old mid now b from to leaf steps step_fits opens open_fits may fitted =
+    let done = step_done old mid from steps step_fits may.begins fitted in
+    let all : AllFitted now = open_fits (ap (λ (v : BuilderView). v.leaf) done.1 ∙ may.outside) ∙ done.0 in
+    let is = opened_at mid.builder now.builder b (opens all).1 leaf in (
+      all,
+      record {
+        inside = is.inside;
+        same = is.same ∙ ap (λ (v : BuilderView). v.text) done.1;
+        here = is.here ∙ ap (λ (v : BuilderView). v.at) done.1;
+      },
+    )
+
+-- so is one that refers to a text
+pub named_opened : (old mid now : Placing) (b : CowIndex → ItemBody) (name : List ℕ) (from to : ℕ)
+    → ((ix : CowIndex) → is_leaf (b ix) ≡ true)
+    → IfFitted old mid (mid.builder ≡ stepped old.builder from)
+    → (IsAhead old.builder from → IsWhiteOutside old.builder from → mid.misfits ≡ old.misfits)
+    → IfFitted mid now (OpensNaming mid.builder now.builder b name)
+    → (mid.builder.leaf ≡ false → now.misfits ≡ mid.misfits) → MayOpenLeaf old.builder from to → AllFitted old
+    → AllFitted now × IsInLeafAt old.builder.text from now.builder
+named_opened old mid now b name from to leaf steps step_fits opens open_fits may fitted =
+    let done = step_done old mid from steps step_fits may.begins fitted in
+    let all : AllFitted now = open_fits (ap (λ (v : BuilderView). v.leaf) done.1 ∙ may.outside) ∙ done.0 in
+    let is = (opens all).1 in
+    let block : OpenBlock =
+    record { start = mid.builder.at; body = b (record { 0 = length mid.builder.texts }) } in (
+      all,
+      record {
+        inside = in_leaf now.builder mid.builder.blocks block (ap (λ (v : BuilderView). v.blocks) is)
+            (ap (λ (v : BuilderView). v.leaf) is ∙ leaf (record { 0 = length mid.builder.texts }))
+            (leaf (record { 0 = length mid.builder.texts }));
+        same = ap (λ (v : BuilderView). v.text) is ∙ ap (λ (v : BuilderView). v.text) done.1;
+        here = ap (λ (v : BuilderView). v.at) is ∙ ap (λ (v : BuilderView). v.at) done.1;
+      },
+    )
+
+-- the leaf has content, where its first line has
+pub has_content : (old now filled : BuilderView) (b : ItemBody) (at to : ℕ) → Opens (stepped old at) now b
+    → GoesOn now filled (after_line at to) → IsCharBoundary old.text at → HasContentFrom old.text at to
+    → HasContent filled
+has_content old now filled b at to opens goes boundary has =
+    let text : filled.text ≡ old.text =
+    ap (λ (v : BuilderView). v.text) goes ∙ ap (λ (v : BuilderView). v.text) opens in
+    let blocks : filled.blocks ≡ old.blocks ++ record { start = at; body = b } ∷ [] =
+    ap (λ (v : BuilderView). v.blocks) goes ∙ ap (λ (v : BuilderView). v.blocks) opens in
+    let here : filled.at ≡ max at to = ap (λ (v : BuilderView). v.at) goes in
+    let within = has.within in
+    record {
+      block = record { start = at; body = b };
+      innermost = ap innermost_block blocks ∙ innermost_of_opened old.blocks (record { start = at; body = b });
+      boundary = subst (λ t. IsCharBoundary t at) (sym text) boundary;
+      content = record {
+        content = has.content;
+        next = subst (λ t. IsNextContent t at (Some has.content)) (sym text) has.next;
+        within = omega (arith, here, within);
+      };
+    }
+
+-- a leaf that begins later is still that leaf
+pub begun_in_leaf : (old new : BuilderView) → BeginsAtContent old new → new ≡ record old { blocks = new.blocks }
+    → IsInLeaf old → IsInLeaf new
+begun_in_leaf old new begins same inside =
+    let block = begins.blocks.block in
+    let outer = outer_of old.blocks in
+    record {
+      leaf = ap (λ (v : BuilderView). v.leaf) same ∙ inside.leaf;
+      some = some_opened new.blocks outer (record block { start = begins.start }) begins.blocks.becomes;
+      plain = ap is_in_row begins.blocks.becomes
+          ∙ (row_of outer (record block { start = begins.start })
+          ∙ (sym (ap is_in_row begins.blocks.was ∙ row_of outer block) ∙ inside.plain));
+    }
+
+-- ---- lines of code
+
+-- a line of this number comes after those before it
+pub record ComesNext (text : List ℕ) (from : ℕ) (lines : List HeldLine) (number : ℕ) (line : HeldLine) : Type 0 where
+  pub low : after_lines from (take number lines) ≤ line.start
+  pub boundary : IsCharBoundary text line.start
+  pub next : IsCharBoundary text line.next
+
+pub comes_next : (text : List ℕ) (from : ℕ) (lines : List HeldLine) (number : ℕ) (line : HeldLine)
+    → AreLinesFrom text from lines → slice_get lines number ≡ Some line → ComesNext text from lines number line
+comes_next text from [] number line are e = absurd (grind (arith, e))
+comes_next text from (first ∷ lines) zero line are e =
+    subst (λ (l : HeldLine). ComesNext text from (first ∷ lines) zero l) (same_Some first line e)
+    (record { low = are.0; boundary = are.1; next = are.2 })
+comes_next text from (first ∷ lines) (suc number) line are e =
+    let rest = comes_next text (after_line first.start first.next) lines number line are.3 e in
+    record { low = rest.low; boundary = rest.boundary; next = rest.next }
+
+-- after a line of this number, the place is where it ends
+after_next : (from : ℕ) (lines : List HeldLine) (number : ℕ) (line : HeldLine) → slice_get lines number ≡ Some line
+    → after_lines from (take (suc number) lines) ≡ after_line line.start line.next
+after_next from [] number line e = absurd (grind (arith, e))
+after_next from (first ∷ lines) zero line e =
+    ap (λ (l : HeldLine). after_line l.start l.next) (same_Some first line e)
+after_next from (first ∷ lines) (suc number) line e =
+    after_next (after_line first.start first.next) lines number line e
+
+pub after_one_more : (from : ℕ) (lines : List HeldLine) (number : ℕ) (line : HeldLine)
+    → slice_get lines number ≡ Some line
+    → after_lines from (take (number + 1) lines) ≡ after_line line.start line.next
+after_one_more from lines number line e =
+    let one : number + 1 ≡ suc number = omega arith in
+    ap (λ n. after_lines from (take n lines)) one ∙ after_next from lines number line e
+
+-- a line more fits after these
+pub lines_more : (text : List ℕ) (from : ℕ) (lines : List HeldLine) (line : HeldLine) → AreLinesFrom text from lines
+    → after_lines from lines ≤ line.start → IsCharBoundary text line.start → IsCharBoundary text line.next
+    → AreLinesFrom text from (lines ++ line ∷ [])
+lines_more text from [] line are low boundary next = (low, boundary, next, tt)
+lines_more text from (first ∷ lines) line are low boundary next = (
+  are.0,
+  are.1,
+  are.2,
+  lines_more text (after_line first.start first.next) lines line are.3 low boundary next,
+)
+
+after_more : (from : ℕ) (lines : List HeldLine) (line : HeldLine)
+    → after_lines from (lines ++ line ∷ []) ≡ after_line line.start line.next
+after_more from [] line = refl
+after_more from (first ∷ lines) line = after_more (after_line first.start first.next) lines line
+
+-- such a line may be held back too
+pub held_fits : (view : BuilderView) (lines : List HeldLine) (line : HeldLine)
+    → MayAddAfter view lines line.start line.next → line.start ≤ line.next
+    → MayAddBefore view (lines ++ line ∷ []) line.next
+held_fits view lines line may ordered =
+    let end = after_more view.at lines line in
+    record {
+      may = record {
+        inside = may.before.may.inside;
+        are = lines_more view.text view.at lines line may.before.may.are may.before.low may.boundary may.next;
+      };
+      low = omega (arith, end, ordered);
+    }
+
+-- ---- space
+
+-- white space that is read ends between characters, if it begins there
+pub space_ahead : (text : List ℕ) (position : Position) (stop most : ℕ) (read : Space) → IsUtf8 text
+    → IsSpaceAt text position stop most read → IsCharBoundary text position.at
+    → IsCharBoundary text read.after.at × (position.at ≤ read.after.at)
+space_ahead text position stop most read utf8 is boundary =
+    let within = space_within text position.at utf8 most (left_from text position stop)
+    (record { own = left_from_is_of text position stop _ refl; boundary = boundary; low = omega arith }) in
+    let same : (leading_space most (left_from text position stop)).after.scanned ≡ read.after.at =
+    ap (λ (left : LineLeft). left.scanned) (sym is.after) in (
+      subst (IsCharBoundary text) same within.boundary,
+      subst (λ n. position.at ≤ n) same within.low,
+    )
+
+-- it ends in its line
+pub space_stops : (text : List ℕ) (position : Position) (stop most : ℕ) (read : Space)
+    → IsSpaceAt text position stop most read → position.at ≤ stop → read.after.at ≤ stop
+space_stops text position stop most read is within =
+    let l : SourceLine = record {
+      left = left_from text position stop;
+      next = stop;
+      outermost = true;
+      indent = None;
+    } in
+    let after = cut_within most l in
+    let same : read.after.at ≡ (leading_space most (left_from text position stop)).after.scanned =
+    ap (λ (left : LineLeft). left.scanned) is.after in
+    let size = length-take (stop - position.at) (drop position.at text) in
+    omega (arith, after, same, size, within)
+
+-- ---- leaves that are open
+
+-- the first of some trees is a row
+first_is_row : Forest Shown → Bool
+first_is_row nil = false
+first_is_row (node a below after) = is_table_row a.item.body
+
+heading_is_no_row : (s : Source) (start end : ℕ) (level : HeadingLevel) (braces : Option Braces)
+    (below : Forest Shown) → first_is_row (shown_heading s start end level braces below) ≡ false
+unfolding first_is_row
+heading_is_no_row s start end level None below = refl
+heading_is_no_row s start end level (Some braces) below = refl
+
+-- no leaf is shown as a row
+block_is_no_row : (s : Source) (around : Around) (b : Block) (end : ℕ) (below : Forest Block)
+    (inside : Around → Forest Shown) (kind : Kind) → is_leaf_kind kind ≡ true
+    → first_is_row (shown_block s around b end below inside kind) ≡ false
+unfolding first_is_row
+block_is_no_row s around b end below inside (was.heading_leaf found) leaf =
+    heading_is_no_row s b.start end found.level found.braces
+    (chain_of (content_items s.text (item_extensions s.options) found.from found.to))
+block_is_no_row s around b end below inside was.break_leaf leaf = refl
+block_is_no_row s around b end below inside (was.indented_leaf lines) leaf = refl
+block_is_no_row s around b end below inside (was.fenced_leaf opening closed lines) leaf = refl
+block_is_no_row s around b end below inside (was.html_leaf kind closed lines) leaf = refl
+block_is_no_row s around b end below inside (was.metadata_leaf kind closed lines) leaf = refl
+block_is_no_row s around b end below inside (was.table_leaf ended head alignments rows) leaf = refl
+block_is_no_row s around b end below inside other leaf = absurd (true≢false (sym leaf))
+
+before_nothing : (trees : Forest Shown) → first_is_row (followed_by trees nil) ≡ first_is_row trees
+unfolding first_is_row
+before_nothing nil = refl
+before_nothing (node a below after) = refl
+
+blocks_are_no_row : (s : Source) (around : Around) (b : Block) → is_leaf_kind b.kind ≡ true
+    → first_is_row (shown_blocks s around (leaf_block b)) ≡ false
+unfolding shown_blocks
+blocks_are_no_row s around b leaf =
+    before_nothing (shown_block s around b (block_end b (last_end b.first nil) b.kind) nil
+    (λ inside. shown_blocks s inside nil) b.kind)
+    ∙ block_is_no_row s around b (block_end b (last_end b.first nil) b.kind) nil
+    (λ inside. shown_blocks s inside nil) b.kind leaf
+
+same_row : (b : ItemBody) → is_table_row (unnumbered b) ≡ is_table_row b
+same_row (body.Heading level None) = refl
+same_row (body.Heading level (Some ix)) = refl
+same_row other = refl
+
+-- where a leaf is open in the innermost container, items fit
+pub open_in_leaf : (s : Source) (view : BuilderView) (frames : List Frame) (inside : Forest Block) (b : Block)
+    → is_leaf_kind b.kind ≡ true → IsOpenIn s view frames inside true b → IsInLeaf view
+unfolding first_is_row
+open_in_leaf s view frames inside b leaf is = record {
+  leaf = is.leaf;
+  some = some_opened view.blocks is.outer is.block is.blocks;
+  plain = ap is_in_row is.blocks
+      ∙ (row_of is.outer is.block
+      ∙ (sym (same_row is.block.body)
+      ∙ (ap first_is_row is.shown ∙ blocks_are_no_row s (around_innermost in_no_item frames) b leaf)));
+}
