@@ -59,6 +59,7 @@ pub mod TextLinesLemmas
 -- on blocks that begin with the rest of a line
 pub mod BegunBlocksLemmas
 pub mod BegunContainersLemmas
+pub mod BegunItemsLemmas
 pub mod BegunRestsLemmas
 pub mod BegunLeavesLemmas
 pub mod BegunTextsLemmas
