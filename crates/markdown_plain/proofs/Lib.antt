@@ -17,6 +17,7 @@ pub mod ListLoosenessLemmas
 pub mod FramesLemmas
 pub mod ReachedLemmas
 pub mod BegunLemmas
+pub mod BegunAloneLemmas
 pub mod LastBlocksLemmas
 pub mod ReachedFramesLemmas
 -- on open containers, and on blocks that are appended inside them
@@ -65,3 +66,4 @@ pub mod BegunLeavesLemmas
 pub mod BegunTextsLemmas
 pub mod FoundBlocksLemmas
 pub mod InnerBeginningsLemmas
+pub mod RoomForBlocksLemmas
