@@ -251,7 +251,7 @@ earlier_taken from (suc n) [] earlier = tt
 earlier_taken from (suc n) (f ∷ frames) earlier = (earlier.0, earlier_taken from n frames earlier.1)
 
 -- items that were opened before a line were not opened in it
-not_opened : (line : Line) (frames : List Frame) → line.start < line.next → AreOpenedBefore line.start frames
+pub not_opened : (line : Line) (frames : List Frame) → line.start < line.next → AreOpenedBefore line.start frames
     → AreItemsOpenedIn line frames
 not_opened line [] after earlier = tt
 not_opened line (f ∷ frames) after earlier = (
@@ -270,7 +270,7 @@ filled_length : (bytes : List ℕ) → list_all is_space_or_tab bytes ≡ false 
 filled_length [] filled = absurd (true≢false filled)
 filled_length (b ∷ bytes) filled = omega arith
 
-line_some : (s : Source) (rest : LineRest) (source : SourceLine) → IsLeft s rest source → is_blank_rest source ≡ false
+pub line_some : (s : Source) (rest : LineRest) (source : SourceLine) → IsLeft s rest source → is_blank_rest source ≡ false
     → rest.line.start < rest.line.next
 line_some s rest source left filled =
     let at : rest.position.at ≡ source.left.scanned = ap (λ (l : LineLeft). l.scanned) left.is.rest.left in
@@ -280,11 +280,11 @@ line_some s rest source left filled =
 -- ---- what is open before the line
 
 -- open containers, whether a paragraph is held back in them or not
-record HasOpen (s : Source) (pass : Pass) (frames : List Frame) (blocks : Forest Block) : Type 0 where
-  texts : List (List ℕ)
-  are : AreOpen texts (without_leaf pass.placing.builder) frames
-  nested : AreNested frames
-  items : AreItemsInLists false (rebuilt frames blocks)
+pub record HasOpen (s : Source) (pass : Pass) (frames : List Frame) (blocks : Forest Block) : Type 0 where
+  pub texts : List (List ℕ)
+  pub are : AreOpen texts (without_leaf pass.placing.builder) frames
+  pub nested : AreNested frames
+  pub items : AreItemsInLists false (rebuilt frames blocks)
 
 built_open : (s : Source) (pass : Pass) (frames : List Frame) (inside blocks : Forest Block)
     → IsBuilt s pass.placing.builder frames inside → AreItemsInLists false (rebuilt frames blocks)
@@ -318,7 +318,7 @@ leaf_open s pass frames inside b may =
         → view.blocks ≡ outer ++ block ∷ [] → without_leaf view ≡ outer
     in_leaf view outer block leaf is = rw leaf (outer_of_these view.blocks outer block is)
 
-last_open : (s : Source) (pass : Pass) (frames : List Frame) (inside : Forest Block) (last : Option Block)
+pub last_open : (s : Source) (pass : Pass) (frames : List Frame) (inside : Forest Block) (last : Option Block)
     → HoldsLast s pass frames inside last → HasOpen s pass frames (with_last inside last)
 last_open s pass frames inside None holds =
     built_open s pass frames inside inside holds.0.stands.built holds.0.stands.items

@@ -16,7 +16,7 @@ use Rattle.markdown_plain.specs.OpenedFrames.{with_frame}
 use Rattle.markdown_plain.specs.Settled.{BlanksKnown, IsBuilt, IsLooseAs}
 use Rattle.markdown_plain.specs.declared.looseness.Looseness.{Looseness}
 use Rattle.markdown_plain.specs.declared.pass.Pass.{Pass}
-use Rattle.markdown_plain.proofs.BegunItemsLemmas.{open_around}
+use Rattle.markdown_plain.proofs.RoomForBlocksLemmas.{last_open}
 use Rattle.markdown_plain.proofs.ClosedListsLemmas.{known_of_outermost}
 use Rattle.markdown_plain.proofs.OpenedFramesLemmas.{as_many_containers, innermost_of_more, item_is, item_placed}
 use Rattle.markdown_plain.proofs.OpenedFramesLemmas.{list_for_item, plain_is_built}
@@ -115,7 +115,7 @@ returns-clause-loose c =
     let first = c.step_to.ensures.steps (opens fitted).0 in
     let listed = c.in_ok-open_list.ensures in
     let there = (listed.around first.0).0 in
-    let around = open_around s old frames inside last holds in
+    let around = last_open s old frames inside last holds in
     let closed = closed_down c s frames inside last holds there in
     let left = c.in_ok-close_down.ensures.loose around.texts frames blocks around.are around.nested loose there in
     let from : down.looseness.blank_from ≡ old.looseness.blank_from =
