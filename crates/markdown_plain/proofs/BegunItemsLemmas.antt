@@ -20,13 +20,12 @@ use Rattle.markdown_block_rules.specs.BlockGrowth as was
 use Rattle.markdown_block_rules.specs.BlockGrowth.{Block, Kind, another_item, begun_by, content_of, goes_on, inside_of}
 use Rattle.markdown_block_rules.specs.BlockGrowth.{line_block, new_blocks, new_item, next_item, with_line}
 use Rattle.markdown_plain.specs.declared.block_pass.LineRest.{LineRest}
-use Rattle.markdown_plain.specs.declared.looseness.Looseness.{Looseness}
 use Rattle.markdown_plain.specs.declared.pass.Pass.{Pass}
 use Rattle.markdown_plain.specs.Beginning.{HoldsLast, IsFirst, IsFound, IsHere, IsInside, IsLeft, ReadsOn, Turn}
 use Rattle.markdown_plain.specs.Beginning.{begun_in_rest}
 use Rattle.markdown_plain.specs.Beginning as turn
 use Rattle.markdown_plain.specs.Closing.{AreItemsInLists}
-use Rattle.markdown_plain.specs.Fitting.{AllFitted, IfFitted}
+use Rattle.markdown_plain.specs.Fitting.{IfFitted}
 use Rattle.markdown_plain.specs.Frames.{AreContainers, AreNested, Frame, forgotten, innermost_is, is_item, is_list}
 use Rattle.markdown_plain.specs.Frames.{reached, rebuilt, touched}
 use Rattle.markdown_plain.specs.OpenBlocks.{without_leaf}
@@ -43,7 +42,7 @@ use Rattle.markdown_plain.proofs.BegunContainersLemmas.{AreInLine, container_ins
 use Rattle.markdown_plain.proofs.BegunLemmas.{IsLeftOf, begun_once, block_begun, item_begun, left_from_is_of}
 use Rattle.markdown_plain.proofs.BegunRestsLemmas.{HoldsRest, IsRestOf, begins_rest}
 use Rattle.markdown_plain.proofs.BlanksKnownLemmas.{same_touched}
-use Rattle.markdown_plain.proofs.FramesLemmas.{HasMarker, Innermost, innermost_apart, marker_of_list, rebuilt_more}
+use Rattle.markdown_plain.proofs.FramesLemmas.{innermost_apart, marker_of_list, rebuilt_more}
 use Rattle.markdown_plain.proofs.ItemsInListsLemmas.{line_keeps}
 use Rattle.markdown_plain.proofs.LastBlocksLemmas.{open_are_containers}
 use Rattle.markdown_plain.proofs.OpenedFramesLemmas.{item_placed}

@@ -1,5 +1,5 @@
 -- The rest of the line is read inside the item.
-use Rattle.std.proofs.Common.{◌≡◌, Result, Ok, Err, IfOk, refl, ap, subst}
+use Rattle.std.proofs.Common.{ap, subst}
 use Rattle.std.specs.Str.{IsCharBoundary}
 use Rattle.markdown_plain.specs.declared.pass.Pass.{Pass}
 use Rattle.markdown_plain.proofs.BegunItemsLemmas.{item_reads_on, text_here}
