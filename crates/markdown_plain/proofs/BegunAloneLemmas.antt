@@ -1,6 +1,6 @@
 -- What a line begins beside text and underlines: where it may go on with a paragraph, it begins the same as where there
 -- is none.
-use Rattle.std.proofs.Common.{◌≡◌, ℕ, ◌+◌, ◌-◌, Bool, true, false, ◌&&◌, ◌||◌, ◌==◌, List, [], ◌∷◌, ◌++◌, Option}
+use Rattle.std.proofs.Common.{◌≡◌, ℕ, ◌+◌, ◌-◌, Bool, true, false, ◌&&◌, ◌==◌, List, [], ◌∷◌, ◌++◌, Option}
 use Rattle.std.proofs.Common.{Some, None, not, length, drop, slice_range, nat_le, refl, sym, ap, ◌∙◌, subst, arith}
 use Rattle.std.proofs.lemmas.Bool.{true≢false, and_parts, or_right}
 use Rattle.std.proofs.lemmas.Bool.Decides.{nat_tests}
@@ -32,7 +32,7 @@ use Rattle.markdown_lines.specs.ExtendedOnly.{is_read}
 use Rattle.markdown_lines.specs.SourceLines.{SourceLine}
 use Rattle.markdown_lines.specs.ThematicBreaks.{setext_level, underline_level}
 use Rattle.markdown_lines.proofs.BlockStartsLemmas.{after_mark, is_mark}
-use Rattle.markdown_block_rules.specs.BlockGrowth.{Block, is_text}
+use Rattle.markdown_block_rules.specs.BlockGrowth.{is_text}
 use Rattle.markdown_block_rules.proofs.BlockBeginningsLemmas.{either}
 use Rattle.markdown_plain.specs.Beginning.{NeedsRoom}
 use Rattle.markdown_plain.proofs.BegunLemmas.{IsLeftOf, begins_same, space_is_of}

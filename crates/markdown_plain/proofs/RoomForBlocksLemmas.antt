@@ -1,13 +1,14 @@
 -- Room for the block that the rest of a line begins: first what the open containers left of the line, and then what is
 -- left of it inside containers that it opened.
-use Rattle.std.proofs.Common.{◌≡◌, ◌⊎◌, inl, inr, ⊎_elim, ℕ, zero, suc, ◌<◌, ◌≤◌, ◌-◌, Bool, true, false, not, ◌&&◌, ◌==◌, List, []}
-use Rattle.std.proofs.Common.{◌∷◌, ◌++◌, Option, Some, None, length, map, take, drop, refl, sym, ap, ◌∙◌, subst, arith}
+use Rattle.std.proofs.Common.{◌≡◌, ◌⊎◌, inl, inr, ⊎_elim, ℕ, zero, suc, ◌<◌, ◌≤◌, ◌-◌, Bool, true, false, not, ◌&&◌}
+use Rattle.std.proofs.Common.{◌==◌, List, [], ◌∷◌, ◌++◌, Option, Some, None, length, map, take, drop, refl, sym, ap}
+use Rattle.std.proofs.Common.{◌∙◌, subst, arith}
 use Rattle.std.proofs.Math.Bool.{and-false}
 use Rattle.std.proofs.lemmas.Bool.{true≢false, and_parts}
 use Rattle.std.proofs.lemmas.Bool.Decides.{nat_tests}
 use Rattle.std.proofs.lemmas.List.{length-append}
 use Rattle.std.proofs.lemmas.Option.{none-some, same_Some}
-use Rattle.std.specs.Prelude.{if◌then◌else◌, nat_le, unwrap_or}
+use Rattle.std.specs.Prelude.{if◌then◌else◌, nat_le}
 use Rattle.std.specs.List.{list_all}
 use Rattle.std.specs.Option.{option_map}
 use Rattle.markdown_base.specs.Forest.{Forest, nil}
@@ -17,7 +18,7 @@ use Rattle.markdown_builder.specs.declared.open_block.OpenBlock.{OpenBlock}
 use Rattle.markdown_scan.specs.LineStart.{LineLeft}
 use Rattle.markdown_lines.specs.BlockBeginnings as beginning
 use Rattle.markdown_lines.specs.BlockBeginnings.{Beginning, Source, begins}
-use Rattle.markdown_lines.specs.BlockStarts.{begins_unless_blank, beginning_found}
+use Rattle.markdown_lines.specs.BlockStarts.{beginning_found}
 use Rattle.markdown_lines.specs.Lines.{is_space_or_tab}
 use Rattle.markdown_lines.specs.SourceLines.{SourceLine, is_blank_rest, rest_inside}
 use Rattle.markdown_lines.specs.declared.block_start.Before as code
@@ -26,17 +27,17 @@ use Rattle.markdown_lines.specs.declared.block_start.BlockStart.{BlockStart}
 use Rattle.markdown_lines.specs.declared.line.Line.{Line}
 use Rattle.markdown_lines.specs.declared.list_marker.ListMarker.{ListMarker}
 use Rattle.markdown_block_rules.specs.BlockGrowth as was
-use Rattle.markdown_block_rules.specs.BlockGrowth.{Block, Kind, another_item, begun_by, goes_on, is_nil, is_text, lazily}
-use Rattle.markdown_block_rules.specs.BlockGrowth.{line_block, next_item, paragraph_with, past_footnote}
-use Rattle.markdown_block_rules.specs.BlockGrowth.{past_indentation, past_quote, with_lazy, with_line}
+use Rattle.markdown_block_rules.specs.BlockGrowth.{Block, Kind, another_item, begun_by, goes_on, is_nil, is_text}
+use Rattle.markdown_block_rules.specs.BlockGrowth.{lazily, next_item, paragraph_with, past_footnote, past_indentation}
+use Rattle.markdown_block_rules.specs.BlockGrowth.{past_quote, with_lazy}
 use Rattle.markdown_block_rules.specs.TableLines.{reads_tables}
 use Rattle.markdown_block_rules.proofs.BlockBeginningsLemmas.{either}
 use Rattle.markdown_plain.specs.declared.block_pass.LineRest.{LineRest}
 use Rattle.markdown_plain.specs.declared.looseness.Looseness.{Looseness}
 use Rattle.markdown_plain.specs.declared.pass.Pass.{Pass}
 use Rattle.markdown_plain.specs.Beginning as turn
-use Rattle.markdown_plain.specs.Beginning.{HasRoom, HoldsLast, IsFirst, IsFound, IsHere, IsInside, IsLeft, IsOpened}
-use Rattle.markdown_plain.specs.Beginning.{MayBegin, NeedsRoom, Turn, begun_in_rest}
+use Rattle.markdown_plain.specs.Beginning.{HasRoom, HoldsLast, IsFirst, IsFound, IsHere, IsInside, IsLeft}
+use Rattle.markdown_plain.specs.Beginning.{NeedsRoom, Turn}
 use Rattle.markdown_plain.specs.Closing as closing
 use Rattle.markdown_plain.specs.Closing.{AreItemsInLists, MayClose, MayEnd}
 use Rattle.markdown_plain.specs.Fitting.{AllFitted, IfFitted}
@@ -132,7 +133,7 @@ module _ (s : Source) (frames : List Frame) (inside : Forest Block) (b : Block) 
           ∙ lazily_stops s rest (rebuilt (reached s frames blocks l).inner blocks) begun
           (begins_where (f ∷ others) same) block
 
--- a block that is no item is none of a list
+-- a block that is no item is not the next one of a list
 no_item : (s : Source) (l : SourceLine) (marker : ListMarker) (b : Beginning) → NeedsRoom b
     → another_item s l marker b ≡ None
 no_item s l marker (beginning.begins_item found indent rest) needs = absurd needs
@@ -167,6 +168,7 @@ under_container s empty l rest (was.item_container indent) is takes = inr (decid
 under_container s empty l rest (was.list_container marker) is takes = inl (same_Some l rest takes, refl)
 under_container s empty l rest other is takes = absurd is
 
+-- and stays so in what is in that
 stays_under : (s : Source) (frames : List Frame) (inside : Forest Block) (l : SourceLine) → AreContainers frames
     → l.outermost ≡ false → (reached s frames inside l).rest.outermost ≡ false
 unfolding reached
@@ -210,6 +212,7 @@ lists_reached s (f ∷ frames) inside l are outermost =
         (λ now. absurd (true≢false (sym outermost ∙ under m now)))
         (under_container s (is_nil (rebuilt frames inside)) l m f.block.kind are.0 takes)
 
+-- an item is no list
 item_no_list : (kind : Kind) → is_item kind ≡ true → is_list kind ≡ true → ⊥
 item_no_list (was.item_container indent) item list = absurd (true≢false (sym list))
 item_no_list other item list = absurd (true≢false (sym item))
@@ -230,14 +233,16 @@ room_at_root (f ∷ g ∷ outer) frames lists nested taken =
 
 -- ---- containers that go on in the line
 
-loose_touched : (l : SourceLine) (now : Looseness) (frames : List Frame) (inside : Forest Block)
+-- what is remembered of lists is the same
+pub loose_touched : (l : SourceLine) (now : Looseness) (frames : List Frame) (inside : Forest Block)
     → IsLooseBefore now frames inside → IsLooseBefore now (map (touched l) frames) inside
 loose_touched l now frames inside loose = record {
   lists = λ new one. loose.lists new one ∙ sym (lists_touched l frames (followed_by inside new));
   empty = loose.empty;
 }
 
-free_touched : (l : SourceLine) (frames : List Frame)
+-- the innermost container is a list as before
+pub free_touched : (l : SourceLine) (frames : List Frame)
     → innermost_is is_list (map (touched l) frames) ≡ innermost_is is_list frames
 free_touched l [] = refl
 free_touched l (f ∷ []) = refl
@@ -245,6 +250,7 @@ free_touched l (f ∷ g ∷ frames) =
     innermost_inner is_list (touched l f) (touched l g) (map (touched l) frames)
     ∙ (free_touched l (g ∷ frames) ∙ sym (innermost_inner is_list f g frames))
 
+-- those that are left were opened as early
 earlier_taken : (from n : ℕ) (frames : List Frame) → AreOpenedBefore from frames → AreOpenedBefore from (take n frames)
 earlier_taken from zero frames earlier = tt
 earlier_taken from (suc n) [] earlier = tt
@@ -447,8 +453,8 @@ module _ (s : Source) (old new : Pass) (rest : LineRest) (before : Before) (l so
       let r = reached_of s before l in
       let n = room_depth (length r.outer) before.frames in
       let around = λ (made : Forest Block).
-          rebuilt (map (touched l) (take n before.frames))
-          (followed_by (rebuilt (drop n before.frames) (blocks_in before)) made) in
+      rebuilt (map (touched l) (take n before.frames))
+      (followed_by (rebuilt (drop n before.frames) (blocks_in before)) made) in
       let same = state.reached in
       let filled : is_blank_rest r.rest ≡ false =
       subst (λ (m : SourceLine). is_blank_rest m ≡ false) same state.filled in
