@@ -20,7 +20,8 @@ use Rattle.markdown_plain.specs.Settled.{AreOpen, BlanksKnown, IsLooseAs}
 use Rattle.markdown_plain.proofs.ClosedListsLemmas.{AddsBlock, AreClosedTo, IsRoom, room_left, room_made, room_there}
 use Rattle.markdown_plain.proofs.ClosedListsLemmas.{none_closed as none_closed_so_far}
 use Rattle.markdown_plain.proofs.OpenedFramesLemmas.{as_many_containers, innermost_of_more, list_for_item}
-use Rattle.markdown_plain.proofs.OpenedFramesLemmas.{list_goes_on, list_innermost, list_is, list_outside, plain_is_built}
+use Rattle.markdown_plain.proofs.OpenedFramesLemmas.{list_goes_on, list_innermost, list_is, list_outside}
+use Rattle.markdown_plain.proofs.OpenedFramesLemmas.{plain_is_built}
 use Rattle.markdown_plain.proofs.pass.Pass.open_list.Goals.{in-Some-List+else-character-marker}
 use Rattle.markdown_plain.proofs.pass.Pass.open_list.Goals.{in-Some+in-MaybeEmphasis-1, in-None-1}
 use Rattle.markdown_plain.proofs.pass.Pass.open_list.Goals as goal

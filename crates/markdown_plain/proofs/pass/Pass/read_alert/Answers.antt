@@ -1,7 +1,6 @@
 -- The paragraph that may follow the alert's marker is the block inside it.
 use Rattle.std.proofs.Common.{◌∙◌, ◌++◌, ◌∷◌, [], Bool, refl, sym, subst, ap, if◌then◌else◌}
 use Rattle.markdown_base.specs.Forest.{nil}
-use Rattle.markdown_builder.specs.TreeLevels.{followed_by}
 use Rattle.markdown_lines.specs.BlockBeginnings as line
 use Rattle.markdown_lines.specs.BlockBeginnings.{Source}
 use Rattle.markdown_lines.specs.SourceLines.{end_of_line}
@@ -45,8 +44,8 @@ returns-clause-places c = λ s turn source blocks state found fitted.
     let more = in_line_more s rest source kind room.frames room.inside room.left room.filled
     (line_in_room s made rest source begins blocks room) in
     let none = none_open quote after.lines in
-    let opens = c.in_ok-open_quote.ensures.frame s room.frames room.inside a room.built room.free (sym found.begins) refl
-    there in
+    let opens = c.in_ok-open_quote.ensures.frame s room.frames room.inside a room.built room.free (sym found.begins)
+    refl there in
     let same = c.in_ok-add_text.ensures.inside s inner
     (record { built = opens.1; lines = after.lines; free = innermost_of_more is_list room.frames f })
     (c.depth.ensures ∙ as_many_containers s quote.placing.builder inner nil opens.1) loose in

@@ -21,8 +21,8 @@ returns-clause-reads_on c = λ s turn source blocks state found boundary fitted.
     let first = c.in_ok-make_room_for.ensures.room s turn source c.args.at (start.Quote c.args.inside) begins blocks
     state found refl tt there in
     let room = first.1 in
-    let opens = c.in_ok-open_quote.ensures.frame s room.frames room.inside b room.built room.free (sym found.begins) refl
-    fitted in
+    let opens = c.in_ok-open_quote.ensures.frame s room.frames room.inside b room.built room.free (sym found.begins)
+    refl fitted in
     let text = sym c.in_ok-make_room_for.ensures.text ∙ ap (λ (r : Source). r.text) room.may.source in (
       first.0,
       room_inside s made now rest c.go_inside.new.rest source begins blocks c.args.inside was.quote_container room
