@@ -61,6 +61,8 @@ left_same s rest new source same left = record {
   outermost = rw (same.outermost, same.start) left.outermost;
   after = left.after;
   boundary = left.boundary;
+  from = left.from;
+  utf8 = left.utf8;
 }
 
 inside_same : (s : Source) (pass : Pass) (rest : LineRest) (new : LineReader) (frames : List Frame)
@@ -222,6 +224,18 @@ here_found s old now rest new turn source blocks at begun start kept is same fou
   is_found s rest new source at start (here_left s old rest turn source blocks state) same
       (ap (beginning_found rest.reader) (sym is) ∙ found) place,
 )
+
+-- a line that begins something is not blank, and begins this
+some_begun : (b begun : Beginning) (blank : Bool) → Some b ≡ (if blank then None else Some begun)
+    → (blank ≡ false) × (begun ≡ b)
+some_begun b begun true is = absurd (none-some b (sym is))
+some_begun b begun false is = (refl, sym (ap (λ (o : Option Beginning). unwrap_or o b) is))
+
+pub found_begins : (s : Source) (rest : LineRest) (source : SourceLine) (at : ℕ) (start : BlockStart) (b : Beginning)
+    → IsFound s rest source at start → beginning_found rest.reader start ≡ Some b
+    → (is_blank_rest source ≡ false) × (begins s rest.before source ≡ b)
+found_begins s rest source at start b is found =
+    some_begun b (begins s rest.before source) (is_blank_rest source) (sym found ∙ is.is)
 
 -- ---- what begins then
 

@@ -64,3 +64,5 @@ pub mod BegunLeavesLemmas
 pub mod BegunTextsLemmas
 pub mod FoundBlocksLemmas
 pub mod InnerBeginningsLemmas
+pub mod FoundPlacesLemmas
+pub mod TextHereLemmas
