@@ -13,6 +13,7 @@ use Rattle.std.proofs.lemmas.List.{get_or-drop, get_or-reverse, length-drop, len
 use Rattle.std.proofs.lemmas.List.Sums.{prefix_len-le-length, prefix_len_passes, suffix_len-le-length}
 use Rattle.std.proofs.lemmas.Str.{IsCharBoundary-after_ascii, IsCharBoundary-before_ascii}
 use Rattle.markdown_base.specs.EnabledOptions.{footnotes_on}
+use Rattle.markdown_base.specs.Forest.{Forest}
 use Rattle.markdown_base.specs.declared.options.Options.{Options}
 use Rattle.markdown_base.specs.declared.tag.BlockQuoteKind.{BlockQuoteKind}
 use Rattle.markdown_base.specs.declared.tag.HeadingLevel.{HeadingLevel}
@@ -31,7 +32,8 @@ use Rattle.markdown_lines.specs.BlockBeginnings.{html_in_line, is_paragraph, is_
 use Rattle.markdown_lines.specs.BlockBeginnings.{item_space, label_before_colon, metadata_begun, metadata_in_line}
 use Rattle.markdown_lines.specs.BlockBeginnings.{past_bytes, quote_in_line, quote_of, quote_or_alert}
 use Rattle.markdown_lines.specs.BlockBeginnings.{underline_in_line, whole_heading}
-use Rattle.markdown_lines.specs.BlockStarts.{beginning_found}
+use Rattle.markdown_lines.specs.BlockStarts.{IsSameLine, beginning_found, begins_unless_blank, left_at, line_at}
+use Rattle.markdown_lines.specs.BlockStarts.{source_read}
 use Rattle.markdown_lines.specs.CodeFences.{opening_fence_at, opens_fence, run_length}
 use Rattle.markdown_lines.specs.HeadingAttributes.{attributed, attributed_by, attributes_read, braces_from, braces_in}
 use Rattle.markdown_lines.specs.HeadingAttributes.{braces_to, is_enclosed}
@@ -45,22 +47,29 @@ use Rattle.markdown_lines.specs.SourceLines.{SourceLine, is_blank_rest}
 use Rattle.markdown_lines.specs.ThematicBreaks.{is_thematic_break, setext_level}
 use Rattle.markdown_lines.specs.declared.atx_heading.AtxHeading.{AtxHeading}
 use Rattle.markdown_lines.specs.declared.block_start.Before.{Before}
+use Rattle.markdown_lines.specs.declared.block_start.Before.TheVariants as paragraph
 use Rattle.markdown_lines.specs.declared.block_start.BlockStart.{BlockStart}
 use Rattle.markdown_lines.specs.declared.block_start.BlockStart.TheVariants as start
 use Rattle.markdown_lines.specs.declared.braces.Braces.{Braces}
 use Rattle.markdown_lines.specs.declared.fence.OpeningFence.{OpeningFence}
+use Rattle.markdown_lines.specs.declared.line_reader.LineReader.{LineReader}
 use Rattle.markdown_lines.specs.declared.list_marker.ListMarker.{ListMarker}
 use Rattle.markdown_lines.proofs.BlockStartsLemmas.{slice_same}
 use Rattle.markdown_lines.proofs.LineBytesLemmas.{trimmed_is}
 use Rattle.markdown_lines.proofs.PositionsLemmas.{in_part, rest_of_part}
-use Rattle.markdown_block_rules.specs.BlockGrowth.{content_of}
+use Rattle.markdown_block_rules.specs.BlockGrowth.{Block, content_of}
+use Rattle.markdown_block_rules.specs.TableLines.{reads_tables}
 use Rattle.markdown_block_rules.proofs.BlockBeginningsLemmas.{either}
 use Rattle.markdown_plain.specs.declared.block_pass.LineRest.{LineRest}
-use Rattle.markdown_plain.specs.Beginning.{FoundStands, IsFound, IsLeft, StandsAsText}
-use Rattle.markdown_plain.specs.Fitting.{BracesStand}
+use Rattle.markdown_plain.specs.declared.pass.Pass.{Pass}
+use Rattle.markdown_plain.specs.Beginning.{FoundStands, HasBegun, IsFound, IsHere, IsLeft, ReadsOn, StandsAsText, Turn}
+use Rattle.markdown_plain.specs.Beginning.{first, later}
+use Rattle.markdown_plain.specs.Fitting.{AllFitted, BracesStand}
 use Rattle.markdown_plain.specs.OpenLeaves.{InfoStands}
+use Rattle.markdown_plain.specs.Paragraphs.{source_of}
+use Rattle.markdown_plain.specs.Standing.{PlacesFor}
 use Rattle.markdown_plain.specs.TextLines.{IsContentAt}
-use Rattle.markdown_plain.proofs.FoundBlocksLemmas.{found_begins}
+use Rattle.markdown_plain.proofs.FoundBlocksLemmas.{found_begins, here_found, here_left}
 use Rattle.markdown_plain.proofs.HeldTextLemmas.{is_held_line}
 use Rattle.markdown_plain.proofs.LeafTreesLemmas.{on_test}
 use Rattle.markdown_plain.proofs.ReachedFramesLemmas.{space_alike}
@@ -594,3 +603,82 @@ found_stands s rest source at (start.Footnote label inside) left found =
 found_stands s rest source at (start.Item item) left found =
     begun_within s rest source at (start.Item item) _ left found refl
 found_stands s rest source at other left found = tt
+
+-- ---- where nothing else has changed
+
+-- what a reader says of the rest of a line
+pub record Finds (rest : LineRest) (new : LineReader) (at : ℕ) (start : BlockStart) : Type 0 where
+  pub begins : beginning_found rest.reader start
+      ≡ begins_unless_blank (source_read rest.reader) rest.before (line_at rest.reader rest.position)
+  pub place : at ≡ rest.position.at + prefix_len is_space_or_tab (left_at rest.reader rest.position).bytes
+  pub same : IsSameLine rest.reader new
+
+-- this is still to be read, and was found to begin so
+pub record Meets (s : Source) (pass : Pass) (rest : LineRest) (turn : Turn) (source : SourceLine)
+    (blocks : Forest Block) (at : ℕ) (start : BlockStart) : Type 0 where
+  pub here : IsHere s pass rest turn source blocks
+  pub found : IsFound s rest source at start
+  pub stands : FoundStands pass.placing.builder.text rest.line at start
+
+-- the pass reads the text of which it stands for blocks
+here_text : (s : Source) (pass : Pass) (rest : LineRest) (turn : Turn) (source : SourceLine) (blocks : Forest Block)
+    → IsHere s pass rest turn source blocks → pass.placing.builder.text ≡ s.text
+here_text s pass rest (first before line) source blocks state = ap (λ (s : Source). s.text) state.holds.source
+here_text s pass rest (later frames) source blocks state = ap (λ (s : Source). s.text) state.opened.source
+
+pub meets : (s : Source) (old now : Pass) (rest : LineRest) (new : LineReader) (turn : Turn) (source : SourceLine)
+    (blocks : Forest Block) (at : ℕ) (begun start : BlockStart) → now ≡ old → Finds rest new at begun → begun ≡ start
+    → IsHere s old rest turn source blocks → Meets s now (record rest { reader = new }) turn source blocks at start
+meets s old now rest new turn source blocks at begun start kept finds is state =
+    let both = here_found s old now rest new turn source blocks at begun start kept is finds.same finds.begins
+    finds.place state in
+    record {
+      here = both.0;
+      found = both.1;
+      stands = subst (λ text. FoundStands text rest.line at start)
+          (sym (here_text s now (record rest { reader = new }) turn source blocks both.0))
+          (found_stands s (record rest { reader = new }) source at start
+          (here_left s now (record rest { reader = new }) turn source blocks both.0) both.1);
+    }
+
+-- no delimiter row is read, which would begin a table
+pub no_row : (s : Source) (old now : Pass) (rest : LineRest) (is : Bool) (turn : Turn) (source : SourceLine)
+    (blocks : Forest Block) → (rest.before ≡ paragraph.NoParagraph → (is ≡ false) × (now ≡ old))
+    → (reads_tables (source_of old) ≡ false → (is ≡ false) × (now ≡ old))
+    → IsHere s old rest turn source blocks → (is ≡ false) × (now ≡ old)
+no_row s old now rest is (first before line) source blocks none off state =
+    off (ap reads_tables state.holds.source ∙ state.tables)
+no_row s old now rest is (later frames) source blocks none off state = none state.before
+
+-- what was begun does not depend on what the reader has kept of the line
+pub begun_old : (s : Source) (pass : Pass) (old new : LineRest) (reader : LineReader) (blocks : Forest Block)
+    (more : Bool) → HasBegun s pass (record old { reader = reader }) new blocks more → HasBegun s pass old new blocks more
+begun_old s pass old new reader blocks true reads = record {
+  turn = reads.turn;
+  source = reads.source;
+  here = reads.here;
+  later = reads.later;
+  line = reads.line;
+  row = reads.row;
+}
+begun_old s pass old new reader blocks false places = places
+
+-- by an arm that places the line, or that leaves more of it
+pub begun_places : (s : Source) (old now pass : Pass) (rest new : LineRest) (blocks : Forest Block) (more : Bool)
+    → now ≡ old → more ≡ false
+    → AllFitted now.placing × PlacesFor s pass rest.line.next blocks
+    → AllFitted old.placing × HasBegun s pass rest new blocks more
+begun_places s old now pass rest new blocks more kept is done = (
+  subst (λ (p : Pass). AllFitted p.placing) kept done.0,
+  subst (HasBegun s pass rest new blocks) (sym is) done.1,
+)
+
+pub begun_reads : (s : Source) (old now pass : Pass) (rest new : LineRest) (reader : LineReader) (blocks : Forest Block)
+    (more : Bool) → now ≡ old → more ≡ true
+    → AllFitted now.placing × ReadsOn s pass (record rest { reader = reader }) new blocks
+    → AllFitted old.placing × HasBegun s pass rest new blocks more
+begun_reads s old now pass rest new reader blocks more kept is done = (
+  subst (λ (p : Pass). AllFitted p.placing) kept done.0,
+  begun_old s pass rest new reader blocks more
+      (subst (HasBegun s pass (record rest { reader = reader }) new blocks) (sym is) done.1),
+)
