@@ -125,6 +125,8 @@ left_inside s rest source inside depth before left is boundary =
       outermost = λ reads. rw (other, and_false rest.reader.outermost) refl;
       after = omega (arith, left.after, here, is.after);
       boundary = boundary;
+      from = left.from;
+      utf8 = left.utf8;
     }
 
 -- it begins later in the line

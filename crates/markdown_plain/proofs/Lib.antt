@@ -67,3 +67,5 @@ pub mod BegunTextsLemmas
 pub mod FoundBlocksLemmas
 pub mod InnerBeginningsLemmas
 pub mod RoomForBlocksLemmas
+pub mod FoundPlacesLemmas
+pub mod TextHereLemmas
