@@ -60,6 +60,7 @@ pub mod TextLinesLemmas
 -- on blocks that begin with the rest of a line
 pub mod BegunBlocksLemmas
 pub mod BegunContainersLemmas
+pub mod BegunItemsLemmas
 pub mod BegunRestsLemmas
 pub mod BegunLeavesLemmas
 pub mod BegunTextsLemmas
@@ -70,6 +71,8 @@ pub mod FittingLemmas
 pub mod BegunMetadataLemmas
 pub mod UnderlinesLemmas
 pub mod RoomForBlocksLemmas
+pub mod FoundPlacesLemmas
+pub mod TextHereLemmas
 -- on where blocks end
 pub mod BlockEndsLemmas
 pub mod LastEndsLemmas
