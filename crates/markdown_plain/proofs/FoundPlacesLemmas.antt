@@ -1,6 +1,6 @@
 -- What a reader of the rest of a line finds lies between characters of the text.
 use Rattle.std.proofs.Common.{◌≡◌, ℕ, zero, suc, ◌+◌, ◌-◌, ◌<◌, ◌≤◌, Bool, true, false, not, ◌&&◌, ◌||◌, ◌==◌}
-use Rattle.std.proofs.Common.{inl, inr, List, [], ◌∷◌, Option, Some, None, arith, codes, drop, get_or, length, nat_lt}
+use Rattle.std.proofs.Common.{inl, inr, List, [], ◌∷◌, Option, Some, None, arith, codes, drop, length, nat_lt}
 use Rattle.std.proofs.Common.{refl, sym, ap, ◌∙◌, subst, take}
 use Rattle.std.specs.Prelude.{if◌then◌else◌, slice_index, slice_range, unwrap_or}
 use Rattle.std.specs.Char.{is_ascii_digit}
@@ -29,17 +29,17 @@ use Rattle.markdown_lines.specs.BlockBeginnings as line
 use Rattle.markdown_lines.specs.BlockBeginnings.{Beginning, Source, begins, begins_after, break_in_line, fence_in_line}
 use Rattle.markdown_lines.specs.BlockBeginnings.{first_found, footnote_in_line, footnote_marker, heading_in_line}
 use Rattle.markdown_lines.specs.BlockBeginnings.{html_in_line, is_paragraph, is_reached, item_in_line, item_of}
-use Rattle.markdown_lines.specs.BlockBeginnings.{item_space, label_before_colon, metadata_begun, metadata_in_line}
+use Rattle.markdown_lines.specs.BlockBeginnings.{label_before_colon, metadata_begun, metadata_in_line}
 use Rattle.markdown_lines.specs.BlockBeginnings.{past_bytes, quote_in_line, quote_of, quote_or_alert}
 use Rattle.markdown_lines.specs.BlockBeginnings.{underline_in_line, whole_heading}
 use Rattle.markdown_lines.specs.BlockStarts.{IsSameLine, beginning_found, begins_unless_blank, left_at, line_at}
 use Rattle.markdown_lines.specs.BlockStarts.{source_read}
 use Rattle.markdown_lines.specs.CodeFences.{opening_fence_at, opens_fence, run_length}
-use Rattle.markdown_lines.specs.HeadingAttributes.{attributed, attributed_by, attributes_read, braces_from, braces_in}
+use Rattle.markdown_lines.specs.HeadingAttributes.{attributed, attributed_by, attributes_read, braces_in}
 use Rattle.markdown_lines.specs.HeadingAttributes.{braces_to, is_enclosed}
 use Rattle.markdown_lines.specs.HtmlBeginnings.{html_kind_of, in_one_line}
 use Rattle.markdown_lines.specs.LineBytes.{is_parted, without_end}
-use Rattle.markdown_lines.specs.Lines.{IsLineEnd, is_line_ending, is_space_or_tab}
+use Rattle.markdown_lines.specs.Lines.{IsLineEnd, is_space_or_tab}
 use Rattle.markdown_lines.specs.ListMarkers.{decimal, ends_number, if_it_stands, is_bullet, list_marker_at, marker_of}
 use Rattle.markdown_lines.specs.ListMarkers.{ordered_marker, ordered_marker_of, stands_before}
 use Rattle.markdown_lines.specs.MetadataBlocks.{metadata_opened}
@@ -62,8 +62,8 @@ use Rattle.markdown_block_rules.specs.TableLines.{reads_tables}
 use Rattle.markdown_block_rules.proofs.BlockBeginningsLemmas.{either}
 use Rattle.markdown_plain.specs.declared.block_pass.LineRest.{LineRest}
 use Rattle.markdown_plain.specs.declared.pass.Pass.{Pass}
-use Rattle.markdown_plain.specs.Beginning.{FoundStands, HasBegun, IsFound, IsHere, IsLeft, ReadsOn, StandsAsText, Turn}
-use Rattle.markdown_plain.specs.Beginning.{first, later}
+use Rattle.markdown_plain.specs.Beginning.{FoundStands, HasBegun, IsFound, IsHere, IsLeft, ReadsOn, StandsAsText}
+use Rattle.markdown_plain.specs.Beginning.{Turn, first, later}
 use Rattle.markdown_plain.specs.Fitting.{AllFitted, BracesStand}
 use Rattle.markdown_plain.specs.OpenLeaves.{InfoStands}
 use Rattle.markdown_plain.specs.Paragraphs.{source_of}
@@ -211,8 +211,8 @@ ordered_ends bytes digits (byte ∷ rest) count is =
     let size : length (drop count bytes) ≡ suc (length rest) = ap length is in
     let place : count + 0 ≡ count = omega arith in
     let same : slice_index bytes count ≡ byte =
-    ap (slice_index bytes) (sym place) ∙ (sym (get_or-drop count bytes 0 0) ∙ ap (λ (bs : List ℕ). slice_index bs 0) is)
-    in
+    ap (slice_index bytes) (sym place)
+    ∙ (sym (get_or-drop count bytes 0 0) ∙ ap (λ (bs : List ℕ). slice_index bs 0) is) in
     let ends : ends_number byte ≡ true = third (count == 0) (nat_lt 9 count) (ends_number byte) some in
     let ascii : byte < 128 = grind (arith, nat_tests, ends) in
     (count, refl, omega (arith, size, length-drop count bytes), omega (arith, same, ascii)))
@@ -306,7 +306,8 @@ module _ (text : List ℕ) (from : ℕ) (utf8 : IsUtf8 text) where
       omega (arith, within, length-drop count left.bytes) in
       record {
         own = ap (slice_range text (left.scanned + count)) stop
-            ∙ (sym (rest_of_part text left.scanned (left.scanned + length left.bytes) count) ∙ ap (drop count) is.own);
+            ∙ (sym (rest_of_part text left.scanned (left.scanned + length left.bytes) count)
+            ∙ ap (drop count) is.own);
         boundary = boundary;
         low = let low = is.low in omega (arith, low);
       }
@@ -652,7 +653,8 @@ no_row s old now rest is (later frames) source blocks none off state = none stat
 
 -- what was begun does not depend on what the reader has kept of the line
 pub begun_old : (s : Source) (pass : Pass) (old new : LineRest) (reader : LineReader) (blocks : Forest Block)
-    (more : Bool) → HasBegun s pass (record old { reader = reader }) new blocks more → HasBegun s pass old new blocks more
+    (more : Bool) → HasBegun s pass (record old { reader = reader }) new blocks more
+    → HasBegun s pass old new blocks more
 begun_old s pass old new reader blocks true reads = record {
   turn = reads.turn;
   source = reads.source;
@@ -673,8 +675,8 @@ begun_places s old now pass rest new blocks more kept is done = (
   subst (HasBegun s pass rest new blocks) (sym is) done.1,
 )
 
-pub begun_reads : (s : Source) (old now pass : Pass) (rest new : LineRest) (reader : LineReader) (blocks : Forest Block)
-    (more : Bool) → now ≡ old → more ≡ true
+pub begun_reads : (s : Source) (old now pass : Pass) (rest new : LineRest) (reader : LineReader)
+    (blocks : Forest Block) (more : Bool) → now ≡ old → more ≡ true
     → AllFitted now.placing × ReadsOn s pass (record rest { reader = reader }) new blocks
     → AllFitted old.placing × HasBegun s pass rest new blocks more
 begun_reads s old now pass rest new reader blocks more kept is done = (
