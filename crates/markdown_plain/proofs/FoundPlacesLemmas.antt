@@ -607,19 +607,23 @@ found_stands s rest source at other left found = tt
 
 -- ---- where nothing else has changed
 
--- what a reader says of the rest of a line
-pub record Finds (rest : LineRest) (new : LineReader) (at : ℕ) (start : BlockStart) : Type 0 where
+-- what a reader says of the rest of a line, where no delimiter row was read in it, which would begin a table
+pub record Finds (old now : Pass) (rest : LineRest) (is_row : Bool) (new : LineReader) (at : ℕ) (start : BlockStart)
+    : Type 0 where
+  pub none : rest.before ≡ paragraph.NoParagraph → (is_row ≡ false) × (now ≡ old)
+  pub off : reads_tables (source_of old) ≡ false → (is_row ≡ false) × (now ≡ old)
   pub begins : beginning_found rest.reader start
       ≡ begins_unless_blank (source_read rest.reader) rest.before (line_at rest.reader rest.position)
   pub place : at ≡ rest.position.at + prefix_len is_space_or_tab (left_at rest.reader rest.position).bytes
   pub same : IsSameLine rest.reader new
 
--- this is still to be read, and was found to begin so
-pub record Meets (s : Source) (pass : Pass) (rest : LineRest) (turn : Turn) (source : SourceLine)
+-- this is still to be read, as it was, and was found to begin so
+pub record Meets (s : Source) (old now : Pass) (rest : LineRest) (turn : Turn) (source : SourceLine)
     (blocks : Forest Block) (at : ℕ) (start : BlockStart) : Type 0 where
-  pub here : IsHere s pass rest turn source blocks
+  pub kept : now ≡ old
+  pub here : IsHere s now rest turn source blocks
   pub found : IsFound s rest source at start
-  pub stands : FoundStands pass.placing.builder.text rest.line at start
+  pub stands : FoundStands now.placing.builder.text rest.line at start
 
 -- the pass reads the text of which it stands for blocks
 here_text : (s : Source) (pass : Pass) (rest : LineRest) (turn : Turn) (source : SourceLine) (blocks : Forest Block)
@@ -627,13 +631,26 @@ here_text : (s : Source) (pass : Pass) (rest : LineRest) (turn : Turn) (source :
 here_text s pass rest (first before line) source blocks state = ap (λ (s : Source). s.text) state.holds.source
 here_text s pass rest (later frames) source blocks state = ap (λ (s : Source). s.text) state.opened.source
 
-pub meets : (s : Source) (old now : Pass) (rest : LineRest) (new : LineReader) (turn : Turn) (source : SourceLine)
-    (blocks : Forest Block) (at : ℕ) (begun start : BlockStart) → now ≡ old → Finds rest new at begun → begun ≡ start
-    → IsHere s old rest turn source blocks → Meets s now (record rest { reader = new }) turn source blocks at start
-meets s old now rest new turn source blocks at begun start kept finds is state =
+-- no row is read at either turn
+no_row : (s : Source) (old now : Pass) (rest : LineRest) (is_row : Bool) (turn : Turn) (source : SourceLine)
+    (blocks : Forest Block) → (rest.before ≡ paragraph.NoParagraph → (is_row ≡ false) × (now ≡ old))
+    → (reads_tables (source_of old) ≡ false → (is_row ≡ false) × (now ≡ old))
+    → IsHere s old rest turn source blocks → (is_row ≡ false) × (now ≡ old)
+no_row s old now rest is_row (first before line) source blocks none off state =
+    off (ap reads_tables state.holds.source ∙ state.tables)
+no_row s old now rest is_row (later frames) source blocks none off state = none state.before
+
+-- what an arm needs
+pub meets : (s : Source) (old now : Pass) (rest : LineRest) (is_row : Bool) (new : LineReader) (turn : Turn)
+    (source : SourceLine) (blocks : Forest Block) (at : ℕ) (begun start : BlockStart)
+    → Finds old now rest is_row new at begun → begun ≡ start → IsHere s old rest turn source blocks
+    → Meets s old now (record rest { reader = new }) turn source blocks at start
+meets s old now rest is_row new turn source blocks at begun start finds is state =
+    let kept = (no_row s old now rest is_row turn source blocks finds.none finds.off state).1 in
     let both = here_found s old now rest new turn source blocks at begun start kept is finds.same finds.begins
     finds.place state in
     record {
+      kept = kept;
       here = both.0;
       found = both.1;
       stands = subst (λ text. FoundStands text rest.line at start)
@@ -641,15 +658,6 @@ meets s old now rest new turn source blocks at begun start kept finds is state =
           (found_stands s (record rest { reader = new }) source at start
           (here_left s now (record rest { reader = new }) turn source blocks both.0) both.1);
     }
-
--- no delimiter row is read, which would begin a table
-pub no_row : (s : Source) (old now : Pass) (rest : LineRest) (is : Bool) (turn : Turn) (source : SourceLine)
-    (blocks : Forest Block) → (rest.before ≡ paragraph.NoParagraph → (is ≡ false) × (now ≡ old))
-    → (reads_tables (source_of old) ≡ false → (is ≡ false) × (now ≡ old))
-    → IsHere s old rest turn source blocks → (is ≡ false) × (now ≡ old)
-no_row s old now rest is (first before line) source blocks none off state =
-    off (ap reads_tables state.holds.source ∙ state.tables)
-no_row s old now rest is (later frames) source blocks none off state = none state.before
 
 -- what was begun does not depend on what the reader has kept of the line
 pub begun_old : (s : Source) (pass : Pass) (old new : LineRest) (reader : LineReader) (blocks : Forest Block)
