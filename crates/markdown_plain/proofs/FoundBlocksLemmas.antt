@@ -1,6 +1,6 @@
 -- What a reader of the rest of a line finds is what the line begins, as the definition says.
-use Rattle.std.proofs.Common.{◌≡◌, ℕ, ◌+◌, ◌&&◌, ◌||◌, ◌==◌, Bool, true, false, List, Option, Some, None, refl, sym, ap}
-use Rattle.std.proofs.Common.{◌∙◌, ◌≤◌, subst}
+use Rattle.std.proofs.Common.{◌≡◌, ℕ, ◌+◌, ◌&&◌, ◌||◌, ◌==◌, Bool, true, false, List, Option, Some, None, refl}
+use Rattle.std.proofs.Common.{sym, ap, ◌∙◌, ◌≤◌, subst}
 use Rattle.std.proofs.lemmas.Option.{none-some}
 use Rattle.std.specs.Prelude.{if◌then◌else◌, unwrap_or}
 use Rattle.std.specs.List.{list_all, prefix_len}
@@ -29,7 +29,7 @@ use Rattle.markdown_lines.specs.declared.block_start.Before.TheVariants as parag
 use Rattle.markdown_lines.specs.declared.block_start.BlockStart.{BlockStart}
 use Rattle.markdown_lines.specs.declared.block_start.BlockStart.TheVariants as start
 use Rattle.markdown_lines.specs.declared.line_reader.LineReader.{LineReader}
-use Rattle.markdown_block_rules.specs.BlockGrowth.{Block, begun_by, content_of, inside_of, new_blocks}
+use Rattle.markdown_block_rules.specs.BlockGrowth.{Block, begun_by, inside_of, new_blocks}
 use Rattle.markdown_plain.specs.declared.block_pass.LineRest.{LineRest}
 use Rattle.markdown_plain.specs.declared.pass.Pass.{Pass}
 use Rattle.markdown_plain.specs.Beginning.{IsFirst, IsFound, IsHere, IsInside, IsLeft, Turn, first, later}
@@ -128,20 +128,19 @@ none_opens options text next None none = refl
 none_opens options text next (Some metadata.YamlStyle) none =
     not_read (is_read ENABLE_YAML_STYLE_METADATA_BLOCKS options)
     (are_of_metadata metadata.YamlStyle (lines_at text next)) metadata.YamlStyle
-    (neither (is_read ENABLE_YAML_STYLE_METADATA_BLOCKS options) (is_read ENABLE_PLUSES_DELIMITED_METADATA_BLOCKS options)
-    none).0
+    (neither (is_read ENABLE_YAML_STYLE_METADATA_BLOCKS options)
+    (is_read ENABLE_PLUSES_DELIMITED_METADATA_BLOCKS options) none).0
 none_opens options text next (Some metadata.PlusesStyle) none =
     not_read (is_read ENABLE_PLUSES_DELIMITED_METADATA_BLOCKS options)
     (are_of_metadata metadata.PlusesStyle (lines_at text next)) metadata.PlusesStyle
-    (neither (is_read ENABLE_YAML_STYLE_METADATA_BLOCKS options) (is_read ENABLE_PLUSES_DELIMITED_METADATA_BLOCKS options)
-    none).1
+    (neither (is_read ENABLE_YAML_STYLE_METADATA_BLOCKS options)
+    (is_read ENABLE_PLUSES_DELIMITED_METADATA_BLOCKS options) none).1
 
 -- so whether it is directly under the root is not asked
 either_outermost : (before : Before) (opened : Option MetadataBlockKind) (one other : Bool) → opened ≡ None
     → (if one then option_and_then (metadata_begun before) opened else None)
     ≡ (if other then option_and_then (metadata_begun before) opened else None)
-either_outermost before opened one other none =
-    none_of one ∙ sym (none_of other)
+either_outermost before opened one other none = none_of one ∙ sym (none_of other)
   where
     none_of : (b : Bool) → (if b then option_and_then (metadata_begun before) opened else None) ≡ None
     none_of true = ap (option_and_then (metadata_begun before)) none
@@ -168,11 +167,13 @@ begins_or s before left opens =
 
 -- what two lines begin of which the same is left
 same_begins : (s : Source) (before : Before) (one other : SourceLine) → one.left ≡ other.left → one.next ≡ other.next
-    → (reads_metadata s.options ≡ true → one.outermost ≡ other.outermost) → begins s before one ≡ begins s before other
+    → (reads_metadata s.options ≡ true → one.outermost ≡ other.outermost)
+    → begins s before one ≡ begins s before other
 same_begins s before one other left next outermost =
     ap (λ (l : LineLeft). begins s before
     (record { left = l; next = one.next; outermost = one.outermost; indent = None })) left
-    ∙ (ap (λ n. begins s before (record { left = other.left; next = n; outermost = one.outermost; indent = None })) next
+    ∙ (ap (λ n. begins s before
+    (record { left = other.left; next = n; outermost = one.outermost; indent = None })) next
     ∙ ap (begins_or s before other.left)
     (same_metadata s before other.left other.next one.outermost other.outermost (reads_metadata s.options) refl
     outermost))
@@ -209,8 +210,8 @@ is_found s rest new source at start left same found place =
     }
 
 -- both, where nothing else has changed
-pub here_found : (s : Source) (old now : Pass) (rest : LineRest) (new : LineReader) (turn : Turn) (source : SourceLine)
-    (blocks : Forest Block) (at : ℕ) (begun start : BlockStart) → now ≡ old → begun ≡ start
+pub here_found : (s : Source) (old now : Pass) (rest : LineRest) (new : LineReader) (turn : Turn)
+    (source : SourceLine) (blocks : Forest Block) (at : ℕ) (begun start : BlockStart) → now ≡ old → begun ≡ start
     → IsSameLine rest.reader new
     → beginning_found rest.reader begun
     ≡ begins_unless_blank (source_read rest.reader) rest.before (line_at rest.reader rest.position)

@@ -1,6 +1,6 @@
 -- What a reader of the rest of a line finds lies between characters of the text.
 use Rattle.std.proofs.Common.{◌≡◌, ℕ, zero, suc, ◌+◌, ◌-◌, ◌<◌, ◌≤◌, Bool, true, false, not, ◌&&◌, ◌||◌, ◌==◌}
-use Rattle.std.proofs.Common.{inl, inr, List, [], ◌∷◌, Option, Some, None, arith, codes, drop, get_or, length, nat_lt}
+use Rattle.std.proofs.Common.{inl, inr, List, [], ◌∷◌, Option, Some, None, arith, codes, drop, length, nat_lt}
 use Rattle.std.proofs.Common.{refl, sym, ap, ◌∙◌, subst, take}
 use Rattle.std.specs.Prelude.{if◌then◌else◌, slice_index, slice_range, unwrap_or}
 use Rattle.std.specs.Char.{is_ascii_digit}
@@ -29,17 +29,17 @@ use Rattle.markdown_lines.specs.BlockBeginnings as line
 use Rattle.markdown_lines.specs.BlockBeginnings.{Beginning, Source, begins, begins_after, break_in_line, fence_in_line}
 use Rattle.markdown_lines.specs.BlockBeginnings.{first_found, footnote_in_line, footnote_marker, heading_in_line}
 use Rattle.markdown_lines.specs.BlockBeginnings.{html_in_line, is_paragraph, is_reached, item_in_line, item_of}
-use Rattle.markdown_lines.specs.BlockBeginnings.{item_space, label_before_colon, metadata_begun, metadata_in_line}
+use Rattle.markdown_lines.specs.BlockBeginnings.{label_before_colon, metadata_begun, metadata_in_line}
 use Rattle.markdown_lines.specs.BlockBeginnings.{past_bytes, quote_in_line, quote_of, quote_or_alert}
 use Rattle.markdown_lines.specs.BlockBeginnings.{underline_in_line, whole_heading}
 use Rattle.markdown_lines.specs.BlockStarts.{IsSameLine, beginning_found, begins_unless_blank, left_at, line_at}
 use Rattle.markdown_lines.specs.BlockStarts.{source_read}
 use Rattle.markdown_lines.specs.CodeFences.{opening_fence_at, opens_fence, run_length}
-use Rattle.markdown_lines.specs.HeadingAttributes.{attributed, attributed_by, attributes_read, braces_from, braces_in}
+use Rattle.markdown_lines.specs.HeadingAttributes.{attributed, attributed_by, attributes_read, braces_in}
 use Rattle.markdown_lines.specs.HeadingAttributes.{braces_to, is_enclosed}
 use Rattle.markdown_lines.specs.HtmlBeginnings.{html_kind_of, in_one_line}
 use Rattle.markdown_lines.specs.LineBytes.{is_parted, without_end}
-use Rattle.markdown_lines.specs.Lines.{IsLineEnd, is_line_ending, is_space_or_tab}
+use Rattle.markdown_lines.specs.Lines.{IsLineEnd, is_space_or_tab}
 use Rattle.markdown_lines.specs.ListMarkers.{decimal, ends_number, if_it_stands, is_bullet, list_marker_at, marker_of}
 use Rattle.markdown_lines.specs.ListMarkers.{ordered_marker, ordered_marker_of, stands_before}
 use Rattle.markdown_lines.specs.MetadataBlocks.{metadata_opened}
@@ -62,8 +62,8 @@ use Rattle.markdown_block_rules.specs.TableLines.{reads_tables}
 use Rattle.markdown_block_rules.proofs.BlockBeginningsLemmas.{either}
 use Rattle.markdown_plain.specs.declared.block_pass.LineRest.{LineRest}
 use Rattle.markdown_plain.specs.declared.pass.Pass.{Pass}
-use Rattle.markdown_plain.specs.Beginning.{FoundStands, HasBegun, IsFound, IsHere, IsLeft, ReadsOn, StandsAsText, Turn}
-use Rattle.markdown_plain.specs.Beginning.{first, later}
+use Rattle.markdown_plain.specs.Beginning.{FoundStands, HasBegun, IsFound, IsHere, IsLeft, ReadsOn, StandsAsText}
+use Rattle.markdown_plain.specs.Beginning.{Turn, first, later}
 use Rattle.markdown_plain.specs.Fitting.{AllFitted, BracesStand}
 use Rattle.markdown_plain.specs.OpenLeaves.{InfoStands}
 use Rattle.markdown_plain.specs.Paragraphs.{source_of}
@@ -211,8 +211,8 @@ ordered_ends bytes digits (byte ∷ rest) count is =
     let size : length (drop count bytes) ≡ suc (length rest) = ap length is in
     let place : count + 0 ≡ count = omega arith in
     let same : slice_index bytes count ≡ byte =
-    ap (slice_index bytes) (sym place) ∙ (sym (get_or-drop count bytes 0 0) ∙ ap (λ (bs : List ℕ). slice_index bs 0) is)
-    in
+    ap (slice_index bytes) (sym place)
+    ∙ (sym (get_or-drop count bytes 0 0) ∙ ap (λ (bs : List ℕ). slice_index bs 0) is) in
     let ends : ends_number byte ≡ true = third (count == 0) (nat_lt 9 count) (ends_number byte) some in
     let ascii : byte < 128 = grind (arith, nat_tests, ends) in
     (count, refl, omega (arith, size, length-drop count bytes), omega (arith, same, ascii)))
@@ -306,7 +306,8 @@ module _ (text : List ℕ) (from : ℕ) (utf8 : IsUtf8 text) where
       omega (arith, within, length-drop count left.bytes) in
       record {
         own = ap (slice_range text (left.scanned + count)) stop
-            ∙ (sym (rest_of_part text left.scanned (left.scanned + length left.bytes) count) ∙ ap (drop count) is.own);
+            ∙ (sym (rest_of_part text left.scanned (left.scanned + length left.bytes) count)
+            ∙ ap (drop count) is.own);
         boundary = boundary;
         low = let low = is.low in omega (arith, low);
       }
@@ -606,19 +607,23 @@ found_stands s rest source at other left found = tt
 
 -- ---- where nothing else has changed
 
--- what a reader says of the rest of a line
-pub record Finds (rest : LineRest) (new : LineReader) (at : ℕ) (start : BlockStart) : Type 0 where
+-- what a reader says of the rest of a line, where no delimiter row was read in it, which would begin a table
+pub record Finds (old now : Pass) (rest : LineRest) (is_row : Bool) (new : LineReader) (at : ℕ) (start : BlockStart)
+    : Type 0 where
+  pub none : rest.before ≡ paragraph.NoParagraph → (is_row ≡ false) × (now ≡ old)
+  pub off : reads_tables (source_of old) ≡ false → (is_row ≡ false) × (now ≡ old)
   pub begins : beginning_found rest.reader start
       ≡ begins_unless_blank (source_read rest.reader) rest.before (line_at rest.reader rest.position)
   pub place : at ≡ rest.position.at + prefix_len is_space_or_tab (left_at rest.reader rest.position).bytes
   pub same : IsSameLine rest.reader new
 
--- this is still to be read, and was found to begin so
-pub record Meets (s : Source) (pass : Pass) (rest : LineRest) (turn : Turn) (source : SourceLine)
+-- this is still to be read, as it was, and was found to begin so
+pub record Meets (s : Source) (old now : Pass) (rest : LineRest) (turn : Turn) (source : SourceLine)
     (blocks : Forest Block) (at : ℕ) (start : BlockStart) : Type 0 where
-  pub here : IsHere s pass rest turn source blocks
+  pub kept : now ≡ old
+  pub here : IsHere s now rest turn source blocks
   pub found : IsFound s rest source at start
-  pub stands : FoundStands pass.placing.builder.text rest.line at start
+  pub stands : FoundStands now.placing.builder.text rest.line at start
 
 -- the pass reads the text of which it stands for blocks
 here_text : (s : Source) (pass : Pass) (rest : LineRest) (turn : Turn) (source : SourceLine) (blocks : Forest Block)
@@ -626,13 +631,26 @@ here_text : (s : Source) (pass : Pass) (rest : LineRest) (turn : Turn) (source :
 here_text s pass rest (first before line) source blocks state = ap (λ (s : Source). s.text) state.holds.source
 here_text s pass rest (later frames) source blocks state = ap (λ (s : Source). s.text) state.opened.source
 
-pub meets : (s : Source) (old now : Pass) (rest : LineRest) (new : LineReader) (turn : Turn) (source : SourceLine)
-    (blocks : Forest Block) (at : ℕ) (begun start : BlockStart) → now ≡ old → Finds rest new at begun → begun ≡ start
-    → IsHere s old rest turn source blocks → Meets s now (record rest { reader = new }) turn source blocks at start
-meets s old now rest new turn source blocks at begun start kept finds is state =
+-- no row is read at either turn
+no_row : (s : Source) (old now : Pass) (rest : LineRest) (is_row : Bool) (turn : Turn) (source : SourceLine)
+    (blocks : Forest Block) → (rest.before ≡ paragraph.NoParagraph → (is_row ≡ false) × (now ≡ old))
+    → (reads_tables (source_of old) ≡ false → (is_row ≡ false) × (now ≡ old))
+    → IsHere s old rest turn source blocks → (is_row ≡ false) × (now ≡ old)
+no_row s old now rest is_row (first before line) source blocks none off state =
+    off (ap reads_tables state.holds.source ∙ state.tables)
+no_row s old now rest is_row (later frames) source blocks none off state = none state.before
+
+-- what an arm needs
+pub meets : (s : Source) (old now : Pass) (rest : LineRest) (is_row : Bool) (new : LineReader) (turn : Turn)
+    (source : SourceLine) (blocks : Forest Block) (at : ℕ) (begun start : BlockStart)
+    → Finds old now rest is_row new at begun → begun ≡ start → IsHere s old rest turn source blocks
+    → Meets s old now (record rest { reader = new }) turn source blocks at start
+meets s old now rest is_row new turn source blocks at begun start finds is state =
+    let kept = (no_row s old now rest is_row turn source blocks finds.none finds.off state).1 in
     let both = here_found s old now rest new turn source blocks at begun start kept is finds.same finds.begins
     finds.place state in
     record {
+      kept = kept;
       here = both.0;
       found = both.1;
       stands = subst (λ text. FoundStands text rest.line at start)
@@ -641,18 +659,10 @@ meets s old now rest new turn source blocks at begun start kept finds is state =
           (here_left s now (record rest { reader = new }) turn source blocks both.0) both.1);
     }
 
--- no delimiter row is read, which would begin a table
-pub no_row : (s : Source) (old now : Pass) (rest : LineRest) (is : Bool) (turn : Turn) (source : SourceLine)
-    (blocks : Forest Block) → (rest.before ≡ paragraph.NoParagraph → (is ≡ false) × (now ≡ old))
-    → (reads_tables (source_of old) ≡ false → (is ≡ false) × (now ≡ old))
-    → IsHere s old rest turn source blocks → (is ≡ false) × (now ≡ old)
-no_row s old now rest is (first before line) source blocks none off state =
-    off (ap reads_tables state.holds.source ∙ state.tables)
-no_row s old now rest is (later frames) source blocks none off state = none state.before
-
 -- what was begun does not depend on what the reader has kept of the line
 pub begun_old : (s : Source) (pass : Pass) (old new : LineRest) (reader : LineReader) (blocks : Forest Block)
-    (more : Bool) → HasBegun s pass (record old { reader = reader }) new blocks more → HasBegun s pass old new blocks more
+    (more : Bool) → HasBegun s pass (record old { reader = reader }) new blocks more
+    → HasBegun s pass old new blocks more
 begun_old s pass old new reader blocks true reads = record {
   turn = reads.turn;
   source = reads.source;
@@ -673,8 +683,8 @@ begun_places s old now pass rest new blocks more kept is done = (
   subst (HasBegun s pass rest new blocks) (sym is) done.1,
 )
 
-pub begun_reads : (s : Source) (old now pass : Pass) (rest new : LineRest) (reader : LineReader) (blocks : Forest Block)
-    (more : Bool) → now ≡ old → more ≡ true
+pub begun_reads : (s : Source) (old now pass : Pass) (rest new : LineRest) (reader : LineReader)
+    (blocks : Forest Block) (more : Bool) → now ≡ old → more ≡ true
     → AllFitted now.placing × ReadsOn s pass (record rest { reader = reader }) new blocks
     → AllFitted old.placing × HasBegun s pass rest new blocks more
 begun_reads s old now pass rest new reader blocks more kept is done = (

@@ -9,19 +9,17 @@ use Rattle.markdown_lines.specs.declared.block_start.Before.{Before as Paragraph
 use Rattle.markdown_lines.specs.declared.block_start.Before.TheVariants as paragraph
 use Rattle.markdown_lines.specs.declared.block_start.BlockStart.TheVariants as start
 use Rattle.markdown_block_rules.specs.BlockGrowth as was
-use Rattle.markdown_block_rules.specs.BlockGrowth.{Block, begun_by, content_of, goes_on, inside_of, new_blocks, with_line}
+use Rattle.markdown_block_rules.specs.BlockGrowth.{Block, begun_by, content_of, goes_on, inside_of, new_blocks}
 use Rattle.markdown_plain.specs.declared.block_pass.LineRest.{LineRest}
 use Rattle.markdown_plain.specs.declared.pass.Pass.{Pass}
-use Rattle.markdown_plain.specs.Beginning.{IsFirst, IsFound, IsHere, IsInside, Turn, first, later}
+use Rattle.markdown_plain.specs.Beginning.{IsFirst, IsFound, IsHere, IsInside, IsLeft, Turn, first, later}
 use Rattle.markdown_plain.specs.Fitting.{AllFitted, IfFitted}
 use Rattle.markdown_plain.specs.Frames.{Frame, rebuilt}
 use Rattle.markdown_plain.specs.OpenLeaves.{BeginsText}
-use Rattle.markdown_plain.specs.Paragraphs.{has_paragraph}
-use Rattle.markdown_plain.specs.ReachedFrames.{are_none}
 use Rattle.markdown_plain.specs.ReachedLines.{Before, blocks_in, reached_of}
 use Rattle.markdown_plain.specs.Settled.{IsBuilt}
 use Rattle.markdown_plain.specs.Standing.{PlacesFor}
-use Rattle.markdown_plain.specs.TextLines.{IsContentAt, IsTextHere, held_line}
+use Rattle.markdown_plain.specs.TextLines.{IsContentAt, IsTextFrom, IsTextHere, held_line}
 use Rattle.markdown_plain.proofs.BegunBlocksLemmas.{begun_block, source_kept}
 use Rattle.markdown_plain.proofs.BegunLemmas.{begun_once}
 use Rattle.markdown_plain.proofs.BegunTextsLemmas.{none_open, text_begins, text_inside}
@@ -41,6 +39,17 @@ pub found_text : (s : Source) (rest : LineRest) (source : SourceLine) (at : ℕ)
 found_text s rest source at found =
     let is = found_begins s rest source at start.Text beginning.begins_text found refl in
     record { filled = is.0; here = found.begins; text = is.1 }
+
+-- so it is where its first byte shows that
+pub shown_text : (s : Source) (rest : LineRest) (source : SourceLine) → IsLeft s rest source
+    → IsTextFrom s.text rest.position rest.line.stop → IsTextLeft s rest source rest.position.at
+shown_text s rest source left shows =
+    let same = sym left.is.rest.left in
+    record {
+      filled = shows.filled source same;
+      here = sym (shows.here source same);
+      text = shows.begins_it s rest.before source refl same;
+    }
 
 -- after the containers that go on in the line
 text_first : (s : Source) (old new : Pass) (rest : LineRest) (at : ℕ) (before : Before) (line source : SourceLine)
