@@ -1,7 +1,7 @@
 //! The block pass, line by line: which open blocks continue, which blocks begin, and what a lazy continuation line
 //! continues (CommonMark, appendix on parsing). Functions that return a `Result` fail only where memory is refused;
 //! what was built by then is not used.
-ghost use Rattle.std.specs.Prelude.{◌≡◌, [], true, false, Some, length, slice_range, IfOk, ℕ, None, List};
+ghost use Rattle.std.specs.Prelude.{◌≡◌, [], true, false, Some, length, slice_range, take, IfOk, ℕ, None, List};
 ghost use Rattle.std.specs.List.{list_all};
 ghost use Rattle.std.specs.Str.{IsCharBoundary};
 ghost use Rattle.markdown_base.specs.BlockTree.{tree_of};
@@ -19,7 +19,8 @@ ghost use Rattle.markdown_plain.specs.ReachedLines.{reached_of};
 ghost use Rattle.markdown_plain.specs.Standing.{IsSource, PlacesFor, Stands, StandsFor};
 ghost use Rattle.markdown_lines.specs.declared.position.Position.{Position};
 ghost use Rattle.markdown_block_rules.specs.TableLines.{reads_tables};
-ghost use Rattle.markdown_plain.specs.TextLines.{BeginsNoBlock, IsTextFrom, IsTextHere};
+ghost use Rattle.markdown_plain.specs.OpenBlocks.{is_list};
+ghost use Rattle.markdown_plain.specs.TextLines.{BeginsNoBlock, IsTextFrom, IsTextHere, paragraph_before};
 ghost use Rattle.markdown_lines.specs.declared.block_start.Before.TheVariants as before;
 ghost use Rattle.markdown_lines.specs.declared.block_start.BlockStart.{BlockStart};
 ghost use Rattle.markdown_lines.specs.declared.block_start.BlockStart.TheVariants as start;
@@ -134,7 +135,9 @@ fn reads_metadata(options: Options) -> bool
 
 /// Returns whether the outermost `depth` of the open blocks are lists, so that what a line begins in them is directly
 /// under the root.
-fn are_lists(blocks: &[OpenBlock], depth: usize) -> bool {
+fn are_lists(blocks: &[OpenBlock], depth: usize) -> bool
+    ensures { result ≡ list_all (λ block. is_list block.body) (take depth blocks.now) }
+{
     for block in blocks.iter().take(depth) {
         match block.body {
             ItemBody::List(_, _, _) => {}
@@ -330,7 +333,9 @@ impl<'a> Pass<'a> {
     }
 
     /// Returns the paragraph that a line may go on with, where all open containers continue in it, or not.
-    fn paragraph_before(&self, all: bool) -> Before {
+    fn paragraph_before(&self, all: bool) -> Before
+        ensures { result ≡ paragraph_before self.now all }
+    {
         if !self.has_paragraph() {
             Before::NoParagraph
         } else if all {

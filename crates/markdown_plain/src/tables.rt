@@ -7,6 +7,7 @@ ghost use Rattle.markdown_plain.specs.Fitting.{GoesOn, IfFitted};
 ghost use Rattle.markdown_items.specs.ContentItems.{AddsItems};
 ghost use Rattle.markdown_plain.specs.Paragraphs.{IsPlacedTo};
 ghost use Rattle.markdown_lines.specs.TableRows.{row_cells_at};
+ghost use Rattle.markdown_plain.specs.OpenBlocks.{innermost_is, is_table};
 ghost use Rattle.markdown_plain.specs.TableRows.{PutsTree, may_be_row};
 
 use crate::containers::reach;
@@ -199,7 +200,9 @@ fn begins_delimiter_row(byte: Option<u8>) -> bool {
 
 impl<'a> Pass<'a> {
     /// Returns whether a table is open.
-    pub fn is_in_table(&self) -> bool {
+    pub fn is_in_table(&self) -> bool
+        ensures { result ≡ innermost_is is_table self.now.placing.builder.blocks }
+    {
         match innermost(&self.placing) {
             Some(ItemBody::Table(_)) => true,
             _ => false,
