@@ -62,5 +62,8 @@ pub mod BegunContainersLemmas
 pub mod BegunRestsLemmas
 pub mod BegunLeavesLemmas
 pub mod BegunTextsLemmas
+pub mod FirstTurnsLemmas
 pub mod FoundBlocksLemmas
 pub mod InnerBeginningsLemmas
+-- on a whole text
+pub mod WholeTextsLemmas
