@@ -43,14 +43,14 @@ LeafLeavesOff s before source =
     (reached_of s before source).inner ≡ [] → LeavesOff s (reached_of s before source).rest before.last
 
 -- so it is where the line does not reach all of them
-pub some_unreached : (s : Source) (pass : Pass) (line : Line) (found : code.Reached) (before : Before)
+some_unreached : (s : Source) (pass : Pass) (line : Line) (found : code.Reached) (before : Before)
     (source : SourceLine) → IsReachedBy s pass line found before source → found.all ≡ false
     → LeafLeavesOff s before source
 some_unreached s pass line found before source by some all =
     absurd (true≢false (sym (ap are_none all) ∙ (sym by.reaches.all ∙ some)))
 
 -- or where no leaf is open
-pub none_leaves_off : (s : Source) (pass : Pass) (frames : List Frame) (inside : Forest Block) (last : Option Block)
+none_leaves_off : (s : Source) (pass : Pass) (frames : List Frame) (inside : Forest Block) (last : Option Block)
     (rest : SourceLine) → HasLast s pass frames inside last → pass.placing.builder.leaf ≡ false
     → LeavesOff s rest last
 none_leaves_off s pass frames inside None rest has outside = tt
@@ -66,6 +66,30 @@ pub record LeavesAll (old new : Pass) (line : Line) (found : code.Reached) : Typ
   pub same : new ≡ old
   pub off : (s : Source) (before : Before) (source : SourceLine) → IsReachedBy s old line found before source
       → LeafLeavesOff s before source
+
+pub unreached_leaves : (old new : Pass) (line : Line) (found : code.Reached) → new ≡ old → found.all ≡ false
+    → LeavesAll old new line found
+unreached_leaves old new line found same some = record {
+  same = same;
+  off = λ s before source by. some_unreached s old line found before source by some;
+}
+
+pub outside_leaves : (old new : Pass) (line : Line) (found : code.Reached) → new ≡ old
+    → old.placing.builder.leaf ≡ false → LeavesAll old new line found
+outside_leaves old new line found same outside = record {
+  same = same;
+  off = λ s before source by all. none_leaves_off s old before.frames before.inside before.last
+      (reached_of s before source).rest by.stands.unended outside;
+}
+
+pub leaf_leaves : (old now new : Pass) (line : Line) (found : code.Reached) → new ≡ now
+    → (now ≡ old) × ((s : Source) (before : Before) (source : SourceLine) → IsReachedBy s old line found before source
+    → old.placing.builder.leaf ≡ true → LeavesOff s (reached_of s before source).rest before.last)
+    → old.placing.builder.leaf ≡ true → LeavesAll old new line found
+leaf_leaves old now new line found same told leaf = record {
+  same = same ∙ told.0;
+  off = λ s before source by all. told.1 s before source by leaf;
+}
 
 -- ---- what is directly under the root
 
