@@ -9,7 +9,7 @@ use Rattle.markdown_builder.specs.declared.open_block.OpenBlock.{OpenBlock}
 use Rattle.markdown_scan.specs.LineStart.{LineLeft}
 use Rattle.markdown_lines.specs.BlockBeginnings.{Source}
 use Rattle.markdown_lines.specs.BlockStarts.{source_read}
-use Rattle.markdown_lines.specs.Positions.{left_from}
+use Rattle.markdown_lines.specs.Lines.{IsLineFrom}
 use Rattle.markdown_lines.specs.SourceLines.{SourceLine, is_blank_rest}
 use Rattle.markdown_lines.specs.declared.line.Line.{Line}
 use Rattle.markdown_lines.specs.declared.position.Position.{Position}
@@ -214,6 +214,8 @@ first_left s pass found before source rest utf8 by made =
       after = subst (λ n. rest.line.start ≤ n) (sym place) within.low;
       boundary = subst (IsCharBoundary s.text) (sym place)
           (subst (λ (text : List ℕ). IsCharBoundary text r.rest.left.scanned) same within.boundary);
+      from = subst (λ (text : List ℕ). IsLineFrom text rest.line.start rest.line) same by.is.from;
+      utf8 = subst IsUtf8 same utf8;
     }
   where
     lists : Bool

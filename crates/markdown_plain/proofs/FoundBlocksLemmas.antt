@@ -1,30 +1,41 @@
 -- What a reader of the rest of a line finds is what the line begins, as the definition says.
-use Rattle.std.proofs.Common.{◌≡◌, ℕ, ◌+◌, List, refl, sym, ap, ◌∙◌, subst}
-use Rattle.std.specs.List.{prefix_len}
-use Rattle.markdown_base.specs.Forest.{Forest}
-use Rattle.markdown_lines.specs.BlockBeginnings.{Source}
+use Rattle.std.proofs.Common.{◌≡◌, ℕ, ◌+◌, ◌&&◌, ◌||◌, ◌==◌, Bool, true, false, List, Option, Some, None, refl, sym, ap}
+use Rattle.std.proofs.Common.{◌∙◌, ◌≤◌, subst}
+use Rattle.std.proofs.lemmas.Option.{none-some}
+use Rattle.std.specs.Prelude.{if◌then◌else◌, unwrap_or}
+use Rattle.std.specs.List.{list_all, prefix_len}
+use Rattle.std.specs.Option.{option_and_then}
+use Rattle.std.proofs.lemmas.Bool.{true≢false}
+use Rattle.markdown_base.specs.Forest.{Forest, nil}
+use Rattle.markdown_base.specs.declared.options.Options.{Options}
+use Rattle.markdown_base.specs.declared.options.TheConstants.Options.{ENABLE_YAML_STYLE_METADATA_BLOCKS}
+use Rattle.markdown_base.specs.declared.options.TheConstants.Options.{ENABLE_PLUSES_DELIMITED_METADATA_BLOCKS}
+use Rattle.markdown_base.specs.declared.tag.MetadataBlockKind.{MetadataBlockKind}
+use Rattle.markdown_base.specs.declared.tag.MetadataBlockKind.TheVariants as metadata
+use Rattle.markdown_scan.specs.LineStart.{LineLeft, leading_space}
+use Rattle.markdown_lines.specs.BlockBeginnings as beginning
+use Rattle.markdown_lines.specs.BlockBeginnings.{Beginning, Source, begins, begins_after, is_paragraph}
+use Rattle.markdown_lines.specs.BlockBeginnings.{metadata_begun, metadata_in_line}
 use Rattle.markdown_lines.specs.BlockStarts.{IsSameLine, begins_unless_blank, beginning_found, left_at, line_at}
 use Rattle.markdown_lines.specs.BlockStarts.{source_read}
+use Rattle.markdown_lines.specs.ExtendedOnly.{is_read}
 use Rattle.markdown_lines.specs.Lines.{is_space_or_tab}
-use Rattle.markdown_lines.specs.SourceLines.{SourceLine}
+use Rattle.markdown_lines.specs.MetadataBlocks.{are_of_metadata, line_opens, lines_at, metadata_opened}
+use Rattle.markdown_lines.specs.MetadataBlocks.{opened_before}
+use Rattle.markdown_lines.specs.Positions.{left_from}
+use Rattle.markdown_lines.specs.SourceLines.{SourceLine, is_blank_rest}
+use Rattle.markdown_lines.specs.declared.block_start.Before.{Before}
+use Rattle.markdown_lines.specs.declared.block_start.Before.TheVariants as paragraph
 use Rattle.markdown_lines.specs.declared.block_start.BlockStart.{BlockStart}
 use Rattle.markdown_lines.specs.declared.block_start.BlockStart.TheVariants as start
 use Rattle.markdown_lines.specs.declared.line_reader.LineReader.{LineReader}
-use Rattle.markdown_block_rules.specs.BlockGrowth.{Block, content_of}
+use Rattle.markdown_block_rules.specs.BlockGrowth.{Block, begun_by, content_of, inside_of, new_blocks}
 use Rattle.markdown_plain.specs.declared.block_pass.LineRest.{LineRest}
 use Rattle.markdown_plain.specs.declared.pass.Pass.{Pass}
-use Rattle.markdown_plain.specs.Beginning.{IsFound, IsInside, IsLeft}
+use Rattle.markdown_plain.specs.Beginning.{IsFirst, IsFound, IsHere, IsInside, IsLeft, Turn, first, later}
+use Rattle.markdown_plain.specs.Beginning.{begun_in_rest, reads_metadata}
 use Rattle.markdown_plain.specs.Frames.{Frame}
-use Rattle.std.proofs.Common.{◌≤◌, Bool, true, false, Option, Some, None}
-use Rattle.std.proofs.lemmas.Option.{none-some}
-use Rattle.std.specs.Prelude.{if◌then◌else◌, unwrap_or}
-use Rattle.markdown_base.specs.Forest.{nil}
-use Rattle.markdown_scan.specs.LineStart.{LineLeft}
-use Rattle.markdown_lines.specs.BlockBeginnings.{Beginning, begins}
-use Rattle.markdown_lines.specs.SourceLines.{is_blank_rest}
-use Rattle.markdown_lines.specs.declared.block_start.Before.TheVariants as paragraph
-use Rattle.markdown_block_rules.specs.BlockGrowth.{begun_by, inside_of, new_blocks}
-use Rattle.markdown_plain.specs.Beginning.{begun_in_rest}
+use Rattle.markdown_plain.specs.ReachedLines.{Before as LineBefore}
 use Rattle.markdown_plain.proofs.BegunLemmas.{begun_once}
 use Rattle.markdown_plain.proofs.BegunRestsLemmas.{HoldsRest, begins_rest}
 
@@ -50,6 +61,8 @@ left_same s rest new source same left = record {
   outermost = rw (same.outermost, same.start) left.outermost;
   after = left.after;
   boundary = left.boundary;
+  from = left.from;
+  utf8 = left.utf8;
 }
 
 inside_same : (s : Source) (pass : Pass) (rest : LineRest) (new : LineReader) (frames : List Frame)
@@ -66,6 +79,116 @@ inside_same s pass rest new frames source blocks same state = record {
   items = state.items;
 }
 
+first_same : (s : Source) (pass : Pass) (rest : LineRest) (new : LineReader) (before : LineBefore)
+    (line source : SourceLine) (blocks : Forest Block) → IsSameLine rest.reader new
+    → IsFirst s pass rest before line source blocks
+    → IsFirst s pass (record rest { reader = new }) before line source blocks
+first_same s pass rest new before line source blocks same state = record {
+  tables = state.tables;
+  holds = state.holds;
+  is = state.is;
+  reached = state.reached;
+  left = left_same s rest new source same state.left;
+  depth = state.depth;
+  paragraph = state.paragraph;
+  filled = state.filled;
+  over = state.over;
+  whole = state.whole;
+}
+
+here_same : (s : Source) (pass : Pass) (rest : LineRest) (new : LineReader) (turn : Turn) (source : SourceLine)
+    (blocks : Forest Block) → IsSameLine rest.reader new → IsHere s pass rest turn source blocks
+    → IsHere s pass (record rest { reader = new }) turn source blocks
+here_same s pass rest new (first before line) source blocks same state =
+    first_same s pass rest new before line source blocks same state
+here_same s pass rest new (later frames) source blocks same state =
+    inside_same s pass rest new frames source blocks same state
+
+-- what is left of the line is known at either turn
+pub here_left : (s : Source) (pass : Pass) (rest : LineRest) (turn : Turn) (source : SourceLine)
+    (blocks : Forest Block) → IsHere s pass rest turn source blocks → IsLeft s rest source
+here_left s pass rest (first before line) source blocks state = state.left
+here_left s pass rest (later frames) source blocks state = state.left
+
+-- ---- what was found
+
+not_read : (read are : Bool) (kind : MetadataBlockKind) → read ≡ false
+    → (if read && are then Some kind else None) ≡ None
+not_read true are kind none = absurd (true≢false none)
+not_read false are kind none = refl
+
+neither : (one other : Bool) → (one || other) ≡ false → (one ≡ false) × (other ≡ false)
+neither true other none = absurd (true≢false none)
+neither false other none = (refl, none)
+
+-- where no metadata is read, a line opens none
+none_opens : (options : Options) (text : List ℕ) (next : ℕ) (opens : Option MetadataBlockKind)
+    → reads_metadata options ≡ false → option_and_then (opened_before options text next) opens ≡ None
+none_opens options text next None none = refl
+none_opens options text next (Some metadata.YamlStyle) none =
+    not_read (is_read ENABLE_YAML_STYLE_METADATA_BLOCKS options)
+    (are_of_metadata metadata.YamlStyle (lines_at text next)) metadata.YamlStyle
+    (neither (is_read ENABLE_YAML_STYLE_METADATA_BLOCKS options) (is_read ENABLE_PLUSES_DELIMITED_METADATA_BLOCKS options)
+    none).0
+none_opens options text next (Some metadata.PlusesStyle) none =
+    not_read (is_read ENABLE_PLUSES_DELIMITED_METADATA_BLOCKS options)
+    (are_of_metadata metadata.PlusesStyle (lines_at text next)) metadata.PlusesStyle
+    (neither (is_read ENABLE_YAML_STYLE_METADATA_BLOCKS options) (is_read ENABLE_PLUSES_DELIMITED_METADATA_BLOCKS options)
+    none).1
+
+-- so whether it is directly under the root is not asked
+either_outermost : (before : Before) (opened : Option MetadataBlockKind) (one other : Bool) → opened ≡ None
+    → (if one then option_and_then (metadata_begun before) opened else None)
+    ≡ (if other then option_and_then (metadata_begun before) opened else None)
+either_outermost before opened one other none =
+    none_of one ∙ sym (none_of other)
+  where
+    none_of : (b : Bool) → (if b then option_and_then (metadata_begun before) opened else None) ≡ None
+    none_of true = ap (option_and_then (metadata_begun before)) none
+    none_of false = refl
+
+same_metadata : (s : Source) (before : Before) (left : LineLeft) (next : ℕ) (one other reads : Bool)
+    → reads_metadata s.options ≡ reads → (reads ≡ true → one ≡ other)
+    → metadata_in_line s before (record { left = left; next = next; outermost = one; indent = None })
+    ≡ metadata_in_line s before (record { left = left; next = next; outermost = other; indent = None })
+same_metadata s before left next one other true reads same =
+    ap (λ outermost. metadata_in_line s before
+    (record { left = left; next = next; outermost = outermost; indent = None })) (same refl)
+same_metadata s before left next one other false reads same =
+    either_outermost before (metadata_opened s.options s.text left.bytes next) one other
+    (none_opens s.options s.text next (line_opens left.bytes) reads)
+
+-- what a line begins, where this is what it opens of metadata
+abbrev begins_or : Source → Before → LineLeft → Option Beginning → Beginning
+begins_or s before left opens =
+    let space = leading_space 4 left in
+    if space.columns == 4 then (if is_paragraph before then beginning.begins_text
+    else beginning.begins_indented space.after)
+    else unwrap_or opens (begins_after s before space.columns space.after)
+
+-- what two lines begin of which the same is left
+same_begins : (s : Source) (before : Before) (one other : SourceLine) → one.left ≡ other.left → one.next ≡ other.next
+    → (reads_metadata s.options ≡ true → one.outermost ≡ other.outermost) → begins s before one ≡ begins s before other
+same_begins s before one other left next outermost =
+    ap (λ (l : LineLeft). begins s before
+    (record { left = l; next = one.next; outermost = one.outermost; indent = None })) left
+    ∙ (ap (λ n. begins s before (record { left = other.left; next = n; outermost = one.outermost; indent = None })) next
+    ∙ ap (begins_or s before other.left)
+    (same_metadata s before other.left other.next one.outermost other.outermost (reads_metadata s.options) refl
+    outermost))
+
+-- the line as the reader has it
+pub line_same : (s : Source) (rest : LineRest) (source : SourceLine) (before : Before) → IsLeft s rest source
+    → (left_at rest.reader rest.position ≡ source.left)
+    × (begins s before (line_at rest.reader rest.position) ≡ begins s before source)
+line_same s rest source before left =
+    let same : left_at rest.reader rest.position ≡ source.left =
+    ap (λ stop. left_from rest.reader.text.now rest.position stop) left.stop
+    ∙ (ap (λ (r : Source). left_from r.text rest.position rest.line.stop) left.text ∙ left.is.rest.left) in (
+      same,
+      same_begins s before (line_at rest.reader rest.position) source same left.next left.outermost,
+    )
+
 -- what was found is what the line begins
 is_found : (s : Source) (rest : LineRest) (new : LineReader) (source : SourceLine) (at : ℕ) (start : BlockStart)
     → IsLeft s rest source → IsSameLine rest.reader new
@@ -73,28 +196,46 @@ is_found : (s : Source) (rest : LineRest) (new : LineReader) (source : SourceLin
     ≡ begins_unless_blank (source_read rest.reader) rest.before (line_at rest.reader rest.position)
     → at ≡ rest.position.at + prefix_len is_space_or_tab (left_at rest.reader rest.position).bytes
     → IsFound s (record rest { reader = new }) source at start
-is_found s rest new source at start left same begins place = record {
-  is = found_same rest.reader new start same
-      ∙ (begins ∙ (ap (λ r. begins_unless_blank r rest.before (line_at rest.reader rest.position)) left.text
-      ∙ ap (begins_unless_blank s rest.before) left.line));
-  begins = place ∙ ap content_of left.line;
-}
+is_found s rest new source at start left same found place =
+    let there = line_same s rest source rest.before left in
+    record {
+      is = found_same rest.reader new start same
+          ∙ (found
+          ∙ (ap (λ r. begins_unless_blank r rest.before (line_at rest.reader rest.position)) left.text
+          ∙ (ap (λ (l : LineLeft). if list_all is_space_or_tab l.bytes then None
+          else Some (begins s rest.before (line_at rest.reader rest.position))) there.0
+          ∙ ap (λ (b : Beginning). if is_blank_rest source then None else Some b) there.1)));
+      begins = place ∙ ap (λ (l : LineLeft). l.scanned + prefix_len is_space_or_tab l.bytes) there.0;
+    }
 
 -- both, where nothing else has changed
-pub inside_found : (s : Source) (old now : Pass) (rest : LineRest) (new : LineReader) (frames : List Frame)
-    (source : SourceLine) (blocks : Forest Block) (at : ℕ) (begun start : BlockStart) → now ≡ old → begun ≡ start
+pub here_found : (s : Source) (old now : Pass) (rest : LineRest) (new : LineReader) (turn : Turn) (source : SourceLine)
+    (blocks : Forest Block) (at : ℕ) (begun start : BlockStart) → now ≡ old → begun ≡ start
     → IsSameLine rest.reader new
     → beginning_found rest.reader begun
     ≡ begins_unless_blank (source_read rest.reader) rest.before (line_at rest.reader rest.position)
     → at ≡ rest.position.at + prefix_len is_space_or_tab (left_at rest.reader rest.position).bytes
-    → IsInside s old rest frames source blocks
-    → IsInside s now (record rest { reader = new }) frames source blocks
+    → IsHere s old rest turn source blocks
+    → IsHere s now (record rest { reader = new }) turn source blocks
     × IsFound s (record rest { reader = new }) source at start
-inside_found s old now rest new frames source blocks at begun start kept is same begins place state = (
-  subst (λ (p : Pass). IsInside s p (record rest { reader = new }) frames source blocks) (sym kept)
-      (inside_same s old rest new frames source blocks same state),
-  is_found s rest new source at start state.left same (ap (beginning_found rest.reader) (sym is) ∙ begins) place,
+here_found s old now rest new turn source blocks at begun start kept is same found place state = (
+  subst (λ (p : Pass). IsHere s p (record rest { reader = new }) turn source blocks) (sym kept)
+      (here_same s old rest new turn source blocks same state),
+  is_found s rest new source at start (here_left s old rest turn source blocks state) same
+      (ap (beginning_found rest.reader) (sym is) ∙ found) place,
 )
+
+-- a line that begins something is not blank, and begins this
+some_begun : (b begun : Beginning) (blank : Bool) → Some b ≡ (if blank then None else Some begun)
+    → (blank ≡ false) × (begun ≡ b)
+some_begun b begun true is = absurd (none-some b (sym is))
+some_begun b begun false is = (refl, sym (ap (λ (o : Option Beginning). unwrap_or o b) is))
+
+pub found_begins : (s : Source) (rest : LineRest) (source : SourceLine) (at : ℕ) (start : BlockStart) (b : Beginning)
+    → IsFound s rest source at start → beginning_found rest.reader start ≡ Some b
+    → (is_blank_rest source ≡ false) × (begins s rest.before source ≡ b)
+found_begins s rest source at start b is found =
+    some_begun b (begins s rest.before source) (is_blank_rest source) (sym found ∙ is.is)
 
 -- ---- what begins then
 

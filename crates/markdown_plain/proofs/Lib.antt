@@ -67,3 +67,5 @@ pub mod FoundBlocksLemmas
 pub mod InnerBeginningsLemmas
 -- on a whole text
 pub mod WholeTextsLemmas
+pub mod FoundPlacesLemmas
+pub mod TextHereLemmas

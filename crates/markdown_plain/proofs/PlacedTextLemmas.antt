@@ -17,13 +17,14 @@ use Rattle.markdown_block_rules.specs.BlockRules.{ends_blank, is_blank_block}
 use Rattle.markdown_block_rules.specs.TableLines.{reads_tables}
 use Rattle.markdown_plain.specs.declared.looseness.Looseness.{Looseness}
 use Rattle.markdown_plain.specs.declared.pass.Pass.{Pass}
+use Rattle.markdown_plain.specs.Beginning.{Holds}
 use Rattle.markdown_plain.specs.Closing as closing
 use Rattle.markdown_plain.specs.Closing.{AreItemsInLists, MayEnd}
 use Rattle.markdown_plain.specs.Frames.{AreContainers, AreNested, Frame, reached, rebuilt, room_depth, touched}
 use Rattle.markdown_plain.specs.OpenLeaves.{AreItemsOpenedIn, BeginsText, ComesAfter, HoldsParagraph, leaf_block}
 use Rattle.markdown_plain.specs.Paragraphs.{source_of}
 use Rattle.markdown_plain.specs.Settled.{IsLooseAs, IsLooseBefore}
-use Rattle.markdown_plain.specs.Standing.{AreOpenedBefore, IsSource, PlacesFor, Stands, is_metadata}
+use Rattle.markdown_plain.specs.Standing.{AreOpenedBefore, IsSource, PlacesFor, is_metadata}
 use Rattle.markdown_plain.specs.TextLines.{IsContentAt, held_line, text_block, with_text}
 use Rattle.markdown_plain.proofs.AddedTextLemmas.{GoesAs, loose_as_leaf, loose_with_leaf, paragraph_line}
 use Rattle.markdown_plain.proofs.BegunLemmas.{IsLeftOf, block_begun, item_begun}
@@ -83,7 +84,7 @@ pub record AddsLine (old new : Pass) (line : Line) (start : ℕ) : Type 0 where
 
 pub text_added : (s : Source) (old new : Pass) (line : Line) (start : ℕ) (frames : List Frame) (inside : Forest Block)
     (b : Block) (sources : List SourceLine) (source : SourceLine) → reads_tables s ≡ false
-    → Stands s old frames inside (Some b) line.start → MayEnd s old frames inside b (Some sources)
+    → Holds s old frames inside (Some b) line.start → MayEnd s old frames inside b (Some sources)
     → IsSource old line source → AddsLine old new line start
     → IsContentAt old.placing.builder.text line
     (reached s frames (followed_by inside (leaf_block b)) source).rest start

@@ -67,7 +67,7 @@ narrow column b some = by_byte (b == 32) (b == 9) refl refl
 
 module _ (text : List ℕ) (from : ℕ) (utf8 : IsUtf8 text) where
   -- a byte fewer
-  next_within : (scanned owed next column after b : ℕ) (bytes : List ℕ) → b < 128
+  pub next_within : (scanned owed next column after b : ℕ) (bytes : List ℕ) → b < 128
       → IsWithin text from (record { scanned = scanned; owed = owed; column = column; bytes = b ∷ bytes })
       → IsWithin text from (record { scanned = scanned + 1; owed = next; column = after; bytes = bytes })
   next_within scanned owed next column after b bytes ascii is =
@@ -101,14 +101,14 @@ module _ (text : List ℕ) (from : ℕ) (utf8 : IsUtf8 text) where
       second true other fails = absurd (true≢false fails)
       second false other fails = fails
 
-  space_within : (n : ℕ) (left : LineLeft) → IsWithin text from left → IsWithin text from (leading_space n left).after
+  pub space_within : (n : ℕ) (left : LineLeft) → IsWithin text from left → IsWithin text from (leading_space n left).after
   space_within n left is =
       on_test (λ (s : Space). IsWithin text from s.after) (nat_le n left.owed) _ _
       (λ e. record { own = is.own; boundary = is.boundary; low = is.low })
       (λ e. space_from_within (n - left.owed) left.scanned left.column left.bytes
       (record { own = is.own; boundary = is.boundary; low = is.low }))
 
-  marker_within : (scanned owed column : ℕ) (bytes : List ℕ) → begins_with (codes ">") bytes ≡ true
+  pub marker_within : (scanned owed column : ℕ) (bytes : List ℕ) → begins_with (codes ">") bytes ≡ true
       → IsWithin text from (record { scanned = scanned; owed = owed; column = column; bytes = bytes })
       → IsWithin text from (past_marker (record { scanned = scanned; owed = owed; column = column; bytes = bytes }))
   marker_within scanned owed column [] begins is = absurd (true≢false (sym begins))
@@ -177,7 +177,7 @@ module _ (text : List ℕ) (from : ℕ) (utf8 : IsUtf8 text) where
       past (Some m) there inner = inner m there
 
   -- and its first byte of content does
-  content_within : (scanned owed column : ℕ) (bytes : List ℕ)
+  pub content_within : (scanned owed column : ℕ) (bytes : List ℕ)
       → IsWithin text from (record { scanned = scanned; owed = owed; column = column; bytes = bytes })
       → IsCharBoundary text (scanned + prefix_len is_space_or_tab bytes)
   content_within scanned owed column [] is = subst (IsCharBoundary text) (omega arith) is.boundary

@@ -4,7 +4,7 @@ use Rattle.std.proofs.Common.{length, take, drop, refl, sym, ap, ◌∙◌, subs
 use Rattle.std.specs.Prelude.{◌==◌, ◌&&◌, if◌then◌else◌}
 use Rattle.std.proofs.Math.Bool.{and-false}
 use Rattle.std.proofs.lemmas.List.{length-append}
-use Rattle.markdown_base.specs.Forest.{Forest}
+use Rattle.markdown_base.specs.Forest.{Forest, nil}
 use Rattle.markdown_builder.specs.BuilderView.{BuilderView}
 use Rattle.markdown_builder.specs.TreeLevels.{followed_by}
 use Rattle.markdown_builder.specs.declared.open_block.OpenBlock.{OpenBlock}
@@ -17,16 +17,18 @@ use Rattle.markdown_block_rules.specs.BlockGrowth as was
 use Rattle.markdown_block_rules.specs.BlockGrowth.{Block, goes_on, is_nil, with_line}
 use Rattle.markdown_block_rules.specs.TableLines.{reads_tables}
 use Rattle.markdown_plain.specs.declared.pass.Pass.{Pass}
+use Rattle.markdown_plain.specs.Beginning.{Holds, HoldsLast}
 use Rattle.markdown_plain.specs.Closing as closing
 use Rattle.markdown_plain.specs.Closing.{AreItemsInLists, MayClose, MayEnd}
 use Rattle.markdown_plain.specs.Fitting.{AllFitted, IfFitted}
 use Rattle.markdown_plain.specs.Frames.{AreNested, Frame, Reached, reached, rebuilt, room_depth}
 use Rattle.markdown_plain.specs.OpenBlocks.{without_leaf}
 use Rattle.markdown_plain.specs.OpenLeaves.{AreItemsOpenedIn, BeginsText, ComesAfter, HoldsParagraph, leaf_block}
+use Rattle.markdown_plain.specs.OpenedFrames.{MayOpen}
 use Rattle.markdown_plain.specs.Paragraphs.{has_paragraph, source_of}
 use Rattle.markdown_plain.specs.ReachedFrames.{are_none}
 use Rattle.markdown_plain.specs.Settled.{AreOpen, BlanksKnown, IsBuilt, IsLooseAs, IsLooseBefore}
-use Rattle.markdown_plain.specs.Standing.{IsSource, PlacesFor, Stands, with_last}
+use Rattle.markdown_plain.specs.Standing.{HasLast, IsSource, PlacesFor, Stands, with_last}
 use Rattle.markdown_plain.specs.TextLines.{IsTextHere, held_line, paragraph_before}
 use Rattle.markdown_plain.proofs.AddedLinesLemmas.{has_held}
 use Rattle.markdown_plain.proofs.AddedTextLemmas.{GoesAs, continues, reaches}
@@ -68,6 +70,32 @@ pub record AddsText (old new : Pass) (line : Line) (start depth : ℕ) : Type 0 
         last = source.next;
         kind = was.paragraph_leaf (sources ++ source ∷ []);
       }) (sources ++ source ∷ [])
+  -- which lines are held back then, and what becomes of containers that were opened in the line
+  pub lines : new.lines.items ≡ (if has_paragraph old then old.lines.items else []) ++ held_line line start ∷ []
+  pub inside : (s : Source) (frames : List Frame) → MayOpen s old frames nil → depth ≡ length frames
+      → IsLooseAs old.looseness frames nil
+      → (new ≡ record old { lines = new.lines; task = new.task; looseness = new.looseness })
+      × IsLooseBefore new.looseness frames nil
+
+-- ---- what the pass stands for before the line
+
+holds_last : (s : Source) (pass : Pass) (frames : List Frame) (inside : Forest Block) (last : Option Block)
+    → HasLast s pass frames inside last → HoldsLast s pass frames inside last
+holds_last s pass frames inside None has = (has.0, has.1)
+holds_last s pass frames inside (Some b) has = (has.0, has.1)
+
+-- whether or not the last block goes on in the line
+pub stands_holds : (s : Source) (pass : Pass) (frames : List Frame) (inside : Forest Block) (last : Option Block)
+    (from : ℕ) → Stands s pass frames inside last from → Holds s pass frames inside last from
+stands_holds s pass frames inside last from stands = record {
+  source = stands.source;
+  unended = holds_last s pass frames inside last stands.unended;
+  loose = stands.loose;
+  blanks = stands.blanks;
+  before = stands.before;
+  unheld = stands.unheld;
+  earlier = stands.earlier;
+}
 
 -- ---- what is open
 
@@ -146,7 +174,7 @@ module _ (s : Source) (old new : Pass) (line : Line) (start depth : ℕ) (source
 
   -- a paragraph begins
   begins_there : (frames : List Frame) (inside : Forest Block) (last : Option Block)
-      → Stands s old frames inside last line.start → HasContainers s old frames (with_last inside last)
+      → Holds s old frames inside last line.start → HasContainers s old frames (with_last inside last)
       → IsTextHere s old line start depth (with_last inside last) (reached s frames (with_last inside last) source)
       → (depth ≤ length frames → IfFitted old.placing new.placing
       (closing.StandsFor s new (take (room_depth depth frames) frames)
@@ -189,7 +217,7 @@ module _ (s : Source) (old new : Pass) (line : Line) (start depth : ℕ) (source
 
   -- the pass has placed the line
   pub text_places : reads_tables s ≡ false → (frames : List Frame) (inside : Forest Block) (last : Option Block)
-      → Stands s old frames inside last line.start
+      → Holds s old frames inside last line.start
       → IsTextHere s old line start depth (with_last inside last) (reached s frames (with_last inside last) source)
       → IfFitted old.placing new.placing
       (PlacesFor s new line.next (with_line s (rebuilt frames (with_last inside last)) source))

@@ -2,7 +2,7 @@
 -- long as it opens containers, what is left inside them, where more may begin, or a leaf, or nothing.
 use Rattle.std.specs.Prelude.{◌≡◌, ◌==◌, ◌&&◌, ◌||◌, ℕ, ◌+◌, ◌<◌, ◌≤◌, Bool, true, false, List, [], Option, Some, None}
 use Rattle.std.specs.Prelude.{length, if◌then◌else◌}
-use Rattle.std.specs.Str.{IsCharBoundary}
+use Rattle.std.specs.Str.{IsCharBoundary, IsUtf8}
 use Rattle.markdown_base.specs.declared.options.Options.{Options}
 use Rattle.markdown_base.specs.declared.options.TheConstants.Options.{ENABLE_YAML_STYLE_METADATA_BLOCKS}
 use Rattle.markdown_base.specs.declared.options.TheConstants.Options.{ENABLE_PLUSES_DELIMITED_METADATA_BLOCKS}
@@ -14,6 +14,7 @@ use Rattle.markdown_lines.specs.BlockStarts.{begins_unless_blank, beginning_foun
 use Rattle.markdown_lines.specs.SourceLines.{SourceLine, is_blank_rest}
 use Rattle.markdown_lines.specs.declared.block_start.Before.TheVariants as paragraph
 use Rattle.markdown_lines.specs.HeldLines.{IsHeldLine}
+use Rattle.markdown_lines.specs.Lines.{IsLineFrom}
 use Rattle.markdown_lines.specs.declared.block_start.BlockStart.{BlockStart}
 use Rattle.markdown_lines.specs.declared.block_start.BlockStart.TheVariants as start
 use Rattle.markdown_plain.specs.Fitting.{BracesStand}
@@ -54,6 +55,8 @@ pub record IsLeft (s : Source) (rest : LineRest) (source : SourceLine) : Type 0 
       → (rest.reader.outermost && (rest.position.at == rest.reader.start)) ≡ source.outermost
   pub after : rest.line.start ≤ rest.position.at
   pub boundary : IsCharBoundary s.text rest.position.at
+  pub from : IsLineFrom s.text rest.line.start rest.line
+  pub utf8 : IsUtf8 s.text
 
 -- what the rest of a line begins was found, at this byte offset
 pub record IsFound (s : Source) (rest : LineRest) (source : SourceLine) (at : ℕ) (start : BlockStart) : Type 0 where

@@ -1,0 +1,108 @@
+-- Text that is left of a line: what the pass has placed once it is added, at either turn.
+use Rattle.std.proofs.Common.{◌≡◌, ◌∙◌, ◌++◌, ℕ, Bool, false, List, [], ◌∷◌, refl, sym, ap, subst}
+use Rattle.std.specs.Prelude.{if◌then◌else◌}
+use Rattle.markdown_base.specs.Forest.{Forest, nil}
+use Rattle.markdown_lines.specs.BlockBeginnings as beginning
+use Rattle.markdown_lines.specs.BlockBeginnings.{Source, begins}
+use Rattle.markdown_lines.specs.SourceLines.{SourceLine, is_blank_rest, text_line}
+use Rattle.markdown_lines.specs.declared.block_start.Before.{Before as ParagraphBefore}
+use Rattle.markdown_lines.specs.declared.block_start.Before.TheVariants as paragraph
+use Rattle.markdown_lines.specs.declared.block_start.BlockStart.TheVariants as start
+use Rattle.markdown_block_rules.specs.BlockGrowth as was
+use Rattle.markdown_block_rules.specs.BlockGrowth.{Block, begun_by, content_of, goes_on, inside_of, new_blocks, with_line}
+use Rattle.markdown_plain.specs.declared.block_pass.LineRest.{LineRest}
+use Rattle.markdown_plain.specs.declared.pass.Pass.{Pass}
+use Rattle.markdown_plain.specs.Beginning.{IsFirst, IsFound, IsHere, IsInside, Turn, first, later}
+use Rattle.markdown_plain.specs.Fitting.{AllFitted, IfFitted}
+use Rattle.markdown_plain.specs.Frames.{Frame, rebuilt}
+use Rattle.markdown_plain.specs.OpenLeaves.{BeginsText}
+use Rattle.markdown_plain.specs.Paragraphs.{has_paragraph}
+use Rattle.markdown_plain.specs.ReachedFrames.{are_none}
+use Rattle.markdown_plain.specs.ReachedLines.{Before, blocks_in, reached_of}
+use Rattle.markdown_plain.specs.Settled.{IsBuilt}
+use Rattle.markdown_plain.specs.Standing.{PlacesFor}
+use Rattle.markdown_plain.specs.TextLines.{IsContentAt, IsTextHere, held_line}
+use Rattle.markdown_plain.proofs.BegunBlocksLemmas.{begun_block, source_kept}
+use Rattle.markdown_plain.proofs.BegunLemmas.{begun_once}
+use Rattle.markdown_plain.proofs.BegunTextsLemmas.{none_open, text_begins, text_inside}
+use Rattle.markdown_plain.proofs.FoundBlocksLemmas.{found_begins}
+use Rattle.markdown_plain.proofs.FoundPlacesLemmas.{left_content, left_stands}
+use Rattle.markdown_plain.proofs.TextStepsLemmas.{AddsText, text_places}
+
+-- what is left of a line is text, whose first byte of content is at a byte offset
+pub record IsTextLeft (s : Source) (rest : LineRest) (source : SourceLine) (at : ℕ) : Type 0 where
+  pub filled : is_blank_rest source ≡ false
+  pub here : at ≡ content_of source
+  pub text : begins s rest.before source ≡ beginning.begins_text
+
+-- where text was found, it is
+pub found_text : (s : Source) (rest : LineRest) (source : SourceLine) (at : ℕ) → IsFound s rest source at start.Text
+    → IsTextLeft s rest source at
+found_text s rest source at found =
+    let is = found_begins s rest source at start.Text beginning.begins_text found refl in
+    record { filled = is.0; here = found.begins; text = is.1 }
+
+-- after the containers that go on in the line
+text_first : (s : Source) (old new : Pass) (rest : LineRest) (at : ℕ) (before : Before) (line source : SourceLine)
+    (blocks : Forest Block) → AddsText old new rest.line at rest.depth
+    → IsFirst s old rest before line source blocks → IsTextLeft s rest source at
+    → IfFitted old.placing new.placing (PlacesFor s new rest.line.next blocks)
+text_first s old new rest at before line source blocks adds state left fitted =
+    let r = reached_of s before line in
+    let same : s.text ≡ old.placing.builder.text = sym (ap (λ (s : Source). s.text) state.holds.source) in
+    let content = left_content s rest source at state.left left.filled left.here in
+    let there : IsTextHere s old rest.line at rest.depth (blocks_in before) r = record {
+      depth_is = state.depth;
+      content = subst (λ text. IsContentAt text rest.line r.rest at) same
+          (subst (λ (l : SourceLine). IsContentAt s.text rest.line l at) state.reached content);
+      text = ap (λ (p : ParagraphBefore). begins s p r.rest) (sym state.paragraph)
+          ∙ (ap (begins s rest.before) (sym state.reached) ∙ left.text);
+      over = λ none. ap (goes_on s (rebuilt r.inner (blocks_in before))) (sym state.reached) ∙ state.over none;
+    } in
+    let placed = text_places s old new rest.line at rest.depth line adds state.is state.tables before.frames
+    before.inside before.last state.holds there fitted in
+    (placed.0, subst (PlacesFor s new rest.line.next) (sym state.whole) placed.1)
+
+-- inside containers that the line opened, where it begins a paragraph
+text_later : (s : Source) (old new : Pass) (rest : LineRest) (at : ℕ) (frames : List Frame) (source : SourceLine)
+    (blocks : Forest Block) → AddsText old new rest.line at rest.depth
+    → IsInside s old rest frames source blocks → IsTextLeft s rest source at
+    → IfFitted old.placing new.placing (PlacesFor s new rest.line.next blocks)
+text_later s old new rest at frames source blocks adds state left fitted =
+    let opened = state.opened in
+    let held = held_line rest.line at in
+    let l = text_line source in
+    let b = begun_block source (was.paragraph_leaf (l ∷ [])) in
+    let same = adds.inside s frames opened.free state.depth opened.loose in
+    let none = none_open old opened.free.lines in
+    let text : old.placing.builder.text ≡ s.text = ap (λ (r : Source). r.text) opened.source in
+    let begun = text_begins s.text rest.position rest.line source at state.left.is left.here
+    (left_stands s rest source at state.left left.filled left.here) in
+    let begins_it = adds.first none s frames nil b l
+    (subst (λ (p : Pass). IsBuilt s p.placing.builder frames nil) (sym same.0) opened.free.built)
+    (sym (ap (λ (r : Source). r.options) opened.source))
+    (subst (λ bytes. BeginsText bytes held l b)
+    (sym (ap (λ (p : Pass). p.placing.builder.text) same.0 ∙ text)) begun) opened.items in
+    let made : begins s paragraph.NoParagraph source ≡ beginning.begins_text =
+    ap (λ (p : ParagraphBefore). begins s p source) (sym state.before) ∙ left.text in (
+      subst (λ (p : Pass). AllFitted p.placing) same.0 fitted,
+      text_inside s new rest.line at frames nil blocks b l refl
+          (source_kept s old new (ap (λ (p : Pass). p.placing.builder.text) same.0)
+          (ap (λ (p : Pass). p.options) same.0) opened.source) begins_it opened.quotes opened.earlier same.1
+          (ap (λ (p : Pass). p.blanks.items) same.0 ∙ opened.blanks)
+          (adds.lines ∙ ap (λ (has : Bool). (if has then old.lines.items else []) ++ held ∷ []) none)
+          (state.whole
+          ∙ (ap (λ (blank : Bool). rebuilt frames (if blank then nil else begun_by s source)) left.filled
+          ∙ (ap (rebuilt frames) (begun_once s source)
+          ∙ ap (λ found. rebuilt frames (new_blocks (inside_of (begun_by s) source) source found)) made)))
+          state.items,
+    )
+
+-- the line is placed at either turn
+pub text_here : (s : Source) (old new : Pass) (rest : LineRest) (at : ℕ) (turn : Turn) (source : SourceLine)
+    (blocks : Forest Block) → AddsText old new rest.line at rest.depth → IsHere s old rest turn source blocks
+    → IsTextLeft s rest source at → IfFitted old.placing new.placing (PlacesFor s new rest.line.next blocks)
+text_here s old new rest at (first before line) source blocks adds state left =
+    text_first s old new rest at before line source blocks adds state left
+text_here s old new rest at (later frames) source blocks adds state left =
+    text_later s old new rest at frames source blocks adds state left
