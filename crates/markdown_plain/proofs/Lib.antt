@@ -65,7 +65,8 @@ pub mod BegunTextsLemmas
 pub mod FirstTurnsLemmas
 pub mod FoundBlocksLemmas
 pub mod InnerBeginningsLemmas
--- on a whole text
-pub mod WholeTextsLemmas
 pub mod FoundPlacesLemmas
 pub mod TextHereLemmas
+pub mod TurnsLemmas
+-- on a whole text
+pub mod WholeTextsLemmas

@@ -10,7 +10,7 @@ ghost use Rattle.markdown_block_rules.specs.BlockGrowth.{Block, blocks_of, with_
 ghost use Rattle.markdown_lines.specs.BlockBeginnings.{Source};
 ghost use Rattle.markdown_lines.specs.SourceLines.{SourceLine, is_blank_rest};
 ghost use Rattle.markdown_lines.specs.Lines.{is_space_or_tab};
-ghost use Rattle.markdown_plain.specs.Fitting.{AllFitted, IfFitted, BracesStand};
+ghost use Rattle.markdown_plain.specs.Fitting.{AllFitted, BracesStand, FittedBefore, IfFitted};
 ghost use Rattle.markdown_plain.specs.Settled.{IsBuilt};
 ghost use Rattle.markdown_plain.specs.ListLooseness.{blank_from};
 ghost use Rattle.markdown_plain.specs.ReachedLines as lines;
@@ -358,7 +358,8 @@ impl<'a> Pass<'a> {
     {
         // each container takes at least one byte of the line; what is left after the last one is read too, and a line
         // that underlines definitions, or ends a table, is read twice
-        'blocks: for _ in rest.line.start..rest.line.next.saturating_add(3) {
+        let turns = rest.line.next as u128 + 3;
+        'blocks: for _turn in 0..turns {
             if !self.read_block(rest)? {
                 break;
             }
@@ -376,6 +377,7 @@ impl<'a> Pass<'a> {
     fn read_block(&mut self, rest: &mut LineRest<'a>) -> Result<bool, AllocError>
         ensures text { IfOk result (λ _. self.new.placing.builder.text
             ≡ self.old.placing.builder.text) }
+        ensures fitted { IfOk result (λ _. FittedBefore self.old.placing self.new.placing) }
         ensures begins { IfOk result (λ more. (s : Source) (turn : Turn) (source : SourceLine)
             (blocks : Forest Block) → IsHere s self.old rest.old turn source blocks
             → rest.old.unless_row ≡ None
@@ -418,6 +420,7 @@ impl<'a> Pass<'a> {
     fn reads_table(&mut self, rest: &LineRest<'a>) -> Result<bool, AllocError>
         ensures text { IfOk result (λ _. self.new.placing.builder.text
             ≡ self.old.placing.builder.text) }
+        ensures fitted { IfOk result (λ _. FittedBefore self.old.placing self.new.placing) }
         ensures none { IfOk result (λ is. rest.now.before ≡ before.NoParagraph → (is ≡ false)
             × (self.new ≡ self.old)) }
         ensures off { IfOk result (λ is. reads_tables (source_of self.old) ≡ false → (is ≡ false)
@@ -435,6 +438,7 @@ impl<'a> Pass<'a> {
     fn skip_blank(&mut self, line: Line) -> Result<bool, AllocError>
         ensures text { IfOk result (λ _. self.new.placing.builder.text
             ≡ self.old.placing.builder.text) }
+        ensures fitted { IfOk result (λ _. FittedBefore self.old.placing self.new.placing) }
         ensures more { IfOk result (λ more. more ≡ false) }
         ensures places { IfOk result (λ _. (s : Source) (rest : LineRest) (turn : Turn)
             (source : SourceLine) (at : ℕ) (blocks : Forest Block)
@@ -450,6 +454,7 @@ impl<'a> Pass<'a> {
     fn read_text(&mut self, rest: &LineRest<'a>, at: usize) -> Result<bool, AllocError>
         ensures text { IfOk result (λ _. self.new.placing.builder.text
             ≡ self.old.placing.builder.text) }
+        ensures fitted { IfOk result (λ _. FittedBefore self.old.placing self.new.placing) }
         ensures more { IfOk result (λ more. more ≡ false) }
         ensures places { IfOk result (λ _. (s : Source) (turn : Turn) (source : SourceLine)
             (blocks : Forest Block) → IsHere s self.old rest.now turn source blocks
@@ -471,6 +476,7 @@ impl<'a> Pass<'a> {
     fn read_indented(&mut self, rest: &LineRest<'a>, code: Position) -> Result<bool, AllocError>
         ensures text { IfOk result (λ _. self.new.placing.builder.text
             ≡ self.old.placing.builder.text) }
+        ensures fitted { IfOk result (λ _. FittedBefore self.old.placing self.new.placing) }
         ensures more { IfOk result (λ more. more ≡ false) }
         ensures places { IfOk result (λ _. (s : Source) (turn : Turn) (source : SourceLine)
             (at : ℕ) (blocks : Forest Block) → IsHere s self.old rest.now turn source blocks
@@ -489,6 +495,7 @@ impl<'a> Pass<'a> {
     fn make_room_for(&mut self, rest: &LineRest<'a>) -> Result<(), AllocError>
         ensures text { IfOk result (λ _. self.new.placing.builder.text
             ≡ self.old.placing.builder.text) }
+        ensures fitted { IfOk result (λ _. FittedBefore self.old.placing self.new.placing) }
         ensures room { IfOk result (λ _. (s : Source) (turn : Turn) (source : SourceLine)
             (at : ℕ) (start : BlockStart) (b : Beginning) (blocks : Forest Block)
             → IsHere s self.old rest.now turn source blocks → IsFound s rest.now source at start
@@ -529,6 +536,7 @@ impl<'a> Pass<'a> {
     ) -> Result<bool, AllocError>
         ensures text { IfOk result (λ _. self.new.placing.builder.text
             ≡ self.old.placing.builder.text) }
+        ensures fitted { IfOk result (λ _. FittedBefore self.old.placing self.new.placing) }
         ensures more { IfOk result (λ more. more ≡ true) }
         ensures reads_on { IfOk result (λ _. (s : Source) (turn : Turn) (source : SourceLine)
             (blocks : Forest Block) → IsHere s self.old rest.old turn source blocks
@@ -552,6 +560,7 @@ impl<'a> Pass<'a> {
     ) -> Result<bool, AllocError>
         ensures text { IfOk result (λ _. self.new.placing.builder.text
             ≡ self.old.placing.builder.text) }
+        ensures fitted { IfOk result (λ _. FittedBefore self.old.placing self.new.placing) }
         ensures more { IfOk result (λ more. more ≡ false) }
         ensures places { IfOk result (λ _. (s : Source) (turn : Turn) (source : SourceLine)
             (blocks : Forest Block) → IsHere s self.old rest.now turn source blocks
@@ -574,6 +583,7 @@ impl<'a> Pass<'a> {
     ) -> Result<bool, AllocError>
         ensures text { IfOk result (λ _. self.new.placing.builder.text
             ≡ self.old.placing.builder.text) }
+        ensures fitted { IfOk result (λ _. FittedBefore self.old.placing self.new.placing) }
         ensures more { IfOk result (λ more. more ≡ false) }
         ensures places { IfOk result (λ _. (s : Source) (turn : Turn) (source : SourceLine)
             (blocks : Forest Block) → IsHere s self.old rest.now turn source blocks
@@ -597,6 +607,7 @@ impl<'a> Pass<'a> {
     ) -> Result<bool, AllocError>
         ensures text { IfOk result (λ _. self.new.placing.builder.text
             ≡ self.old.placing.builder.text) }
+        ensures fitted { IfOk result (λ _. FittedBefore self.old.placing self.new.placing) }
         ensures more { IfOk result (λ more. more ≡ false) }
         ensures places { IfOk result (λ _. (s : Source) (turn : Turn) (source : SourceLine)
             (blocks : Forest Block) → IsHere s self.old rest.now turn source blocks
@@ -614,6 +625,7 @@ impl<'a> Pass<'a> {
     fn read_html(&mut self, rest: &LineRest<'a>, kind: HtmlKind) -> Result<bool, AllocError>
         ensures text { IfOk result (λ _. self.new.placing.builder.text
             ≡ self.old.placing.builder.text) }
+        ensures fitted { IfOk result (λ _. FittedBefore self.old.placing self.new.placing) }
         ensures more { IfOk result (λ more. more ≡ false) }
         ensures places { IfOk result (λ _. (s : Source) (turn : Turn) (source : SourceLine)
             (at : ℕ) (blocks : Forest Block) → IsHere s self.old rest.now turn source blocks
@@ -642,6 +654,7 @@ impl<'a> Pass<'a> {
     ) -> Result<bool, AllocError>
         ensures text { IfOk result (λ _. self.new.placing.builder.text
             ≡ self.old.placing.builder.text) }
+        ensures fitted { IfOk result (λ _. FittedBefore self.old.placing self.new.placing) }
         ensures more { IfOk result (λ more. more ≡ true) }
         ensures reads_on { IfOk result (λ _. (s : Source) (turn : Turn) (source : SourceLine)
             (blocks : Forest Block) → IsHere s self.old rest.old turn source blocks
@@ -664,6 +677,7 @@ impl<'a> Pass<'a> {
     ) -> Result<bool, AllocError>
         ensures text { IfOk result (λ _. self.new.placing.builder.text
             ≡ self.old.placing.builder.text) }
+        ensures fitted { IfOk result (λ _. FittedBefore self.old.placing self.new.placing) }
         ensures begins { IfOk result (λ more. (s : Source) (turn : Turn) (source : SourceLine)
             (at : ℕ) (blocks : Forest Block) → IsHere s self.old rest.old turn source blocks
             → IsFound s rest.old source at (start.Underline level)
@@ -679,6 +693,7 @@ impl<'a> Pass<'a> {
     fn read_break(&mut self, rest: &LineRest<'a>, at: usize) -> Result<bool, AllocError>
         ensures text { IfOk result (λ _. self.new.placing.builder.text
             ≡ self.old.placing.builder.text) }
+        ensures fitted { IfOk result (λ _. FittedBefore self.old.placing self.new.placing) }
         ensures more { IfOk result (λ more. more ≡ false) }
         ensures places { IfOk result (λ _. (s : Source) (turn : Turn) (source : SourceLine)
             (blocks : Forest Block) → IsHere s self.old rest.now turn source blocks
@@ -701,6 +716,7 @@ impl<'a> Pass<'a> {
     ) -> Result<bool, AllocError>
         ensures text { IfOk result (λ _. self.new.placing.builder.text
             ≡ self.old.placing.builder.text) }
+        ensures fitted { IfOk result (λ _. FittedBefore self.old.placing self.new.placing) }
         ensures more { IfOk result (λ more. more ≡ true) }
         ensures reads_on { IfOk result (λ _. (s : Source) (turn : Turn) (source : SourceLine)
             (blocks : Forest Block) → IsHere s self.old rest.old turn source blocks
@@ -721,6 +737,7 @@ impl<'a> Pass<'a> {
     ) -> Result<bool, AllocError>
         ensures text { IfOk result (λ _. self.new.placing.builder.text
             ≡ self.old.placing.builder.text) }
+        ensures fitted { IfOk result (λ _. FittedBefore self.old.placing self.new.placing) }
         ensures more { IfOk result (λ more. more ≡ false) }
         ensures places { IfOk result (λ _. (s : Source) (turn : Turn) (source : SourceLine)
             (at : ℕ) (blocks : Forest Block) → IsHere s self.old rest.now turn source blocks

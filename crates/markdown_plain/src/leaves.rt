@@ -22,7 +22,8 @@ ghost use Rattle.markdown_items.specs.ContentItems.{content_items};
 ghost use Rattle.markdown_items.specs.LineItems.{item_extensions};
 ghost use Rattle.markdown_block_rules.specs.LineContents.{source_line, source_lines};
 ghost use Rattle.markdown_plain.specs.CodeLines.{after_line, code_after, ends_html_at, held, is_closed_at, whole_of};
-ghost use Rattle.markdown_plain.specs.Fitting.{IfFitted, GoesOn, OpensFenced, OpensHeading, OpensHtml, closed, extended, opened};
+ghost use Rattle.markdown_plain.specs.Fitting.{FittedBefore, IfFitted, GoesOn, OpensFenced, OpensHeading, OpensHtml};
+ghost use Rattle.markdown_plain.specs.Fitting.{closed, extended, opened};
 ghost use Rattle.markdown_plain.specs.Fitting.{BracesStand, OpensHeadingOf, PutsBlock, stepped};
 ghost use Rattle.markdown_plain.specs.Frames.{Frame};
 ghost use Rattle.markdown_plain.specs.HeldSources.{AreHeld, IsHeld, IsRest};
@@ -353,6 +354,7 @@ impl<'a> Pass<'a> {
     ) -> Result<(), AllocError>
         ensures text { IfOk result (λ _. self.new.placing.builder.text
             ≡ self.old.placing.builder.text) }
+        ensures fitted { IfOk result (λ _. FittedBefore self.old.placing self.new.placing) }
         ensures ends { IfOk result (λ _. ends_html_at self.old.placing.builder.text position line
             kind
             ≡ true →
