@@ -1,5 +1,5 @@
 -- Containers that begin with the rest of a line, and what is left of the line inside them.
-use Rattle.std.proofs.Common.{◌≡◌, ℕ, ◌<◌, ◌≤◌, Bool, true, false, List, [], ◌∷◌, ◌++◌, None, refl, sym}
+use Rattle.std.proofs.Common.{◌≡◌, ℕ, ◌<◌, ◌≤◌, Bool, true, false, List, [], ◌∷◌, ◌++◌, refl, sym}
 use Rattle.std.proofs.Common.{ap, ◌∙◌, subst, arith, append-nil, length, if◌then◌else◌, ◌&&◌, ◌==◌, nat_le}
 use Rattle.std.proofs.lemmas.Bool.Decides.{nat_tests}
 use Rattle.markdown_scan.specs.LineStart.{LineLeft}
@@ -8,35 +8,38 @@ use Rattle.markdown_lines.specs.declared.block_start.Before.{Before}
 use Rattle.markdown_lines.specs.declared.position.Position.{Position}
 use Rattle.markdown_plain.specs.declared.pass.Pass.{Pass}
 use Rattle.std.specs.List.{list_all}
+use Rattle.std.specs.Str.{IsCharBoundary}
 use Rattle.markdown_lines.specs.Lines.{is_space_or_tab}
 use Rattle.markdown_plain.specs.Containers.{content_of as left_content}
 use Rattle.markdown_plain.specs.Standing.{AreOpenedBefore, IsOpenedBefore}
 use Rattle.markdown_plain.proofs.ReachedFramesLemmas.{blank_at, end_of}
 use Rattle.markdown_plain.specs.Closing.{AreItemsInLists}
-use Rattle.markdown_plain.specs.Paragraphs.{source_of}
+use Rattle.markdown_plain.specs.Fitting.{AllFitted, IfFitted}
+use Rattle.markdown_plain.specs.Paragraphs.{has_paragraph, source_of}
 use Rattle.markdown_plain.specs.Settled.{IsBuilt}
-use Rattle.markdown_plain.proofs.BegunRestsLemmas.{IsRestOf}
+use Rattle.markdown_plain.proofs.BegunRestsLemmas.{HoldsRest, IsRestOf, begins_rest}
 use Rattle.markdown_plain.proofs.FramesLemmas.{rebuilt_more}
 use Rattle.markdown_plain.proofs.OpenedFramesLemmas.{as_many_containers, innermost_of_more}
 use Rattle.markdown_base.specs.Forest.{Forest, nil, node}
-use Rattle.markdown_lines.specs.BlockBeginnings.{Source}
+use Rattle.markdown_builder.specs.TreeLevels.{followed_by}
+use Rattle.markdown_lines.specs.BlockBeginnings.{Beginning, Source, is_paragraph}
 use Rattle.markdown_lines.specs.SourceLines.{SourceLine, is_blank_rest, rest_inside}
 use Rattle.markdown_lines.specs.declared.block_start.Before.TheVariants as paragraph
 use Rattle.markdown_lines.specs.declared.line.Line.{Line}
 use Rattle.markdown_lines.specs.BlockStarts.{left_at}
-use Rattle.markdown_block_rules.specs.BlockGrowth.{Block, Kind, content_of}
+use Rattle.markdown_block_rules.specs.BlockGrowth.{Block, Kind, begun_by, content_of, inside_of, new_blocks}
 use Rattle.markdown_block_rules.specs.BlockRules.{is_blank_block, is_loose}
 use Rattle.markdown_plain.specs.declared.block_pass.LineRest.{LineRest}
 use Rattle.markdown_plain.specs.declared.looseness.Looseness.{Looseness}
-use Rattle.markdown_plain.specs.Beginning.{GoesInside, IsLeft, IsOpened, begun_in_rest}
+use Rattle.markdown_plain.specs.Beginning as here
+use Rattle.markdown_plain.specs.Beginning.{HasRoom, IsLeft, MayBegin, ReadsOn, begun_in_rest, turn_place}
 use Rattle.markdown_plain.specs.Frames.{Frame, is_list, rebuilt}
 use Rattle.markdown_plain.specs.OpenLeaves.{AreItemsOpenedIn, IsOpenedIn}
 use Rattle.markdown_plain.specs.OpenedFrames.{with_frame}
 use Rattle.markdown_plain.specs.Settled.{EmptyKnown, EmptyKnownIn, IsLooseAs, IsLooseBefore, QuotesEnd, are_loose}
 use Rattle.markdown_plain.specs.Settled.{placed_end}
 use Rattle.markdown_plain.proofs.LooseFramesLemmas.{loose_more}
-use Rattle.markdown_plain.proofs.BegunBlocksLemmas.{begun_block}
-use Rattle.markdown_plain.specs.Beginning.{MayBegin}
+use Rattle.markdown_plain.proofs.BegunBlocksLemmas.{KeepsRest, begun_block, begun_in_room, still_may}
 
 -- ---- one more container
 
@@ -72,22 +75,20 @@ pub record HoldsBlocks (kind : Kind) : Type 0 where
   pub empty : EmptyKnownIn false nil kind
 
 -- a container that begins loosens as any block does
-pub loose_inside : (now : Looseness) (frames : List Frame) (b : Block) → HoldsBlocks b.kind
-    → IsLooseBefore now frames nil → IsLooseAs now (with_frame frames nil b) nil
-loose_inside now frames b holds before =
-    let f : Frame = record { before = nil; block = b } in
+pub loose_inside : (now : Looseness) (frames : List Frame) (inside : Forest Block) (b : Block) → HoldsBlocks b.kind
+    → IsLooseBefore now frames inside → IsLooseAs now (with_frame frames inside b) nil
+loose_inside now frames inside b holds before =
+    let f : Frame = record { before = inside; block = b } in
+    let made : Forest Block = followed_by inside (node b nil nil) in
     record {
       lists = before.lists (node b nil nil) (holds.filled, refl)
-          ∙ (sym (append-nil (are_loose frames (node b nil nil)))
-          ∙ (ap (λ bs. are_loose frames (node b nil nil) ++ bs)
-          (sym (ap (λ list. if list then was_loose ∷ [] else []) holds.free))
+          ∙ (sym (append-nil (are_loose frames made))
+          ∙ (ap (λ bs. are_loose frames made ++ bs)
+          (sym (ap (λ list. if list then is_loose nil ∷ [] else []) holds.free))
           ∙ sym (loose_more frames (f ∷ []) nil)));
       empty = empty_more frames f nil now.item_is_empty
           (subst (λ empty. EmptyKnownIn empty nil b.kind) (sym before.empty) holds.empty);
     }
-  where
-    was_loose : Bool
-    was_loose = is_loose nil
 
 -- ---- what is left inside it
 
@@ -96,16 +97,15 @@ and_false true = refl
 and_false false = refl
 
 -- the rest of a line inside a container that it begins
-left_inside : (s : Source) (rest : LineRest) (source : SourceLine) (inside : Position) (depth : ℕ)
+pub left_inside : (s : Source) (rest : LineRest) (source : SourceLine) (inside : Position) (depth : ℕ)
     (before : Before) → IsLeft s rest source → IsRestOf source.left (left_at rest.reader inside)
+    → IsCharBoundary s.text inside.at
     → IsLeft s (record rest { position = inside; depth = depth; before = before })
     (rest_inside (left_at rest.reader inside) source)
-left_inside s rest source inside depth before left is =
+left_inside s rest source inside depth before left is boundary =
     let here : rest.position.at ≡ source.left.scanned = ap (λ (l : LineLeft). l.scanned) left.is.rest.left in
     let later : rest.reader.start < inside.at = omega (arith, left.start, left.after, here, is.after) in
     let other : (inside.at == rest.reader.start) ≡ false = grind (arith, nat_tests, later) in
-    let next : rest.reader.next ≡ source.next = ap (λ (l : SourceLine). l.next) left.line in
-    let indent : None ≡ source.indent = ap (λ (l : SourceLine). l.indent) left.line in
     record {
       is = record {
         rest = record {
@@ -120,9 +120,28 @@ left_inside s rest source inside depth before left is =
       text = left.text;
       stop = left.stop;
       start = left.start;
-      line = rw (other, and_false rest.reader.outermost, next, indent) refl;
+      next = left.next;
+      indent = left.indent;
+      outermost = λ reads. rw (other, and_false rest.reader.outermost) refl;
       after = omega (arith, left.after, here, is.after);
+      boundary = boundary;
+      from = left.from;
+      utf8 = left.utf8;
     }
+
+-- it begins later in the line
+pub inside_later : (s : Source) (rest : LineRest) (source : SourceLine) (inside : Position) (depth : ℕ)
+    → IsLeft s rest source → IsRestOf source.left (left_at rest.reader inside)
+    → turn_place rest
+    < turn_place (record rest { position = inside; depth = depth; before = paragraph.NoParagraph })
+inside_later s rest source inside depth left is =
+    let here : rest.position.at ≡ source.left.scanned = ap (λ (l : LineLeft). l.scanned) left.is.rest.left in
+    let one = at_most_one (is_paragraph rest.before) in
+    omega (arith, here, one, is.after)
+  where
+    at_most_one : (b : Bool) → (if b then 0 else 1) ≤ 1
+    at_most_one true = omega arith
+    at_most_one false = omega arith
 
 -- it was opened in that line
 opened_here : (s : Source) (rest : LineRest) (source : SourceLine) (kind : Kind) → IsLeft s rest source
@@ -136,12 +155,12 @@ opened_here s rest source kind left =
     record { same = starts ∙ sym ends; before = omega (arith, next) }
 
 -- a container that begins with the rest of a line is open inside others
-pub record OpensIn (s : Source) (now : Pass) (outer : List Frame) (b : Block) : Type 0 where
+pub record OpensIn (s : Source) (now : Pass) (outer : List Frame) (before : Forest Block) (b : Block) : Type 0 where
   pub source : source_of now ≡ s
-  pub built : IsBuilt s now.placing.builder (with_frame outer nil b) nil
+  pub built : IsBuilt s now.placing.builder (with_frame outer before b) nil
   pub lines : now.lines.items ≡ []
   pub blanks : now.blanks.items ≡ []
-  pub loose : IsLooseAs now.looseness (with_frame outer nil b) nil
+  pub loose : IsLooseAs now.looseness (with_frame outer before b) nil
   pub free : is_list b.kind ≡ false
 
 -- these containers go on in a line, or were opened in it
@@ -166,55 +185,59 @@ earlier_here s rest source kind left filled =
       first = omega (arith, left.is.rest.next);
     }
 
-earlier_more : (to : ℕ) (frames : List Frame) (b : Block) → AreOpenedBefore to frames → IsOpenedBefore to b
-    → AreOpenedBefore to (with_frame frames nil b)
-earlier_more to [] b are is = (λ item. is, tt)
-earlier_more to (f ∷ frames) b are is = (are.0, earlier_more to frames b are.1 is)
+earlier_more : (to : ℕ) (frames : List Frame) (inside : Forest Block) (b : Block) → AreOpenedBefore to frames
+    → IsOpenedBefore to b → AreOpenedBefore to (with_frame frames inside b)
+earlier_more to [] inside b are is = (λ item. is, tt)
+earlier_more to (f ∷ frames) inside b are is = (are.0, earlier_more to frames inside b are.1 is)
 
 -- one more that begins with the rest of a line
 pub in_line_more : (s : Source) (rest : LineRest) (source : SourceLine) (kind : Kind) (frames : List Frame)
-    → IsLeft s rest source → is_blank_rest source ≡ false → AreInLine rest.line frames
-    → AreInLine rest.line (with_frame frames nil (begun_block source kind))
-in_line_more s rest source kind frames left filled are = record {
-  quotes = quotes_more rest.line.next frames nil (begun_block source kind) are.quotes (sym left.is.rest.next);
-  items = items_more rest.line frames nil (begun_block source kind) are.items (opened_here s rest source kind left);
-  earlier = earlier_more rest.line.next frames (begun_block source kind) are.earlier
+    (inside : Forest Block) → IsLeft s rest source → is_blank_rest source ≡ false → AreInLine rest.line frames
+    → AreInLine rest.line (with_frame frames inside (begun_block source kind))
+in_line_more s rest source kind frames inside left filled are = record {
+  quotes = quotes_more rest.line.next frames inside (begun_block source kind) are.quotes (sym left.is.rest.next);
+  items =
+      items_more rest.line frames inside (begun_block source kind) are.items (opened_here s rest source kind left);
+  earlier = earlier_more rest.line.next frames inside (begun_block source kind) are.earlier
       (earlier_here s rest source kind left filled);
 }
 
 -- one that is no list, where a block may begin
-pub opened_in : (s : Source) (now : Pass) (frames : List Frame) (b : Block) → MayBegin s now frames
-    → IsBuilt s now.placing.builder (with_frame frames nil b) nil → HoldsBlocks b.kind → OpensIn s now frames b
-opened_in s now frames b may built holds = record {
+pub opened_in : (s : Source) (now : Pass) (line : Line) (frames : List Frame) (inside : Forest Block) (b : Block)
+    → MayBegin s now line frames inside → IsBuilt s now.placing.builder (with_frame frames inside b) nil
+    → HoldsBlocks b.kind → OpensIn s now frames inside b
+opened_in s now line frames inside b may built holds = record {
   source = may.source;
   built = built;
   lines = may.lines;
   blanks = may.blanks;
-  loose = loose_inside now.looseness frames b holds may.loose;
+  loose = loose_inside now.looseness frames inside b holds may.loose;
   free = holds.free;
 }
 
 -- the rest of the line is read inside it
-pub container_inside : (s : Source) (now : Pass) (rest next : LineRest) (outer : List Frame) (source : SourceLine)
-    (blocks : Forest Block) (inside : Position) (kind : Kind) → IsLeft s rest source
+pub container_inside : (s : Source) (now : Pass) (rest next : LineRest) (outer : List Frame) (before : Forest Block)
+    (source : SourceLine) (blocks : Forest Block) (inside : Position) (kind : Kind) → IsLeft s rest source
     → is_blank_rest source ≡ false → next ≡ record rest {
       position = inside;
       depth = length now.placing.builder.blocks;
       before = paragraph.NoParagraph;
     }
-    → IsRestOf source.left (left_at rest.reader inside) → OpensIn s now outer (begun_block source kind)
-    → AreInLine rest.line outer
-    → blocks ≡ rebuilt outer (node (begun_block source kind)
-    (begun_in_rest s (rest_inside (left_at rest.reader inside) source)) nil)
-    → AreItemsInLists false blocks → GoesInside s now next blocks
-container_inside s now rest next outer source blocks inside kind left filled goes is opens are whole items =
+    → IsRestOf source.left (left_at rest.reader inside) → IsCharBoundary s.text inside.at
+    → OpensIn s now outer before (begun_block source kind) → AreInLine rest.line outer
+    → blocks ≡ rebuilt outer (followed_by before (node (begun_block source kind)
+    (begun_in_rest s (rest_inside (left_at rest.reader inside) source)) nil))
+    → AreItemsInLists false blocks → ReadsOn s now rest next blocks
+container_inside s now rest next outer before source blocks inside kind left filled goes is boundary opens are whole
+    items =
     let b = begun_block source kind in
-    let f : Frame = record { before = nil; block = b } in
-    let more = in_line_more s rest source kind outer left filled are in
-    subst (λ (r : LineRest). GoesInside s now r blocks) (sym goes) (record {
-      frames = with_frame outer nil b;
+    let f : Frame = record { before = before; block = b } in
+    let more = in_line_more s rest source kind outer before left filled are in
+    let deep = length now.placing.builder.blocks in
+    subst (λ (r : LineRest). ReadsOn s now rest r blocks) (sym goes) (record {
+      turn = here.later (with_frame outer before b);
       source = rest_inside (left_at rest.reader inside) source;
-      inside = record {
+      here = record {
         opened = record {
           source = opens.source;
           free = record {
@@ -229,12 +252,68 @@ container_inside s now rest next outer source blocks inside kind left filled goe
           first = first_more outer f 0 ∙ sym left.is.rest.next;
           earlier = more.earlier;
         };
-        left = left_inside s rest source inside (length now.placing.builder.blocks) paragraph.NoParagraph left is;
+        left = left_inside s rest source inside deep paragraph.NoParagraph left is boundary;
         inner = refl;
-        depth = as_many_containers s now.placing.builder (with_frame outer nil b) nil opens.built;
+        depth = as_many_containers s now.placing.builder (with_frame outer before b) nil opens.built;
         before = refl;
         whole = whole ∙ sym (rebuilt_more outer f
             (begun_in_rest s (rest_inside (left_at rest.reader inside) source)));
         items = items;
       };
+      later = inside_later s rest source inside deep left is;
+      line = refl;
+      row = refl;
     })
+
+-- ---- where there is room for it
+
+-- the rest inside what begins there
+pub rest_in_room : (s : Source) (pass : Pass) (rest : LineRest) (source : SourceLine) (b : Beginning)
+    (blocks : Forest Block) → HasRoom s pass rest source b blocks → HoldsRest source.left b
+rest_in_room s pass rest source b blocks room =
+    subst (HoldsRest source.left) room.is (begins_rest s paragraph.NoParagraph source
+    (subst (λ n. n ≤ 3) (ap (λ (l : LineLeft). l.owed) room.left.is.rest.left) room.left.is.rest.few))
+
+-- its containers go on in the line
+pub line_in_room : (s : Source) (pass : Pass) (rest : LineRest) (source : SourceLine) (b : Beginning)
+    (blocks : Forest Block) → (room : HasRoom s pass rest source b blocks) → AreInLine rest.line room.frames
+line_in_room s pass rest source b blocks room =
+    record { quotes = room.may.quotes; items = room.may.items; earlier = room.may.earlier }
+
+-- the rest of the line is read inside a container that begins there
+pub room_inside : (s : Source) (room now : Pass) (rest next : LineRest) (source : SourceLine) (begun : Beginning)
+    (blocks : Forest Block) (inside : Position) (kind : Kind) → (has : HasRoom s room rest source begun blocks)
+    → next ≡ record rest {
+      position = inside;
+      depth = length now.placing.builder.blocks;
+      before = paragraph.NoParagraph;
+    }
+    → IsRestOf source.left (left_at rest.reader inside) → IsCharBoundary s.text inside.at
+    → KeepsRest room now
+    → IsBuilt s now.placing.builder (with_frame has.frames has.inside (begun_block source kind)) nil
+    → HoldsBlocks kind
+    → new_blocks (inside_of (begun_by s) source) source begun
+    ≡ node (begun_block source kind) (begun_in_rest s (rest_inside (left_at rest.reader inside) source)) nil
+    → ReadsOn s now rest next blocks
+room_inside s room now rest next source begun blocks inside kind has goes is boundary keeps built holds new =
+    let b = begun_block source kind in
+    container_inside s now rest next has.frames has.inside source blocks inside kind has.left has.filled goes is
+    boundary
+    (opened_in s now rest.line has.frames has.inside b
+    (still_may s room now rest.line has.frames has.inside has.may keeps) built holds)
+    (line_in_room s room rest source begun blocks has)
+    (begun_in_room s room rest source begun blocks has
+    ∙ ap (λ made. rebuilt has.frames (followed_by has.inside made)) new) has.items
+
+-- ---- a paragraph inside it
+
+-- where the line of a paragraph fitted, so did what was made before it
+pub fitted_before : (old now : Pass) (P : Type 0)
+    → (has_paragraph old ≡ true → now ≡ record old { lines = now.lines })
+    → (has_paragraph old ≡ false → IfFitted old.placing now.placing P) → AllFitted now.placing
+    → AllFitted old.placing
+fitted_before old now P goes_on begins fitted = by_paragraph (has_paragraph old) refl
+  where
+    by_paragraph : (some : Bool) → has_paragraph old ≡ some → AllFitted old.placing
+    by_paragraph true is = subst (λ (p : Pass). AllFitted p.placing) (goes_on is) fitted
+    by_paragraph false is = (begins is fitted).0

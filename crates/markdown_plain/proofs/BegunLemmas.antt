@@ -81,7 +81,7 @@ space_from_is_of text n scanned column (b ∷ bytes) is =
     (space_from_is_of text (n - w) (scanned + 1) after bytes
     (next_is_of text scanned 0 0 column after b bytes is)))
 
-space_is_of : (text : List ℕ) (n : ℕ) (left : LineLeft) → IsLeftOf text left
+pub space_is_of : (text : List ℕ) (n : ℕ) (left : LineLeft) → IsLeftOf text left
     → IsLeftOf text (leading_space n left).after
 space_is_of text n left is =
     either (λ (space : Space). IsLeftOf text space.after) (nat_le n left.owed)

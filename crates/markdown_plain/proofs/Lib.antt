@@ -17,6 +17,7 @@ pub mod ListLoosenessLemmas
 pub mod FramesLemmas
 pub mod ReachedLemmas
 pub mod BegunLemmas
+pub mod BegunAloneLemmas
 pub mod LastBlocksLemmas
 pub mod ReachedFramesLemmas
 -- on open containers, and on blocks that are appended inside them
@@ -59,12 +60,14 @@ pub mod TextLinesLemmas
 -- on blocks that begin with the rest of a line
 pub mod BegunBlocksLemmas
 pub mod BegunContainersLemmas
+pub mod BegunItemsLemmas
 pub mod BegunRestsLemmas
 pub mod BegunLeavesLemmas
 pub mod BegunTextsLemmas
 pub mod FirstTurnsLemmas
 pub mod FoundBlocksLemmas
 pub mod InnerBeginningsLemmas
+pub mod RoomForBlocksLemmas
 pub mod FoundPlacesLemmas
 pub mod TextHereLemmas
 pub mod TurnsLemmas

@@ -274,13 +274,15 @@ pub fn reach(pass: &Pass<'_>, line: Line) -> Reached
 }
 
 impl<'a> Pass<'a> {
-    ghost use Rattle.std.specs.Prelude.{◌≤◌, false, drop, length};
+    ghost use Rattle.std.specs.Prelude.{◌≤◌, false, drop, length, Option};
     ghost use Rattle.markdown_base.specs.CowText.{text_of};
     ghost use Rattle.markdown_base.specs.Forest.{Forest, nil};
     ghost use Rattle.markdown_block_rules.specs.BlockGrowth.{Block, footnote_container, item_container};
     ghost use Rattle.markdown_block_rules.specs.BlockGrowth.{list_container};
     ghost use Rattle.markdown_lines.specs.BlockBeginnings.{Source};
+    ghost use Rattle.markdown_plain.specs.Beginning.{HoldsLast};
     ghost use Rattle.markdown_plain.specs.Closing.{MayClose};
+    ghost use Rattle.markdown_plain.specs.Standing.{with_last};
     ghost use Rattle.markdown_plain.specs.Frames.{Frame, forgotten, innermost_is, is_list, rebuilt};
     ghost use Rattle.markdown_plain.specs.Frames.{room_depth};
     ghost use Rattle.markdown_plain.specs.OpenedFrames.{MayOpen, is_list_for, quote_kind, with_frame};
@@ -338,13 +340,26 @@ impl<'a> Pass<'a> {
             })
             × IsLooseAs self.new.looseness (with_frame (with_frame frames nil list) nil b) nil) }
         ensures frame { IfOk result (λ _. (s : Source) (frames : List Frame)
-            (inside : Forest Block) (list b : Block) → self.old.lines.items ≡ []
-            → MayClose s self.old frames inside
+            (inside : Forest Block) (last : Option Block) (list b : Block)
+            → HoldsLast s self.old frames inside last
             → list.start ≡ at → list.kind ≡ list_container item.marker
             → b.start ≡ at → b.kind ≡ item_container item.indent
             → IfFitted self.old.placing self.new.placing (IsBuilt s self.new.placing.builder
-            (with_item item.marker list b (take depth frames) (rebuilt (drop depth frames) inside))
-            nil)) }
+            (with_item item.marker list b (take depth frames)
+            (rebuilt (drop depth frames) (with_last inside last))) nil)) }
+        ensures loose { IfOk result (λ _. (s : Source) (frames : List Frame)
+            (inside : Forest Block) (last : Option Block) (list b : Block)
+            → HoldsLast s self.old frames inside last
+            → IsLooseAs self.old.looseness frames (with_last inside last)
+            → BlanksKnown self.old.looseness.blank_from 0 frames (with_last inside last)
+            → is_list list.kind ≡ true → is_item b.kind ≡ true
+            → IfFitted self.old.placing self.new.placing (IsLooseAs self.new.looseness
+            (with_item item.marker list b (take depth frames)
+            (rebuilt (drop depth frames) (with_last inside last))) nil)) }
+        ensures dropped { IfOk result (λ _. self.old.placing.builder.leaf ≡ true
+            → self.new.blanks.items ≡ []) }
+        ensures unheld { IfOk result (λ _. self.old.blanks.items ≡ []
+            → self.new.blanks.items ≡ []) }
         ensures same { self.new ≡ record self.old {
           placing = self.new.placing;
           lines = self.new.lines;
@@ -389,6 +404,14 @@ impl<'a> Pass<'a> {
             → BlanksKnown self.old.looseness.blank_from 0 frames inside)
             → is_list list.kind ≡ true → is_item b.kind ≡ true
             → IsLooseAs self.new.looseness (with_frame (with_frame frames inside list) nil b) nil) }
+        ensures loose { IfOk result (λ _. (s : Source) (frames : List Frame)
+            (inside : Forest Block) (list b : Block)
+            → IsBuilt s self.old.placing.builder frames inside
+            → IsLooseAs self.old.looseness frames inside
+            → BlanksKnown self.old.looseness.blank_from 0 frames inside
+            → is_list list.kind ≡ true → is_item b.kind ≡ true
+            → IfFitted self.old.placing self.new.placing
+            (IsLooseAs self.new.looseness (with_item marker list b frames inside) nil)) }
         ensures empty { IfOk result (λ _. self.new.looseness.item_is_empty ≡ true) }
         ensures same { self.new ≡ record self.old {
           placing = self.new.placing;

@@ -1,5 +1,5 @@
 -- The item is one more open container, in a list that goes on or is one more as well.
-use Rattle.std.proofs.Common.{◌≡◌, ◌∙◌, List, sym, subst, ap, arith, true, take, drop}
+use Rattle.std.proofs.Common.{◌≡◌, ◌∙◌, List, Option, Some, None, sym, subst, ap, arith, true, take, drop}
 use Rattle.std.proofs.lemmas.Bool.{true≢false}
 use Rattle.std.proofs.lemmas.Result.{IfOk-weaker}
 use Rattle.markdown_base.specs.Forest.{Forest, nil}
@@ -7,12 +7,17 @@ use Rattle.markdown_base.specs.declared.item.ItemBody.TheVariants as body
 use Rattle.markdown_builder.specs.BuilderView.{BuilderView, Opens}
 use Rattle.markdown_lines.specs.BlockBeginnings.{Source}
 use Rattle.markdown_block_rules.specs.BlockGrowth.{Block, item_container}
+use Rattle.markdown_plain.specs.Beginning.{HoldsLast}
 use Rattle.markdown_plain.specs.Closing.{MayClose}
-use Rattle.markdown_plain.specs.Fitting.{AllFitted, stepped}
+use Rattle.markdown_plain.specs.Fitting.{AllFitted, IfFitted, stepped}
+use Rattle.markdown_plain.specs.Standing.{with_last}
 use Rattle.markdown_plain.specs.Frames.{Frame, forgotten, innermost_is, is_list, rebuilt}
 use Rattle.markdown_plain.specs.OpenedFrames.{with_frame}
-use Rattle.markdown_plain.specs.Settled.{IsBuilt, IsLooseAs}
+use Rattle.markdown_plain.specs.Settled.{BlanksKnown, IsBuilt, IsLooseAs}
+use Rattle.markdown_plain.specs.declared.looseness.Looseness.{Looseness}
 use Rattle.markdown_plain.specs.declared.pass.Pass.{Pass}
+use Rattle.markdown_plain.proofs.RoomForBlocksLemmas.{last_open}
+use Rattle.markdown_plain.proofs.ClosedListsLemmas.{known_of_outermost}
 use Rattle.markdown_plain.proofs.OpenedFramesLemmas.{as_many_containers, innermost_of_more, item_is, item_placed}
 use Rattle.markdown_plain.proofs.OpenedFramesLemmas.{list_for_item, plain_is_built}
 use Rattle.markdown_plain.proofs.pass.Pass.open_item.Goals as goal
@@ -63,15 +68,23 @@ returns-clause-inside c =
           lists items,
     )) c.open_block.ensures.opens
 
+-- what is not reached is closed
+closed_down : (c : goal.After-open_block) (s : Source) (frames : List Frame) (inside : Forest Block)
+    (last : Option Block) → HoldsLast s c.args.self.now frames inside last
+    → IfFitted c.args.self.now.placing c.close_down.new.self.placing (MayClose s c.close_down.new.self
+    (take c.args.depth frames) (rebuilt (drop c.args.depth frames) (with_last inside last)))
+closed_down c s frames inside None holds = c.in_ok-close_down.ensures.forgets s frames inside holds.1 holds.0
+closed_down c s frames inside (Some b) holds = c.in_ok-close_down.ensures.finishes s frames inside b holds.0 holds.1
+
 pub returns-clause-frame : goal.returns-clause-frame
 returns-clause-frame c =
-    IfOk-weaker c.open_block.result _ _ (λ done opens s frames inside list b none may starts is start same fitted.
+    IfOk-weaker c.open_block.result _ _ (λ done opens s frames inside before list b holds starts is start same fitted.
     let last = opens fitted in
     let first = c.step_to.ensures.steps last.0 in
     let outer = take c.args.depth frames in
-    let below = rebuilt (drop c.args.depth frames) inside in
+    let below = rebuilt (drop c.args.depth frames) (with_last inside before) in
     let listed = c.in_ok-open_list.ensures in
-    let down = c.in_ok-close_down.ensures.forgets s frames inside none may (listed.around first.0).0 in
+    let down = closed_down c s frames inside before holds (listed.around first.0).0 in
     let put : (fs : List Frame) (before : Forest Block) → innermost_is is_list fs ≡ true
     → IsBuilt s c.open_list.new.self.placing.builder fs before
     → IsBuilt s c.open_block.new.self.builder (with_frame fs before b) nil =
@@ -90,4 +103,25 @@ returns-clause-frame c =
           (λ others f whole ends other. put_first others (forgotten f below)
           (listed.changes s others f below list (subst (λ fs. MayClose s c.close_down.new.self fs below) whole down.1)
           ends other starts is first.0).1),
+    )) c.open_block.ensures.opens
+
+pub returns-clause-loose : goal.returns-clause-loose
+returns-clause-loose c =
+    IfOk-weaker c.open_block.result _ _ (λ done opens s frames inside last list b holds loose known lists items fitted.
+    let old = c.args.self.now in
+    let down = c.close_down.new.self in
+    let depth = c.args.depth in
+    let blocks = with_last inside last in
+    let first = c.step_to.ensures.steps (opens fitted).0 in
+    let listed = c.in_ok-open_list.ensures in
+    let there = (listed.around first.0).0 in
+    let around = last_open s old frames inside last holds in
+    let closed = closed_down c s frames inside last holds there in
+    let left = c.in_ok-close_down.ensures.loose around.texts frames blocks around.are around.nested loose there in
+    let from : down.looseness.blank_from ≡ old.looseness.blank_from =
+    ap (λ (l : Looseness). l.blank_from) c.close_down.ensures.looseness in (
+      closed.0,
+      (listed.loose s (take depth frames) (rebuilt (drop depth frames) blocks) list b closed.1.stands.built left.1
+          (subst (λ n. BlanksKnown n 0 (take depth frames) (rebuilt (drop depth frames) blocks)) (sym from)
+          (known_of_outermost old.looseness.blank_from depth frames blocks known)) lists items first.0).1,
     )) c.open_block.ensures.opens

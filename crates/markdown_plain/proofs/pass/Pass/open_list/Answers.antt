@@ -1,5 +1,6 @@
 -- The list goes on, or is one more open container.
-use Rattle.std.proofs.Common.{append_assoc, ◌≡◌, ◌∙◌, ◌++◌, ◌∷◌, [], List, sym, subst, rules, true, false}
+use Rattle.std.proofs.Common.{append_assoc, ap, Bool, drop, if◌then◌else◌, length, take}
+use Rattle.std.proofs.Common.{◌≡◌, ◌∙◌, ◌++◌, ◌∷◌, [], List, sym, subst, rules, true, false}
 use Rattle.std.proofs.lemmas.Bool.{true≢false}
 use Rattle.std.proofs.lemmas.Result.{IfOk-weaker}
 use Rattle.markdown_base.specs.declared.item.ItemBody.TheVariants as body
@@ -10,15 +11,17 @@ use Rattle.markdown_builder.specs.declared.open_block.OpenBlock.{OpenBlock}
 use Rattle.markdown_lines.specs.BlockBeginnings.{Source}
 use Rattle.markdown_plain.specs.Closing.{MayClose}
 use Rattle.markdown_plain.specs.Fitting.{AllFitted, IfFitted, stepped}
-use Rattle.markdown_plain.specs.Frames.{Frame, forgotten, is_list}
-use Rattle.markdown_plain.specs.OpenedFrames.{is_list_for}
+use Rattle.markdown_plain.specs.Frames.{Frame, forgotten, is_list, rebuilt, room_depth}
+use Rattle.markdown_plain.specs.OpenedFrames.{is_list_for, with_frame, with_list}
 use Rattle.markdown_plain.specs.NewContainers.{is_list_of}
 use Rattle.markdown_plain.specs.OpenBlocks as own
 use Rattle.markdown_plain.specs.declared.pass.Pass.{Pass}
 use Rattle.markdown_plain.specs.Settled.{AreOpen, BlanksKnown, IsLooseAs}
-use Rattle.markdown_plain.proofs.ClosedListsLemmas.{AddsBlock}
-use Rattle.markdown_plain.proofs.OpenedFramesLemmas.{innermost_of_more, list_goes_on, list_innermost, list_is}
-use Rattle.markdown_plain.proofs.OpenedFramesLemmas.{list_outside, plain_is_built}
+use Rattle.markdown_plain.proofs.ClosedListsLemmas.{AddsBlock, AreClosedTo, IsRoom, room_left, room_made, room_there}
+use Rattle.markdown_plain.proofs.ClosedListsLemmas.{none_closed as none_closed_so_far}
+use Rattle.markdown_plain.proofs.OpenedFramesLemmas.{as_many_containers, innermost_of_more, list_for_item}
+use Rattle.markdown_plain.proofs.OpenedFramesLemmas.{list_goes_on, list_innermost, list_is, list_outside}
+use Rattle.markdown_plain.proofs.OpenedFramesLemmas.{plain_is_built}
 use Rattle.markdown_plain.proofs.pass.Pass.open_list.Goals.{in-Some-List+else-character-marker}
 use Rattle.markdown_plain.proofs.pass.Pass.open_list.Goals.{in-Some+in-MaybeEmphasis-1, in-None-1}
 use Rattle.markdown_plain.proofs.pass.Pass.open_list.Goals as goal
@@ -123,3 +126,74 @@ returns-clause-loose_begins c =
     (λ some. subst (λ (p : Pass). BlanksKnown p.looseness.blank_from 0 frames inside) (sym kept) (known some)) in
     subst (λ fs. IsLooseAs c.open_list.new.self fs nil) (sym (append_assoc frames (f ∷ []) (g ∷ [])))
     (begins frames inside list b before lists items)) c.open_list.ensures.begins
+
+-- an item more in the list that goes on
+pub returns-then-character-marker-clause-loose : goal.returns-then-character-marker-clause-loose
+returns-then-character-marker-clause-loose c = λ s frames inside list b built loose known lists items fitted.
+    let marker = c.args.marker in
+    let view = c.args.self.now.placing.builder in
+    let goes_on : own.innermost_is (is_list_of marker.character) view.blocks ≡ true = search rules in
+    let listed = sym (list_goes_on marker s view frames inside built) ∙ goes_on in (
+      fitted,
+      subst (λ fs. IsLooseAs c.add_item.new.self fs nil)
+          (ap (λ (test : Bool). if test then with_frame frames inside b
+          else with_frame (with_list list frames inside) nil b) (sym listed))
+          (c.add_item.ensures.begins view.texts frames inside b
+          (subst (λ (bs : List OpenBlock). AreOpen view.texts bs frames) (sym c.open_blocks.ensures) built.blocks)
+          built.nested (list_for_item marker frames listed) loose known items),
+    )
+
+-- a list in the way is closed, and another one begins
+pub returns-clause-loose : goal.returns-clause-loose
+returns-clause-loose c =
+    IfOk-weaker c.open_list.result _ _ (λ done added s frames inside list b built loose known lists items fitted.
+    let old = c.args.self.now in
+    let now = c.match-innermost.self in
+    let view = old.placing.builder in
+    let texts = view.texts in
+    let n = room_depth (length frames) frames in
+    let f : Frame = record { before = rebuilt (drop n frames) inside; block = list } in
+    let g : Frame = record { before = nil; block = b } in
+    let last = c.in_ok-open_block.ensures.opens fitted in
+    let first = c.step_to.ensures.steps last.0 in
+    let here = subst (λ k. AreClosedTo texts frames inside k view.blocks old.looseness)
+    (as_many_containers s view frames inside built)
+    (none_closed_so_far texts frames inside view.blocks old.looseness built.blocks loose) in
+    let room : AllFitted old.placing × IsRoom texts frames inside n now.placing.builder.blocks now.looseness =
+    elim c.match-innermost.branch [
+      | in-Some-List+else-character-marker w ↦
+          let shut = w.close_block.ensures.closes (subst (λ (p : Pass). AllFitted p.placing) w.self-is first.0) in
+          let inner : own.innermost_is own.is_list view.blocks ≡ true = search rules in (
+            shut.0,
+            subst (λ (p : Pass). IsRoom texts frames inside n p.placing.builder.blocks p.looseness) (sym w.self-is)
+                (room_left texts frames inside (length frames) view.blocks
+                w.close_block.new.self.placing.builder.blocks old.looseness w.close_block.new.self.looseness
+                (ap (λ (v : BuilderView). v.blocks) shut.1) (record { loose = w.close_block.ensures.loose texts })
+                built.nested here inner),
+          )
+      | in-Some+in-MaybeEmphasis-1 w ↦
+          let inner : own.innermost_is own.is_list view.blocks ≡ false = search rules in (
+            subst (λ (p : Pass). AllFitted p.placing) w.self-is first.0,
+            subst (λ (p : Pass). IsRoom texts frames inside n p.placing.builder.blocks p.looseness) (sym w.self-is)
+                (room_there texts frames inside (length frames) view.blocks old.looseness here inner),
+          )
+      | in-None-1 w ↦
+          let inner : own.innermost_is own.is_list view.blocks ≡ false = search rules in (
+            subst (λ (p : Pass). AllFitted p.placing) w.self-is first.0,
+            subst (λ (p : Pass). IsRoom texts frames inside n p.placing.builder.blocks p.looseness) (sym w.self-is)
+                (room_there texts frames inside (length frames) view.blocks old.looseness here inner),
+          )
+    ] in
+    let from : now.looseness.blank_from ≡ old.looseness.blank_from = search rules in
+    let other = sym (list_goes_on c.args.marker s view frames inside built) ∙ begins c in
+    let made = room_made texts frames inside n now.placing.builder.blocks now.looseness c.add_block.new.self
+    (subst (λ (bs : List OpenBlock). AddsBlock texts bs now.looseness c.add_block.new.self) c.open_blocks-2.ensures
+    (record { loose = c.add_block.ensures.begins texts })) built.nested
+    (λ some. subst (λ from. BlanksKnown from 0 frames inside) (sym from) known) room.1 in (
+      room.0,
+      subst (λ fs. IsLooseAs c.open_list.new.self fs nil)
+          (sym (append_assoc (take n frames) (f ∷ []) (g ∷ []))
+          ∙ ap (λ (test : Bool). if test then with_frame frames inside b
+          else with_frame (with_list list frames inside) nil b) (sym other))
+          (added (take n frames) (rebuilt (drop n frames) inside) list b made lists items),
+    )) c.open_list.ensures.begins

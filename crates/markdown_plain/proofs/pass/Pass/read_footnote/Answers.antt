@@ -1,43 +1,35 @@
 -- The rest of the line is read inside the footnote definition.
-use Rattle.std.proofs.Common.{◌∙◌, refl, sym, ap}
+use Rattle.std.proofs.Common.{◌∙◌, refl, sym, subst, ap}
+use Rattle.std.specs.Str.{IsCharBoundary}
 use Rattle.markdown_base.specs.CowText.{text_of}
-use Rattle.markdown_base.specs.Forest.{nil}
 use Rattle.markdown_lines.specs.BlockBeginnings as line
+use Rattle.markdown_lines.specs.BlockBeginnings.{Source}
 use Rattle.markdown_lines.specs.BlockStarts.{left_at}
 use Rattle.markdown_lines.specs.declared.block_start.BlockStart.TheVariants as start
 use Rattle.markdown_block_rules.specs.BlockGrowth as was
-use Rattle.markdown_plain.specs.Frames.{rebuilt}
-use Rattle.markdown_plain.specs.declared.pass.Pass.{Pass}
-use Rattle.markdown_plain.proofs.FoundBlocksLemmas.{begun_found, found_filled, rest_found}
-use Rattle.markdown_plain.proofs.BegunBlocksLemmas.{begun_block, container_inside, opened_in}
-use Rattle.markdown_plain.proofs.BegunBlocksLemmas.{source_kept}
+use Rattle.markdown_plain.proofs.BegunBlocksLemmas.{begun_block, keeps_leaf}
+use Rattle.markdown_plain.proofs.BegunContainersLemmas.{rest_in_room, room_inside}
 use Rattle.markdown_plain.proofs.pass.Pass.read_footnote.Goals as goal
 
-pub returns-clause-inside : goal.returns-clause-inside
-returns-clause-inside c = λ s frames source blocks state found fitted.
-    let old = c.args.self.now in
+pub returns-clause-reads_on : goal.returns-clause-reads_on
+returns-clause-reads_on c = λ s turn source blocks state found boundary fitted.
+    let made = c.make_room_for.new.self in
     let now = c.open_footnote.new.self in
     let rest = c.args.rest.now in
-    let opened = state.opened in
-    let kind = was.footnote_container (text_of c.args.label) in
-    let b = begun_block source kind in
-    let note = start.Footnote c.args.label c.args.inside in
-    let begins = line.begins_footnote (text_of c.args.label) (left_at rest.reader c.args.inside) in
-    let same = c.in_ok-open_footnote.ensures.inside s frames opened.free state.depth opened.loose in
-    let opens = c.in_ok-open_footnote.ensures.begins s frames nil b opened.free state.depth (sym found.begins) refl
-    fitted in (
-      opens.0,
-      container_inside s now rest c.go_inside.new.rest frames source blocks c.args.inside kind state.left
-          (found_filled s rest source c.args.at note begins state.before found refl) c.go_inside.ensures.goes
-          (rest_found s rest source c.args.at note begins state.before state.left found refl)
-          (opened_in s now frames b (record {
-            source = source_kept s old now c.in_ok-open_footnote.ensures.text (ap (λ (p : Pass). p.options) same.0)
-                opened.source;
-            lines = c.in_ok-open_footnote.ensures.ended;
-            blanks = ap (λ (p : Pass). p.blanks.items) same.0 ∙ opened.blanks;
-            loose = same.1;
-          }) opens.1 (record { filled = refl; free = refl; empty = refl }))
-          (record { quotes = opened.quotes; items = opened.items; earlier = opened.earlier })
-          (state.whole ∙ ap (rebuilt frames) (begun_found s rest source c.args.at note begins state.before found refl))
-          state.items,
+    let label = text_of c.args.label in
+    let begins = line.begins_footnote label (left_at rest.reader c.args.inside) in
+    let kind = was.footnote_container label in
+    let there = (c.in_ok-open_footnote.ensures.opens fitted).0 in
+    let first = c.in_ok-make_room_for.ensures.room s turn source c.args.at (start.Footnote c.args.label c.args.inside)
+    begins blocks state found refl tt there in
+    let room = first.1 in
+    let opens = c.in_ok-open_footnote.ensures.frame s room.frames room.inside (begun_block source kind) room.built
+    room.free (sym found.begins) refl fitted in
+    let text = sym c.in_ok-make_room_for.ensures.text ∙ ap (λ (r : Source). r.text) room.may.source in (
+      first.0,
+      room_inside s made now rest c.go_inside.new.rest source begins blocks c.args.inside kind room
+          c.go_inside.ensures.goes (rest_in_room s made rest source begins blocks room)
+          (subst (λ t. IsCharBoundary t c.args.inside.at) text boundary)
+          (keeps_leaf made now c.open_footnote.ensures.same c.in_ok-open_footnote.ensures.text) opens.1
+          (record { filled = refl; free = refl; empty = refl }) refl,
     )

@@ -1,0 +1,420 @@
+-- Items that begin with the rest of a line, in the list that goes on with them, or in a new one.
+use Rattle.std.proofs.Common.{◌≡◌, ℕ, ◌<◌, ◌≤◌, Bool, true, false, List, [], ◌∷◌, ◌++◌, Option, Some, None, length}
+use Rattle.std.proofs.Common.{append_assoc, map, take, drop, refl, sym, ap, ◌∙◌, subst, arith, if◌then◌else◌, ◌==◌}
+use Rattle.std.proofs.lemmas.List.{map_push}
+use Rattle.std.proofs.lemmas.Bool.{true≢false}
+use Rattle.std.specs.Str.{IsCharBoundary}
+use Rattle.markdown_base.specs.Forest.{Forest, nil, node}
+use Rattle.markdown_builder.specs.TreeLevels.{followed_by}
+use Rattle.markdown_scan.specs.LineStart.{LineLeft}
+use Rattle.markdown_lines.specs.BlockBeginnings as line
+use Rattle.markdown_lines.specs.BlockBeginnings.{Source, begins}
+use Rattle.markdown_lines.specs.BlockStarts.{left_at}
+use Rattle.markdown_lines.specs.SourceLines.{SourceLine, is_blank_rest, rest_inside}
+use Rattle.markdown_lines.specs.declared.block_start.Before.TheVariants as paragraph
+use Rattle.markdown_lines.specs.declared.block_start.BlockStart.TheVariants as start
+use Rattle.markdown_lines.specs.declared.block_start.ItemStart.{ItemStart}
+use Rattle.markdown_lines.specs.declared.line.Line.{Line}
+use Rattle.markdown_lines.specs.declared.list_marker.ListMarker.{ListMarker}
+use Rattle.markdown_block_rules.specs.BlockGrowth as was
+use Rattle.markdown_block_rules.specs.BlockGrowth.{Block, Kind, another_item, begun_by, goes_on, inside_of}
+use Rattle.markdown_block_rules.specs.BlockGrowth.{line_block, new_blocks, next_item, with_line}
+use Rattle.markdown_plain.specs.declared.block_pass.LineRest.{LineRest}
+use Rattle.markdown_plain.specs.declared.pass.Pass.{Pass}
+use Rattle.markdown_plain.specs.Beginning.{HoldsLast, IsFirst, IsFound, IsHere, IsInside, IsLeft, ReadsOn, Turn}
+use Rattle.markdown_plain.specs.Beginning.{begun_in_rest}
+use Rattle.markdown_plain.specs.Beginning as turn
+use Rattle.markdown_plain.specs.Closing.{AreItemsInLists}
+use Rattle.markdown_plain.specs.Fitting.{IfFitted}
+use Rattle.markdown_plain.specs.Frames.{AreContainers, AreNested, Frame, forgotten, innermost_is, is_item, is_list}
+use Rattle.markdown_plain.specs.Frames.{reached, rebuilt, touched}
+use Rattle.markdown_plain.specs.OpenBlocks.{without_leaf}
+use Rattle.markdown_plain.specs.OpenedFrames.{MayOpen, is_list_for, with_frame, with_item}
+use Rattle.markdown_plain.specs.Paragraphs.{source_of}
+use Rattle.markdown_plain.specs.ReachedFrames.{are_none}
+use Rattle.markdown_plain.specs.ReachedLines.{Before, blocks_before, blocks_in, reached_of}
+use Rattle.markdown_plain.specs.Settled.{BlanksKnown, IsBuilt, IsLooseAs}
+use Rattle.markdown_plain.specs.Standing.{AreOpenedBefore, with_last}
+use Rattle.markdown_plain.specs.TextLines.{paragraph_before}
+use Rattle.markdown_plain.proofs.BegunAloneLemmas.{begins_alone}
+use Rattle.markdown_plain.proofs.BegunBlocksLemmas.{begun_block, source_kept}
+use Rattle.markdown_plain.proofs.BegunContainersLemmas.{AreInLine, container_inside, in_line_more}
+use Rattle.markdown_plain.proofs.BegunLemmas.{IsLeftOf, begun_once, block_begun, item_begun, left_from_is_of}
+use Rattle.markdown_plain.proofs.BegunRestsLemmas.{HoldsRest, IsRestOf, begins_rest}
+use Rattle.markdown_plain.proofs.BlanksKnownLemmas.{same_touched}
+use Rattle.markdown_plain.proofs.FramesLemmas.{innermost_apart, marker_of_list, rebuilt_more}
+use Rattle.markdown_plain.proofs.ItemsInListsLemmas.{line_keeps}
+use Rattle.markdown_plain.proofs.LastBlocksLemmas.{open_are_containers}
+use Rattle.markdown_plain.proofs.OpenedFramesLemmas.{item_placed}
+use Rattle.markdown_plain.proofs.ReachedLemmas.{block_begins, inner_left, item_begins, list_ends, outer_taken}
+use Rattle.markdown_plain.proofs.ReachedLemmas.{reached_next, reached_parts}
+use Rattle.markdown_plain.proofs.RoomForBlocksLemmas.{is_begun, last_open, line_some, none_goes_on, not_opened}
+use Rattle.markdown_plain.proofs.TouchedFramesLemmas.{built_touched, earlier_touched, quotes_touched}
+
+-- ---- what a line makes of blocks with an item that it begins
+
+-- an item that begins with the rest of a line
+abbrev pub item_made : Source → ℕ → LineLeft → SourceLine → Forest Block
+item_made s indent left l =
+    node (begun_block l (was.item_container indent)) (begun_in_rest s (rest_inside left l)) nil
+
+-- and with it a list
+abbrev pub list_made : Source → ListMarker → ℕ → LineLeft → SourceLine → Forest Block
+list_made s found indent left l =
+    node (begun_block l (was.list_container found)) (item_made s indent left l) nil
+
+module _ (s : Source) (frames : List Frame) (inside : Forest Block) (l source : SourceLine)
+    (are : AreContainers frames) (nested : AreNested frames) (found : ListMarker) (indent : ℕ) (left : LineLeft)
+    (same : source ≡ (reached s frames inside l).rest)
+    (none : goes_on s (rebuilt (reached s frames inside l).inner inside) (reached s frames inside l).rest ≡ None)
+    (own : IsLeftOf s.text source.left) (filled : is_blank_rest source ≡ false)
+    (begun : begins s paragraph.NoParagraph source ≡ line.begins_item found indent left) where
+  -- the line as a block
+  list_there : line_block s (reached s frames inside l).rest ≡ list_made s found indent left source
+  list_there =
+      ap (line_block s) (sym same)
+      ∙ (block_begun s source filled ∙ ap (new_blocks (inside_of (begun_by s) source) source) begun)
+
+  -- or as an item of a list
+  next_there : (marker : ListMarker) (goes : Bool) → (found.character == marker.character) ≡ goes
+      → next_item s (reached s frames inside l).rest marker
+      ≡ (if goes then Some (item_made s indent left source) else None)
+  next_there marker goes is =
+      ap (λ m. next_item s m marker) (sym same)
+      ∙ (item_begun s source marker own filled ∙ (ap (another_item s source marker) begun
+      ∙ ap (λ test. if test then Some (item_made s indent left source) else None) is))
+
+  -- the innermost container that it reaches is a list, which goes on with an item more
+  item_in_list : innermost_is (is_list_for found) (reached s frames inside l).outer ≡ true
+      → with_line s (rebuilt frames inside) l
+      ≡ rebuilt (map (touched l) (reached s frames inside l).outer)
+      (followed_by (rebuilt (reached s frames inside l).inner inside) (item_made s indent left source))
+  item_in_list goes =
+      let list = innermost_apart (is_list_for found) (reached s frames inside l).outer goes in
+      in_kind list.outer list.last list.are list.last.block.kind refl list.passes
+    where
+      in_kind : (outer : List Frame) (f : Frame) → (reached s frames inside l).outer ≡ outer ++ f ∷ []
+          → (kind : Kind) → f.block.kind ≡ kind → is_list_for found kind ≡ true
+          → with_line s (rebuilt frames inside) l
+          ≡ rebuilt (map (touched l) (reached s frames inside l).outer)
+          (followed_by (rebuilt (reached s frames inside l).inner inside) (item_made s indent left source))
+      in_kind outer f ends (was.list_container marker) is passes =
+          item_begins s frames inside l are nested outer f marker ends is (item_made s indent left source) none
+          (next_there marker true passes)
+          ∙ ap (λ (fs : List Frame). rebuilt (map (touched l) fs)
+          (followed_by (rebuilt (reached s frames inside l).inner inside) (item_made s indent left source))) (sym ends)
+      in_kind outer f ends other is passes = absurd (true≢false (sym passes))
+
+  -- it is none
+  list_in_block : innermost_is is_list (reached s frames inside l).outer ≡ false
+      → with_line s (rebuilt frames inside) l
+      ≡ rebuilt (map (touched l) (reached s frames inside l).outer)
+      (followed_by (rebuilt (reached s frames inside l).inner inside) (list_made s found indent left source))
+  list_in_block plain =
+      block_begins s frames inside l are nested none plain
+      ∙ ap (λ made. rebuilt (map (touched l) (reached s frames inside l).outer)
+      (followed_by (rebuilt (reached s frames inside l).inner inside) made)) list_there
+
+  -- it is a list of another character, which ends
+  list_after_list : (outer : List Frame) (f : Frame) → (reached s frames inside l).outer ≡ outer ++ f ∷ []
+      → is_list f.block.kind ≡ true → is_list_for found f.block.kind ≡ false
+      → with_line s (rebuilt frames inside) l
+      ≡ rebuilt (map (touched l) outer)
+      (followed_by (forgotten f (rebuilt (reached s frames inside l).inner inside))
+      (list_made s found indent left source))
+  list_after_list outer f ends list other =
+      let marked = marker_of_list f.block.kind list in
+      list_ends s frames inside l are nested outer f marked.marker ends marked.is none
+      (next_there marked.marker false (sym (ap (is_list_for found) marked.is) ∙ other))
+      ∙ ap (λ made. rebuilt (map (touched l) outer)
+      (followed_by (forgotten f (rebuilt (reached s frames inside l).inner inside)) made)) list_there
+
+-- ---- containers that go on in the line, and those that it opens
+
+-- a container that ends with the line is the same, whether or not it goes on in it
+touched_more : (l : SourceLine) (frames : List Frame) (inside : Forest Block) (b : Block) → b.last ≡ l.next
+    → map (touched l) (with_frame frames inside b) ≡ with_frame (map (touched l) frames) inside b
+touched_more l frames inside b ends =
+    map_push (touched l) frames (record { before = inside; block = b })
+    ∙ ap (λ n. with_frame (map (touched l) frames) inside (record b { last = n })) (sym ends)
+
+-- and a list with an item
+touched_both : (l : SourceLine) (frames : List Frame) (inside : Forest Block) (list b : Block) → list.last ≡ l.next
+    → b.last ≡ l.next
+    → map (touched l) (with_frame (with_frame frames inside list) nil b)
+    ≡ with_frame (with_frame (map (touched l) frames) inside list) nil b
+touched_both l frames inside list b starts ends =
+    touched_more l (with_frame frames inside list) nil b ends
+    ∙ ap (λ fs. with_frame fs nil b) (touched_more l frames inside list starts)
+
+earlier_front : (from : ℕ) (frames more : List Frame) → AreOpenedBefore from (frames ++ more)
+    → AreOpenedBefore from frames
+earlier_front from [] more earlier = tt
+earlier_front from (f ∷ frames) more earlier = (earlier.0, earlier_front from frames more earlier.1)
+
+-- containers that were open before the line, and go on in it
+line_touched : (to : Line) (l : SourceLine) (frames : List Frame) → l.next ≡ to.next → to.start < to.next
+    → AreOpenedBefore to.start frames → AreInLine to (map (touched l) frames)
+line_touched to l frames next after earlier = record {
+  quotes = quotes_touched l to.next next frames;
+  items = not_opened to (map (touched l) frames) after
+      (earlier_touched l to.start to.start (omega arith) frames earlier);
+  earlier = earlier_touched l to.start to.next (omega (arith, after)) frames earlier;
+}
+
+-- ---- the rest of the line is read inside the item
+
+-- an item, and a list unless one continues, was opened inside the outermost `depth` of the open blocks
+pub record OpensItem (old new : Pass) (item : ItemStart) (at depth : ℕ) : Type 0 where
+  pub text : new.placing.builder.text ≡ old.placing.builder.text
+  pub options : new.options ≡ old.options
+  pub ended : new.lines.items ≡ []
+  pub dropped : old.placing.builder.leaf ≡ true → new.blanks.items ≡ []
+  pub unheld : old.blanks.items ≡ [] → new.blanks.items ≡ []
+  pub frame : (s : Source) (frames : List Frame) (inside : Forest Block) (last : Option Block) (list b : Block)
+      → HoldsLast s old frames inside last → list.start ≡ at → list.kind ≡ was.list_container item.marker
+      → b.start ≡ at → b.kind ≡ was.item_container item.indent → IfFitted old.placing new.placing
+      (IsBuilt s new.placing.builder (with_item item.marker list b (take depth frames)
+      (rebuilt (drop depth frames) (with_last inside last))) nil)
+  pub loose : (s : Source) (frames : List Frame) (inside : Forest Block) (last : Option Block) (list b : Block)
+      → HoldsLast s old frames inside last → IsLooseAs old.looseness frames (with_last inside last)
+      → BlanksKnown old.looseness.blank_from 0 frames (with_last inside last) → is_list list.kind ≡ true
+      → is_item b.kind ≡ true → IfFitted old.placing new.placing
+      (IsLooseAs new.looseness (with_item item.marker list b (take depth frames)
+      (rebuilt (drop depth frames) (with_last inside last))) nil)
+  pub begins : (s : Source) (frames : List Frame) (inside : Forest Block) (list b : Block)
+      → MayOpen s old frames inside → depth ≡ length frames → list.start ≡ at
+      → list.kind ≡ was.list_container item.marker → b.start ≡ at → b.kind ≡ was.item_container item.indent
+      → IfFitted old.placing new.placing
+      (IsBuilt s new.placing.builder (with_frame (with_frame frames inside list) nil b) nil)
+  pub inside : (s : Source) (frames : List Frame) (list b : Block) → MayOpen s old frames nil
+      → depth ≡ length frames → IsLooseAs old.looseness frames nil → is_list list.kind ≡ true
+      → is_item b.kind ≡ true
+      → (new ≡ record old { placing = new.placing; looseness = new.looseness })
+      × IsLooseAs new.looseness (with_frame (with_frame frames nil list) nil b) nil
+
+none_kept : (old new : Pass) (item : ItemStart) (at depth : ℕ) → OpensItem old new item at depth → (leaf : Bool)
+    → old.placing.builder.leaf ≡ leaf → (old.placing.builder.leaf ≡ false → old.blanks.items ≡ [])
+    → new.blanks.items ≡ []
+none_kept old new item at depth opens true is unheld = opens.dropped is
+none_kept old new item at depth opens false is unheld = opens.unheld (unheld is)
+
+-- the item is what the rest of the line begins
+record BeginsItem (s : Source) (rest : LineRest) (source : SourceLine) (item : ItemStart) : Type 0 where
+  filled : is_blank_rest source ≡ false
+  found : begins s rest.before source ≡ line.begins_item item.marker item.indent (left_at rest.reader item.inside)
+  own : IsLeftOf s.text source.left
+  begun : begins s paragraph.NoParagraph source
+      ≡ line.begins_item item.marker item.indent (left_at rest.reader item.inside)
+  is : IsRestOf source.left (left_at rest.reader item.inside)
+
+item_found : (s : Source) (rest : LineRest) (source : SourceLine) (at : ℕ) (item : ItemStart)
+    → IsLeft s rest source → IsFound s rest source at (start.Item item) → BeginsItem s rest source item
+item_found s rest source at item left found =
+    let b = line.begins_item item.marker item.indent (left_at rest.reader item.inside) in
+    let begun = is_begun s rest source at (start.Item item) b found refl in
+    let own = left_from_is_of s.text rest.position rest.line.stop source.left left.is.rest.left in
+    let alone = begins_alone s rest.before source b own begun.1 tt in
+    record {
+      filled = begun.0;
+      found = begun.1;
+      own = own;
+      begun = alone;
+      is = subst (HoldsRest source.left) alone (begins_rest s paragraph.NoParagraph source
+          (subst (λ n. n ≤ 3) (ap (λ (l : LineLeft). l.owed) left.is.rest.left) left.is.rest.few));
+    }
+
+-- it is inside some containers in which the line is read on
+item_inside : (s : Source) (now : Pass) (rest next : LineRest) (source : SourceLine) (blocks : Forest Block)
+    (item : ItemStart) (outer : List Frame) (inner : Forest Block) → IsLeft s rest source
+    → BeginsItem s rest source item → IsCharBoundary s.text item.inside.at
+    → next ≡ record rest {
+      position = item.inside;
+      depth = length now.placing.builder.blocks;
+      before = paragraph.NoParagraph;
+    }
+    → source_of now ≡ s → now.lines.items ≡ [] → now.blanks.items ≡ [] → AreItemsInLists false blocks
+    → AreInLine rest.line outer
+    → blocks ≡ rebuilt outer (followed_by inner (item_made s item.indent (left_at rest.reader item.inside) source))
+    → IsBuilt s now.placing.builder
+    (with_frame outer inner (begun_block source (was.item_container item.indent))) nil
+    → IsLooseAs now.looseness (with_frame outer inner (begun_block source (was.item_container item.indent))) nil
+    → ReadsOn s now rest next blocks
+item_inside s now rest next source blocks item outer inner left begins boundary goes same lines blanks items are whole
+    built loose =
+    container_inside s now rest next outer inner source blocks item.inside (was.item_container item.indent) left
+    begins.filled goes begins.is boundary (record {
+      source = same;
+      built = built;
+      lines = lines;
+      blanks = blanks;
+      loose = loose;
+      free = refl;
+    }) are whole items
+
+-- after the containers that go on in the line
+module _ (s : Source) (old now : Pass) (rest next : LineRest) (before : Before) (l source : SourceLine)
+    (blocks : Forest Block) (item : ItemStart) (at : ℕ) (state : IsFirst s old rest before l source blocks)
+    (found : IsFound s rest source at (start.Item item)) (boundary : IsCharBoundary s.text item.inside.at)
+    (goes : next ≡ record rest {
+      position = item.inside;
+      depth = length now.placing.builder.blocks;
+      before = paragraph.NoParagraph;
+    })
+    (opens : OpensItem old now item at (length (reached_of s before l).outer)) where
+  begins_it : BeginsItem s rest source item
+  begins_it = item_found s rest source at item state.left found
+
+  -- no block goes on in the line
+  nothing_left : AreContainers before.frames
+      → goes_on s (rebuilt (reached_of s before l).inner (blocks_in before)) (reached_of s before l).rest ≡ None
+  nothing_left are =
+      let r = reached_of s before l in
+      let b = line.begins_item item.marker item.indent (left_at rest.reader item.inside) in
+      let same = state.reached in
+      none_goes_on s old before.frames before.inside before.last l b state.tables are state.holds.unended
+      (subst (λ (m : SourceLine). is_blank_rest m ≡ false) same state.filled)
+      (subst (λ (m : SourceLine). begins s (paragraph_before old (are_none r.inner)) m ≡ b) same
+      (ap (λ p. begins s p source) (sym state.paragraph) ∙ begins_it.found)) tt
+      (λ no_paragraph.
+      subst (λ (m : SourceLine). goes_on s (rebuilt r.inner (blocks_in before)) m ≡ None) same
+      (state.over no_paragraph))
+
+  -- the containers that go on in the line
+  first_line : (outer more : List Frame) → outer ++ more ≡ before.frames
+      → AreInLine rest.line (map (touched l) outer)
+  first_line outer more parts =
+      line_touched rest.line l outer (sym state.is.next) (line_some s rest source state.left state.filled)
+      (earlier_front rest.line.start outer more
+      (subst (AreOpenedBefore rest.line.start) (sym parts) state.holds.earlier))
+
+  pub item_first : IfFitted old.placing now.placing (ReadsOn s now rest next blocks)
+  item_first fitted =
+      let frames = before.frames in
+      let inside = blocks_in before in
+      let r = reached_of s before l in
+      let n = length r.outer in
+      let holds = state.holds in
+      let around = last_open s old frames before.inside before.last holds.unended in
+      let are = open_are_containers around.texts (without_leaf old.placing.builder) frames around.are in
+      let nested = around.nested in
+      let left = left_at rest.reader item.inside in
+      let marker = item.marker in
+      let list = begun_block source (was.list_container marker) in
+      let b = begun_block source (was.item_container item.indent) in
+      let below = rebuilt r.inner inside in
+      let built = opens.frame s frames before.inside before.last list b holds.unended (sym found.begins) refl
+      (sym found.begins) refl fitted in
+      let loose = opens.loose s frames before.inside before.last list b holds.unended holds.loose holds.blanks refl refl
+      fitted in
+      let parts : with_item marker list b (take n frames) (rebuilt (drop n frames) inside)
+      ≡ with_item marker list b r.outer below =
+      ap (λ fs. with_item marker list b fs (rebuilt (drop n frames) inside)) (outer_taken s frames inside l)
+      ∙ ap (λ fs. with_item marker list b r.outer (rebuilt fs inside)) (inner_left s frames inside l) in
+      let ends : source.next ≡ l.next =
+      ap (λ (m : SourceLine). m.next) state.reached ∙ reached_next s frames inside l in
+      let none = nothing_left are in
+      let whole = reached_parts s frames inside l in
+      let reads : (fs outer : List Frame) (inner : Forest Block)
+      → map (touched l) fs ≡ with_frame outer inner b → AreInLine rest.line outer
+      → blocks ≡ rebuilt outer (followed_by inner (item_made s item.indent left source))
+      → IsBuilt s now.placing.builder fs nil → IsLooseAs now.looseness fs nil → ReadsOn s now rest next blocks =
+      λ fs outer inner same in_line makes built loose.
+      item_inside s now rest next source blocks item outer inner state.left begins_it boundary goes
+      (source_kept s old now opens.text opens.options holds.source) opens.ended
+      (none_kept old now item at n opens old.placing.builder.leaf refl holds.unheld)
+      (subst (AreItemsInLists false) (sym state.whole) (line_keeps s (rebuilt frames inside) l around.items))
+      in_line makes
+      (subst (λ gs. IsBuilt s now.placing.builder gs nil) same (built_touched l s now.placing.builder fs nil built))
+      (subst (λ gs. IsLooseAs now.looseness gs nil) same (same_touched l now.looseness fs nil loose)) in
+      let in_list : (outer : List Frame) (inner : Forest Block) → AreInLine rest.line (map (touched l) outer)
+      → with_line s (blocks_before before) l
+      ≡ rebuilt (map (touched l) outer) (followed_by inner (list_made s marker item.indent left source))
+      → IsBuilt s now.placing.builder (with_frame (with_frame outer inner list) nil b) nil
+      → IsLooseAs now.looseness (with_frame (with_frame outer inner list) nil b) nil
+      → ReadsOn s now rest next blocks =
+      λ outer inner in_line makes.
+      reads (with_frame (with_frame outer inner list) nil b) (with_frame (map (touched l) outer) inner list) nil
+      (touched_both l outer inner list b ends ends)
+      (in_line_more s rest source (was.list_container marker) (map (touched l) outer) inner state.left state.filled
+      in_line)
+      (state.whole ∙ (makes
+      ∙ sym (rebuilt_more (map (touched l) outer) (record { before = inner; block = list })
+      (item_made s item.indent left source)))) in (
+        built.0,
+        item_placed
+            (λ fs. IsBuilt s now.placing.builder fs nil → IsLooseAs now.looseness fs nil
+            → ReadsOn s now rest next blocks) marker list b r.outer below
+            (λ goes_on.
+            reads (with_frame r.outer below b) (map (touched l) r.outer) below
+            (touched_more l r.outer below b ends) (first_line r.outer r.inner whole)
+            (state.whole ∙ item_in_list s frames inside l source are nested marker item.indent left state.reached none
+            begins_it.own state.filled begins_it.begun goes_on))
+            (λ plain.
+            in_list r.outer below (first_line r.outer r.inner whole)
+            (list_in_block s frames inside l source are nested marker item.indent left state.reached none begins_it.own
+            state.filled begins_it.begun plain))
+            (λ others f is listed other.
+            in_list others (forgotten f below)
+            (first_line others ((f ∷ []) ++ r.inner)
+            (sym (append_assoc others (f ∷ []) r.inner) ∙ (ap (λ fs. fs ++ r.inner) (sym is) ∙ whole)))
+            (list_after_list s frames inside l source are nested marker item.indent left state.reached none
+            begins_it.own state.filled begins_it.begun others f is listed other))
+            (subst (λ fs. IsBuilt s now.placing.builder fs nil) parts built.1)
+            (subst (λ fs. IsLooseAs now.looseness fs nil) parts loose.1),
+      )
+
+-- inside containers that it opened
+item_later : (s : Source) (old now : Pass) (rest next : LineRest) (frames : List Frame) (source : SourceLine)
+    (blocks : Forest Block) (item : ItemStart) (at : ℕ) → IsInside s old rest frames source blocks
+    → IsFound s rest source at (start.Item item) → IsCharBoundary s.text item.inside.at
+    → next ≡ record rest {
+      position = item.inside;
+      depth = length now.placing.builder.blocks;
+      before = paragraph.NoParagraph;
+    }
+    → OpensItem old now item at rest.depth → IfFitted old.placing now.placing (ReadsOn s now rest next blocks)
+item_later s old now rest next frames source blocks item at state found boundary goes opens fitted =
+    let opened = state.opened in
+    let left = left_at rest.reader item.inside in
+    let list = begun_block source (was.list_container item.marker) in
+    let b = begun_block source (was.item_container item.indent) in
+    let begins = item_found s rest source at item state.left found in
+    let same = opens.inside s frames list b opened.free state.depth opened.loose refl refl in
+    let built = opens.begins s frames nil list b opened.free state.depth (sym found.begins) refl (sym found.begins) refl
+    fitted in (
+      built.0,
+      item_inside s now rest next source blocks item (with_frame frames nil list) nil state.left begins boundary goes
+          (source_kept s old now opens.text opens.options opened.source) opens.ended (opens.unheld opened.blanks)
+          state.items
+          (in_line_more s rest source (was.list_container item.marker) frames nil state.left begins.filled
+          (record { quotes = opened.quotes; items = opened.items; earlier = opened.earlier }))
+          (state.whole ∙ (ap (λ blank. rebuilt frames (if blank then nil else begun_by s source)) begins.filled
+          ∙ (ap (rebuilt frames) (begun_once s source
+          ∙ ap (new_blocks (inside_of (begun_by s) source) source) begins.begun)
+          ∙ sym (rebuilt_more frames (record { before = nil; block = list })
+          (item_made s item.indent left source)))))
+          built.1 same.1,
+    )
+
+-- in either case
+pub item_reads_on : (s : Source) (old now : Pass) (rest next : LineRest) (turn : Turn) (source : SourceLine)
+    (blocks : Forest Block) (item : ItemStart) (at : ℕ) → IsHere s old rest turn source blocks
+    → IsFound s rest source at (start.Item item) → IsCharBoundary s.text item.inside.at
+    → next ≡ record rest {
+      position = item.inside;
+      depth = length now.placing.builder.blocks;
+      before = paragraph.NoParagraph;
+    }
+    → OpensItem old now item at rest.depth → IfFitted old.placing now.placing (ReadsOn s now rest next blocks)
+item_reads_on s old now rest next (turn.first before l) source blocks item at state found boundary goes opens =
+    item_first s old now rest next before l source blocks item at state found boundary goes
+    (subst (λ n. OpensItem old now item at n) state.depth opens)
+item_reads_on s old now rest next (turn.later frames) source blocks item at state found boundary goes opens =
+    item_later s old now rest next frames source blocks item at state found boundary goes opens
+
+-- the text in which a line is read
+pub text_here : (s : Source) (pass : Pass) (rest : LineRest) (turn : Turn) (source : SourceLine)
+    (blocks : Forest Block) → IsHere s pass rest turn source blocks → pass.placing.builder.text ≡ s.text
+text_here s pass rest (turn.first before l) source blocks state = ap (λ (r : Source). r.text) state.holds.source
+text_here s pass rest (turn.later frames) source blocks state = ap (λ (r : Source). r.text) state.opened.source

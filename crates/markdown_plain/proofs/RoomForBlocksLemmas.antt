@@ -1,0 +1,579 @@
+-- Room for the block that the rest of a line begins: first what the open containers left of the line, and then what is
+-- left of it inside containers that it opened.
+use Rattle.std.proofs.Common.{◌≡◌, ◌⊎◌, inl, inr, ⊎_elim, ℕ, zero, suc, ◌<◌, ◌≤◌, ◌-◌, Bool, true, false, not, ◌&&◌}
+use Rattle.std.proofs.Common.{◌==◌, List, [], ◌∷◌, ◌++◌, Option, Some, None, length, map, take, drop, refl, sym, ap}
+use Rattle.std.proofs.Common.{◌∙◌, subst, arith}
+use Rattle.std.proofs.Math.Bool.{and-false}
+use Rattle.std.proofs.lemmas.Bool.{true≢false, and_parts}
+use Rattle.std.proofs.lemmas.Bool.Decides.{nat_tests}
+use Rattle.std.proofs.lemmas.List.{length-append}
+use Rattle.std.proofs.lemmas.Option.{none-some, same_Some}
+use Rattle.std.specs.Prelude.{if◌then◌else◌, nat_le}
+use Rattle.std.specs.List.{list_all}
+use Rattle.std.specs.Option.{option_map}
+use Rattle.markdown_base.specs.Forest.{Forest, nil}
+use Rattle.markdown_builder.specs.BuilderView.{BuilderView}
+use Rattle.markdown_builder.specs.TreeLevels.{followed_by}
+use Rattle.markdown_builder.specs.declared.open_block.OpenBlock.{OpenBlock}
+use Rattle.markdown_scan.specs.LineStart.{LineLeft}
+use Rattle.markdown_lines.specs.BlockBeginnings as beginning
+use Rattle.markdown_lines.specs.BlockBeginnings.{Beginning, Source, begins}
+use Rattle.markdown_lines.specs.BlockStarts.{beginning_found}
+use Rattle.markdown_lines.specs.Lines.{is_space_or_tab}
+use Rattle.markdown_lines.specs.SourceLines.{SourceLine, is_blank_rest, rest_inside}
+use Rattle.markdown_lines.specs.declared.block_start.Before as code
+use Rattle.markdown_lines.specs.declared.block_start.Before.TheVariants as paragraph
+use Rattle.markdown_lines.specs.declared.block_start.BlockStart.{BlockStart}
+use Rattle.markdown_lines.specs.declared.line.Line.{Line}
+use Rattle.markdown_lines.specs.declared.list_marker.ListMarker.{ListMarker}
+use Rattle.markdown_block_rules.specs.BlockGrowth as was
+use Rattle.markdown_block_rules.specs.BlockGrowth.{Block, Kind, another_item, begun_by, goes_on, is_nil, is_text}
+use Rattle.markdown_block_rules.specs.BlockGrowth.{lazily, next_item, paragraph_with, past_footnote, past_indentation}
+use Rattle.markdown_block_rules.specs.BlockGrowth.{past_quote, with_lazy}
+use Rattle.markdown_block_rules.specs.TableLines.{reads_tables}
+use Rattle.markdown_block_rules.proofs.BlockBeginningsLemmas.{either}
+use Rattle.markdown_plain.specs.declared.block_pass.LineRest.{LineRest}
+use Rattle.markdown_plain.specs.declared.looseness.Looseness.{Looseness}
+use Rattle.markdown_plain.specs.declared.pass.Pass.{Pass}
+use Rattle.markdown_plain.specs.Beginning as turn
+use Rattle.markdown_plain.specs.Beginning.{HasRoom, HoldsLast, IsFirst, IsFound, IsHere, IsInside, IsLeft}
+use Rattle.markdown_plain.specs.Beginning.{NeedsRoom, Turn}
+use Rattle.markdown_plain.specs.Closing as closing
+use Rattle.markdown_plain.specs.Closing.{AreItemsInLists, MayClose, MayEnd}
+use Rattle.markdown_plain.specs.Fitting.{AllFitted, IfFitted}
+use Rattle.markdown_plain.specs.Frames.{AreContainers, AreNested, Frame, IsContainer, innermost_is, inside_container}
+use Rattle.markdown_plain.specs.Frames.{is_item, is_list, reached, reached_past, rebuilt, room_depth, touched}
+use Rattle.markdown_plain.specs.OpenBlocks.{without_leaf}
+use Rattle.markdown_plain.specs.OpenLeaves.{AreItemsOpenedIn, leaf_block}
+use Rattle.markdown_plain.specs.OpenedFrames.{MayOpen}
+use Rattle.markdown_plain.specs.Paragraphs.{has_paragraph, source_of}
+use Rattle.markdown_plain.specs.ReachedFrames.{are_none}
+use Rattle.markdown_plain.specs.ReachedLines.{Before, blocks_in, reached_of}
+use Rattle.markdown_plain.specs.Settled.{AreOpen, BlanksKnown, IsBuilt, IsLooseAs, IsLooseBefore}
+use Rattle.markdown_plain.specs.Standing.{AreOpenedBefore, with_last}
+use Rattle.markdown_plain.specs.TextLines.{paragraph_before}
+use Rattle.markdown_plain.proofs.AddedLinesLemmas.{has_held}
+use Rattle.markdown_plain.proofs.BegunAloneLemmas.{BeginsBlock, begins_alone, block_needed, is_no_text}
+use Rattle.markdown_plain.proofs.BegunLemmas.{IsLeftOf, item_begun, left_from_is_of}
+use Rattle.markdown_plain.proofs.BlanksKnownLemmas.{lists_touched}
+use Rattle.markdown_plain.proofs.FramesLemmas.{goes_on_last, innermost_inner, outer_nested}
+use Rattle.markdown_plain.proofs.ItemsInListsLemmas.{line_keeps}
+use Rattle.markdown_plain.proofs.LastBlocksLemmas.{open_are_containers}
+use Rattle.markdown_plain.proofs.OpenBlocksLemmas.{outer_of_these}
+use Rattle.markdown_plain.proofs.OpenedFramesLemmas.{room_is_free}
+use Rattle.markdown_plain.proofs.ReachedLemmas.{inner_goes_lazily, outer_taken, reached_parts}
+use Rattle.markdown_plain.proofs.RoomLemmas.{begins_in_room}
+use Rattle.markdown_plain.proofs.TouchedFramesLemmas.{built_touched, earlier_touched, quotes_touched}
+
+-- ---- a line that goes on with no paragraph
+
+-- a paragraph does not go on with a block
+no_paragraph_with : (s : Source) (l : SourceLine) (lines : List SourceLine) (b : Beginning) → BeginsBlock b
+    → paragraph_with s l lines b ≡ None
+no_paragraph_with s l lines beginning.begins_text block = absurd block
+no_paragraph_with s l lines (beginning.begins_underline level) block = absurd block
+no_paragraph_with s l lines other block = refl
+
+paragraph_stops : (s : Source) (l : SourceLine) (start first last : ℕ) (lines : List SourceLine) (b : Beginning)
+    → reads_tables s ≡ false → is_blank_rest l ≡ false → begins s paragraph.Reached l ≡ b → BeginsBlock b
+    → goes_on s (leaf_block (record { start = start; first = first; last = last; kind = was.paragraph_leaf lines })) l
+    ≡ None
+unfolding goes_on
+paragraph_stops s l start first last lines b tables filled is block =
+    rw (filled, tables, is, no_paragraph_with s l lines b block) refl
+
+-- the last block, which is a paragraph that the line reaches
+reached_stops : (s : Source) (l : SourceLine) (inside : Forest Block) (b : Block) (lines : List SourceLine)
+    (begun : Beginning) → reads_tables s ≡ false → b.kind ≡ was.paragraph_leaf lines → is_blank_rest l ≡ false
+    → begins s paragraph.Reached l ≡ begun → BeginsBlock begun → goes_on s (followed_by inside (leaf_block b)) l ≡ None
+reached_stops s l inside b lines begun tables kind filled is block =
+    goes_on_last s inside b nil l
+    ∙ ap (option_map (followed_by inside)) (ap (λ k. goes_on s (leaf_block (record b { kind = k })) l) kind
+    ∙ paragraph_stops s l b.start b.first b.last lines begun tables filled is block)
+
+-- blocks in a container that the line does not reach
+lazily_stops : (s : Source) (l : SourceLine) (below : Forest Block) (b : Beginning) → begins s paragraph.Lazy l ≡ b
+    → BeginsBlock b → lazily s l below ≡ None
+lazily_stops s l below b is block =
+    ap (λ text. if not (is_blank_rest l) && text then with_lazy l below else None) (ap is_text is ∙ is_no_text b block)
+    ∙ ap (λ test. if test then with_lazy l below else None) (and-false (not (is_blank_rest l)))
+
+-- the paragraph that the last block is, reached or not
+module _ (s : Source) (frames : List Frame) (inside : Forest Block) (b : Block) (lines : List SourceLine)
+    (l : SourceLine) (begun : Beginning) where
+  paragraph_left : reads_tables s ≡ false → AreContainers frames → b.kind ≡ was.paragraph_leaf lines
+      → is_blank_rest (reached s frames (followed_by inside (leaf_block b)) l).rest ≡ false
+      → begins s (if are_none (reached s frames (followed_by inside (leaf_block b)) l).inner then paragraph.Reached
+      else paragraph.Lazy) (reached s frames (followed_by inside (leaf_block b)) l).rest ≡ begun
+      → BeginsBlock begun
+      → goes_on s (rebuilt (reached s frames (followed_by inside (leaf_block b)) l).inner
+      (followed_by inside (leaf_block b))) (reached s frames (followed_by inside (leaf_block b)) l).rest ≡ None
+  paragraph_left tables are kind filled is block =
+      by_inner (reached s frames (followed_by inside (leaf_block b)) l).inner refl
+    where
+      blocks : Forest Block
+      blocks = followed_by inside (leaf_block b)
+
+      rest : SourceLine
+      rest = (reached s frames blocks l).rest
+
+      begins_where : (fs : List Frame) → (reached s frames blocks l).inner ≡ fs
+          → begins s (if are_none fs then paragraph.Reached else paragraph.Lazy) rest ≡ begun
+      begins_where fs same =
+          ap (λ (fs : List Frame). begins s (if are_none fs then paragraph.Reached else paragraph.Lazy) rest) (sym same)
+          ∙ is
+
+      by_inner : (fs : List Frame) → (reached s frames blocks l).inner ≡ fs
+          → goes_on s (rebuilt (reached s frames blocks l).inner blocks) rest ≡ None
+      by_inner [] same =
+          ap (λ (fs : List Frame). goes_on s (rebuilt fs blocks) rest) same
+          ∙ reached_stops s rest inside b lines begun tables kind filled (begins_where [] same) block
+      by_inner (f ∷ others) same =
+          inner_goes_lazily s frames blocks l f others are same
+          ∙ lazily_stops s rest (rebuilt (reached s frames blocks l).inner blocks) begun
+          (begins_where (f ∷ others) same) block
+
+-- a block that is no item is not the next one of a list
+no_item : (s : Source) (l : SourceLine) (marker : ListMarker) (b : Beginning) → NeedsRoom b
+    → another_item s l marker b ≡ None
+no_item s l marker (beginning.begins_item found indent rest) needs = absurd needs
+no_item s l marker other needs = refl
+
+pub no_next_item : (s : Source) (l : SourceLine) (marker : ListMarker) (b : Beginning) → IsLeftOf s.text l.left
+    → is_blank_rest l ≡ false → begins s paragraph.NoParagraph l ≡ b → NeedsRoom b → next_item s l marker ≡ None
+no_next_item s l marker b own filled is needs =
+    item_begun s l marker own filled ∙ (ap (another_item s l marker) is ∙ no_item s l marker b needs)
+
+-- ---- a line directly under the root
+
+-- what is left of a line inside a container that is no list is under that
+under_it : (l rest : SourceLine) (o : Option LineLeft) → option_map (λ left. rest_inside left l) o ≡ Some rest
+    → rest.outermost ≡ false
+under_it l rest None takes = absurd (none-some rest takes)
+under_it l rest (Some left) takes =
+    ap (λ (r : SourceLine). r.outermost) (sym (same_Some (rest_inside left l) rest takes))
+
+under_container : (s : Source) (empty : Bool) (l rest : SourceLine) (kind : Kind) → IsContainer kind
+    → inside_container s l empty kind ≡ Some rest → ((l ≡ rest) × (is_list kind ≡ true)) ⊎ (rest.outermost ≡ false)
+under_container s empty l rest was.quote_container is takes = inr (under_it l rest (past_quote l.left) takes)
+under_container s empty l rest (was.alert_container kind) is takes = inr (under_it l rest (past_quote l.left) takes)
+under_container s empty l rest (was.footnote_container label) is takes = inr (under_it l rest (past_footnote s l) takes)
+under_container s empty l rest (was.item_container indent) is takes = inr (decided (is_blank_rest l && empty) takes)
+  where
+    decided : (ends : Bool)
+        → (if ends then None else option_map (λ left. rest_inside left l) (past_indentation indent l)) ≡ Some rest
+        → rest.outermost ≡ false
+    decided true takes = absurd (none-some rest takes)
+    decided false takes = under_it l rest (past_indentation indent l) takes
+under_container s empty l rest (was.list_container marker) is takes = inl (same_Some l rest takes, refl)
+under_container s empty l rest other is takes = absurd is
+
+-- and stays so in what is in that
+stays_under : (s : Source) (frames : List Frame) (inside : Forest Block) (l : SourceLine) → AreContainers frames
+    → l.outermost ≡ false → (reached s frames inside l).rest.outermost ≡ false
+unfolding reached
+stays_under s [] inside l are under = under
+stays_under s (f ∷ frames) inside l are under =
+    past (inside_container s l (is_nil (rebuilt frames inside)) f.block.kind) refl
+    (λ m. stays_under s frames inside m are.1)
+  where
+    past : (rest : Option SourceLine)
+        → inside_container s l (is_nil (rebuilt frames inside)) f.block.kind ≡ rest
+        → ((m : SourceLine) → m.outermost ≡ false → (reached s frames inside m).rest.outermost ≡ false)
+        → (reached_past f frames l (reached s frames inside) rest).rest.outermost ≡ false
+    past None takes inner = under
+    past (Some m) takes inner =
+        ⊎_elim (λ same. inner m (ap (λ (r : SourceLine). r.outermost) (sym same.0) ∙ under)) (λ now. inner m now)
+        (under_container s (is_nil (rebuilt frames inside)) l m f.block.kind are.0 takes)
+
+-- if it is directly under the root, it reached lists alone
+lists_reached : (s : Source) (frames : List Frame) (inside : Forest Block) (l : SourceLine) → AreContainers frames
+    → (reached s frames inside l).rest.outermost ≡ true
+    → list_all (λ (f : Frame). is_list f.block.kind) (reached s frames inside l).outer ≡ true
+unfolding reached
+lists_reached s [] inside l are outermost = refl
+lists_reached s (f ∷ frames) inside l are outermost =
+    past (inside_container s l (is_nil (rebuilt frames inside)) f.block.kind) refl
+    (λ m. lists_reached s frames inside m are.1) (λ m. stays_under s frames inside m are.1) outermost
+  where
+    lists : List Frame → Bool
+    lists fs = list_all (λ (g : Frame). is_list g.block.kind) fs
+
+    past : (rest : Option SourceLine)
+        → inside_container s l (is_nil (rebuilt frames inside)) f.block.kind ≡ rest
+        → ((m : SourceLine) → (reached s frames inside m).rest.outermost ≡ true
+        → lists (reached s frames inside m).outer ≡ true)
+        → ((m : SourceLine) → m.outermost ≡ false → (reached s frames inside m).rest.outermost ≡ false)
+        → (reached_past f frames l (reached s frames inside) rest).rest.outermost ≡ true
+        → lists (reached_past f frames l (reached s frames inside) rest).outer ≡ true
+    past None takes inner under outermost = refl
+    past (Some m) takes inner under outermost =
+        ⊎_elim (λ same. ap (λ list. list && lists (reached s frames inside m).outer) same.1 ∙ inner m outermost)
+        (λ now. absurd (true≢false (sym outermost ∙ under m now)))
+        (under_container s (is_nil (rebuilt frames inside)) l m f.block.kind are.0 takes)
+
+-- an item is no list
+item_no_list : (kind : Kind) → is_item kind ≡ true → is_list kind ≡ true → ⊥
+item_no_list (was.item_container indent) item list = absurd (true≢false (sym list))
+item_no_list other item list = absurd (true≢false (sym item))
+
+-- there is one list at most, which is closed
+room_at_root : (outer frames : List Frame) → list_all (λ (f : Frame). is_list f.block.kind) outer ≡ true
+    → AreNested outer → take (length outer) frames ≡ outer → room_depth (length outer) frames ≡ 0
+room_at_root [] frames lists nested taken =
+    either (λ n. n ≡ 0) (innermost_is is_list (take 0 frames)) (0 - 1) 0 refl refl
+room_at_root (f ∷ []) frames lists nested taken =
+    ap (λ (fs : List Frame). if innermost_is is_list fs then 1 - 1 else 1) taken
+    ∙ ap (λ list. if list then 1 - 1 else 1) (and_parts (is_list f.block.kind) true lists).0
+room_at_root (f ∷ g ∷ outer) frames lists nested taken =
+    let all = λ (fs : List Frame). list_all (λ (h : Frame). is_list h.block.kind) fs in
+    let parts = and_parts (is_list f.block.kind) (all (g ∷ outer)) lists in
+    let more = and_parts (is_list g.block.kind) (all outer) parts.1 in
+    absurd (item_no_list g.block.kind (sym nested.0 ∙ parts.0) more.0)
+
+-- ---- containers that go on in the line
+
+-- what is remembered of lists is the same
+pub loose_touched : (l : SourceLine) (now : Looseness) (frames : List Frame) (inside : Forest Block)
+    → IsLooseBefore now frames inside → IsLooseBefore now (map (touched l) frames) inside
+loose_touched l now frames inside loose = record {
+  lists = λ new one. loose.lists new one ∙ sym (lists_touched l frames (followed_by inside new));
+  empty = loose.empty;
+}
+
+-- the innermost container is a list as before
+pub free_touched : (l : SourceLine) (frames : List Frame)
+    → innermost_is is_list (map (touched l) frames) ≡ innermost_is is_list frames
+free_touched l [] = refl
+free_touched l (f ∷ []) = refl
+free_touched l (f ∷ g ∷ frames) =
+    innermost_inner is_list (touched l f) (touched l g) (map (touched l) frames)
+    ∙ (free_touched l (g ∷ frames) ∙ sym (innermost_inner is_list f g frames))
+
+-- those that are left were opened as early
+earlier_taken : (from n : ℕ) (frames : List Frame) → AreOpenedBefore from frames → AreOpenedBefore from (take n frames)
+earlier_taken from zero frames earlier = tt
+earlier_taken from (suc n) [] earlier = tt
+earlier_taken from (suc n) (f ∷ frames) earlier = (earlier.0, earlier_taken from n frames earlier.1)
+
+-- items that were opened before a line were not opened in it
+pub not_opened : (line : Line) (frames : List Frame) → line.start < line.next → AreOpenedBefore line.start frames
+    → AreItemsOpenedIn line frames
+not_opened line [] after earlier = tt
+not_opened line (f ∷ frames) after earlier = (
+  λ item.
+      let before = earlier.0 item in
+      let start = before.start in
+      let first = before.first in
+      let not_at : nat_le line.start f.block.start ≡ false = grind (arith, nat_tests, start) in
+      let not_there : (line.next == f.block.first) ≡ false = grind (arith, nat_tests, first, after) in
+      record { same = not_at ∙ sym not_there; before = omega (arith, first, after) },
+  not_opened line frames after earlier.1,
+)
+
+-- a line that is not blank has a byte
+filled_length : (bytes : List ℕ) → list_all is_space_or_tab bytes ≡ false → 0 < length bytes
+filled_length [] filled = absurd (true≢false filled)
+filled_length (b ∷ bytes) filled = omega arith
+
+pub line_some : (s : Source) (rest : LineRest) (source : SourceLine) → IsLeft s rest source → is_blank_rest source ≡ false
+    → rest.line.start < rest.line.next
+line_some s rest source left filled =
+    let at : rest.position.at ≡ source.left.scanned = ap (λ (l : LineLeft). l.scanned) left.is.rest.left in
+    let some = filled_length source.left.bytes filled in
+    omega (arith, at, some, left.after, left.is.stop, left.is.ends)
+
+-- ---- what is open before the line
+
+-- open containers, whether a paragraph is held back in them or not
+pub record HasOpen (s : Source) (pass : Pass) (frames : List Frame) (blocks : Forest Block) : Type 0 where
+  pub texts : List (List ℕ)
+  pub are : AreOpen texts (without_leaf pass.placing.builder) frames
+  pub nested : AreNested frames
+  pub items : AreItemsInLists false (rebuilt frames blocks)
+
+built_open : (s : Source) (pass : Pass) (frames : List Frame) (inside blocks : Forest Block)
+    → IsBuilt s pass.placing.builder frames inside → AreItemsInLists false (rebuilt frames blocks)
+    → HasOpen s pass frames blocks
+built_open s pass frames inside blocks built items =
+    let view = pass.placing.builder in
+    record {
+      texts = view.texts;
+      are = subst (λ blocks. AreOpen view.texts blocks frames) (sym (no_leaf view built.outside)) built.blocks;
+      nested = built.nested;
+      items = items;
+    }
+  where
+    no_leaf : (view : BuilderView) → view.leaf ≡ false → without_leaf view ≡ view.blocks
+    no_leaf view outside = rw outside refl
+
+leaf_open : (s : Source) (pass : Pass) (frames : List Frame) (inside : Forest Block) (b : Block)
+    → MayEnd s pass frames inside b None → HasOpen s pass frames (followed_by inside (leaf_block b))
+leaf_open s pass frames inside b may =
+    let is = may.unended.1 in
+    let view = pass.placing.builder in
+    record {
+      texts = view.texts;
+      are = subst (λ blocks. AreOpen view.texts blocks frames)
+          (sym (in_leaf view is.outer is.block is.leaf is.blocks)) is.around.blocks;
+      nested = is.around.nested;
+      items = may.items;
+    }
+  where
+    in_leaf : (view : BuilderView) (outer : List OpenBlock) (block : OpenBlock) → view.leaf ≡ true
+        → view.blocks ≡ outer ++ block ∷ [] → without_leaf view ≡ outer
+    in_leaf view outer block leaf is = rw leaf (outer_of_these view.blocks outer block is)
+
+pub last_open : (s : Source) (pass : Pass) (frames : List Frame) (inside : Forest Block) (last : Option Block)
+    → HoldsLast s pass frames inside last → HasOpen s pass frames (with_last inside last)
+last_open s pass frames inside None holds =
+    built_open s pass frames inside inside holds.0.stands.built holds.0.stands.items
+last_open s pass frames inside (Some b) holds = by_held holds.0 holds.1
+  where
+    by_held : (held : Option (List SourceLine)) → MayEnd s pass frames inside b held
+        → HasOpen s pass frames (followed_by inside (leaf_block b))
+    by_held None may = leaf_open s pass frames inside b may
+    by_held (Some sources) may =
+        built_open s pass frames inside (followed_by inside (leaf_block b)) may.unended.built may.items
+
+-- none of the blocks that a line does not reach goes on in it, if a block begins and they do not go on where no
+-- paragraph is held back
+pub none_goes_on : (s : Source) (pass : Pass) (frames : List Frame) (inside : Forest Block) (last : Option Block)
+    (l : SourceLine) (begun : Beginning) → reads_tables s ≡ false → AreContainers frames
+    → HoldsLast s pass frames inside last → is_blank_rest (reached s frames (with_last inside last) l).rest ≡ false
+    → begins s (paragraph_before pass (are_none (reached s frames (with_last inside last) l).inner))
+    (reached s frames (with_last inside last) l).rest ≡ begun
+    → BeginsBlock begun
+    → (has_paragraph pass ≡ false
+    → goes_on s (rebuilt (reached s frames (with_last inside last) l).inner (with_last inside last))
+    (reached s frames (with_last inside last) l).rest ≡ None)
+    → goes_on s (rebuilt (reached s frames (with_last inside last) l).inner (with_last inside last))
+    (reached s frames (with_last inside last) l).rest ≡ None
+none_goes_on s pass frames inside None l begun tables are holds filled is block over =
+    over (ap (λ n. not pass.placing.builder.leaf && not (n == 0)) (ap length holds.1)
+    ∙ and-false (not pass.placing.builder.leaf))
+none_goes_on s pass frames inside (Some b) l begun tables are holds filled is block over = by_held holds.0 holds.1
+  where
+    blocks : Forest Block
+    blocks = followed_by inside (leaf_block b)
+
+    none : Type 0
+    none = goes_on s (rebuilt (reached s frames blocks l).inner blocks) (reached s frames blocks l).rest ≡ None
+
+    by_held : (held : Option (List SourceLine)) → MayEnd s pass frames inside b held → none
+    by_held None may = over (ap (λ leaf. not leaf && not (length pass.lines.items == 0)) may.unended.1.leaf)
+    by_held (Some sources) may =
+        paragraph_left s frames inside b sources l begun tables are may.unended.kind filled
+        (ap (λ test. begins s (if test
+        then (if are_none (reached s frames blocks l).inner then paragraph.Reached else paragraph.Lazy)
+        else paragraph.NoParagraph) (reached s frames blocks l).rest)
+        (sym (has_held s pass frames inside b sources may.unended)) ∙ is) block
+
+-- ---- room
+
+-- room was made for a block in the outermost `depth` of the open blocks
+pub record MakesRoom (old new : Pass) (depth : ℕ) : Type 0 where
+  pub text : new.placing.builder.text ≡ old.placing.builder.text
+  pub options : new.options ≡ old.options
+  pub ended : new.lines.items ≡ []
+  pub dropped : old.placing.builder.leaf ≡ true → new.blanks.items ≡ []
+  pub unheld : old.blanks.items ≡ [] → new.blanks.items ≡ []
+  pub forgets : (s : Source) (frames : List Frame) (inside : Forest Block) → old.lines.items ≡ []
+      → depth ≤ length frames → MayClose s old frames inside → IfFitted old.placing new.placing
+      (closing.StandsFor s new (take (room_depth depth frames) frames)
+      (rebuilt (drop (room_depth depth frames) frames) inside))
+  pub finishes : (s : Source) (frames : List Frame) (inside : Forest Block) (b : Block)
+      (held : Option (List SourceLine)) → depth ≤ length frames → MayEnd s old frames inside b held
+      → IfFitted old.placing new.placing (closing.StandsFor s new (take (room_depth depth frames) frames)
+      (rebuilt (drop (room_depth depth frames) frames) (followed_by inside (leaf_block b))))
+  pub loose : (texts : List (List ℕ)) (frames : List Frame) (inside : Forest Block)
+      → AreOpen texts (without_leaf old.placing.builder) frames → AreNested frames
+      → IsLooseAs old.looseness frames inside → depth ≤ length frames
+      → (is_nil (rebuilt (drop (room_depth depth frames) frames) inside) ≡ false
+      → BlanksKnown old.looseness.blank_from 0 frames inside) → IfFitted old.placing new.placing
+      (IsLooseBefore new.looseness (take (room_depth depth frames) frames)
+      (rebuilt (drop (room_depth depth frames) frames) inside))
+  pub inside : (s : Source) (frames : List Frame) → MayOpen s old frames nil → depth ≡ length frames
+      → IsLooseAs old.looseness frames nil
+      → (new ≡ record old { looseness = new.looseness }) × IsLooseBefore new.looseness frames nil
+
+-- what is built then is that of the containers where there is room
+room_built : (s : Source) (old new : Pass) (depth : ℕ) (frames : List Frame) (inside : Forest Block)
+    (last : Option Block) → MakesRoom old new depth → depth ≤ length frames → HoldsLast s old frames inside last
+    → IfFitted old.placing new.placing (closing.StandsFor s new (take (room_depth depth frames) frames)
+    (rebuilt (drop (room_depth depth frames) frames) (with_last inside last)))
+room_built s old new depth frames inside None makes few holds = makes.forgets s frames inside holds.1 few holds.0
+room_built s old new depth frames inside (Some b) makes few holds =
+    makes.finishes s frames inside b holds.0 few holds.1
+
+-- no blank lines are held back
+none_kept : (old new : Pass) (depth : ℕ) → MakesRoom old new depth → (leaf : Bool) → old.placing.builder.leaf ≡ leaf
+    → (old.placing.builder.leaf ≡ false → old.blanks.items ≡ []) → new.blanks.items ≡ []
+none_kept old new depth makes true is unheld = makes.dropped is
+none_kept old new depth makes false is unheld = makes.unheld (unheld is)
+
+-- the text and its options stay
+source_stays : (s : Source) (old new : Pass) (depth : ℕ) → MakesRoom old new depth → source_of old ≡ s
+    → source_of new ≡ s
+source_stays s old new depth makes is = rw (makes.text, makes.options) is
+
+-- what was found is begun, and the rest of the line is not blank
+begun_some : (s : Source) (source : SourceLine) (before : code.Before) (b : Beginning) (blank : Bool)
+    → Some b ≡ (if blank then None else Some (begins s before source))
+    → (blank ≡ false) × (begins s before source ≡ b)
+begun_some s source before b true is = absurd (none-some b (sym is))
+begun_some s source before b false is = (refl, sym (same_Some b (begins s before source) is))
+
+pub is_begun : (s : Source) (rest : LineRest) (source : SourceLine) (at : ℕ) (start : BlockStart) (b : Beginning)
+    → IsFound s rest source at start → beginning_found rest.reader start ≡ Some b
+    → (is_blank_rest source ≡ false) × (begins s rest.before source ≡ b)
+is_begun s rest source at start b is found =
+    begun_some s source rest.before b (is_blank_rest source) (sym found ∙ is.is)
+
+-- ---- after the containers that go on in the line
+
+module _ (s : Source) (old new : Pass) (rest : LineRest) (before : Before) (l source : SourceLine) (b : Beginning)
+    (blocks : Forest Block) (state : IsFirst s old rest before l source blocks)
+    (is : begins s rest.before source ≡ b) (needs : NeedsRoom b)
+    (makes : MakesRoom old new (length (reached_of s before l).outer)) where
+  own_left : IsLeftOf s.text source.left
+  own_left = left_from_is_of s.text rest.position rest.line.stop source.left state.left.is.rest.left
+
+  begins_it : begins s paragraph.NoParagraph source ≡ b
+  begins_it = begins_alone s rest.before source b own_left is (block_needed b needs)
+
+  -- the line makes the blocks these ones
+  first_whole : (are : AreContainers before.frames) → AreNested before.frames
+      → blocks
+      ≡ rebuilt (map (touched l) (take (room_depth (length (reached_of s before l).outer) before.frames) before.frames))
+      (followed_by
+      (rebuilt (drop (room_depth (length (reached_of s before l).outer) before.frames) before.frames) (blocks_in before))
+      (begun_by s source))
+  first_whole are nested =
+      let r = reached_of s before l in
+      let n = room_depth (length r.outer) before.frames in
+      let around = λ (made : Forest Block).
+      rebuilt (map (touched l) (take n before.frames))
+      (followed_by (rebuilt (drop n before.frames) (blocks_in before)) made) in
+      let same = state.reached in
+      let filled : is_blank_rest r.rest ≡ false =
+      subst (λ (m : SourceLine). is_blank_rest m ≡ false) same state.filled in
+      let own : IsLeftOf s.text r.rest.left = subst (λ (m : SourceLine). IsLeftOf s.text m.left) same own_left in
+      let alone : begins s paragraph.NoParagraph r.rest ≡ b =
+      subst (λ (m : SourceLine). begins s paragraph.NoParagraph m ≡ b) same begins_it in
+      let begun : begins s (paragraph_before old (are_none r.inner)) r.rest ≡ b =
+      subst (λ (m : SourceLine). begins s (paragraph_before old (are_none r.inner)) m ≡ b) same
+      (ap (λ p. begins s p source) (sym state.paragraph) ∙ is) in
+      let none = none_goes_on s old before.frames before.inside before.last l b state.tables are state.holds.unended
+      filled begun (block_needed b needs)
+      (λ no_paragraph.
+      subst (λ (m : SourceLine). goes_on s (rebuilt r.inner (blocks_in before)) m ≡ None) same
+      (state.over no_paragraph)) in
+      state.whole
+      ∙ (begins_in_room s before.frames (blocks_in before) l are nested none
+      (λ marker. no_next_item s r.rest marker b own filled alone needs)
+      ∙ ap around (ap (λ blank. if blank then was.new_block r.rest.left.scanned r.rest was.blank_line nil
+      else begun_by s r.rest) filled
+      ∙ ap (begun_by s) (sym same)))
+
+  first_room : IfFitted old.placing new.placing (HasRoom s new rest source b blocks)
+  first_room fitted =
+      let frames = before.frames in
+      let inside = blocks_in before in
+      let r = reached_of s before l in
+      let depth = length r.outer in
+      let n = room_depth depth frames in
+      let holds = state.holds in
+      let around = last_open s old frames before.inside before.last holds.unended in
+      let are = open_are_containers around.texts (without_leaf old.placing.builder) frames around.are in
+      let parts = reached_parts s frames inside l in
+      let many = ap length parts in
+      let sum = length-append r.outer r.inner in
+      let few : depth ≤ length frames = omega (arith, many, sum) in
+      let there = room_built s old new depth frames before.inside before.last makes few holds.unended fitted in
+      let loose = makes.loose around.texts frames inside around.are around.nested holds.loose few
+      (λ some. holds.blanks) fitted in
+      let after = line_some s rest source state.left state.filled in
+      let earlier = earlier_taken rest.line.start n frames holds.earlier in
+      let whole = first_whole are around.nested in (
+        there.0,
+        record {
+          frames = map (touched l) (take n frames);
+          inside = rebuilt (drop n frames) inside;
+          may = record {
+            source = source_stays s old new depth makes holds.source;
+            lines = makes.ended;
+            blanks = none_kept old new depth makes old.placing.builder.leaf refl holds.unheld;
+            loose = loose_touched l new.looseness (take n frames) (rebuilt (drop n frames) inside) loose.1;
+            quotes = quotes_touched l rest.line.next (sym state.is.next) (take n frames);
+            items = not_opened rest.line (map (touched l) (take n frames)) after
+                (earlier_touched l rest.line.start rest.line.start (omega arith) (take n frames) earlier);
+            earlier = earlier_touched l rest.line.start rest.line.next (omega (arith, after)) (take n frames) earlier;
+          };
+          built = built_touched l s new.placing.builder (take n frames) (rebuilt (drop n frames) inside) there.1.built;
+          free = free_touched l (take n frames) ∙ room_is_free depth frames few around.nested;
+          outermost = λ outermost.
+              ap (λ m. map (touched l) (take m frames))
+              (room_at_root r.outer frames
+              (lists_reached s frames inside l are
+              (ap (λ (m : SourceLine). m.outermost) (sym state.reached) ∙ outermost))
+              (outer_nested r.outer r.inner (subst AreNested (sym parts) around.nested))
+              (outer_taken s frames inside l));
+          left = state.left;
+          filled = state.filled;
+          is = begins_it;
+          whole = whole;
+          items = subst (AreItemsInLists false) (sym state.whole) (line_keeps s (rebuilt frames inside) l around.items);
+        },
+      )
+
+-- ---- inside containers that it opened
+
+later_room : (s : Source) (old new : Pass) (rest : LineRest) (frames : List Frame) (source : SourceLine)
+    (b : Beginning) (blocks : Forest Block) → IsInside s old rest frames source blocks
+    → is_blank_rest source ≡ false → begins s rest.before source ≡ b → MakesRoom old new rest.depth
+    → IfFitted old.placing new.placing (HasRoom s new rest source b blocks)
+later_room s old new rest frames source b blocks state filled is makes fitted =
+    let opened = state.opened in
+    let made = makes.inside s frames opened.free state.depth opened.loose in
+    let same = made.0 in (
+      subst (λ (p : Pass). AllFitted p.placing) same fitted,
+      record {
+        frames = frames;
+        inside = nil;
+        may = record {
+          source = source_stays s old new rest.depth makes opened.source;
+          lines = makes.ended;
+          blanks = makes.unheld opened.blanks;
+          loose = made.1;
+          quotes = opened.quotes;
+          items = opened.items;
+          earlier = opened.earlier;
+        };
+        built = subst (λ (p : Pass). IsBuilt s p.placing.builder frames nil) (sym same) opened.free.built;
+        free = opened.free.free;
+        outermost = λ outermost. absurd (true≢false (sym outermost ∙ state.inner));
+        left = state.left;
+        filled = filled;
+        is = ap (λ p. begins s p source) (sym state.before) ∙ is;
+        whole = state.whole
+            ∙ ap (λ blank. rebuilt frames (if blank then nil else begun_by s source)) filled;
+        items = state.items;
+      },
+    )
+
+-- ---- in either case
+
+-- there is room for the block that was found
+pub room_for : (s : Source) (old new : Pass) (rest : LineRest) (turn : Turn) (source : SourceLine) (at : ℕ)
+    (start : BlockStart) (b : Beginning) (blocks : Forest Block) → MakesRoom old new rest.depth
+    → IsHere s old rest turn source blocks → IsFound s rest source at start
+    → beginning_found rest.reader start ≡ Some b → NeedsRoom b
+    → IfFitted old.placing new.placing (HasRoom s new rest source b blocks)
+room_for s old new rest (turn.first before l) source at start b blocks makes state found begins needs =
+    let begun = is_begun s rest source at start b found begins in
+    first_room s old new rest before l source b blocks state begun.1 needs
+    (subst (λ n. MakesRoom old new n) state.depth makes)
+room_for s old new rest (turn.later frames) source at start b blocks makes state found begins needs =
+    let begun = is_begun s rest source at start b found begins in
+    later_room s old new rest frames source b blocks state begun.0 begun.1 makes
