@@ -1,22 +1,25 @@
--- Leaves that begin with the rest of a line, inside containers that were opened in this line.
+-- Leaves that begin with the rest of a line, in the containers where there is room for them, and a rest that begins
+-- nothing.
 use Rattle.std.proofs.Common.{◌≡◌, ℕ, ◌≤◌, Bool, true, false, List, [], ◌∷◌, Option, Some, None, refl, sym, ap, ◌∙◌}
 use Rattle.std.proofs.Common.{subst, arith, ◌++◌, ◌<◌, ◌+◌, ◌-◌, ◌||◌, drop, slice_range}
-use Rattle.markdown_base.specs.Forest.{Forest, nil, node}
+use Rattle.markdown_base.specs.Forest.{Forest, nil}
 use Rattle.markdown_builder.specs.BuilderView.{BuilderView}
 use Rattle.std.proofs.lemmas.Option.{none-some}
 use Rattle.std.specs.Prelude.{if◌then◌else◌, slice_index}
-use Rattle.markdown_lines.specs.BlockBeginnings.{Source, begins}
+use Rattle.markdown_lines.specs.BlockBeginnings as line
+use Rattle.markdown_lines.specs.BlockBeginnings.{Beginning, Source, begins}
 use Rattle.markdown_lines.specs.BlockStarts.{begins_unless_blank, left_at}
 use Rattle.markdown_lines.specs.SourceLines.{SourceLine, is_blank_rest}
+use Rattle.markdown_lines.specs.declared.block_start.Before.{Before}
 use Rattle.markdown_lines.specs.declared.block_start.Before.TheVariants as paragraph
 use Rattle.markdown_lines.specs.declared.block_start.BlockStart.TheVariants as start
 use Rattle.markdown_lines.specs.declared.held_line.HeldLine.{HeldLine}
 use Rattle.markdown_block_rules.specs.BlockGrowth as was
-use Rattle.markdown_block_rules.specs.BlockGrowth.{Block, Kind, begun_by, content_of}
+use Rattle.markdown_block_rules.specs.BlockGrowth.{Block, Kind, begun_by, content_of, inside_of, new_blocks}
 use Rattle.markdown_block_rules.specs.BlockRules.{block_ends_blank, ends_blank, is_blank_block}
 use Rattle.markdown_lines.specs.Positions.{left_from}
 use Rattle.markdown_plain.specs.HeldSources.{AreHeld}
-use Rattle.markdown_plain.specs.Beginning.{IsLeft, IsFound, IsInside, begun_in_rest}
+use Rattle.markdown_plain.specs.Beginning.{HasRoom, IsFound, IsHere, IsInside, IsLeft, MayBegin, Turn, first, later}
 use Rattle.markdown_plain.proofs.ReachedFramesLemmas.{AreAlike}
 use Rattle.std.proofs.lemmas.List.{get_or-drop, get_or-take}
 use Rattle.std.proofs.lemmas.List.Sums.{prefix_len-le-length, prefix_len_passes}
@@ -31,19 +34,20 @@ use Rattle.markdown_plain.specs.declared.pass.LeafKind.TheVariants as leaf
 use Rattle.markdown_plain.specs.declared.block_pass.LineRest.{LineRest}
 use Rattle.markdown_plain.specs.declared.looseness.Looseness.{Looseness}
 use Rattle.markdown_plain.specs.declared.pass.Pass.{Pass}
+use Rattle.markdown_plain.specs.declared.placing.Placing.{Placing}
 use Rattle.markdown_plain.specs.Closing.{AreItemsInLists}
-use Rattle.markdown_plain.specs.Fitting.{stepped}
+use Rattle.markdown_plain.specs.Fitting.{AllFitted, IfFitted, stepped}
 use Rattle.markdown_plain.specs.Frames.{Frame, rebuilt}
 use Rattle.markdown_plain.specs.OpenLeaves.{IsLeafIn, IsLineRest, IsOpenIn, IsPlaced, is_leaf, leaf_block}
 use Rattle.markdown_plain.specs.Paragraphs.{lines_end, source_of}
-use Rattle.markdown_plain.specs.Settled.{EmptyKnown, EmptyKnownIn, IsBuilt, IsLooseAs, IsLooseBefore, QuotesEnd}
+use Rattle.markdown_plain.specs.Settled.{IsBuilt, IsLooseAs, IsLooseBefore, QuotesEnd}
 use Rattle.markdown_plain.specs.Standing.{AreOpenedBefore, HoldsBlanks, IsLeafKind, MetadataAlone, PlacesFor}
 use Rattle.markdown_plain.specs.Standing.{PlacesLast, is_metadata, with_last}
 use Rattle.std.proofs.lemmas.Bool.{true≢false}
 use Rattle.markdown_builder.specs.TreeLevels.{followed_by}
-use Rattle.markdown_plain.specs.Beginning.{MayBegin}
 use Rattle.markdown_plain.proofs.AddedTextLemmas.{loose_with_leaf}
-use Rattle.markdown_plain.proofs.BegunBlocksLemmas.{source_kept}
+use Rattle.markdown_plain.proofs.BegunBlocksLemmas.{KeepsRest, begun_in_room, source_kept, still_may}
+use Rattle.markdown_plain.proofs.BegunRestsLemmas.{HoldsRest, begins_rest}
 use Rattle.markdown_plain.proofs.LooseFramesLemmas.{ends_more}
 use Rattle.markdown_plain.proofs.LastBlocksLemmas.{is_over, leaf_is_over, nothing_is_over}
 
@@ -61,28 +65,6 @@ built_at s old new to frames inside is built =
       footnotes = built.footnotes;
     })
 
--- ---- what is remembered of lists
-
--- an item with a block in it is not empty
-filled_in : (kind : Kind) (b : Block) (below after : Forest Block) → EmptyKnownIn false (node b below after) kind
-filled_in (was.item_container indent) b below after = refl
-filled_in (was.list_container marker) b below after = tt
-filled_in other b below after = refl
-
-filled_known : (frames : List Frame) (b : Block) (below after : Forest Block)
-    → EmptyKnown false frames (node b below after)
-filled_known [] b below after = tt
-filled_known (f ∷ []) b below after = filled_in f.block.kind b below after
-filled_known (f ∷ g ∷ frames) b below after = filled_known (g ∷ frames) b below after
-
--- a leaf that begins loosens as any block does
-leaf_loosens : (now : Looseness) (frames : List Frame) (b : Block) → is_blank_block b.kind ≡ false
-    → IsLooseBefore now frames nil → IsLooseAs now frames (leaf_block b)
-leaf_loosens now frames b filled before = record {
-  lists = before.lists (leaf_block b) (filled, refl);
-  empty = subst (λ empty. EmptyKnown empty frames (leaf_block b)) (sym before.empty) (filled_known frames b nil nil);
-}
-
 -- ---- the leaf
 
 -- a leaf begins with a line, and ends with none that is blank
@@ -90,7 +72,7 @@ pub record IsLeafOf (b : Block) : Type 0 where
   pub filled : is_blank_block b.kind ≡ false
   pub ends : block_ends_blank false b.kind ≡ false
 
-none_held : (lines : List HeldLine) (to : ℕ) → lines ≡ [] → lines_end lines ≤ to
+pub none_held : (lines : List HeldLine) (to : ℕ) → lines ≡ [] → lines_end lines ≤ to
 none_held lines to none = subst (λ (ls : List HeldLine). lines_end ls ≤ to) (sym none) (omega arith)
 
 -- the line is placed, by a block that is the last, ended or not
@@ -124,35 +106,49 @@ line_places s now to frames before blocks b inside last is leaf source unended a
       whole = whole;
     }
 
-leaf_places : (s : Source) (old now : Pass) (rest : LineRest) (frames : List Frame) (source : SourceLine)
+-- by a leaf that begins where there is room for it
+leaf_in_room : (s : Source) (room now : Pass) (rest : LineRest) (source : SourceLine) (begun : Beginning)
     (blocks : Forest Block) (b : Block) (inside : Forest Block) (last : Option Block)
-    → IsInside s old rest frames source blocks → MayBegin s now frames → IsLeafOf b
-    → with_last inside last ≡ leaf_block b → PlacesLast s now frames inside last → MetadataAlone last frames
-    → begun_in_rest s source ≡ leaf_block b → PlacesFor s now rest.line.next blocks
-leaf_places s old now rest frames source blocks b inside last state may leaf is unended alone begins =
-    line_places s now rest.line.next frames blocks b inside last is leaf may.source unended alone state.opened.quotes
-    state.opened.earlier may.loose may.blanks (none_held now.lines.items rest.line.next may.lines)
-    (state.whole ∙ ap (rebuilt frames) begins)
-    state.items
+    (has : HasRoom s room rest source begun blocks) → MayBegin s now rest.line has.frames has.inside → IsLeafOf b
+    → with_last inside last ≡ followed_by has.inside (leaf_block b) → PlacesLast s now has.frames inside last
+    → MetadataAlone last has.frames → new_blocks (inside_of (begun_by s) source) source begun ≡ leaf_block b
+    → PlacesFor s now rest.line.next blocks
+leaf_in_room s room now rest source begun blocks b inside last has may leaf is unended alone begins =
+    line_places s now rest.line.next has.frames has.inside blocks b inside last is leaf may.source unended alone
+    may.quotes may.earlier may.loose may.blanks (none_held now.lines.items rest.line.next may.lines)
+    (begun_in_room s room rest source begun blocks has
+    ∙ ap (λ made. rebuilt has.frames (followed_by has.inside made)) begins)
+    has.items
 
 -- by one that has ended
-pub ended_places : (s : Source) (old now : Pass) (rest : LineRest) (frames : List Frame) (source : SourceLine)
-    (blocks : Forest Block) (b : Block) → IsInside s old rest frames source blocks → MayBegin s now frames
-    → IsLeafOf b → is_over b.kind ≡ true → IsPlaced s now.placing.builder frames (leaf_block b)
-    → begun_in_rest s source ≡ leaf_block b → PlacesFor s now rest.line.next blocks
-ended_places s old now rest frames source blocks b state may leaf over placed begins =
-    leaf_places s old now rest frames source blocks b (leaf_block b) None state may leaf refl
-    (placed, may.lines, leaf_is_over s nil b over) tt begins
+pub ended_in_room : (s : Source) (room now : Pass) (rest : LineRest) (source : SourceLine) (begun : Beginning)
+    (blocks : Forest Block) (b : Block) (has : HasRoom s room rest source begun blocks) → KeepsRest room now
+    → IsLeafOf b → is_over b.kind ≡ true
+    → IsPlaced s now.placing.builder has.frames (followed_by has.inside (leaf_block b))
+    → new_blocks (inside_of (begun_by s) source) source begun ≡ leaf_block b
+    → PlacesFor s now rest.line.next blocks
+ended_in_room s room now rest source begun blocks b has keeps leaf over placed begins =
+    let may = still_may s room now rest.line has.frames has.inside has.may keeps in
+    leaf_in_room s room now rest source begun blocks b (followed_by has.inside (leaf_block b)) None has may leaf refl
+    (placed, may.lines, leaf_is_over s has.inside b over) tt begins
 
 -- by one that is open
-pub open_places : (s : Source) (old now : Pass) (rest : LineRest) (frames : List Frame) (source : SourceLine)
-    (blocks : Forest Block) (b : Block) → IsInside s old rest frames source blocks → MayBegin s now frames
-    → IsLeafOf b → is_leaf b.kind ≡ true → is_metadata b.kind ≡ false → IsOpenIn s now.placing.builder frames nil true b
-    → IsLeafKind now.leaf b.kind → HoldsBlanks now.blanks.items b.kind
-    → begun_in_rest s source ≡ leaf_block b → PlacesFor s now rest.line.next blocks
-open_places s old now rest frames source blocks b state may leaf kind other opens known held begins =
-    leaf_places s old now rest frames source blocks b nil (Some b) state may leaf refl
-    (None, (kind, opens), (known, held, may.lines)) (λ is. absurd (true≢false (sym is ∙ other))) begins
+pub open_in_room : (s : Source) (room now : Pass) (rest : LineRest) (source : SourceLine) (begun : Beginning)
+    (blocks : Forest Block) (b : Block) (has : HasRoom s room rest source begun blocks) → KeepsRest room now
+    → IsLeafOf b → is_leaf b.kind ≡ true → (is_metadata b.kind ≡ true → has.frames ≡ [])
+    → IsOpenIn s now.placing.builder has.frames has.inside true b → IsLeafKind now.leaf b.kind
+    → HoldsBlanks now.blanks.items b.kind
+    → new_blocks (inside_of (begun_by s) source) source begun ≡ leaf_block b
+    → PlacesFor s now rest.line.next blocks
+open_in_room s room now rest source begun blocks b has keeps leaf kind alone opens known held begins =
+    let may = still_may s room now rest.line has.frames has.inside has.may keeps in
+    leaf_in_room s room now rest source begun blocks b has.inside (Some b) has may leaf refl
+    (None, (kind, opens), (known, held, may.lines)) alone begins
+
+-- a leaf that is no metadata may be open in any container
+pub other_alone : (kind : Kind) (frames : List Frame) → is_metadata kind ≡ false → is_metadata kind ≡ true
+    → frames ≡ []
+other_alone kind frames other is = absurd (true≢false (sym is ∙ other))
 
 -- ---- nothing
 
@@ -164,11 +160,11 @@ blank_begins s source true is = refl
 blank_begins s source false is = absurd (none-some (begins s paragraph.NoParagraph source) is)
 
 -- the line is placed by the containers alone
-pub nothing_places : (s : Source) (old now : Pass) (rest : LineRest) (frames : List Frame) (source : SourceLine)
+nothing_inside : (s : Source) (old now : Pass) (rest : LineRest) (frames : List Frame) (source : SourceLine)
     (at : ℕ) (blocks : Forest Block) → IsInside s old rest frames source blocks
     → IsFound s rest source at start.Nothing → now ≡ record old { placing = now.placing }
     → now.placing.builder ≡ stepped old.placing.builder rest.line.next → PlacesFor s now rest.line.next blocks
-nothing_places s old now rest frames source at blocks state found same steps =
+nothing_inside s old now rest frames source at blocks state found same steps =
     let opened = state.opened in
     let lines : now.lines.items ≡ [] = ap (λ (p : Pass). p.lines.items) same ∙ opened.free.lines in
     let whole : blocks ≡ rebuilt frames nil =
@@ -203,23 +199,45 @@ nothing_places s old now rest frames source at blocks state found same steps =
       whole = whole;
     }
 
+-- what the open containers left of a line is not blank, so that it begins something
+filled_begins : (s : Source) (source : SourceLine) (before : Before) (blank : Bool) → blank ≡ false
+    → None ≡ (if blank then None else Some (begins s before source)) → ⊥
+filled_begins s source before true filled is = true≢false filled
+filled_begins s source before false filled is = none-some (begins s before source) is
+
+pub nothing_places : (s : Source) (old now : Pass) (rest : LineRest) (turn : Turn) (source : SourceLine)
+    (at : ℕ) (blocks : Forest Block) → IsHere s old rest turn source blocks
+    → IsFound s rest source at start.Nothing → now ≡ record old { placing = now.placing }
+    → now.placing.builder ≡ stepped old.placing.builder rest.line.next → PlacesFor s now rest.line.next blocks
+nothing_places s old now rest (first before line) source at blocks here found same steps =
+    absurd (filled_begins s source rest.before (is_blank_rest source) here.filled found.is)
+nothing_places s old now rest (later frames) source at blocks here found same steps =
+    nothing_inside s old now rest frames source at blocks here found same steps
+
 -- ---- an HTML block
 
-pub html_places : (s : Source) (old now : Pass) (rest : LineRest) (frames : List Frame) (source : SourceLine)
-    (blocks : Forest Block) (kind : HtmlKind) (ended : Bool) (b : Block) → b.kind
-    ≡ was.html_leaf kind ended (source ∷ [])
-    → IsInside s old rest frames source blocks → MayBegin s now frames
-    → IsLeafIn s now.placing.builder frames nil b ended → now.leaf ≡ leaf.Html kind
-    → begun_in_rest s source ≡ leaf_block b → PlacesFor s now rest.line.next blocks
-html_places s old now rest frames source blocks kind true b is state may placed known begins =
-    ended_places s old now rest frames source blocks b state may
+pub html_places : (s : Source) (room now : Pass) (rest : LineRest) (source : SourceLine) (blocks : Forest Block)
+    (kind : HtmlKind) (ended : Bool) (b : Block) (has : HasRoom s room rest source (line.begins_html kind) blocks)
+    → b.kind ≡ was.html_leaf kind ended (source ∷ []) → KeepsRest room now
+    → IsLeafIn s now.placing.builder has.frames has.inside b ended → now.leaf ≡ leaf.Html kind
+    → new_blocks (inside_of (begun_by s) source) source (line.begins_html kind) ≡ leaf_block b
+    → PlacesFor s now rest.line.next blocks
+html_places s room now rest source blocks kind true b has is keeps placed known begins =
+    ended_in_room s room now rest source (line.begins_html kind) blocks b has keeps
     (record { filled = ap is_blank_block is; ends = ap (block_ends_blank false) is }) (ap is_over is) placed begins
-html_places s old now rest frames source blocks kind false b is state may opens known begins =
-    open_places s old now rest frames source blocks b state may
+html_places s room now rest source blocks kind false b has is keeps opens known begins =
+    open_in_room s room now rest source (line.begins_html kind) blocks b has keeps
     (record { filled = ap is_blank_block is; ends = ap (block_ends_blank false) is }) (ap is_leaf is)
-    (ap is_metadata is) opens
+    (other_alone b.kind has.frames (ap is_metadata is)) opens
     (subst (λ how. IsLeafKind how b.kind) (sym known) (subst (IsLeafKind (leaf.Html kind)) (sym is) refl))
-    (subst (HoldsBlanks now.blanks.items) (sym is) may.blanks) begins
+    (subst (HoldsBlanks now.blanks.items) (sym is) (keeps.blanks ∙ has.may.blanks)) begins
+
+-- all calls fitted before one, whether it put the block there whole or left it open
+pub fitted_before : {Whole Left : Type 0} (old now : Placing) (test : Bool)
+    → (test ≡ true → IfFitted old now Whole) → (test ≡ false → IfFitted old now Left) → AllFitted now
+    → AllFitted old
+fitted_before old now true whole left fitted = (whole refl fitted).0
+fitted_before old now false whole left fitted = (left refl fitted).0
 
 -- the byte that begins the content of a line's rest is the next that is in no blank line
 pub content_next : (text : List ℕ) (position : Position) (line : Line) (source : SourceLine) (held : HeldLine)
@@ -279,3 +297,11 @@ code_left s rest source code left alike few = record {
   stop = left.is.stop ∙ sym alike.end;
   ends = left.is.ends;
 }
+
+-- the code that begins where there is room has the content of the line's rest
+pub code_in_room : (s : Source) (room : Pass) (rest : LineRest) (source : SourceLine) (left : LineLeft)
+    (blocks : Forest Block) → HasRoom s room rest source (line.begins_indented left) blocks
+    → AreAlike left source.left × (left.owed ≤ 3)
+code_in_room s room rest source left blocks has =
+    subst (HoldsRest source.left) has.is (begins_rest s paragraph.NoParagraph source
+    (subst (λ n. n ≤ 3) (ap (λ (l : LineLeft). l.owed) has.left.is.rest.left) has.left.is.rest.few))

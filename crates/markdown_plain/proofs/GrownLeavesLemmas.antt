@@ -49,7 +49,7 @@ use Rattle.markdown_plain.proofs.LinedLeavesLemmas.{grown_to}
 use Rattle.markdown_plain.proofs.LooseFramesLemmas.{ends_more}
 use Rattle.markdown_plain.proofs.TouchedFramesLemmas.{built_touched, earlier_touched, quotes_touched}
 
-placed_touched : (l : SourceLine) (s : Source) (view : BuilderView) (frames : List Frame) (inside : Forest Block)
+pub placed_touched : (l : SourceLine) (s : Source) (view : BuilderView) (frames : List Frame) (inside : Forest Block)
     → IsPlaced s view frames inside → IsPlaced s view (map (touched l) frames) inside
 placed_touched l s view frames inside placed = record {
   built = built_touched l s view frames inside placed.built;

@@ -1,6 +1,6 @@
 -- What a line begins inside a container that was opened in it: no underline, and no metadata.
 use Rattle.std.proofs.Common.{◌≡◌, ℕ, ◌+◌, Bool, true, false, List, [], ◌∷◌, Option, Some, None, sym, ap, ◌∙◌, subst}
-use Rattle.std.proofs.Common.{◌||◌, ◌==◌, codes, length}
+use Rattle.std.proofs.Common.{◌||◌, ◌==◌, codes, length, refl}
 use Rattle.std.proofs.lemmas.Option.{none-some}
 use Rattle.std.specs.Prelude.{if◌then◌else◌, slice_index, unwrap_or}
 use Rattle.std.specs.Option.{option_and_then, option_map}
@@ -14,13 +14,15 @@ use Rattle.markdown_lines.specs.CodeFences.{opening_fence_at}
 use Rattle.markdown_lines.specs.HtmlBeginnings.{html_kind_of}
 use Rattle.markdown_lines.specs.ListMarkers.{list_marker_at}
 use Rattle.markdown_lines.specs.MetadataBlocks.{metadata_opened}
-use Rattle.markdown_lines.specs.ThematicBreaks.{is_thematic_break}
+use Rattle.markdown_lines.specs.ThematicBreaks.{is_thematic_break, setext_level}
+use Rattle.markdown_lines.specs.declared.block_start.Before.{Before}
 use Rattle.markdown_lines.specs.declared.block_start.Before.TheVariants as paragraph
 use Rattle.markdown_lines.specs.declared.block_start.BlockStart.{BlockStart}
 use Rattle.markdown_lines.specs.BlockBeginnings as line
 use Rattle.markdown_lines.specs.BlockBeginnings.{Beginning, Source, begins, begins_after, break_in_line, fence_in_line}
 use Rattle.markdown_lines.specs.BlockBeginnings.{first_found, footnote_in_line, footnote_marker, heading_in_line}
-use Rattle.markdown_lines.specs.BlockBeginnings.{html_in_line, item_in_line, item_of, metadata_begun, past_bytes}
+use Rattle.markdown_lines.specs.BlockBeginnings.{html_in_line, is_paragraph, is_reached, item_in_line, item_of}
+use Rattle.markdown_lines.specs.BlockBeginnings.{metadata_begun, past_bytes}
 use Rattle.markdown_lines.specs.BlockBeginnings.{quote_in_line, quote_of, quote_or_alert, underline_in_line}
 use Rattle.markdown_lines.specs.BlockBeginnings.{whole_heading}
 use Rattle.markdown_lines.specs.BlockStarts.{begins_unless_blank, beginning_found}
@@ -57,19 +59,20 @@ quote_inside : (rest : LineLeft) (alert : Option BlockQuoteKind) → BeginsInsid
 quote_inside rest None = tt
 quote_inside rest (Some kind) = tt
 
-after_inside : (s : Source) (columns : ℕ) (here : LineLeft)
-    → BeginsInside (begins_after s paragraph.NoParagraph columns here)
-after_inside s columns here =
+pub after_inside : (s : Source) (before : Before) (columns : ℕ) (here : LineLeft) → is_reached before ≡ false
+    → BeginsInside (begins_after s before columns here)
+after_inside s before columns here off =
     let n = length here.bytes in
     let byte = slice_index here.bytes 0 in
     let fence = opening_fence_at s.text here.scanned (here.scanned + n) byte columns in
-    let html = html_kind_of here.bytes false in
+    let html = html_kind_of here.bytes (is_paragraph before) in
     let heading = atx_heading_at s.text here.scanned (here.scanned + n) in
     let note = footnote_marker here.bytes in
+    let underline = setext_level here.bytes in
     first_inside (quote_in_line s here ∷ heading_in_line s here ∷ fence_in_line s columns here
-    ∷ html_in_line paragraph.NoParagraph here ∷ footnote_in_line s.options here
-    ∷ underline_in_line paragraph.NoParagraph here ∷ break_in_line here
-    ∷ item_in_line s paragraph.NoParagraph columns here ∷ []) (
+    ∷ html_in_line before here ∷ footnote_in_line s.options here
+    ∷ underline_in_line before here ∷ break_in_line here
+    ∷ item_in_line s before columns here ∷ []) (
       either IfInside (begins_with (codes ">") here.bytes) (Some (quote_of s.options (past_marker here))) None
           (quote_inside (past_marker here) (alert_read s.options (past_marker here))) tt,
       (
@@ -85,12 +88,13 @@ after_inside s columns here =
                   (option_map (λ marker. line.begins_footnote marker.0 (past_bytes marker.1 here)) note) None
                   (mapped (λ marker. line.begins_footnote marker.0 (past_bytes marker.1 here)) note (λ a. tt)) tt,
               (
-                tt,
+                subst (λ reached. IfInside (if reached then option_map line.begins_underline underline else None))
+                    (sym off) tt,
                 (
                   either IfInside (is_thematic_break here.bytes) (Some line.begins_break) None tt tt,
                   (
-                    mapped (item_of columns here) (list_marker_at s.text here.scanned (here.scanned + n) false)
-                        (λ a. tt),
+                    mapped (item_of columns here)
+                        (list_marker_at s.text here.scanned (here.scanned + n) (is_reached before)) (λ a. tt),
                     tt,
                   ),
                 ),
@@ -111,7 +115,7 @@ begins_inside s l inner =
     either BeginsInside (space.columns == 4) (line.begins_indented space.after)
     (unwrap_or (if l.outermost then opened else None) after) tt
     (subst (λ outermost. BeginsInside (unwrap_or (if outermost then opened else None) after)) (sym inner)
-    (after_inside s space.columns space.after))
+    (after_inside s paragraph.NoParagraph space.columns space.after refl))
 
 -- what was found does
 some_inside : (s : Source) (l : SourceLine) (b : Beginning) (blank : Bool) → l.outermost ≡ false

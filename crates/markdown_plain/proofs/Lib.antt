@@ -67,6 +67,8 @@ pub mod BegunTextsLemmas
 pub mod FirstTurnsLemmas
 pub mod FoundBlocksLemmas
 pub mod InnerBeginningsLemmas
+pub mod BegunMetadataLemmas
+pub mod UnderlinesLemmas
 pub mod RoomForBlocksLemmas
 pub mod FoundPlacesLemmas
 pub mod TextHereLemmas

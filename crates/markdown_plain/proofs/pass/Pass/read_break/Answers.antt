@@ -1,35 +1,29 @@
 -- The thematic break is the block that the rest of the line begins.
-use Rattle.std.proofs.Common.{◌∙◌, refl, sym, subst, ap}
-use Rattle.markdown_base.specs.Forest.{nil}
+use Rattle.std.proofs.Common.{◌∙◌, refl, sym, ap}
 use Rattle.markdown_builder.specs.BuilderView.{BuilderView}
 use Rattle.markdown_lines.specs.BlockBeginnings as line
 use Rattle.markdown_lines.specs.declared.block_start.BlockStart.TheVariants as start
 use Rattle.markdown_block_rules.specs.BlockGrowth as was
-use Rattle.markdown_plain.specs.Fitting.{AllFitted}
-use Rattle.markdown_plain.specs.declared.pass.Pass.{Pass}
-use Rattle.markdown_plain.proofs.FoundBlocksLemmas.{begun_found}
-use Rattle.markdown_plain.proofs.BegunBlocksLemmas.{begun_block, keeps_leaf, room_made, still_may}
-use Rattle.markdown_plain.proofs.BegunLeavesLemmas.{built_at, ended_places}
+use Rattle.markdown_plain.proofs.BegunBlocksLemmas.{begun_block, keeps_leaf}
+use Rattle.markdown_plain.proofs.BegunLeavesLemmas.{built_at, ended_in_room}
 use Rattle.markdown_plain.proofs.pass.Pass.read_break.Goals as goal
 
-pub returns-clause-inside : goal.returns-clause-inside
-returns-clause-inside c = λ s frames source blocks state found fitted.
-    let old = c.args.self.now in
-    let room = c.make_room.new.self in
+pub returns-clause-places : goal.returns-clause-places
+returns-clause-places c = λ s turn source blocks here found fitted.
+    let room = c.make_room_for.new.self in
     let now = c.add_thematic_break.new.self in
     let rest = c.args.rest.now in
-    let opened = state.opened in
     let b = begun_block source was.break_leaf in
-    let made = c.in_ok-make_room.ensures.inside s frames opened.free state.depth opened.loose in
-    let may = room_made s old room rest.line frames opened made.0 made.1 in
     let step = c.step_to.ensures.steps (c.in_ok-add_thematic_break.ensures.adds fitted).0 in
-    let leaf = c.in_ok-add_thematic_break.ensures.leaf s frames nil b
-    (built_at s room.placing.builder c.step_to.new.self.builder c.args.at frames nil step.1 may.1) refl
-    (sym found.begins ∙ sym (ap (λ (v : BuilderView). v.at) step.1)) (sym state.left.is.rest.next) fitted in
-    let after = still_may s room now frames may.0
-    (keeps_leaf room now c.add_thematic_break.ensures.same
-    (c.in_ok-add_thematic_break.ensures.text ∙ c.step_to.ensures.text)) in (
-      subst (λ (p : Pass). AllFitted p.placing) made.0 step.0,
-      ended_places s old now rest frames source blocks b state after (record { filled = refl; ends = refl }) refl
-          leaf.1 (begun_found s rest source c.args.at start.ThematicBreak line.begins_break state.before found refl),
+    let made = c.in_ok-make_room_for.ensures.room s turn source c.args.at start.ThematicBreak line.begins_break blocks
+    here found refl tt step.0 in
+    let has = made.1 in
+    let leaf = c.in_ok-add_thematic_break.ensures.leaf s has.frames has.inside b
+    (built_at s room.placing.builder c.step_to.new.self.builder c.args.at has.frames has.inside step.1 has.built) refl
+    (sym found.begins ∙ sym (ap (λ (v : BuilderView). v.at) step.1)) (sym has.left.is.rest.next) fitted in (
+      made.0,
+      ended_in_room s room now rest source line.begins_break blocks b has
+          (keeps_leaf room now c.add_thematic_break.ensures.same
+          (c.in_ok-add_thematic_break.ensures.text ∙ c.step_to.ensures.text))
+          (record { filled = refl; ends = refl }) refl leaf.1 refl,
     )

@@ -7,13 +7,13 @@ use Rattle.markdown_plain.specs.declared.pass.Pass.{Pass}
 use Rattle.markdown_plain.proofs.BegunLeavesLemmas.{nothing_places}
 use Rattle.markdown_plain.proofs.pass.Pass.skip_blank.Goals as goal
 
-pub returns-clause-inside : goal.returns-clause-inside
-returns-clause-inside c = λ s rest frames source at blocks state same found fitted.
+pub returns-clause-places : goal.returns-clause-places
+returns-clause-places c = λ s rest turn source at blocks here same found fitted.
     let old = c.args.self.now in
     let now : Pass = record old { placing = c.step_to.new.self } in
     let step = c.step_to.ensures.steps fitted in (
       step.0,
       subst (λ (l : Line). PlacesFor s now l.next blocks) same
-          (nothing_places s old now rest frames source at blocks state found refl
+          (nothing_places s old now rest turn source at blocks here found refl
           (step.1 ∙ ap (λ (l : Line). stepped old.placing.builder l.next) (sym same))),
     )

@@ -1,0 +1,419 @@
+-- A line that underlines the paragraph that it reaches: this becomes a heading, or, where it holds definitions alone,
+-- ends, and the line is read once more.
+use Rattle.std.proofs.Common.{◌≡◌, ℕ, ◌==◌, Bool, true, false, not, List, [], Option, Some, None}
+use Rattle.std.proofs.Common.{map, length, refl, sym, ap, ◌∙◌, subst, arith}
+use Rattle.std.proofs.lemmas.Bool.{true≢false}
+use Rattle.std.proofs.lemmas.Option.{none-some}
+use Rattle.std.specs.Prelude.{◌&&◌, if◌then◌else◌, unwrap_or}
+use Rattle.std.specs.Option.{option_and_then, option_map}
+use Rattle.std.specs.Str.{IsCharBoundary}
+use Rattle.markdown_base.specs.Forest.{Forest, nil}
+use Rattle.markdown_base.specs.declared.tag.HeadingLevel.{HeadingLevel}
+use Rattle.markdown_base.specs.declared.tag.MetadataBlockKind.{MetadataBlockKind}
+use Rattle.markdown_base.specs.declared.tag.MetadataBlockKind.TheVariants as metadata
+use Rattle.markdown_scan.specs.Entity.{entity_names}
+use Rattle.markdown_scan.specs.LineStart.{Space, leading_space}
+use Rattle.markdown_builder.specs.TreeLevels.{followed_by}
+use Rattle.markdown_lines.specs.BlockBeginnings as line
+use Rattle.markdown_lines.specs.BlockBeginnings.{Beginning, Source, begins, begins_after, is_paragraph, is_reached}
+use Rattle.markdown_lines.specs.BlockBeginnings.{metadata_begun, metadata_in_line}
+use Rattle.markdown_lines.specs.DefinitionRules.{divided}
+use Rattle.markdown_lines.specs.Lines.{IsLineFrom}
+use Rattle.markdown_lines.specs.MetadataBlocks.{metadata_opened}
+use Rattle.markdown_lines.specs.SourceLines.{SourceLine, is_blank_rest}
+use Rattle.markdown_lines.specs.declared.block_start.Before as block_start
+use Rattle.markdown_lines.specs.declared.block_start.Before.TheVariants as paragraph
+use Rattle.markdown_lines.specs.declared.block_start.BlockStart.TheVariants as start
+use Rattle.markdown_lines.specs.declared.line.Line.{Line}
+use Rattle.markdown_block_rules.specs.BlockGrowth as was
+use Rattle.markdown_block_rules.specs.BlockGrowth.{Block, goes_on, with_line}
+use Rattle.markdown_block_rules.specs.BlockRules.{is_blank_block}
+use Rattle.markdown_block_rules.specs.TableLines.{reads_tables}
+use Rattle.markdown_block_rules.proofs.BlockBeginningsLemmas.{either}
+use Rattle.markdown_plain.specs.declared.block_pass.LineRest.{LineRest}
+use Rattle.markdown_plain.specs.declared.looseness.Looseness.{Looseness}
+use Rattle.markdown_plain.specs.declared.pass.Pass.{Pass}
+use Rattle.markdown_plain.specs.Beginning.{HasBegun, IsFirst, IsFound, IsHere, IsLeft, Turn, first, later}
+use Rattle.markdown_plain.specs.Containers.{whole_line}
+use Rattle.markdown_plain.specs.Closing.{AreItemsInLists, MayEnd}
+use Rattle.markdown_plain.specs.Fitting.{AllFitted, IfFitted}
+use Rattle.markdown_plain.specs.Frames.{Frame, is_item, reached, rebuilt, touched}
+use Rattle.markdown_plain.specs.HeldSources.{IsParagraph}
+use Rattle.markdown_plain.specs.OpenLeaves.{HoldsParagraph, IsPlaced, ended_block, leaf_block}
+use Rattle.markdown_plain.specs.Paragraphs.{divided_of, has_paragraph}
+use Rattle.markdown_plain.specs.ReachedFrames.{are_none}
+use Rattle.markdown_plain.specs.ReachedLines.{reached_of}
+use Rattle.markdown_plain.specs.Settled.{BlanksKnown, IsLooseAs, QuotesEnd}
+use Rattle.markdown_plain.specs.Standing.{PlacesFor, with_last}
+use Rattle.markdown_plain.proofs.AddedTextLemmas.{around_text, loose_as_leaf}
+use Rattle.markdown_plain.proofs.BegunBlocksLemmas.{source_kept}
+use Rattle.markdown_plain.proofs.BegunLeavesLemmas.{none_held}
+use Rattle.markdown_plain.proofs.BegunTextsLemmas.{none_open}
+use Rattle.markdown_plain.proofs.BlanksKnownLemmas.{same_touched}
+use Rattle.markdown_plain.proofs.BlankStandingLemmas.{next_after, none_inside}
+use Rattle.markdown_plain.proofs.FramesLemmas.{goes_on_last}
+use Rattle.markdown_plain.proofs.GrownLeavesLemmas.{placed_touched}
+use Rattle.markdown_plain.proofs.InnerBeginningsLemmas.{BeginsInside, after_inside}
+use Rattle.markdown_plain.proofs.ItemsInListsLemmas.{line_keeps}
+use Rattle.markdown_plain.proofs.LastBlocksLemmas.{leaf_is_over, open_are_containers}
+use Rattle.markdown_plain.proofs.LooseFramesLemmas.{ends_more}
+use Rattle.markdown_plain.proofs.ReachedLemmas.{all_go_on, reached_next}
+use Rattle.markdown_plain.proofs.TouchedFramesLemmas.{earlier_touched, quotes_touched}
+
+-- ---- the line begins an underline
+
+-- no underline begins
+abbrev BeginsNone : Beginning → Type 0
+BeginsNone (line.begins_underline level) = ⊥
+BeginsNone other = Unit
+
+abbrev IfNone : Option Beginning → Type 0
+IfNone None = Unit
+IfNone (Some b) = BeginsNone b
+
+inside_none : (b : Beginning) → BeginsInside b → BeginsNone b
+inside_none (line.begins_underline level) inside = inside
+inside_none other inside = tt
+
+metadata_none : (before : block_start.Before) (kind : MetadataBlockKind) → IfNone (metadata_begun before kind)
+metadata_none before metadata.YamlStyle =
+    either IfNone (is_reached before) None (Some (line.begins_metadata metadata.YamlStyle)) tt tt
+metadata_none before metadata.PlusesStyle =
+    either IfNone (is_paragraph before) None (Some (line.begins_metadata metadata.PlusesStyle)) tt tt
+
+-- an underline begins in a line that reaches a paragraph
+underline_reaches : (s : Source) (before : block_start.Before) (l : SourceLine) (level : HeadingLevel)
+    → begins s before l ≡ line.begins_underline level → is_reached before ≡ true
+underline_reaches s before l level is = decided (is_reached before) refl
+  where
+    space : Space
+    space = leading_space 4 l.left
+
+    after : Beginning
+    after = begins_after s before space.columns space.after
+
+    none_opened : (opened : Option MetadataBlockKind) → IfNone (option_and_then (metadata_begun before) opened)
+    none_opened None = tt
+    none_opened (Some kind) = metadata_none before kind
+
+    none_of : (found : Option Beginning) → IfNone found → BeginsNone after → BeginsNone (unwrap_or found after)
+    none_of None none other = other
+    none_of (Some b) none other = none
+
+    none : is_reached before ≡ false → BeginsNone (begins s before l)
+    none off =
+        let opened = option_and_then (metadata_begun before)
+        (metadata_opened s.options s.text l.left.bytes l.next) in
+        either BeginsNone (space.columns == 4)
+        (if is_paragraph before then line.begins_text else line.begins_indented space.after)
+        (unwrap_or (metadata_in_line s before l) after)
+        (either BeginsNone (is_paragraph before) line.begins_text (line.begins_indented space.after) tt tt)
+        (none_of (metadata_in_line s before l)
+        (either IfNone l.outermost opened None
+        (none_opened (metadata_opened s.options s.text l.left.bytes l.next)) tt)
+        (inside_none after (after_inside s before space.columns space.after off)))
+
+    decided : (test : Bool) → is_reached before ≡ test → is_reached before ≡ true
+    decided true reaches = reaches
+    decided false off = absurd (subst BeginsNone is (none off))
+
+-- what was found is what the line begins
+found_begins : (b got : Beginning) (blank : Bool) → Some b ≡ (if blank then None else Some got) → got ≡ b
+found_begins b got true is = absurd (none-some b (sym is))
+found_begins b got false is = ap (λ (o : Option Beginning). unwrap_or o b) (sym is)
+
+-- it reaches a paragraph where one is held back and all open containers go on
+reached_all : (some all : Bool)
+    → is_reached (if some then (if all then paragraph.Reached else paragraph.Lazy) else paragraph.NoParagraph) ≡ true
+    → (some ≡ true) × (all ≡ true)
+reached_all true true reaches = (refl, refl)
+reached_all true false reaches = absurd (true≢false (sym reaches))
+reached_all false all reaches = absurd (true≢false (sym reaches))
+
+is_reached_one : (before : block_start.Before) → is_reached before ≡ true → before ≡ paragraph.Reached
+is_reached_one paragraph.NoParagraph reaches = absurd (true≢false (sym reaches))
+is_reached_one paragraph.Lazy reaches = absurd (true≢false (sym reaches))
+is_reached_one paragraph.Reached reaches = refl
+
+-- ---- what the line makes of a paragraph
+
+-- nothing is left of a paragraph's lines after its definitions
+abbrev pub is_defining : Source → List SourceLine → Bool
+is_defining s lines = length (divided (entity_names s.options) s.text lines).lines == 0
+
+paragraph_heads : (s : Source) (l : SourceLine) (begin top last : ℕ) (lines : List SourceLine)
+    (level : HeadingLevel) → reads_tables s ≡ false → is_blank_rest l ≡ false
+    → begins s paragraph.Reached l ≡ line.begins_underline level → is_defining s lines ≡ false
+    → goes_on s (leaf_block (record { start = begin; first = top; last = last; kind = was.paragraph_leaf lines })) l
+    ≡ Some (leaf_block (record {
+      start = begin;
+      first = top;
+      last = l.next;
+      kind = was.underlined_leaf level lines;
+    }))
+unfolding goes_on
+paragraph_heads s l begin top last lines level tables filled underlines some =
+    rw (filled, tables, underlines, some) refl
+
+paragraph_ends : (s : Source) (l : SourceLine) (begin top last : ℕ) (lines : List SourceLine)
+    (level : HeadingLevel) → reads_tables s ≡ false → is_blank_rest l ≡ false
+    → begins s paragraph.Reached l ≡ line.begins_underline level → is_defining s lines ≡ true
+    → goes_on s (leaf_block (record { start = begin; first = top; last = last; kind = was.paragraph_leaf lines })) l
+    ≡ None
+unfolding goes_on
+paragraph_ends s l begin top last lines level tables filled underlines none =
+    rw (filled, tables, underlines, none) refl
+
+-- the heading that a line makes of a paragraph
+abbrev pub headed : Block → HeadingLevel → List SourceLine → ℕ → Block
+headed b level lines to = record b { last = to; kind = was.underlined_leaf level lines }
+
+last_heads : (s : Source) (l : SourceLine) (before : Forest Block) (b : Block) (lines : List SourceLine)
+    (level : HeadingLevel) → reads_tables s ≡ false → b.kind ≡ was.paragraph_leaf lines → is_blank_rest l ≡ false
+    → begins s paragraph.Reached l ≡ line.begins_underline level → is_defining s lines ≡ false
+    → with_line s (followed_by before (leaf_block b)) l ≡ followed_by before (leaf_block (headed b level lines l.next))
+last_heads s l before b lines level tables is filled underlines some =
+    let same = ap (λ kind. goes_on s (leaf_block (record b { kind = kind })) l) is
+    ∙ paragraph_heads s l b.start b.first b.last lines level tables filled underlines some in
+    ap (λ grown. unwrap_or grown (followed_by (followed_by before (leaf_block b)) (was.line_block s l)))
+    (goes_on_last s before b nil l ∙ ap (option_map (followed_by before)) same)
+
+last_ends : (s : Source) (l : SourceLine) (before : Forest Block) (b : Block) (lines : List SourceLine)
+    (level : HeadingLevel) → reads_tables s ≡ false → b.kind ≡ was.paragraph_leaf lines → is_blank_rest l ≡ false
+    → begins s paragraph.Reached l ≡ line.begins_underline level → is_defining s lines ≡ true
+    → goes_on s (followed_by before (leaf_block b)) l ≡ None
+last_ends s l before b lines level tables is filled underlines none =
+    goes_on_last s before b nil l
+    ∙ ap (option_map (followed_by before)) (ap (λ kind. goes_on s (leaf_block (record b { kind = kind })) l) is
+    ∙ paragraph_ends s l b.start b.first b.last lines level tables filled underlines none)
+
+-- ---- what the pass makes of it
+
+-- the open paragraph was ended with its underline, and something was left of it after its definitions, or not
+pub record EndsUnderlined (old new : Pass) (level : HeadingLevel) (line : Line) (some : Bool) : Type 0 where
+  pub same : new ≡ record old { placing = new.placing; lines = new.lines }
+  pub text : new.placing.builder.text ≡ old.placing.builder.text
+  pub emptied : new.lines.items ≡ []
+  pub left : (sources : List SourceLine) → IsParagraph old.placing.builder.text old.lines.items sources
+      → IfFitted old.placing new.placing (some ≡ not (length (divided_of old sources).lines == 0))
+  pub frame : (s : Source) (frames : List Frame) (inside : Forest Block) (b : Block) (sources : List SourceLine)
+      → HoldsParagraph s old frames inside b sources → s.options ≡ old.options
+      → IfFitted old.placing new.placing
+      (IsPlaced s new.placing.builder frames (followed_by inside
+      (leaf_block (ended_block b sources some (Some (level, line))))))
+
+heads_not : (test : Bool) → true ≡ not test → test ≡ false
+heads_not true is = absurd (true≢false is)
+heads_not false is = refl
+
+ends_not : (test : Bool) → false ≡ not test → test ≡ true
+ends_not true is = refl
+ends_not false is = absurd (true≢false (sym is))
+
+-- a line reaches a paragraph whose lines are held back, and is its underline
+module _ (s : Source) (old new : Pass) (rest : LineRest) (level : HeadingLevel) (l source : SourceLine)
+    (blocks : Forest Block) (frames : List Frame) (inside : Forest Block) (b : Block) (sources : List SourceLine)
+    (here : IsFirst s old rest (record { frames = frames; inside = inside; last = Some b }) l source blocks)
+    (may : MayEnd s old frames inside b (Some sources))
+    (underlines : begins s paragraph.Reached source ≡ line.begins_underline level)
+    (all : (reached s frames (followed_by inside (leaf_block b)) l).inner ≡ []) where
+  abbrev now : Forest Block
+  now = followed_by inside (leaf_block b)
+
+  holds : HoldsParagraph s old frames inside b sources
+  holds = may.unended
+
+  defining : (some : Bool) → some ≡ not (length (divided_of old sources).lines == 0)
+      → some ≡ not (is_defining s sources)
+  defining some left = subst (λ (r : Source). some ≡ not (is_defining r sources)) here.holds.source left
+
+  -- where something is left of it, the line makes a heading of it
+  heading_made : is_defining s sources ≡ false
+      → blocks ≡ rebuilt (map (touched l) frames) (followed_by inside
+      (leaf_block (headed b level sources rest.line.next)))
+  heading_made some =
+      let r = reached s frames now l in
+      let next : r.rest.next ≡ rest.line.next = reached_next s frames now l ∙ sym here.is.next in
+      let goes = last_heads s r.rest inside b sources level here.tables holds.kind
+      (ap is_blank_rest (sym here.reached) ∙ here.filled)
+      (ap (begins s paragraph.Reached) (sym here.reached) ∙ underlines) some in
+      here.whole
+      ∙ (all_go_on s frames now l
+      (open_are_containers old.placing.builder.texts old.placing.builder.blocks frames holds.built.blocks)
+      holds.built.nested all (around_text false frames inside b (ap is_item holds.kind) (ap is_blank_block holds.kind)
+      may.items)
+      ∙ (ap (rebuilt (map (touched l) frames)) goes
+      ∙ ap (λ to. rebuilt (map (touched l) frames) (followed_by inside (leaf_block (headed b level sources to)))) next))
+
+  heading_placed : EndsUnderlined old new level rest.line true → AllFitted new.placing
+      → PlacesFor s new rest.line.next blocks
+  heading_placed ends fitted =
+      let h = headed b level sources rest.line.next in
+      let at_end = followed_by inside (leaf_block h) in
+      let placed = (ends.frame s frames inside b sources holds may.options fitted).1 in
+      let whole = heading_made (heads_not (is_defining s sources)
+      (defining true (ends.left sources holds.lines fitted).1)) in
+      record {
+        frames = map (touched l) frames;
+        inside = at_end;
+        last = None;
+        places = record {
+          source = source_kept s old new ends.text (ap (λ (p : Pass). p.options) ends.same) here.holds.source;
+          unended = (
+            placed_touched l s new.placing.builder frames at_end placed,
+            ends.emptied,
+            leaf_is_over s inside h refl,
+          );
+          quotes = quotes_touched l rest.line.next (sym here.is.next) frames;
+          items = subst (AreItemsInLists false) (sym here.whole ∙ whole)
+              (line_keeps s (rebuilt frames now) l may.items);
+          loose = same_touched l new.looseness frames at_end
+              (loose_as_leaf new.looseness frames inside b h (ap is_blank_block holds.kind) refl
+              (subst (λ (n : Looseness). IsLooseAs n frames now)
+              (sym (ap (λ (p : Pass). p.looseness) ends.same)) here.holds.loose));
+          filled = ends_more false inside (leaf_block h);
+          before = none_held new.lines.items rest.line.next ends.emptied;
+          unheld = λ e. ap (λ (p : Pass). p.blanks.items) ends.same ∙ here.holds.unheld holds.built.outside;
+          earlier = earlier_touched l rest.line.start rest.line.next (next_after old rest.line l here.is) frames
+              here.holds.earlier;
+          alone = tt;
+        };
+        whole = whole;
+      }
+
+  -- otherwise the line is still to be read
+  abbrev rest_again : LineRest
+  rest_again = record rest { before = paragraph.NoParagraph }
+
+  left_again : IsLeft s rest_again source
+  left_again = record {
+    is = here.left.is;
+    text = here.left.text;
+    stop = here.left.stop;
+    start = here.left.start;
+    next = here.left.next;
+    indent = here.left.indent;
+    outermost = here.left.outermost;
+    after = here.left.after;
+    boundary = here.left.boundary;
+  }
+
+  over_again : is_defining s sources ≡ true
+      → goes_on s (rebuilt (reached s frames now l).inner now) source ≡ None
+  over_again none =
+      ap (λ (fs : List Frame). goes_on s (rebuilt fs now) source) all
+      ∙ last_ends s source inside b sources level here.tables holds.kind here.filled underlines none
+
+  here_again : EndsUnderlined old new level rest.line false → AllFitted new.placing
+      → IsFirst s new rest_again (record { frames = frames; inside = now; last = None }) l source blocks
+  here_again ends fitted =
+      let placed = (ends.frame s frames inside b sources holds may.options fitted).1 in
+      let none = ends_not (is_defining s sources)
+      (defining false (ends.left sources holds.lines fitted).1) in
+      let looseness = ap (λ (p : Pass). p.looseness) ends.same in
+      record {
+        tables = here.tables;
+        holds = record {
+          source = source_kept s old new ends.text (ap (λ (p : Pass). p.options) ends.same) here.holds.source;
+          unended = (
+            record {
+              stands = record {
+                built = placed.built;
+                ends = record {
+                  at = placed.at;
+                  quotes = subst (λ to. QuotesEnd to frames) (sym (ap (λ (p : Pass). p.placed) ends.same)) may.quotes;
+                };
+                items = may.items;
+              };
+              lists = ap (λ (n : Looseness). n.lists.items) looseness ∙ may.lists;
+            },
+            ends.emptied,
+          );
+          loose = subst (λ (n : Looseness). IsLooseAs n frames now) (sym looseness) here.holds.loose;
+          blanks = subst (λ (n : Looseness). BlanksKnown n.blank_from 0 frames now) (sym looseness) here.holds.blanks;
+          before = none_held new.lines.items rest.line.start ends.emptied;
+          unheld = λ e. ap (λ (p : Pass). p.blanks.items) ends.same ∙ here.holds.unheld holds.built.outside;
+          earlier = here.holds.earlier;
+        };
+        is = record {
+          left = ap (λ text. whole_line text rest.line) ends.text ∙ here.is.left;
+          stop = here.is.stop;
+          next = here.is.next;
+          outermost = here.is.outermost;
+          indent = here.is.indent;
+          from = subst (λ text. IsLineFrom text rest.line.start rest.line) (sym ends.text) here.is.from;
+          boundary = subst (λ text. IsCharBoundary text rest.line.start) (sym ends.text) here.is.boundary;
+        };
+        reached = here.reached;
+        left = left_again;
+        depth = here.depth;
+        paragraph = ap (λ has. if has then (if are_none (reached s frames now l).inner then paragraph.Reached
+            else paragraph.Lazy) else paragraph.NoParagraph) (sym (none_open new ends.emptied));
+        filled = here.filled;
+        over = λ free. over_again none;
+        whole = here.whole;
+      }
+
+  -- either way, that is what the line has begun
+  begun_with : (some : Bool) → rest.before ≡ paragraph.Reached → EndsUnderlined old new level rest.line some
+      → IfFitted old.placing new.placing (HasBegun s new rest rest_again blocks (not some))
+  begun_with true reaches ends fitted = ((ends.left sources holds.lines fitted).0, heading_placed ends fitted)
+  begun_with false reaches ends fitted =
+      let place : (if is_paragraph rest.before then 0 else 1) ≡ 0 =
+      ap {B = ℕ} (λ before. if is_paragraph before then 0 else 1) reaches in (
+        (ends.left sources holds.lines fitted).0,
+        record {
+          turn = first (record { frames = frames; inside = now; last = None }) l;
+          source = source;
+          here = here_again ends fitted;
+          later = omega (arith, place);
+          line = refl;
+          row = refl;
+        },
+      )
+
+-- ---- where that is
+
+-- the last block is the paragraph whose lines are held back
+paragraph_underlined : (s : Source) (old new : Pass) (rest : LineRest) (level : HeadingLevel) (some : Bool)
+    (frames : List Frame) (inside : Forest Block) (last : Option Block) (l source : SourceLine) (blocks : Forest Block)
+    → IsFirst s old rest (record { frames = frames; inside = inside; last = last }) l source blocks
+    → begins s paragraph.Reached source ≡ line.begins_underline level → rest.before ≡ paragraph.Reached
+    → has_paragraph old ≡ true → (reached s frames (with_last inside last) l).inner ≡ []
+    → EndsUnderlined old new level rest.line some
+    → IfFitted old.placing new.placing
+    (HasBegun s new rest (record rest { before = paragraph.NoParagraph }) blocks (not some))
+paragraph_underlined s old new rest level some frames inside None l source blocks here underlines reaches has all ends =
+    absurd (true≢false (sym has ∙ none_open old here.holds.unended.1))
+paragraph_underlined s old new rest level some frames inside (Some b) l source blocks here underlines reaches has all
+    ends =
+    by_held here.holds.unended.0 here.holds.unended.1
+  where
+    by_held : (held : Option (List SourceLine)) → MayEnd s old frames inside b held
+        → IfFitted old.placing new.placing
+        (HasBegun s new rest (record rest { before = paragraph.NoParagraph }) blocks (not some))
+    by_held None may =
+        absurd (true≢false (sym has ∙ ap (λ leaf. not leaf && not (length old.lines.items == 0)) may.unended.1.leaf))
+    by_held (Some sources) may =
+        begun_with s old new rest level l source blocks frames inside b sources here may underlines all some reaches
+        ends
+
+-- the line begins an underline
+pub underline_begun : (s : Source) (old new : Pass) (rest : LineRest) (turn : Turn) (source : SourceLine) (at : ℕ)
+    (blocks : Forest Block) (level : HeadingLevel) (some : Bool) → IsHere s old rest turn source blocks
+    → IsFound s rest source at (start.Underline level) → EndsUnderlined old new level rest.line some
+    → IfFitted old.placing new.placing
+    (HasBegun s new rest (record rest { before = paragraph.NoParagraph }) blocks (not some))
+underline_begun s old new rest (first before l) source at blocks level some here found ends =
+    let begun = found_begins (line.begins_underline level) (begins s rest.before source) (is_blank_rest source)
+    found.is in
+    let reaches = underline_reaches s rest.before source level begun in
+    let is = is_reached_one rest.before reaches in
+    let inner = (reached_of s before l).inner in
+    let held = reached_all (has_paragraph old) (are_none inner) (sym (ap is_reached here.paragraph) ∙ reaches) in
+    paragraph_underlined s old new rest level some before.frames before.inside before.last l source blocks here
+    (ap (λ now. begins s now source) (sym is) ∙ begun) is held.0 (none_inside inner held.1) ends
+underline_begun s old new rest (later frames) source at blocks level some here found ends =
+    let begun = found_begins (line.begins_underline level) (begins s rest.before source) (is_blank_rest source)
+    found.is in
+    absurd (true≢false (sym (underline_reaches s rest.before source level begun) ∙ ap is_reached here.before))

@@ -1,0 +1,33 @@
+-- The metadata is the block that the rest of the line begins.
+use Rattle.std.proofs.Common.{◌∙◌, refl, sym, subst, []}
+use Rattle.std.specs.Prelude.{false}
+use Rattle.markdown_lines.specs.BlockBeginnings as line
+use Rattle.markdown_lines.specs.declared.block_start.BlockStart.TheVariants as start
+use Rattle.markdown_block_rules.specs.BlockGrowth as was
+use Rattle.markdown_plain.specs.Standing.{IsLeafKind}
+use Rattle.markdown_plain.specs.declared.pass.LeafKind.{LeafKind}
+use Rattle.markdown_plain.proofs.BegunBlocksLemmas.{begun_block, keeps_rest}
+use Rattle.markdown_plain.proofs.BegunLeavesLemmas.{open_in_room}
+use Rattle.markdown_plain.proofs.BegunMetadataLemmas.{metadata_alone, metadata_starts}
+use Rattle.markdown_plain.proofs.pass.Pass.read_metadata.Goals as goal
+
+pub returns-clause-places : goal.returns-clause-places
+returns-clause-places c = λ s turn source at blocks here found fitted.
+    let room = c.make_room_for.new.self in
+    let now = c.open_metadata.new.self in
+    let rest = c.args.rest.now in
+    let kind = c.args.kind in
+    let b = begun_block source (was.metadata_leaf kind false []) in
+    let begins = line.begins_metadata kind in
+    let made = c.in_ok-make_room_for.ensures.room s turn source at (start.Metadata kind) begins blocks here found refl
+    tt (c.in_ok-open_metadata.ensures.opens fitted).0 in
+    let has = made.1 in
+    let keeps = keeps_rest room now c.open_metadata.ensures.same c.in_ok-open_metadata.ensures.text in
+    let leaf = c.in_ok-open_metadata.ensures.leaf s has.frames has.inside b has.built refl
+    (metadata_starts s room rest source kind blocks has) (sym has.left.is.rest.next) fitted in (
+      made.0,
+      open_in_room s room now rest source begins blocks b has keeps (record { filled = refl; ends = refl }) refl
+          (λ is. metadata_alone s room rest source kind blocks has) leaf.1
+          (subst (λ (how : LeafKind). IsLeafKind how b.kind) (sym c.in_ok-open_metadata.ensures.kind) refl)
+          (keeps.blanks ∙ has.may.blanks) refl,
+    )
