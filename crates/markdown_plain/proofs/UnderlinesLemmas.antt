@@ -296,6 +296,8 @@ module _ (s : Source) (old new : Pass) (rest : LineRest) (level : HeadingLevel) 
     outermost = here.left.outermost;
     after = here.left.after;
     boundary = here.left.boundary;
+    from = here.left.from;
+    utf8 = here.left.utf8;
   }
 
   over_again : is_defining s sources ≡ true

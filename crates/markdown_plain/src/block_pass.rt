@@ -366,7 +366,8 @@ impl<'a> Pass<'a> {
             if rest.unless_row.is_none()
                 && is_text_from(self.placing.text(), rest.position, rest.line.stop)
             {
-                return self.add_text(rest.line, rest.position.at, rest.depth);
+                self.add_text(rest.line, rest.position.at, rest.depth)?;
+                break;
             }
         }
         Ok(())
