@@ -64,6 +64,7 @@ pub mod BegunItemsLemmas
 pub mod BegunRestsLemmas
 pub mod BegunLeavesLemmas
 pub mod BegunTextsLemmas
+pub mod FirstTurnsLemmas
 pub mod FoundBlocksLemmas
 pub mod InnerBeginningsLemmas
 -- on calls that fit
@@ -73,6 +74,9 @@ pub mod UnderlinesLemmas
 pub mod RoomForBlocksLemmas
 pub mod FoundPlacesLemmas
 pub mod TextHereLemmas
+pub mod TurnsLemmas
+-- on a whole text
+pub mod WholeTextsLemmas
 -- on where blocks end
 pub mod BlockEndsLemmas
 pub mod LastEndsLemmas

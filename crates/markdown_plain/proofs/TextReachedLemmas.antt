@@ -239,7 +239,7 @@ leaf_ends s frames inside b l leaf are off = by_inner r.inner refl
         inner_goes_lazily s frames now l f others are is ∙ behind_none s r.rest r.inner inside b leaf inner_are
 
 -- where no paragraph is open, and an open leaf that the line reaches leaves off, nothing goes on
-nothing_left : (s : Source) (pass : Pass) (from : ℕ) (frames : List Frame) (inside : Forest Block)
+pub nothing_left : (s : Source) (pass : Pass) (from : ℕ) (frames : List Frame) (inside : Forest Block)
     (last : Option Block) (source : SourceLine) → Stands s pass frames inside last from
     → is_blank_rest (reached s frames (with_last inside last) source).rest ≡ false
     → ((reached s frames (with_last inside last) source).inner ≡ []
@@ -269,7 +269,7 @@ nothing_left s pass from frames inside (Some b) source stands filled off none =
 -- ---- text
 
 -- before a line, what is left of it is the line
-whole_within : (pass : Pass) (line : Line) (source : SourceLine) → IsSource pass line source
+pub whole_within : (pass : Pass) (line : Line) (source : SourceLine) → IsSource pass line source
     → IsWithin pass.placing.builder.text line.start source.left
 whole_within pass line source is =
     let text = pass.placing.builder.text in

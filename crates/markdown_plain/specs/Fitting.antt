@@ -35,6 +35,10 @@ AllFitted placing = placing.misfits ≡ 0
 abbrev pub IfFitted : Placing → Placing → Type 0 → Type 0
 IfFitted old new Done = AllFitted new → AllFitted old × Done
 
+-- if all calls have fitted after a call, all had before it
+abbrev pub FittedBefore : Placing → Placing → Type 0
+FittedBefore old new = AllFitted new → AllFitted old
+
 -- a builder that has moved to a byte offset
 abbrev pub stepped : BuilderView → ℕ → BuilderView
 stepped builder to = record builder { at = to }

@@ -26,3 +26,4 @@ pub mod Standing
 pub mod ReachedLines
 pub mod TextLines
 pub mod Beginning
+pub mod Turns

@@ -23,6 +23,11 @@ abbrev pub is_quote : ItemBody → Bool
 is_quote (body.BlockQuote kind) = true
 is_quote other = false
 
+-- the body is that of a table
+abbrev pub is_table : ItemBody → Bool
+is_table (body.Table alignments) = true
+is_table other = false
+
 -- the body of the innermost open block passes a test
 abbrev pub innermost_is : (ItemBody → Bool) → List OpenBlock → Bool
 innermost_is test blocks = option_map_or (λ block. test block.body) (innermost_block blocks) false

@@ -1,7 +1,7 @@
 //! The block pass, line by line: which open blocks continue, which blocks begin, and what a lazy continuation line
 //! continues (CommonMark, appendix on parsing). Functions that return a `Result` fail only where memory is refused;
 //! what was built by then is not used.
-ghost use Rattle.std.specs.Prelude.{◌≡◌, [], true, false, Some, length, slice_range, IfOk, ℕ, None, List};
+ghost use Rattle.std.specs.Prelude.{◌≡◌, [], true, false, Some, length, slice_range, take, IfOk, ℕ, None, List};
 ghost use Rattle.std.specs.List.{list_all};
 ghost use Rattle.std.specs.Str.{IsCharBoundary};
 ghost use Rattle.markdown_base.specs.BlockTree.{tree_of};
@@ -10,7 +10,7 @@ ghost use Rattle.markdown_block_rules.specs.BlockGrowth.{Block, blocks_of, with_
 ghost use Rattle.markdown_lines.specs.BlockBeginnings.{Source};
 ghost use Rattle.markdown_lines.specs.SourceLines.{SourceLine, is_blank_rest};
 ghost use Rattle.markdown_lines.specs.Lines.{is_space_or_tab};
-ghost use Rattle.markdown_plain.specs.Fitting.{AllFitted, IfFitted, BracesStand};
+ghost use Rattle.markdown_plain.specs.Fitting.{AllFitted, BracesStand, FittedBefore, IfFitted};
 ghost use Rattle.markdown_plain.specs.Settled.{IsBuilt};
 ghost use Rattle.markdown_plain.specs.ListLooseness.{blank_from};
 ghost use Rattle.markdown_plain.specs.ReachedLines as lines;
@@ -19,7 +19,8 @@ ghost use Rattle.markdown_plain.specs.ReachedLines.{reached_of};
 ghost use Rattle.markdown_plain.specs.Standing.{IsSource, PlacesFor, Stands, StandsFor};
 ghost use Rattle.markdown_lines.specs.declared.position.Position.{Position};
 ghost use Rattle.markdown_block_rules.specs.TableLines.{reads_tables};
-ghost use Rattle.markdown_plain.specs.TextLines.{BeginsNoBlock, IsTextFrom, IsTextHere};
+ghost use Rattle.markdown_plain.specs.OpenBlocks.{is_list};
+ghost use Rattle.markdown_plain.specs.TextLines.{BeginsNoBlock, IsTextFrom, IsTextHere, paragraph_before};
 ghost use Rattle.markdown_lines.specs.declared.block_start.Before.TheVariants as before;
 ghost use Rattle.markdown_lines.specs.declared.block_start.BlockStart.{BlockStart};
 ghost use Rattle.markdown_lines.specs.declared.block_start.BlockStart.TheVariants as start;
@@ -134,7 +135,9 @@ fn reads_metadata(options: Options) -> bool
 
 /// Returns whether the outermost `depth` of the open blocks are lists, so that what a line begins in them is directly
 /// under the root.
-fn are_lists(blocks: &[OpenBlock], depth: usize) -> bool {
+fn are_lists(blocks: &[OpenBlock], depth: usize) -> bool
+    ensures { result ≡ list_all (λ block. is_list block.body) (take depth blocks.now) }
+{
     for block in blocks.iter().take(depth) {
         match block.body {
             ItemBody::List(_, _, _) => {}
@@ -330,7 +333,9 @@ impl<'a> Pass<'a> {
     }
 
     /// Returns the paragraph that a line may go on with, where all open containers continue in it, or not.
-    fn paragraph_before(&self, all: bool) -> Before {
+    fn paragraph_before(&self, all: bool) -> Before
+        ensures { result ≡ paragraph_before self.now all }
+    {
         if !self.has_paragraph() {
             Before::NoParagraph
         } else if all {
@@ -353,14 +358,16 @@ impl<'a> Pass<'a> {
     {
         // each container takes at least one byte of the line; what is left after the last one is read too, and a line
         // that underlines definitions, or ends a table, is read twice
-        'blocks: for _ in rest.line.start..rest.line.next.saturating_add(3) {
+        let turns = rest.line.next as u128 + 3;
+        'blocks: for _turn in 0..turns {
             if !self.read_block(rest)? {
                 break;
             }
             if rest.unless_row.is_none()
                 && is_text_from(self.placing.text(), rest.position, rest.line.stop)
             {
-                return self.add_text(rest.line, rest.position.at, rest.depth);
+                self.add_text(rest.line, rest.position.at, rest.depth)?;
+                break;
             }
         }
         Ok(())
@@ -371,6 +378,7 @@ impl<'a> Pass<'a> {
     fn read_block(&mut self, rest: &mut LineRest<'a>) -> Result<bool, AllocError>
         ensures text { IfOk result (λ _. self.new.placing.builder.text
             ≡ self.old.placing.builder.text) }
+        ensures fitted { IfOk result (λ _. FittedBefore self.old.placing self.new.placing) }
         ensures begins { IfOk result (λ more. (s : Source) (turn : Turn) (source : SourceLine)
             (blocks : Forest Block) → IsHere s self.old rest.old turn source blocks
             → rest.old.unless_row ≡ None
@@ -413,6 +421,7 @@ impl<'a> Pass<'a> {
     fn reads_table(&mut self, rest: &LineRest<'a>) -> Result<bool, AllocError>
         ensures text { IfOk result (λ _. self.new.placing.builder.text
             ≡ self.old.placing.builder.text) }
+        ensures fitted { IfOk result (λ _. FittedBefore self.old.placing self.new.placing) }
         ensures none { IfOk result (λ is. rest.now.before ≡ before.NoParagraph → (is ≡ false)
             × (self.new ≡ self.old)) }
         ensures off { IfOk result (λ is. reads_tables (source_of self.old) ≡ false → (is ≡ false)
@@ -430,6 +439,7 @@ impl<'a> Pass<'a> {
     fn skip_blank(&mut self, line: Line) -> Result<bool, AllocError>
         ensures text { IfOk result (λ _. self.new.placing.builder.text
             ≡ self.old.placing.builder.text) }
+        ensures fitted { IfOk result (λ _. FittedBefore self.old.placing self.new.placing) }
         ensures more { IfOk result (λ more. more ≡ false) }
         ensures places { IfOk result (λ _. (s : Source) (rest : LineRest) (turn : Turn)
             (source : SourceLine) (at : ℕ) (blocks : Forest Block)
@@ -445,6 +455,7 @@ impl<'a> Pass<'a> {
     fn read_text(&mut self, rest: &LineRest<'a>, at: usize) -> Result<bool, AllocError>
         ensures text { IfOk result (λ _. self.new.placing.builder.text
             ≡ self.old.placing.builder.text) }
+        ensures fitted { IfOk result (λ _. FittedBefore self.old.placing self.new.placing) }
         ensures more { IfOk result (λ more. more ≡ false) }
         ensures places { IfOk result (λ _. (s : Source) (turn : Turn) (source : SourceLine)
             (blocks : Forest Block) → IsHere s self.old rest.now turn source blocks
@@ -466,6 +477,7 @@ impl<'a> Pass<'a> {
     fn read_indented(&mut self, rest: &LineRest<'a>, code: Position) -> Result<bool, AllocError>
         ensures text { IfOk result (λ _. self.new.placing.builder.text
             ≡ self.old.placing.builder.text) }
+        ensures fitted { IfOk result (λ _. FittedBefore self.old.placing self.new.placing) }
         ensures more { IfOk result (λ more. more ≡ false) }
         ensures places { IfOk result (λ _. (s : Source) (turn : Turn) (source : SourceLine)
             (at : ℕ) (blocks : Forest Block) → IsHere s self.old rest.now turn source blocks
@@ -484,6 +496,7 @@ impl<'a> Pass<'a> {
     fn make_room_for(&mut self, rest: &LineRest<'a>) -> Result<(), AllocError>
         ensures text { IfOk result (λ _. self.new.placing.builder.text
             ≡ self.old.placing.builder.text) }
+        ensures fitted { IfOk result (λ _. FittedBefore self.old.placing self.new.placing) }
         ensures room { IfOk result (λ _. (s : Source) (turn : Turn) (source : SourceLine)
             (at : ℕ) (start : BlockStart) (b : Beginning) (blocks : Forest Block)
             → IsHere s self.old rest.now turn source blocks → IsFound s rest.now source at start
@@ -524,6 +537,7 @@ impl<'a> Pass<'a> {
     ) -> Result<bool, AllocError>
         ensures text { IfOk result (λ _. self.new.placing.builder.text
             ≡ self.old.placing.builder.text) }
+        ensures fitted { IfOk result (λ _. FittedBefore self.old.placing self.new.placing) }
         ensures more { IfOk result (λ more. more ≡ true) }
         ensures reads_on { IfOk result (λ _. (s : Source) (turn : Turn) (source : SourceLine)
             (blocks : Forest Block) → IsHere s self.old rest.old turn source blocks
@@ -547,6 +561,7 @@ impl<'a> Pass<'a> {
     ) -> Result<bool, AllocError>
         ensures text { IfOk result (λ _. self.new.placing.builder.text
             ≡ self.old.placing.builder.text) }
+        ensures fitted { IfOk result (λ _. FittedBefore self.old.placing self.new.placing) }
         ensures more { IfOk result (λ more. more ≡ false) }
         ensures places { IfOk result (λ _. (s : Source) (turn : Turn) (source : SourceLine)
             (blocks : Forest Block) → IsHere s self.old rest.now turn source blocks
@@ -569,6 +584,7 @@ impl<'a> Pass<'a> {
     ) -> Result<bool, AllocError>
         ensures text { IfOk result (λ _. self.new.placing.builder.text
             ≡ self.old.placing.builder.text) }
+        ensures fitted { IfOk result (λ _. FittedBefore self.old.placing self.new.placing) }
         ensures more { IfOk result (λ more. more ≡ false) }
         ensures places { IfOk result (λ _. (s : Source) (turn : Turn) (source : SourceLine)
             (blocks : Forest Block) → IsHere s self.old rest.now turn source blocks
@@ -592,6 +608,7 @@ impl<'a> Pass<'a> {
     ) -> Result<bool, AllocError>
         ensures text { IfOk result (λ _. self.new.placing.builder.text
             ≡ self.old.placing.builder.text) }
+        ensures fitted { IfOk result (λ _. FittedBefore self.old.placing self.new.placing) }
         ensures more { IfOk result (λ more. more ≡ false) }
         ensures places { IfOk result (λ _. (s : Source) (turn : Turn) (source : SourceLine)
             (blocks : Forest Block) → IsHere s self.old rest.now turn source blocks
@@ -609,6 +626,7 @@ impl<'a> Pass<'a> {
     fn read_html(&mut self, rest: &LineRest<'a>, kind: HtmlKind) -> Result<bool, AllocError>
         ensures text { IfOk result (λ _. self.new.placing.builder.text
             ≡ self.old.placing.builder.text) }
+        ensures fitted { IfOk result (λ _. FittedBefore self.old.placing self.new.placing) }
         ensures more { IfOk result (λ more. more ≡ false) }
         ensures places { IfOk result (λ _. (s : Source) (turn : Turn) (source : SourceLine)
             (at : ℕ) (blocks : Forest Block) → IsHere s self.old rest.now turn source blocks
@@ -637,6 +655,7 @@ impl<'a> Pass<'a> {
     ) -> Result<bool, AllocError>
         ensures text { IfOk result (λ _. self.new.placing.builder.text
             ≡ self.old.placing.builder.text) }
+        ensures fitted { IfOk result (λ _. FittedBefore self.old.placing self.new.placing) }
         ensures more { IfOk result (λ more. more ≡ true) }
         ensures reads_on { IfOk result (λ _. (s : Source) (turn : Turn) (source : SourceLine)
             (blocks : Forest Block) → IsHere s self.old rest.old turn source blocks
@@ -659,6 +678,7 @@ impl<'a> Pass<'a> {
     ) -> Result<bool, AllocError>
         ensures text { IfOk result (λ _. self.new.placing.builder.text
             ≡ self.old.placing.builder.text) }
+        ensures fitted { IfOk result (λ _. FittedBefore self.old.placing self.new.placing) }
         ensures begins { IfOk result (λ more. (s : Source) (turn : Turn) (source : SourceLine)
             (at : ℕ) (blocks : Forest Block) → IsHere s self.old rest.old turn source blocks
             → IsFound s rest.old source at (start.Underline level)
@@ -674,6 +694,7 @@ impl<'a> Pass<'a> {
     fn read_break(&mut self, rest: &LineRest<'a>, at: usize) -> Result<bool, AllocError>
         ensures text { IfOk result (λ _. self.new.placing.builder.text
             ≡ self.old.placing.builder.text) }
+        ensures fitted { IfOk result (λ _. FittedBefore self.old.placing self.new.placing) }
         ensures more { IfOk result (λ more. more ≡ false) }
         ensures places { IfOk result (λ _. (s : Source) (turn : Turn) (source : SourceLine)
             (blocks : Forest Block) → IsHere s self.old rest.now turn source blocks
@@ -696,6 +717,7 @@ impl<'a> Pass<'a> {
     ) -> Result<bool, AllocError>
         ensures text { IfOk result (λ _. self.new.placing.builder.text
             ≡ self.old.placing.builder.text) }
+        ensures fitted { IfOk result (λ _. FittedBefore self.old.placing self.new.placing) }
         ensures more { IfOk result (λ more. more ≡ true) }
         ensures reads_on { IfOk result (λ _. (s : Source) (turn : Turn) (source : SourceLine)
             (blocks : Forest Block) → IsHere s self.old rest.old turn source blocks
@@ -716,6 +738,7 @@ impl<'a> Pass<'a> {
     ) -> Result<bool, AllocError>
         ensures text { IfOk result (λ _. self.new.placing.builder.text
             ≡ self.old.placing.builder.text) }
+        ensures fitted { IfOk result (λ _. FittedBefore self.old.placing self.new.placing) }
         ensures more { IfOk result (λ more. more ≡ false) }
         ensures places { IfOk result (λ _. (s : Source) (turn : Turn) (source : SourceLine)
             (at : ℕ) (blocks : Forest Block) → IsHere s self.old rest.now turn source blocks

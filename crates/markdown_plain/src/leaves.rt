@@ -22,8 +22,9 @@ ghost use Rattle.markdown_items.specs.ContentItems.{content_items};
 ghost use Rattle.markdown_items.specs.LineItems.{item_extensions};
 ghost use Rattle.markdown_block_rules.specs.LineContents.{source_line, source_lines};
 ghost use Rattle.markdown_plain.specs.CodeLines.{after_line, code_after, ends_html_at, held, is_closed_at, whole_of};
-ghost use Rattle.markdown_plain.specs.Fitting.{IfFitted, GoesOn, OpensFenced, OpensHeading, OpensHtml, closed, extended, opened};
-ghost use Rattle.markdown_plain.specs.Fitting.{AllFitted, BracesStand, IsAhead, OpensHeadingOf, PutsBlock, stepped};
+ghost use Rattle.markdown_plain.specs.Fitting.{AllFitted, FittedBefore, IfFitted, GoesOn, IsAhead, OpensFenced};
+ghost use Rattle.markdown_plain.specs.Fitting.{BracesStand, OpensHeading, OpensHeadingOf, OpensHtml, PutsBlock};
+ghost use Rattle.markdown_plain.specs.Fitting.{closed, extended, opened, stepped};
 ghost use Rattle.markdown_plain.specs.Fits.{IsInLeaf, MayAddAfter, MayAddBefore, MayAddHeading, MayAddLine, MayAddLines};
 ghost use Rattle.markdown_plain.specs.Fits.{MayOpenHtml, MayOpenLeaf, after_lines};
 ghost use Rattle.markdown_plain.specs.Frames.{Frame};
@@ -383,6 +384,7 @@ impl<'a> Pass<'a> {
     ) -> Result<(), AllocError>
         ensures text { IfOk result (λ _. self.new.placing.builder.text
             ≡ self.old.placing.builder.text) }
+        ensures fitted { IfOk result (λ _. FittedBefore self.old.placing self.new.placing) }
         ensures ends { IfOk result (λ _. ends_html_at self.old.placing.builder.text position line
             kind
             ≡ true →

@@ -4,7 +4,7 @@ ghost use Rattle.std.specs.Prelude.{◌≡◌, ℕ, ◌<◌, ◌≤◌, ◌++◌
 ghost use Rattle.std.specs.Prelude.{MatchOption, ◌+◌, ◌==◌, drop, not, slice_get, take, if◌then◌else◌};
 ghost use Rattle.markdown_base.specs.declared.item.ItemBody.TheVariants as body;
 ghost use Rattle.markdown_builder.specs.BuilderView.{Opens};
-ghost use Rattle.markdown_plain.specs.Fitting.{BracesStand, IfFitted, GoesOn, OpensHeading, OpensHeadingOf};
+ghost use Rattle.markdown_plain.specs.Fitting.{BracesStand, FittedBefore, IfFitted, GoesOn, OpensHeading, OpensHeadingOf};
 ghost use Rattle.markdown_plain.specs.Fitting.{defining};
 ghost use Rattle.markdown_plain.specs.OpenBlocks.{room_in, without_leaf};
 ghost use Rattle.markdown_plain.specs.Paragraphs.{end_of, has_paragraph, is_item_in, lines_end};
@@ -363,6 +363,7 @@ impl<'a> Pass<'a> {
     pub fn add_text(&mut self, line: Line, start: usize, depth: usize) -> Result<(), AllocError>
         ensures text { IfOk result (λ _. self.new.placing.builder.text
             ≡ self.old.placing.builder.text) }
+        ensures fitted { IfOk result (λ _. FittedBefore self.old.placing self.new.placing) }
         ensures goes_on { has_paragraph self.old ≡ true
             → self.new ≡ record self.old { lines = self.new.lines } }
         ensures begins { IfOk result (λ _. has_paragraph self.old ≡ false
@@ -510,6 +511,7 @@ impl<'a> Pass<'a> {
     ) -> Result<bool, AllocError>
         ensures text { IfOk result (λ _. self.new.placing.builder.text
             ≡ self.old.placing.builder.text) }
+        ensures fitted { IfOk result (λ _. FittedBefore self.old.placing self.new.placing) }
         ensures ends { IfOk result (λ left. left ≡ true → IfFitted self.old.placing self.new.placing
             (IsPlacedTo
             (record self.old.placing.builder { definitions = self.new.placing.builder.definitions })

@@ -3,10 +3,11 @@
 ghost use Rattle.std.specs.Prelude.{◌≡◌, ◌≤◌, false, true, length, min, IfOk};
 ghost use Rattle.markdown_builder.specs.Bodies.{is_leaf, is_plain_block};
 ghost use Rattle.markdown_builder.specs.EvenRows.{open_columns};
-ghost use Rattle.markdown_plain.specs.Fitting.{GoesOn, IfFitted};
+ghost use Rattle.markdown_plain.specs.Fitting.{FittedBefore, GoesOn, IfFitted};
 ghost use Rattle.markdown_items.specs.ContentItems.{AddsItems};
 ghost use Rattle.markdown_plain.specs.Paragraphs.{IsPlacedTo};
 ghost use Rattle.markdown_lines.specs.TableRows.{row_cells_at};
+ghost use Rattle.markdown_plain.specs.OpenBlocks.{innermost_is, is_table};
 ghost use Rattle.markdown_plain.specs.TableRows.{PutsTree, may_be_row};
 
 use crate::containers::reach;
@@ -199,7 +200,9 @@ fn begins_delimiter_row(byte: Option<u8>) -> bool {
 
 impl<'a> Pass<'a> {
     /// Returns whether a table is open.
-    pub fn is_in_table(&self) -> bool {
+    pub fn is_in_table(&self) -> bool
+        ensures { result ≡ innermost_is is_table self.now.placing.builder.blocks }
+    {
         match innermost(&self.placing) {
             Some(ItemBody::Table(_)) => true,
             _ => false,
@@ -209,7 +212,8 @@ impl<'a> Pass<'a> {
     /// Makes the last line of the open paragraph the head of a table, if the rest of a line from a place on is the
     /// delimiter row for it, and returns whether it is. The lines before the head end as a paragraph.
     pub fn begin_table(&mut self, line: Line, position: Position) -> Result<bool, AllocError>
-        ensures { IfOk result (λ _. self.new.placing.builder.text ≡ self.old.placing.builder.text) }
+        ensures text { IfOk result (λ _. self.new.placing.builder.text ≡ self.old.placing.builder.text) }
+        ensures fitted { IfOk result (λ _. FittedBefore self.old.placing self.new.placing) }
     {
         let text = self.placing.text();
         let space = read_space(text, position, line.stop, 4);
@@ -295,7 +299,8 @@ impl<'a> Pass<'a> {
 
     /// Opens a table with the last line of the open paragraph as its head; the lines before it end as a paragraph.
     fn open_table(&mut self, head: HeldLine, alignments: Vec<Alignment>) -> Result<(), AllocError>
-        ensures { IfOk result (λ _. self.new.placing.builder.text ≡ self.old.placing.builder.text) }
+        ensures text { IfOk result (λ _. self.new.placing.builder.text ≡ self.old.placing.builder.text) }
+        ensures fitted { IfOk result (λ _. FittedBefore self.old.placing self.new.placing) }
     {
         let _head = self.lines.pop();
         self.end_leaf()?;
@@ -313,6 +318,7 @@ impl<'a> Pass<'a> {
     pub fn add_row(&mut self, line: Line, start: usize) -> Result<bool, AllocError>
         ensures text { IfOk result (λ _. self.new.placing.builder.text
             ≡ self.old.placing.builder.text) }
+        ensures fitted { IfOk result (λ _. FittedBefore self.old.placing self.new.placing) }
         ensures value { IfOk result (λ added. added ≡ may_be_row self.old start line.stop) }
     {
         if !self.may_be_row(start, line.stop) {

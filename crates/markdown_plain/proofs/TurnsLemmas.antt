@@ -1,0 +1,116 @@
+-- The turns at the rest of a line: each goes on, and the last of them is over before the range of turns is.
+use Rattle.std.proofs.Common.{◌≡◌, ℕ, ◌+◌, ◌<◌, ◌≤◌, Bool, true, false, length, arith, refl, sym, ap, ◌∙◌, subst}
+use Rattle.std.proofs.Common.{List, None}
+use Rattle.std.specs.Prelude.{if◌then◌else◌}
+use Rattle.markdown_scan.specs.LineStart.{LineLeft}
+use Rattle.markdown_base.specs.Forest.{Forest}
+use Rattle.markdown_lines.specs.BlockBeginnings.{Source, is_paragraph}
+use Rattle.markdown_lines.specs.Positions.{left_from}
+use Rattle.markdown_lines.specs.SourceLines.{SourceLine, is_blank_rest}
+use Rattle.markdown_lines.specs.declared.line.Line.{Line}
+use Rattle.markdown_lines.specs.BlockBeginnings as beginning
+use Rattle.markdown_block_rules.specs.BlockGrowth.{Block}
+use Rattle.markdown_plain.specs.declared.block_pass.LineRest.{LineRest}
+use Rattle.markdown_plain.specs.declared.pass.Pass.{Pass}
+use Rattle.markdown_plain.specs.Beginning.{HasBegun, IsHere, IsLeft, ReadsOn, Turn, first, later, turn_place}
+use Rattle.markdown_plain.specs.Fitting.{AllFitted, FittedBefore, IfFitted}
+use Rattle.markdown_plain.specs.Paragraphs.{source_of}
+use Rattle.markdown_plain.specs.Standing.{PlacesFor}
+use Rattle.markdown_plain.specs.TextLines.{IsTextFrom}
+use Rattle.markdown_plain.specs.Turns.{KeepsReading, StillReads}
+use Rattle.markdown_plain.proofs.TextHereLemmas.{IsTextLeft, text_here}
+use Rattle.markdown_plain.proofs.TextStepsLemmas.{AddsText}
+
+-- at either turn, this is left of the line
+pub here_left : (s : Source) (pass : Pass) (rest : LineRest) (turn : Turn) (source : SourceLine) (blocks : Forest Block)
+    → IsHere s pass rest turn source blocks → IsLeft s rest source
+here_left s pass rest (first before line) source blocks here = here.left
+here_left s pass rest (later frames) source blocks here = here.left
+
+-- of the text that the pass reads
+here_text : (s : Source) (pass : Pass) (rest : LineRest) (turn : Turn) (source : SourceLine) (blocks : Forest Block)
+    → IsHere s pass rest turn source blocks → pass.placing.builder.text ≡ s.text
+here_text s pass rest (first before line) source blocks here = ap (λ (s : Source). s.text) here.holds.source
+here_text s pass rest (later frames) source blocks here = ap (λ (s : Source). s.text) here.opened.source
+
+-- before the first turn
+pub before_turns : (pass : Pass) (rest : LineRest) → KeepsReading pass pass rest rest 0
+before_turns pass rest s turn source blocks here row fitted = (fitted, record {
+  turn = turn;
+  source = source;
+  here = here;
+  line = refl;
+  row = row;
+  far = omega arith;
+})
+
+-- what becomes of the rest of a line at a turn
+abbrev pub BeginsThere : Pass → Pass → (old new : LineRest) → Bool → Type 0
+BeginsThere before now old new more =
+    (s : Source) (turn : Turn) (source : SourceLine) (blocks : Forest Block) → IsHere s before old turn source blocks
+    → old.unless_row ≡ None → IfFitted before.placing now.placing (HasBegun s now old new blocks more)
+
+-- after a turn that left more of the line
+pub next_turn : (before now new : Pass) (old rest next : LineRest) (place : ℕ)
+    → KeepsReading before now old rest place → FittedBefore now.placing new.placing
+    → BeginsThere now new rest next true → KeepsReading before new old next (place + 1)
+next_turn before now new old rest next place keeps back begins s turn source blocks here row fitted =
+    let still = keeps s turn source blocks here row (back fitted) in
+    let begun = begins s still.1.turn still.1.source blocks still.1.here still.1.row fitted in
+    (still.0, record {
+      turn = begun.1.turn;
+      source = begun.1.source;
+      here = begun.1.here;
+      line = begun.1.line ∙ still.1.line;
+      row = begun.1.row ∙ still.1.row;
+      far = let far = still.1.far in let more = begun.1.later in omega (arith, far, more);
+    })
+
+-- after one that left nothing
+pub last_turn : (before now new : Pass) (old rest next : LineRest) (place : ℕ) → KeepsReading before now old rest place
+    → FittedBefore now.placing new.placing → BeginsThere now new rest next false → (s : Source) (turn : Turn)
+    (source : SourceLine) (blocks : Forest Block) → IsHere s before old turn source blocks → old.unless_row ≡ None
+    → IfFitted before.placing new.placing (PlacesFor s new old.line.next blocks)
+last_turn before now new old rest next place keeps back begins s turn source blocks here row fitted =
+    let still = keeps s turn source blocks here row (back fitted) in
+    let begun = begins s still.1.turn still.1.source blocks still.1.here still.1.row fitted in
+    (still.0, subst (λ (line : Line). PlacesFor s new line.next blocks) still.1.line begun.1)
+
+-- what is left is text
+pub text_turn : (before now new : Pass) (old rest : LineRest) (place : ℕ) → KeepsReading before now old rest place
+    → FittedBefore now.placing new.placing → AddsText now new rest.line rest.position.at rest.depth
+    → IsTextFrom now.placing.builder.text rest.position rest.line.stop → (s : Source) (turn : Turn)
+    (source : SourceLine) (blocks : Forest Block) → IsHere s before old turn source blocks → old.unless_row ≡ None
+    → IfFitted before.placing new.placing (PlacesFor s new old.line.next blocks)
+text_turn before now new old rest place keeps back adds shows s turn source blocks here row fitted =
+    let still = keeps s turn source blocks here row (back fitted) in
+    let left = here_left s now rest still.1.turn still.1.source blocks still.1.here in
+    let same = here_text s now rest still.1.turn still.1.source blocks still.1.here in
+    let bytes : still.1.source.left ≡ left_from now.placing.builder.text rest.position rest.line.stop =
+    sym left.is.rest.left ∙ ap (λ (text : List ℕ). left_from text rest.position rest.line.stop) (sym same) in
+    let placed = text_here s now new rest rest.position.at still.1.turn still.1.source blocks adds still.1.here
+    (record {
+      filled = shows.filled still.1.source bytes;
+      here = sym (shows.here still.1.source bytes);
+      text = shows.begins_it s rest.before still.1.source (sym same) bytes;
+    }) fitted in
+    (still.0, subst (λ (line : Line). PlacesFor s new line.next blocks) still.1.line placed.1)
+
+-- no turn goes on past the end of the line, so that there are fewer than there may be
+pub turns_end : (before now : Pass) (old rest : LineRest) (place : ℕ) → KeepsReading before now old rest place
+    → old.line.next + 3 ≤ place → (s : Source) (turn : Turn) (source : SourceLine) (blocks : Forest Block)
+    → IsHere s before old turn source blocks → old.unless_row ≡ None → AllFitted now.placing → ⊥
+turns_end before now old rest place keeps many s turn source blocks here row fitted =
+    let still = keeps s turn source blocks here row fitted in
+    let left = here_left s now rest still.1.turn still.1.source blocks still.1.here in
+    let stop = left.is.stop in
+    let begin = ap (λ (l : LineLeft). l.scanned) left.is.rest.left in
+    let ends = left.is.ends in
+    let same = ap (λ (line : Line). line.next) still.1.line in
+    let far = still.1.far in
+    let one = at_most_one (is_paragraph rest.before) in
+    omega (arith, many, stop, begin, ends, same, far, one)
+  where
+    at_most_one : (test : Bool) → (if test then 0 else 1) ≤ 1
+    at_most_one true = omega arith
+    at_most_one false = omega arith

@@ -1,0 +1,1 @@
+-- The blocks of a whole text, line by line.
