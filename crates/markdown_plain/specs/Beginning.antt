@@ -22,6 +22,7 @@ use Rattle.markdown_lines.specs.declared.line.Line.{Line}
 use Rattle.markdown_block_rules.specs.BlockGrowth.{Block, begun_by, content_of, goes_on, with_line}
 use Rattle.markdown_plain.specs.declared.block_pass.LineRest.{LineRest}
 use Rattle.markdown_plain.specs.declared.pass.Pass.{Pass}
+use Rattle.markdown_block_rules.specs.TableLines.{reads_tables}
 use Rattle.markdown_plain.specs.Closing.{AreItemsInLists, MayClose, MayEnd}
 use Rattle.markdown_plain.specs.Frames.{Frame, innermost_is, is_list, rebuilt}
 use Rattle.markdown_builder.specs.TreeLevels.{followed_by}
@@ -121,10 +122,11 @@ pub record Holds (s : Source) (pass : Pass) (frames : List Frame) (inside : Fore
   pub unheld : pass.placing.builder.leaf ≡ false → pass.blanks.items ≡ []
   pub earlier : AreOpenedBefore from frames
 
--- What the open containers left of a line is still to be read, and makes the blocks so far these ones. No block but a
--- paragraph goes on in it.
+-- What the open containers left of a line is still to be read, and makes the blocks so far these ones, where no tables
+-- are read. No block but a paragraph goes on in it.
 pub record IsFirst (s : Source) (pass : Pass) (rest : LineRest) (before : Before) (line source : SourceLine)
     (blocks : Forest Block) : Type 0 where
+  pub tables : reads_tables s ≡ false
   pub holds : Holds s pass before.frames before.inside before.last rest.line.start
   pub is : IsSource pass rest.line line
   pub reached : source ≡ (reached_of s before line).rest

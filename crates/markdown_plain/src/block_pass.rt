@@ -346,8 +346,8 @@ impl<'a> Pass<'a> {
         ensures text { IfOk result (λ _. self.new.placing.builder.text
             ≡ self.old.placing.builder.text) }
         ensures places { IfOk result (λ _. (s : Source) (turn : Turn) (source : SourceLine)
-            (blocks : Forest Block) → reads_tables s ≡ false
-            → IsHere s self.old rest.old turn source blocks → rest.old.unless_row ≡ None
+            (blocks : Forest Block) → IsHere s self.old rest.old turn source blocks
+            → rest.old.unless_row ≡ None
             → IfFitted self.old.placing self.new.placing
             (PlacesFor s self.new rest.old.line.next blocks)) }
     {
@@ -372,8 +372,8 @@ impl<'a> Pass<'a> {
         ensures text { IfOk result (λ _. self.new.placing.builder.text
             ≡ self.old.placing.builder.text) }
         ensures begins { IfOk result (λ more. (s : Source) (turn : Turn) (source : SourceLine)
-            (blocks : Forest Block) → reads_tables s ≡ false
-            → IsHere s self.old rest.old turn source blocks → rest.old.unless_row ≡ None
+            (blocks : Forest Block) → IsHere s self.old rest.old turn source blocks
+            → rest.old.unless_row ≡ None
             → IfFitted self.old.placing self.new.placing
             (HasBegun s self.new rest.old rest.new blocks more)) }
     {
@@ -660,8 +660,7 @@ impl<'a> Pass<'a> {
         ensures text { IfOk result (λ _. self.new.placing.builder.text
             ≡ self.old.placing.builder.text) }
         ensures begins { IfOk result (λ more. (s : Source) (turn : Turn) (source : SourceLine)
-            (at : ℕ) (blocks : Forest Block) → reads_tables s ≡ false
-            → IsHere s self.old rest.old turn source blocks
+            (at : ℕ) (blocks : Forest Block) → IsHere s self.old rest.old turn source blocks
             → IsFound s rest.old source at (start.Underline level)
             → IfFitted self.old.placing self.new.placing
             (HasBegun s self.new rest.old rest.new blocks more)) }
