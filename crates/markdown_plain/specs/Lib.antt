@@ -13,6 +13,7 @@ pub mod Stretches
 pub mod Containers
 pub mod NewContainers
 pub mod ParagraphItems
+pub mod Closable
 -- the blocks that it stands for
 pub mod Frames
 pub mod Settled

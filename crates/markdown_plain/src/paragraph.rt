@@ -5,7 +5,9 @@ ghost use Rattle.std.specs.Prelude.{MatchOption, ◌+◌, ◌==◌, drop, not, s
 ghost use Rattle.markdown_base.specs.declared.item.ItemBody.TheVariants as body;
 ghost use Rattle.markdown_builder.specs.BuilderView.{Opens};
 ghost use Rattle.markdown_plain.specs.Fitting.{BracesStand, IfFitted, GoesOn, OpensHeading, OpensHeadingOf};
-ghost use Rattle.markdown_plain.specs.Fitting.{defining};
+ghost use Rattle.markdown_plain.specs.Fitting.{AllFitted, defining};
+ghost use Rattle.markdown_plain.specs.Closable.{AreAhead, EndsHeading, HasRoomFor, HasTask, HaveTask, IsClosable};
+ghost use Rattle.markdown_plain.specs.Closable.{IsInText, IsLastInText, IsLeafOpen};
 ghost use Rattle.markdown_plain.specs.OpenBlocks.{room_in, without_leaf};
 ghost use Rattle.markdown_plain.specs.Paragraphs.{end_of, has_paragraph, is_item_in, lines_end};
 ghost use Rattle.markdown_plain.specs.Paragraphs.{paragraph_end, divided_of, first_task, shown_ended};
@@ -149,6 +151,9 @@ fn add_broken_line(
         (placing.old.builder.run ≡ None → placing.old.builder.at ≡ line.start
         → HasItems placing.old.builder placing.new.builder
         (line_or_nothing (record { text = placing.old.builder.text; options = options }) source))) }
+    ensures fits { IfOk result (λ _. IsLeafOpen placing.old.builder
+        → placing.old.builder.at ≤ line.start → IsInText placing.old.builder.text line
+        → AllFitted placing.old → AllFitted placing.new) }
 {
     if line.start == line.stop {
         placing.step_to(line.next);
@@ -181,6 +186,9 @@ fn add_last_line(
         (placing.old.builder.run ≡ None → placing.old.builder.at ≡ line.start
         → HasItems placing.old.builder placing.new.builder
         (lines_items placing.old.builder.text (item_extensions options) (source ∷ [])))) }
+    ensures fits { IfOk result (λ _. IsLeafOpen placing.old.builder
+        → placing.old.builder.at ≤ line.start → IsLastInText placing.old.builder.text line
+        → AllFitted placing.old → AllFitted placing.new) }
 {
     let content = bytes_of(placing.text(), line.start, line.stop);
     let end = line.start.saturating_add(trimmed_length(content));
@@ -219,6 +227,12 @@ fn begin_line(
     ensures source { IfOk result (λ rest. (source : SourceLine)
         → IsTextLine placing.old.builder.text line source → BeginsWithTask task source
         → IsTextLine placing.old.builder.text rest (after_task task source)) }
+    ensures fits { IfOk result (λ _. IsLeafOpen placing.old.builder
+        → placing.old.builder.at ≤ line.start → IsInText placing.old.builder.text line
+        → HasTask placing.old.builder.text task line
+        → AllFitted placing.old → AllFitted placing.new) }
+    ensures within { IfOk result (λ rest. IsInText placing.old.builder.text line
+        → HasTask placing.old.builder.text task line → IsInText placing.old.builder.text rest) }
 {
     placing.step_to(line.start);
     let Some(done) = task else {
@@ -272,6 +286,8 @@ fn add_line(
         → IsLeft (record { text = placing.old.builder.text; options = options })
         (record ends { task = None }) (drop (number + 1) sources)
         placing.new.builder.levels all)) }
+    ensures fits { IfOk result (λ _. HasRoomFor placing.old.builder lines.now number ends
+        → AllFitted placing.old → AllFitted placing.new) }
 {
     let line = begin_line(placing, lines[number], ends.task)?;
     if number == lines.len() - 1 {
@@ -300,6 +316,8 @@ fn add_lines(
         (placing.old.builder.run ≡ None → HasItems placing.old.builder placing.new.builder
         (text_items (record { text = placing.old.builder.text; options = options }) ends.task
         (before_braces ends.braces (drop from sources))))) }
+    ensures fits { IfOk result (λ _. HasRoomFor placing.old.builder lines.now from ends
+        → AllFitted placing.old → AllFitted placing.new) }
 {
     'lines: for number in from..lines.len() {
         let task = if number == from { ends.task } else { None };
@@ -334,6 +352,8 @@ fn open_text(
         → IfFitted placing.old placing.new (MatchOption heading
         (Opens placing.old.builder placing.new.builder body.Paragraph)
         (λ h. OpensHeadingOf placing.old.builder placing.new.builder h.0 braces))) }
+    ensures fits { IfOk result (λ _. placing.old.builder.leaf ≡ false
+        → AllFitted placing.old → AllFitted placing.new) }
 {
     match heading {
         Some((level, _)) => open_heading(alloc, placing, level, braces),
