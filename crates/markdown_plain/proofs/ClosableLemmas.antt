@@ -1,23 +1,30 @@
 -- Calls that end a paragraph and close blocks fit.
 use Rattle.std.proofs.Common.{◌≡◌, ℕ, zero, suc, ◌+◌, ◌-◌, ◌<◌, ◌≤◌, Bool, true, false, List, [], ◌∷◌, ◌++◌, Option, Some, None}
-use Rattle.std.proofs.Common.{length, drop, take, slice_range, refl, sym, ap, ◌∙◌, subst, arith}
-use Rattle.std.specs.Prelude.{get_or, slice_get, slice_index, ◌==◌, ◌&&◌}
+use Rattle.std.proofs.Common.{length, drop, take, slice_range, reverse, ⊎_elim, refl, sym, ap, ◌∙◌, subst, arith}
+use Rattle.std.specs.Prelude.{get_or, slice_get, slice_index, ◌==◌, ◌&&◌, ◌%◌, nat_lt}
 use Rattle.std.specs.Str.{IsCharBoundary, IsUtf8}
-use Rattle.std.specs.List.{prefix_len}
-use Rattle.std.proofs.lemmas.Bool.{and_parts, true≢false}
-use Rattle.markdown_base.specs.Bytes.{close_bracket, open_bracket}
+use Rattle.std.specs.List.{prefix_len, suffix_len}
+use Rattle.std.proofs.lemmas.Bool.{and_parts, cases_lt, true≢false}
+use Rattle.markdown_base.specs.Bytes.{backslash, close_bracket, open_bracket}
+use Rattle.markdown_base.specs.declared.item.ItemBody.TheVariants as body
+use Rattle.markdown_lines.specs.LineBreaks.{IsLineBreak}
+use Rattle.markdown_lines.specs.declared.line_break.LineBreak.{LineBreak}
+use Rattle.markdown_plain.proofs.LeafTreesLemmas.{on_test}
 use Rattle.std.proofs.lemmas.Bool.Decides.{nat_tests}
-use Rattle.std.proofs.lemmas.List.{get_or-drop, get_or-take}
+use Rattle.std.proofs.lemmas.List.{get_or-drop, get_or-reverse, get_or-take}
 use Rattle.std.proofs.lemmas.List.Sums.{prefix_len_passes}
 use Rattle.std.proofs.lemmas.Option.{same_Some}
 use Rattle.std.proofs.lemmas.Str.{IsCharBoundary-after_ascii, IsCharBoundary-before_ascii}
 use Rattle.markdown_builder.specs.BuilderView.{BuilderView}
-use Rattle.markdown_lines.specs.Lines.{AllPass, is_in_blank_line}
+use Rattle.markdown_lines.specs.Lines.{AllPass, is_in_blank_line, is_space_or_tab}
 use Rattle.markdown_lines.specs.TaskMarkers.{is_task_done, is_task_space, task_length, task_marker}
 use Rattle.markdown_lines.specs.declared.held_line.HeldLine.{HeldLine}
 use Rattle.markdown_plain.proofs.ParagraphLinesLemmas.{if_some, marker_within, range_byte, range_length}
-use Rattle.markdown_plain.specs.Closable.{AreApart, AreInText, HasTask, IsInText, IsLeafOpen}
-use Rattle.markdown_plain.specs.Fitting.{AllFitted, IsAhead, IsWhiteOutside, stepped}
+use Rattle.markdown_plain.specs.declared.paragraph.Ends.{Ends}
+use Rattle.markdown_plain.specs.Closable.{AreApart, AreInText, HasBraces, HasRoomFor, HasTask, HaveTask, IsInText, IsLastInText, IsLeafOpen}
+use Rattle.markdown_lines.specs.declared.braces.Braces.{Braces}
+use Rattle.std.specs.Option.{option_map_or}
+use Rattle.markdown_plain.specs.Fitting.{AllFitted, GoesOn, IsAhead, IsWhiteOutside, stepped}
 
 -- where a leaf is open, no call is outside blocks
 pub inside_leaf : (builder : BuilderView) (to : ℕ) → IsLeafOpen builder → IsWhiteOutside builder to
@@ -110,3 +117,193 @@ rest_in_text text line start is past e =
       stop = is.stop;
       next = is.next;
     }
+
+-- ---- the end of a line
+
+-- where a line is cut before its break
+pub record IsBreakIn (text : List ℕ) (from stop : ℕ) (between : LineBreak) : Type 0 where
+  pub low : from ≤ between.text_end
+  pub ordered : between.text_end ≤ between.start
+  pub high : between.start ≤ stop
+  pub end : IsCharBoundary text between.text_end
+  pub start : IsCharBoundary text between.start
+
+pub break_in : (text : List ℕ) (from stop : ℕ) (between : LineBreak) → IsCharBoundary text stop → from ≤ stop
+    → IsLineBreak text from stop between → IsBreakIn text from stop between
+break_in text from stop between boundary ordered is =
+    subst (IsBreakIn text from stop) (sym is.value)
+    (on_test (IsBreakIn text from stop) ((stop - is.backslashes) % 2 == 1)
+    (record { text_end = stop - 1; start = stop - 1; body = body.HardBreak true }) _
+    (λ odd.
+    let low = is.backslash_run.low in
+    let some : is.backslashes < stop = odd_some stop is.backslashes odd in
+    let slash = is.backslash_run.passes (stop - 1) (omega (arith, some)) (omega (arith, some)) in
+    let cut = IsCharBoundary-before_ascii text (stop - 1) (omega (arith, boundary.0, some)) (small_slash _ slash) in
+    record { low = omega (arith, low, some); ordered = omega arith; high = omega arith; end = cut; start = cut })
+    (λ even.
+    let low = is.content_run.low in
+    let high = is.content_run.high in
+    let most = is.space_run.high in
+    on_test (IsBreakIn text from stop) (nat_lt (stop - is.spaces) 2)
+    (record { text_end = is.content; start = stop; body = body.SoftBreak })
+    (record { text_end = is.content; start = is.spaces; body = body.HardBreak false })
+    (λ few. record {
+      low = low;
+      ordered = omega (arith, high, most);
+      high = omega arith;
+      end = is.content_run.boundary;
+      start = boundary;
+    })
+    (λ many. record {
+      low = low;
+      ordered = high;
+      high = most;
+      end = is.content_run.boundary;
+      start = is.space_run.boundary;
+    })))
+  where
+    odd_some : (stop from : ℕ) → ((stop - from) % 2 == 1) ≡ true → from < stop
+    odd_some stop from odd = ⊎_elim (λ (less : from < stop). less)
+        (λ (most : stop ≤ from).
+        let none : stop - from ≡ 0 = omega (arith, most) in
+        absurd (true≢false (sym odd ∙ ap (λ n. n % 2 == 1) none)))
+        (cases_lt from stop)
+    small_slash : (byte : ℕ) → (byte == backslash) ≡ true → byte < 128
+    small_slash byte e = grind (arith, nat_tests, e)
+
+-- the bytes at the end pass the test of the run there
+end_passes : (test : ℕ → Bool) (bytes : List ℕ) (k : ℕ) → length bytes - suffix_len test bytes ≤ k → k < length bytes
+    → test (get_or bytes k 0) ≡ true
+end_passes test bytes k low less =
+    let back = length bytes - 1 - k in
+    let place : length bytes - 1 - back ≡ k = omega (arith, less) in
+    ap (λ n. test (get_or bytes n 0)) (sym place)
+    ∙ (ap test (sym (get_or-reverse bytes back 0 (omega (arith, less))))
+    ∙ prefix_len_passes test (reverse bytes) back 0 (omega (arith, low, less)))
+
+-- where a line ends without the white space at its end
+pub record IsTrimmed (text : List ℕ) (line : HeldLine) (end : ℕ) : Type 0 where
+  pub low : line.start ≤ end
+  pub high : end ≤ line.next
+  pub boundary : IsCharBoundary text end
+
+pub trimmed : (text : List ℕ) (line : HeldLine) (n : ℕ) → IsLastInText text line
+    → n ≡ length (slice_range text line.start line.stop)
+    - suffix_len is_space_or_tab (slice_range text line.start line.stop)
+    → IsTrimmed text line (line.start + n)
+trimmed text line n is e =
+    let bytes = slice_range text line.start line.stop in
+    let size : length bytes ≡ line.stop - line.start = range_length text line.start line.stop is.stop.0 in
+    let begins = is.begins in
+    let ending = is.ending in
+    let first = is.start.0 in
+    let last = is.stop.0 in
+    record {
+      low = omega arith;
+      high = omega (arith, e, size, begins, ending);
+      boundary = ⊎_elim (λ (less : n < length bytes).
+          let space = end_passes is_space_or_tab bytes n (omega (arith, e)) less in
+          let byte = range_byte text line.start line.stop n (omega (arith, less, size)) in
+          IsCharBoundary-before_ascii text (line.start + n) (omega (arith, less, size, last))
+          (small_white (get_or text (line.start + n) 0) (ap is_space_or_tab (sym byte) ∙ space)))
+          (λ (all : length bytes ≤ n). ⊎_elim (λ (less : line.stop < line.start).
+          subst (IsCharBoundary text) (omega (arith, e, size, less)) is.start)
+          (λ (more : line.start ≤ line.stop).
+          subst (IsCharBoundary text) (omega (arith, e, all, size, more)) is.stop)
+          (cases_lt line.stop line.start))
+          (cases_lt n (length bytes));
+    }
+  where
+    small_white : (byte : ℕ) → is_space_or_tab byte ≡ true → byte < 128
+    small_white byte e = grind (arith, nat_tests, e)
+
+-- ---- lines cut off at braces
+
+pub last_in_text : (text : List ℕ) (line : HeldLine) → IsInText text line → IsLastInText text line
+last_in_text text line is =
+    let content = is.content in
+    let ending = is.ending in
+    record {
+      begins = omega (arith, content, ending);
+      ending = ending;
+      start = is.start;
+      stop = is.stop;
+      next = is.next;
+    }
+
+-- braces are in what follows a task marker
+pub braces_of_rest : (text : List ℕ) (line rest : HeldLine) (braces : Option Braces) → rest.stop ≡ line.stop
+    → HasBraces text braces line → HasBraces text braces rest
+braces_of_rest text line rest None same has = tt
+braces_of_rest text line rest (Some braces) same has = let within = has.0 in (omega (arith, within, same), has.1)
+
+pub cut_in_text : (text : List ℕ) (line : HeldLine) (braces : Option Braces) → IsInText text line
+    → HasBraces text braces line
+    → IsLastInText text (record line { stop = option_map_or (λ braces. braces.opening) braces line.stop })
+cut_in_text text line None is has = last_in_text text line is
+cut_in_text text line (Some braces) is has =
+    let content = is.content in
+    let ending = is.ending in
+    let within = has.0 in
+    record {
+      begins = omega (arith, content, ending);
+      ending = omega (arith, within, ending);
+      start = is.start;
+      stop = has.1;
+      next = is.next;
+    }
+
+-- ---- one line after another
+
+-- the line with a number, from a byte offset on, and the lines after it
+pub record IsLineAt (text : List ℕ) (from : ℕ) (task : Option Bool) (lines : List HeldLine) (n : ℕ) (line : HeldLine)
+    : Type 0 where
+  pub there : slice_get lines n ≡ Some line
+  pub low : from ≤ line.start
+  pub is : IsInText text line
+  pub marked : HasTask text task line
+  pub rest : AreInText text line.next (drop (suc n) lines)
+
+pub line_at : (text : List ℕ) (from : ℕ) (task : Option Bool) (lines : List HeldLine) (n : ℕ) (other : HeldLine)
+    → n < length lines → AreInText text from (drop n lines) → HaveTask text task (drop n lines)
+    → IsLineAt text from task lines n (get_or lines n other)
+line_at text from task [] n other less are has = absurd (omega (arith, less))
+line_at text from task (line ∷ lines) zero other less are has =
+    record { there = refl; low = are.0; is = are.1.0; marked = has; rest = are.1.1 }
+line_at text from task (line ∷ lines) (suc n) other less are has =
+    let found = line_at text from task lines n other (omega (arith, less)) are has in
+    record { there = found.there; low = found.low; is = found.is; marked = found.marked; rest = found.rest }
+
+-- the last line, without its task marker and its braces
+pub last_cut : (builder : BuilderView) (lines : List HeldLine) (n : ℕ) (ends : Ends) (line rest cut : HeldLine)
+    → n ≡ length lines - 1 → slice_get lines n ≡ Some line → HasRoomFor builder lines n ends → rest.stop ≡ line.stop
+    → IsInText builder.text rest
+    → cut ≡ record rest { stop = option_map_or (λ braces. braces.opening) ends.braces rest.stop }
+    → IsLastInText builder.text cut
+last_cut builder lines n ends line rest cut last there room same is e =
+    subst (IsLastInText builder.text) (sym e) (cut_in_text builder.text rest ends.braces is
+    (braces_of_rest builder.text line rest ends.braces same
+    (room.braces line (subst (λ k. slice_get lines k ≡ Some line) last there))))
+
+-- there is room for the lines after a line that was appended
+pub room_after : (old new : BuilderView) (lines : List HeldLine) (n : ℕ) (ends : Ends) (other : HeldLine) (next : ℕ)
+    → n < length lines → HasRoomFor old lines n ends → next ≡ (get_or lines n other).next → GoesOn old new next
+    → HasRoomFor new lines (n + 1) (record ends { task = None })
+room_after old new lines n ends other next less room e goes =
+    let t = line_at old.text old.at ends.task lines n other less room.order room.task in
+    let same : new.text ≡ old.text = ap (λ (b : BuilderView). b.text) goes in
+    let at : new.at ≡ (get_or lines n other).next = ap (λ (b : BuilderView). b.at) goes ∙ e in
+    let one : suc n ≡ n + 1 = omega arith in
+    record {
+      inside = still_open old new (ap (λ (b : BuilderView). b.leaf) goes) (ap (λ (b : BuilderView). b.blocks) goes)
+          room.inside;
+      order = subst (λ k. AreInText new.text new.at (drop k lines)) one
+          (subst (λ text. AreInText text new.at (drop (suc n) lines)) (sym same)
+          (subst (λ k. AreInText old.text k (drop (suc n) lines)) (sym at) t.rest));
+      task = no_task new.text (drop (n + 1) lines);
+      braces = λ line there. subst (λ text. HasBraces text ends.braces line) (sym same) (room.braces line there);
+    }
+  where
+    no_task : (text : List ℕ) (lines : List HeldLine) → HaveTask text None lines
+    no_task text [] = tt
+    no_task text (line ∷ lines) = tt

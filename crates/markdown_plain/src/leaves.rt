@@ -23,7 +23,7 @@ ghost use Rattle.markdown_items.specs.LineItems.{item_extensions};
 ghost use Rattle.markdown_block_rules.specs.LineContents.{source_line, source_lines};
 ghost use Rattle.markdown_plain.specs.CodeLines.{after_line, code_after, ends_html_at, held, is_closed_at, whole_of};
 ghost use Rattle.markdown_plain.specs.Fitting.{IfFitted, GoesOn, OpensFenced, OpensHeading, OpensHtml, closed, extended, opened};
-ghost use Rattle.markdown_plain.specs.Fitting.{BracesStand, OpensHeadingOf, PutsBlock, stepped};
+ghost use Rattle.markdown_plain.specs.Fitting.{AllFitted, BracesStand, OpensHeadingOf, PutsBlock, stepped};
 ghost use Rattle.markdown_plain.specs.Frames.{Frame};
 ghost use Rattle.markdown_plain.specs.HeldSources.{AreHeld, IsHeld, IsRest};
 ghost use Rattle.markdown_plain.specs.LeafTrees.{HasItems, HasMoreTexts, HasTrees, OpensWith};
@@ -103,6 +103,8 @@ pub fn open_heading(
     ensures heading { IfOk result (λ _. BracesStand placing.old.builder.text braces
         → IfFitted placing.old placing.new
         (OpensHeadingOf placing.old.builder placing.new.builder level braces)) }
+    ensures fits { IfOk result (λ _. placing.old.builder.leaf ≡ false
+        → AllFitted placing.old → AllFitted placing.new) }
 {
     let Some(braces) = braces else {
         return placing.open_block(ItemBody::Heading(level, None));

@@ -316,6 +316,8 @@ impl<'a> Placing<'a> {
             ≡ record self.old.builder { blocks = self.new.builder.blocks } }
         ensures changes { IfFitted self.old self.new
             (HasBody self.old.builder self.new.builder body) }
+        ensures fits { self.old.builder.leaf ≡ false → (self.old.builder.blocks ≡ [] → ⊥)
+            → self.new.misfits ≡ self.old.misfits }
     {
         if self.builder.is_in_leaf() || self.builder.open_blocks().is_empty() {
             self.miss();
