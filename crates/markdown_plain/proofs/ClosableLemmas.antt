@@ -15,16 +15,25 @@ use Rattle.std.proofs.lemmas.List.{get_or-drop, get_or-reverse, get_or-take}
 use Rattle.std.proofs.lemmas.List.Sums.{prefix_len_passes}
 use Rattle.std.proofs.lemmas.Option.{same_Some}
 use Rattle.std.proofs.lemmas.Str.{IsCharBoundary-after_ascii, IsCharBoundary-before_ascii}
-use Rattle.markdown_builder.specs.BuilderView.{BuilderView}
+use Rattle.std.specs.Prelude.{MatchOption}
+use Rattle.markdown_base.specs.declared.item.ItemBody.{ItemBody}
+use Rattle.markdown_base.specs.declared.tag.HeadingLevel.{HeadingLevel}
+use Rattle.markdown_builder.specs.Bodies.{is_leaf}
+use Rattle.markdown_builder.specs.BuilderView.{BuilderView, Opens}
+use Rattle.markdown_builder.specs.EvenRows.{is_in_row, is_table_row}
+use Rattle.markdown_builder.specs.declared.open_block.OpenBlock.{OpenBlock}
+use Rattle.markdown_lines.specs.declared.line.Line.{Line}
+use Rattle.markdown_plain.proofs.OpenBlocksLemmas.{innermost_of_opened}
+use Rattle.markdown_plain.specs.declared.pass.Pass.{Pass}
 use Rattle.markdown_lines.specs.Lines.{AllPass, is_in_blank_line, is_space_or_tab}
 use Rattle.markdown_lines.specs.TaskMarkers.{is_task_done, is_task_space, task_length, task_marker}
 use Rattle.markdown_lines.specs.declared.held_line.HeldLine.{HeldLine}
 use Rattle.markdown_plain.proofs.ParagraphLinesLemmas.{if_some, marker_within, range_byte, range_length}
 use Rattle.markdown_plain.specs.declared.paragraph.Ends.{Ends}
-use Rattle.markdown_plain.specs.Closable.{AreApart, AreInText, HasBraces, HasRoomFor, HasTask, HaveTask, IsInText, IsLastInText, IsLeafOpen}
+use Rattle.markdown_plain.specs.Closable.{AreApart, AreInText, HasBraces, HasRoomFor, HasTask, HaveTask, IsPlaceable, IsInText, IsLastInText, IsLeafOpen}
 use Rattle.markdown_lines.specs.declared.braces.Braces.{Braces}
 use Rattle.std.specs.Option.{option_map_or}
-use Rattle.markdown_plain.specs.Fitting.{AllFitted, GoesOn, IsAhead, IsWhiteOutside, stepped}
+use Rattle.markdown_plain.specs.Fitting.{AllFitted, GoesOn, OpensHeading, IsAhead, IsWhiteOutside, stepped}
 
 -- where a leaf is open, no call is outside blocks
 pub inside_leaf : (builder : BuilderView) (to : ℕ) → IsLeafOpen builder → IsWhiteOutside builder to
@@ -307,3 +316,76 @@ room_after old new lines n ends other next less room e goes =
     no_task : (text : List ℕ) (lines : List HeldLine) → HaveTask text None lines
     no_task text [] = tt
     no_task text (line ∷ lines) = tt
+
+-- ---- opening a paragraph or a heading
+
+-- blocks inside others are some
+pub never_none : (outer : List OpenBlock) (block : OpenBlock) → outer ++ block ∷ [] ≡ [] → ⊥
+never_none [] block e = absurd (omega (arith, ap length e))
+never_none (first ∷ outer) block e = absurd (omega (arith, ap length e))
+
+-- the leaf of a text was opened, which is no row
+pub record IsTextOpened (old new : BuilderView) : Type 0 where
+  pub text : new.text ≡ old.text
+  pub at : new.at ≡ old.at
+  pub inside : IsLeafOpen new
+  pub other : is_in_row new.blocks ≡ false
+
+opened_as : (old new : BuilderView) (b : ItemBody) → is_leaf b ≡ true → is_table_row b ≡ false → new.text ≡ old.text
+    → new.at ≡ old.at → new.leaf ≡ is_leaf b → new.blocks ≡ old.blocks ++ record { start = old.at; body = b } ∷ []
+    → IsTextOpened old new
+opened_as old new b leaf row text at now blocks =
+    let block : OpenBlock = record { start = old.at; body = b } in
+    record {
+      text = text;
+      at = at;
+      inside = record { leaf = now ∙ leaf; some = λ none. never_none old.blocks block (sym blocks ∙ none) };
+      other = ap is_in_row blocks
+          ∙ (ap (λ found. option_map_or (λ (block : OpenBlock). is_table_row block.body) found false)
+          (innermost_of_opened old.blocks block) ∙ row);
+    }
+
+pub text_opened : (old new : BuilderView) (heading : Option (HeadingLevel × Line))
+    → MatchOption heading (Opens old new body.Paragraph) (λ h. OpensHeading old new h.0) → IsTextOpened old new
+text_opened old new None opens =
+    opened_as old new body.Paragraph refl refl (ap (λ (b : BuilderView). b.text) opens)
+    (ap (λ (b : BuilderView). b.at) opens) (ap (λ (b : BuilderView). b.leaf) opens)
+    (ap (λ (b : BuilderView). b.blocks) opens)
+text_opened old new (Some heading) opens =
+    opened_as old new (body.Heading heading.0 opens.0) refl refl (ap (λ (b : BuilderView). b.text) opens.1)
+    (ap (λ (b : BuilderView). b.at) opens.1) (ap (λ (b : BuilderView). b.leaf) opens.1)
+    (ap (λ (b : BuilderView). b.blocks) opens.1)
+
+-- the first of the lines that are placed, and the lines from it on
+pub record IsFirstLine (pass : Pass) (from : ℕ) (line : HeldLine) : Type 0 where
+  pub ahead : IsAhead pass.placing.builder line.start
+  pub white : IsWhiteOutside pass.placing.builder line.start
+  pub order : AreInText pass.placing.builder.text line.start (drop from pass.lines.items)
+
+-- lines in order from a byte offset on are in order from the first on, before which there may be white space only
+first_cut : (text : List ℕ) (at : ℕ) (lines : List HeldLine) (n : ℕ) (line : HeldLine) → n < length lines
+    → AreInText text at (drop n lines) → AreInText text (get_or lines n line).start (drop n lines)
+first_cut text at [] n line less are = absurd (omega (arith, less))
+first_cut text at (first ∷ lines) zero line less are = (omega arith, are.1)
+first_cut text at (first ∷ lines) (suc n) line less are = first_cut text at lines n line (omega (arith, less)) are
+
+first_apart : (text : List ℕ) (at : ℕ) (lines : List HeldLine) (n : ℕ) (line : HeldLine) → n < length lines
+    → AreApart text at (drop n lines) → AllPass is_in_blank_line text at (get_or lines n line).start
+first_apart text at [] n line less are = absurd (omega (arith, less))
+first_apart text at (first ∷ lines) zero line less are = are.0
+first_apart text at (first ∷ lines) (suc n) line less are = first_apart text at lines n line (omega (arith, less)) are
+
+pub first_line : (pass : Pass) (from : ℕ) (heading : Option (HeadingLevel × Line)) (line : HeldLine)
+    → IsPlaceable pass from heading → line ≡ get_or pass.lines.items from line → IsFirstLine pass from line
+first_line pass from heading line is held =
+    let builder = pass.placing.builder in
+    let lines = pass.lines.items in
+    let t = line_at builder.text builder.at _ lines from line is.some is.ahead.order is.task in
+    let here = ap (λ (l : HeldLine). l.start) held in
+    record {
+      ahead = subst (IsAhead builder) (sym here) (t.low, t.is.start);
+      white = λ none. subst (AllPass is_in_blank_line builder.text builder.at) (sym here)
+          (first_apart builder.text builder.at lines from line is.some (is.ahead.apart none));
+      order = subst (λ at. AreInText builder.text at (drop from lines)) (sym here)
+          (first_cut builder.text builder.at lines from line is.some is.ahead.order);
+    }

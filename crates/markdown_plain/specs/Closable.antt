@@ -91,6 +91,14 @@ pub record HasRoomFor (builder : BuilderView) (lines : List HeldLine) (from : �
   pub task : HaveTask builder.text ends.task (drop from lines)
   pub braces : HaveBraces builder.text ends.braces lines
 
+-- the lines from a number on can be placed as a paragraph, or as a heading
+pub record IsPlaceable (pass : Pass) (from : ℕ) (heading : Option (HeadingLevel × Line)) : Type 0 where
+  pub some : from < length pass.lines.items
+  pub outside : pass.placing.builder.leaf ≡ false
+  pub ahead : AreAhead pass.placing.builder (drop from pass.lines.items)
+  pub task : HaveTask pass.placing.builder.text (if from == 0 then pass.task else None) (drop from pass.lines.items)
+  pub heading_ends : EndsHeading pass.placing.builder.text pass.lines.items heading
+
 -- ---- open blocks
 
 -- all of these blocks are containers

@@ -6,8 +6,8 @@ ghost use Rattle.markdown_base.specs.declared.item.ItemBody.TheVariants as body;
 ghost use Rattle.markdown_builder.specs.BuilderView.{Opens};
 ghost use Rattle.markdown_plain.specs.Fitting.{BracesStand, IfFitted, GoesOn, OpensHeading, OpensHeadingOf};
 ghost use Rattle.markdown_plain.specs.Fitting.{AllFitted, defining};
-ghost use Rattle.markdown_plain.specs.Closable.{AreAhead, EndsHeading, HasRoomFor, HasTask, HaveTask, IsClosable};
-ghost use Rattle.markdown_plain.specs.Closable.{IsInText, IsLastInText, IsLeafOpen};
+ghost use Rattle.markdown_plain.specs.Closable.{AreAhead, EndsHeading, HasRoomFor, HasTask, HaveBraces, HaveTask};
+ghost use Rattle.markdown_plain.specs.Closable.{IsInText, IsLastInText, IsLeafOpen, IsPlaceable};
 ghost use Rattle.markdown_plain.specs.OpenBlocks.{room_in, without_leaf};
 ghost use Rattle.markdown_plain.specs.Paragraphs.{end_of, has_paragraph, is_item_in, lines_end};
 ghost use Rattle.markdown_plain.specs.Paragraphs.{paragraph_end, divided_of, first_task, shown_ended};
@@ -471,6 +471,7 @@ impl<'a> Pass<'a> {
             → AreTextLines self.now.placing.builder.text self.now.lines.items sources
             → from < length self.now.lines.items
             → result ≡ heading_braces self.now.options heading (drop from sources) }
+        ensures fits { HaveBraces self.now.placing.builder.text result self.now.lines.items }
     {
         if heading.is_none() || !attributes_read(self.options) {
             return None;
@@ -505,6 +506,8 @@ impl<'a> Pass<'a> {
             (HasTrees self.old.placing.builder self.new.placing.builder
             (shown_ended (source_of self.old) marked b heading (drop from sources)))) }
         ensures same { self.new ≡ record self.old { placing = self.new.placing } }
+        ensures fits { IfOk result (λ _. IsPlaceable self.old from heading
+            → AllFitted self.old.placing → AllFitted self.new.placing) }
     {
         if let Some(first) = self.lines.get(from) {
             self.placing.step_to(first.start);
