@@ -1,7 +1,7 @@
 -- Calls that end a paragraph and close blocks fit.
 use Rattle.std.proofs.Common.{◌≡◌, ℕ, zero, suc, ◌+◌, ◌-◌, ◌<◌, ◌≤◌, Bool, true, false, List, [], ◌∷◌, ◌++◌, Option, Some, None}
 use Rattle.std.proofs.Common.{length, drop, take, slice_range, reverse, ⊎_elim, refl, sym, ap, ◌∙◌, subst, arith}
-use Rattle.std.specs.Prelude.{get_or, slice_get, slice_index, ◌==◌, ◌&&◌, ◌%◌, nat_lt}
+use Rattle.std.specs.Prelude.{get_or, slice_get, slice_index, ◌==◌, ◌&&◌, ◌||◌, ◌%◌, if◌then◌else◌, nat_lt}
 use Rattle.std.specs.Str.{IsCharBoundary, IsUtf8}
 use Rattle.std.specs.List.{prefix_len, suffix_len}
 use Rattle.std.proofs.lemmas.Bool.{and_parts, cases_lt, true≢false}
@@ -23,17 +23,21 @@ use Rattle.markdown_builder.specs.BuilderView.{BuilderView, Opens}
 use Rattle.markdown_builder.specs.EvenRows.{is_in_row, is_table_row}
 use Rattle.markdown_builder.specs.declared.open_block.OpenBlock.{OpenBlock}
 use Rattle.markdown_lines.specs.declared.line.Line.{Line}
-use Rattle.markdown_plain.proofs.OpenBlocksLemmas.{innermost_of_opened}
+use Rattle.markdown_plain.proofs.OpenBlocksLemmas.{innermost_of_opened, last_apart}
+use Rattle.markdown_plain.specs.Containers.{is_container}
+use Rattle.markdown_plain.specs.OpenBlocks.{innermost_is, is_quote, outer_of}
+use Rattle.markdown_base.specs.Forest.{Forest}
+use Rattle.markdown_builder.specs.Shown.{Shown}
 use Rattle.markdown_plain.specs.declared.pass.Pass.{Pass}
 use Rattle.markdown_lines.specs.Lines.{AllPass, is_in_blank_line, is_space_or_tab}
 use Rattle.markdown_lines.specs.TaskMarkers.{is_task_done, is_task_space, task_length, task_marker}
 use Rattle.markdown_lines.specs.declared.held_line.HeldLine.{HeldLine}
 use Rattle.markdown_plain.proofs.ParagraphLinesLemmas.{if_some, marker_within, range_byte, range_length}
 use Rattle.markdown_plain.specs.declared.paragraph.Ends.{Ends}
-use Rattle.markdown_plain.specs.Closable.{AreApart, AreInText, HasBraces, HasRoomFor, HasTask, HaveTask, IsPlaceable, IsInText, IsLastInText, IsLeafOpen}
+use Rattle.markdown_plain.specs.Closable.{AreApart, AreClosable, AreContainers, AreInText, has_quote, HasBraces, HasRoomFor, HasTask, HaveTask, IsPlaceable, IsInText, IsLastInText, IsLeafOpen}
 use Rattle.markdown_lines.specs.declared.braces.Braces.{Braces}
 use Rattle.std.specs.Option.{option_map_or}
-use Rattle.markdown_plain.specs.Fitting.{AllFitted, GoesOn, OpensHeading, IsAhead, IsWhiteOutside, stepped}
+use Rattle.markdown_plain.specs.Fitting.{AllFitted, GoesOn, OpensHeading, closed, IsAhead, IsWhiteOutside, stepped}
 
 -- where a leaf is open, no call is outside blocks
 pub inside_leaf : (builder : BuilderView) (to : ℕ) → IsLeafOpen builder → IsWhiteOutside builder to
@@ -388,4 +392,75 @@ first_line pass from heading line is held =
           (first_apart builder.text builder.at lines from line is.some (is.ahead.apart none));
       order = subst (λ at. AreInText builder.text at (drop from lines)) (sym here)
           (first_cut builder.text builder.at lines from line is.some is.ahead.order);
+    }
+
+-- ---- closing blocks
+
+-- where the innermost block passes a test, some block is open
+pub some_innermost : (test : ItemBody → Bool) (blocks : List OpenBlock) → innermost_is test blocks ≡ true
+    → blocks ≡ [] → ⊥
+some_innermost test [] e none = true≢false (sym e)
+some_innermost test (block ∷ blocks) e none = never_none [] block (absurd (omega (arith, ap length none)))
+
+-- a container is no row
+container_no_row : (b : ItemBody) → is_container b ≡ true → is_table_row b ≡ false
+container_no_row (body.BlockQuote kind) e = refl
+container_no_row (body.List tight character first) e = refl
+container_no_row (body.ListItem indent) e = refl
+container_no_row (body.FootnoteDefinition ix) e = refl
+container_no_row other e = absurd (true≢false (sym e))
+
+containers_apart : (outer : List OpenBlock) (block : OpenBlock) → AreContainers (outer ++ block ∷ [])
+    → AreContainers outer × (is_container block.body ≡ true)
+containers_apart [] block are = (tt, are.0)
+containers_apart (first ∷ outer) block are = let rest = containers_apart outer block are.1 in ((are.0, rest.0), rest.1)
+
+no_quote_apart : (outer : List OpenBlock) (block : OpenBlock) → has_quote outer ≡ false → is_quote block.body ≡ false
+    → has_quote (outer ++ block ∷ []) ≡ false
+no_quote_apart [] block none other = ap (λ q. q || false) other
+no_quote_apart (first ∷ outer) block none other =
+    neither (is_quote first.body) (has_quote outer) (has_quote (outer ++ block ∷ [])) none
+    (λ rest. no_quote_apart outer block rest other)
+  where
+    neither : (a b c : Bool) → (a || b) ≡ false → (b ≡ false → c ≡ false) → (a || c) ≡ false
+    neither true b c e then_c = absurd (true≢false e)
+    neither false b c e then_c = then_c e
+
+pub innermost_no_row : (blocks : List OpenBlock) → AreContainers blocks → is_in_row blocks ≡ false
+innermost_no_row [] are = refl
+innermost_no_row (first ∷ blocks) are =
+    let p = last_apart (first ∷ blocks) (λ none. absurd (omega (arith, ap length none))) in
+    let outer = outer_of (first ∷ blocks) in
+    ap is_in_row p.is
+    ∙ (ap (λ found. option_map_or (λ (block : OpenBlock). is_table_row block.body) found false)
+    (innermost_of_opened outer p.block)
+    ∙ container_no_row p.block.body (containers_apart outer p.block (subst AreContainers p.is are)).1)
+
+pub closed_here : (old new : BuilderView) (placed : ℕ) (levels : List (Forest Shown)) → AreClosable old placed
+    → (old.blocks ≡ [] → ⊥)
+    → new ≡ record (closed old levels) { at = if innermost_is is_quote old.blocks then placed else old.at }
+    → AreClosable new placed
+closed_here old new placed levels is some e =
+    let p = last_apart old.blocks some in
+    let outer = outer_of old.blocks in
+    let now : new.blocks ≡ outer = ap (λ (b : BuilderView). b.blocks) e in
+    let apart = containers_apart outer p.block (subst AreContainers p.is is.containers) in
+    let inner : innermost_is is_quote old.blocks ≡ is_quote p.block.body =
+    ap (innermost_is is_quote) p.is ∙ ap (λ found. option_map_or (λ (block : OpenBlock). is_quote block.body) found false)
+    (innermost_of_opened outer p.block) in
+    let at = ap (λ (b : BuilderView). b.at) e in
+    let text = ap (λ (b : BuilderView). b.text) e in
+    record {
+      outside = ap (λ (b : BuilderView). b.leaf) e;
+      containers = subst AreContainers (sym now) apart.0;
+      low = subst (λ n. n ≤ placed) (sym at)
+          (on_test (λ n. n ≤ placed) (innermost_is is_quote old.blocks) placed old.at (λ quote. omega arith)
+          (λ other. is.low));
+      boundary = subst (λ t. IsCharBoundary t placed) (sym text) is.boundary;
+      white = λ none. subst (λ t. AllPass is_in_blank_line t new.at placed) (sym text)
+          (subst (λ n. AllPass is_in_blank_line old.text n placed) (sym at)
+          (on_test (λ n. AllPass is_in_blank_line old.text n placed) (innermost_is is_quote old.blocks) placed old.at
+          (λ quote k low high. absurd (omega (arith, low, high)))
+          (λ other. is.white (ap has_quote p.is
+          ∙ no_quote_apart outer p.block (ap has_quote (sym now) ∙ none) (sym inner ∙ other)))));
     }

@@ -1,2 +1,2 @@
--- Where a definition ends in the lines of a paragraph: nothing but white space follows it in its last line.
-use Rattle.std.proofs.Common.{◌≡◌, ℕ}
+-- Where a definition ends in the lines of a paragraph: only white space follows it in its last line.
+use Rattle.std.proofs.Common.{◌≡◌}

@@ -7,7 +7,7 @@ ghost use Rattle.markdown_builder.specs.BuilderView.{Opens};
 ghost use Rattle.markdown_plain.specs.Fitting.{BracesStand, IfFitted, GoesOn, OpensHeading, OpensHeadingOf};
 ghost use Rattle.markdown_plain.specs.Fitting.{AllFitted, defining};
 ghost use Rattle.markdown_plain.specs.Closable.{AreAhead, EndsHeading, HasRoomFor, HasTask, HaveBraces, HaveTask};
-ghost use Rattle.markdown_plain.specs.Closable.{IsInText, IsLastInText, IsLeafOpen, IsPlaceable};
+ghost use Rattle.markdown_plain.specs.Closable.{IsClosable, IsInText, IsLastInText, IsLeafOpen, IsPlaceable};
 ghost use Rattle.markdown_plain.specs.OpenBlocks.{room_in, without_leaf};
 ghost use Rattle.markdown_plain.specs.Paragraphs.{end_of, has_paragraph, is_item_in, lines_end};
 ghost use Rattle.markdown_plain.specs.Paragraphs.{paragraph_end, divided_of, first_task, shown_ended};
@@ -79,6 +79,10 @@ fn take_definition<'a>(
         → IsParagraph placing.old.builder.text lines.now sources
         → divided names placing.old.builder.text sources
         ≡ record { definitions = []; lines = sources }) }
+    ensures fits { IfOk result (λ _. AreAhead placing.old.builder lines.now
+        → AllFitted placing.old → AllFitted placing.new) }
+    ensures ahead { IfOk result (λ taken. AreAhead placing.old.builder lines.now
+        → AllFitted placing.new → AreAhead placing.new.builder (drop taken lines.now)) }
 {
     let text = placing.text();
     let Some(first) = lines.first() else {
@@ -119,6 +123,10 @@ fn take_definitions<'a>(
         → IsParagraph placing.old.builder.text lines.now sources
         → IfFitted placing.old placing.new
         (IsDivided names placing.old.builder placing.new.builder sources taken)) }
+    ensures fits { IfOk result (λ _. AreAhead placing.old.builder lines.now
+        → AllFitted placing.old → AllFitted placing.new) }
+    ensures ahead { IfOk result (λ taken. AreAhead placing.old.builder lines.now
+        → AllFitted placing.new → AreAhead placing.new.builder (drop taken lines.now)) }
 {
     let mut taken = 0;
     'definitions: while taken < lines.len() {
@@ -448,6 +456,8 @@ impl<'a> Pass<'a> {
             → self.new.blanks.items ≡ []) }
         ensures dropped { IfOk result (λ _. self.old.placing.builder.leaf ≡ true
             → self.new.blanks.items ≡ []) }
+        ensures fits { IfOk result (λ _. IsClosable self.old
+            → AllFitted self.old.placing → AllFitted self.new.placing) }
     {
         if !self.has_paragraph() {
             self.make_room(depth)?;
@@ -572,6 +582,11 @@ impl<'a> Pass<'a> {
         ensures emptied { IfOk result (λ _. self.new.lines.items ≡ []) }
         ensures same { self.new
             ≡ record self.old { placing = self.new.placing; lines = self.new.lines } }
+        ensures fits { IfOk result (λ _. self.old.placing.builder.leaf ≡ false
+            → AreAhead self.old.placing.builder self.old.lines.items
+            → HaveTask self.old.placing.builder.text self.old.task self.old.lines.items
+            → EndsHeading self.old.placing.builder.text self.old.lines.items heading
+            → AllFitted self.old.placing → AllFitted self.new.placing) }
     {
         let names = entity_names(self.options);
         let taken = take_definitions(self.alloc, &mut self.placing, &self.lines, names)?;
