@@ -120,6 +120,16 @@ pub record AreClosable (builder : BuilderView) (placed : ℕ) : Type 0 where
   pub boundary : IsCharBoundary builder.text placed
   pub white : has_quote builder.blocks ≡ false → AllPass is_in_blank_line builder.text builder.at placed
 
+-- there is only white space from the current byte offset up to another
+abbrev pub IsWhiteBefore : BuilderView → ℕ → Type 0
+IsWhiteBefore builder to = AllPass is_in_blank_line builder.text builder.at to
+
+-- a list is open, in which an item may be opened at a byte offset
+pub record IsInList (builder : BuilderView) (to : ℕ) : Type 0 where
+  pub outside : builder.leaf ≡ false
+  pub some : builder.blocks ≡ [] → ⊥
+  pub low : builder.at ≤ to
+
 -- the byte offset at which the open leaf ends, or the paragraph whose lines are held back
 abbrev pub leaf_end : Pass → ℕ
 leaf_end pass = if has_paragraph pass then lines_end pass.lines.items else pass.placing.builder.at
