@@ -12,6 +12,9 @@ pub mod PlacedParagraphsLemmas
 pub mod EndedParagraphsLemmas
 pub mod ParagraphsLemmas
 pub mod DividedLemmas
+-- on calls that fit
+pub mod ClosableLemmas
+pub mod DefinitionEndsLemmas
 pub mod ListLoosenessLemmas
 -- on what a line makes of blocks, some of which are open
 pub mod FramesLemmas

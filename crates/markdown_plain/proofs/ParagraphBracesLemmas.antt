@@ -25,6 +25,7 @@ use Rattle.markdown_lines.specs.declared.braces.Braces.{Braces}
 use Rattle.markdown_lines.specs.declared.held_line.HeldLine.{HeldLine}
 use Rattle.markdown_block_rules.specs.BlockRules.{before_braces, items_after_task, last_braces, paragraph_items}
 use Rattle.markdown_plain.proofs.ParagraphLinesLemmas.{if_some, marker_before_brace, on_false, range_byte}
+use Rattle.markdown_plain.specs.Closable.{HasBraces}
 use Rattle.markdown_plain.specs.Fitting.{BracesStand}
 use Rattle.markdown_plain.specs.HeldSources.{AreTextLines, IsTextLine}
 use Rattle.markdown_plain.specs.ParagraphItems.{BeginWithTask, OpenInLast, heading_braces, text_items}
@@ -115,6 +116,24 @@ braces_stand text start stop utf8 = of_found (braces_in (slice_range text start 
         let are = braces_are (slice_range text start stop) braces e in (
           (ascii_at text start stop braces.opening open_brace utf8 (omega arith) are.opens).0,
           (ascii_at text start stop braces.closing close_brace utf8 (omega arith) are.closes).1,
+        )
+
+-- braces open in their line, and between characters
+pub braces_within : (text : List ℕ) (line : HeldLine) → IsUtf8 text
+    → HasBraces text (option_map (braces_from line.start) (braces_in (slice_range text line.start line.stop))) line
+braces_within text line utf8 = of_found (braces_in bytes) refl
+  where
+    bytes : List ℕ
+    bytes = slice_range text line.start line.stop
+    of_found : (found : Option Braces) → braces_in bytes ≡ found
+        → HasBraces text (option_map (braces_from line.start) found) line
+    of_found None e = tt
+    of_found (Some braces) e =
+        let are = braces_are bytes braces e in
+        let less = are.opens.less in
+        let most = length-take (line.stop - line.start) (drop line.start text) in (
+          omega (arith, less, most),
+          (ascii_at text line.start line.stop braces.opening open_brace utf8 (omega arith) are.opens).1,
         )
 
 -- ---- the last line

@@ -14,6 +14,7 @@ pub mod Stretches
 pub mod Containers
 pub mod NewContainers
 pub mod ParagraphItems
+pub mod Closable
 -- the blocks that it stands for
 pub mod BlockEnds
 pub mod Frames

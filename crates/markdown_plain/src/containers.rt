@@ -9,10 +9,14 @@ ghost use Rattle.markdown_lines.specs.Positions.{left_from};
 ghost use Rattle.markdown_lines.specs.SourceLines.{SourceLine};
 ghost use Rattle.markdown_plain.specs.Containers as spec;
 ghost use Rattle.markdown_plain.specs.NewContainers as opening;
-ghost use Rattle.markdown_plain.specs.Fitting.{IfFitted, opened};
+ghost use Rattle.markdown_lines.specs.Lines.{AllPass, is_in_blank_line};
+ghost use Rattle.markdown_plain.specs.Closable.{AreClosable, IsClosable, IsInList, IsWhiteBefore};
+ghost use Rattle.markdown_plain.specs.Fitting.{AllFitted, IfFitted, IsAhead, IsWhiteOutside, opened};
 ghost use Rattle.markdown_plain.specs.Frames.{Frame, reached};
 ghost use Rattle.markdown_plain.specs.ReachedFrames.{IsBefore, IsReached};
-ghost use Rattle.markdown_plain.specs.OpenBlocks.{outer_of, room_in, without_leaf};
+ghost use Rattle.markdown_plain.specs.OpenBlocks as open_blocks;
+ghost use Rattle.markdown_plain.specs.OpenBlocks.{outer_of, room_in, without_leaf, without_list};
+ghost use Rattle.std.specs.Str.{IsCharBoundary};
 ghost use Rattle.markdown_plain.specs.Stretches.{TakesNothing, deep_starts, taken_by};
 ghost use Rattle.markdown_base.specs.declared.item.ItemBody.TheVariants as body;
 
@@ -304,6 +308,10 @@ impl<'a> Pass<'a> {
             → IfFitted self.old.placing self.new.placing
             (IsBuilt s self.new.placing.builder (with_frame frames inside b) nil)) }
         ensures same { self.new ≡ record self.old { placing = self.new.placing } }
+        ensures fits { IfOk result (λ _. IsAhead self.old.placing.builder at
+            → IsWhiteOutside self.old.placing.builder at
+            → self.old.placing.builder.leaf ≡ false
+            → AllFitted self.old.placing → AllFitted self.new.placing) }
     {
         self.placing.step_to(at);
         self.placing.open_block(ItemBody::BlockQuote(kind))
@@ -366,6 +374,16 @@ impl<'a> Pass<'a> {
           blanks = self.new.blanks;
           looseness = self.new.looseness;
         } }
+        ensures fits { IfOk result (λ _. IsClosable self.old
+            → self.old.placed ≤ at → IsCharBoundary self.old.placing.builder.text at
+            → (room_in depth (without_leaf self.old.placing.builder) ≡ []
+            → AllPass is_in_blank_line self.old.placing.builder.text self.old.placed at)
+            → AllFitted self.old.placing → AllFitted self.new.placing) }
+        ensures fits_inside { IfOk result (λ _. self.old.placing.builder.leaf ≡ false
+            → self.old.lines.items ≡ [] → length self.old.placing.builder.blocks ≤ depth
+            → open_blocks.innermost_is open_blocks.is_list self.old.placing.builder.blocks ≡ false
+            → IsAhead self.old.placing.builder at → IsWhiteOutside self.old.placing.builder at
+            → AllFitted self.old.placing → AllFitted self.new.placing) }
     {
         self.close_down(depth)?;
         self.open_list(item.marker, at)?;
@@ -417,6 +435,16 @@ impl<'a> Pass<'a> {
           placing = self.new.placing;
           looseness = self.new.looseness;
         } }
+        ensures fits { IfOk result (λ _. self.old.placing.builder.leaf ≡ false
+            → IsAhead self.old.placing.builder at
+            → (without_list self.old.placing.builder.blocks ≡ []
+            → IsWhiteBefore self.old.placing.builder at)
+            → (open_blocks.innermost_is open_blocks.is_list self.old.placing.builder.blocks ≡ true
+            → AreClosable self.old.placing.builder self.old.placed)
+            → AllFitted self.old.placing → AllFitted self.new.placing) }
+        ensures here { IfOk result (λ _. self.old.placing.builder.leaf ≡ false
+            → self.old.placing.builder.at ≤ at → AllFitted self.new.placing
+            → IsInList self.new.placing.builder at) }
     {
         if let Some(ItemBody::List(_, character, _)) = innermost(&self.placing) {
             if character == marker.character {
@@ -449,6 +477,10 @@ impl<'a> Pass<'a> {
             → IfFitted self.old.placing self.new.placing
             (IsBuilt s self.new.placing.builder (with_frame frames inside b) nil)) }
         ensures same { self.new ≡ record self.old { placing = self.new.placing } }
+        ensures fits { IfOk result (λ _. IsAhead self.old.placing.builder at
+            → IsWhiteOutside self.old.placing.builder at
+            → self.old.placing.builder.leaf ≡ false
+            → AllFitted self.old.placing → AllFitted self.new.placing) }
     {
         self.placing.step_to(at);
         let listed = label.try_clone(self.alloc)?;

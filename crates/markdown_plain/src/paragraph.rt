@@ -5,7 +5,9 @@ ghost use Rattle.std.specs.Prelude.{MatchOption, ◌+◌, ◌==◌, drop, not, s
 ghost use Rattle.markdown_base.specs.declared.item.ItemBody.TheVariants as body;
 ghost use Rattle.markdown_builder.specs.BuilderView.{Opens};
 ghost use Rattle.markdown_plain.specs.Fitting.{BracesStand, FittedBefore, IfFitted, GoesOn, OpensHeading, OpensHeadingOf};
-ghost use Rattle.markdown_plain.specs.Fitting.{defining};
+ghost use Rattle.markdown_plain.specs.Fitting.{AllFitted, defining};
+ghost use Rattle.markdown_plain.specs.Closable.{AreAhead, EndsHeading, HasRoomFor, HasTask, HaveBraces, HaveTask};
+ghost use Rattle.markdown_plain.specs.Closable.{IsClosable, IsInText, IsLastInText, IsLeafOpen, IsPlaceable};
 ghost use Rattle.markdown_plain.specs.OpenBlocks.{room_in, without_leaf};
 ghost use Rattle.markdown_plain.specs.Paragraphs.{end_of, has_paragraph, is_item_in, lines_end};
 ghost use Rattle.markdown_plain.specs.Paragraphs.{paragraph_end, divided_of, first_task, shown_ended};
@@ -77,6 +79,10 @@ fn take_definition<'a>(
         → IsParagraph placing.old.builder.text lines.now sources
         → divided names placing.old.builder.text sources
         ≡ record { definitions = []; lines = sources }) }
+    ensures fits { IfOk result (λ _. AreAhead placing.old.builder lines.now
+        → AllFitted placing.old → AllFitted placing.new) }
+    ensures ahead { IfOk result (λ taken. AreAhead placing.old.builder lines.now
+        → AllFitted placing.new → AreAhead placing.new.builder (drop taken lines.now)) }
 {
     let text = placing.text();
     let Some(first) = lines.first() else {
@@ -117,6 +123,10 @@ fn take_definitions<'a>(
         → IsParagraph placing.old.builder.text lines.now sources
         → IfFitted placing.old placing.new
         (IsDivided names placing.old.builder placing.new.builder sources taken)) }
+    ensures fits { IfOk result (λ _. AreAhead placing.old.builder lines.now
+        → AllFitted placing.old → AllFitted placing.new) }
+    ensures ahead { IfOk result (λ taken. AreAhead placing.old.builder lines.now
+        → AllFitted placing.new → AreAhead placing.new.builder (drop taken lines.now)) }
 {
     let mut taken = 0;
     'definitions: while taken < lines.len() {
@@ -149,6 +159,9 @@ fn add_broken_line(
         (placing.old.builder.run ≡ None → placing.old.builder.at ≡ line.start
         → HasItems placing.old.builder placing.new.builder
         (line_or_nothing (record { text = placing.old.builder.text; options = options }) source))) }
+    ensures fits { IfOk result (λ _. IsLeafOpen placing.old.builder
+        → placing.old.builder.at ≤ line.start → IsInText placing.old.builder.text line
+        → AllFitted placing.old → AllFitted placing.new) }
 {
     if line.start == line.stop {
         placing.step_to(line.next);
@@ -181,6 +194,9 @@ fn add_last_line(
         (placing.old.builder.run ≡ None → placing.old.builder.at ≡ line.start
         → HasItems placing.old.builder placing.new.builder
         (lines_items placing.old.builder.text (item_extensions options) (source ∷ [])))) }
+    ensures fits { IfOk result (λ _. IsLeafOpen placing.old.builder
+        → placing.old.builder.at ≤ line.start → IsLastInText placing.old.builder.text line
+        → AllFitted placing.old → AllFitted placing.new) }
 {
     let content = bytes_of(placing.text(), line.start, line.stop);
     let end = line.start.saturating_add(trimmed_length(content));
@@ -219,6 +235,12 @@ fn begin_line(
     ensures source { IfOk result (λ rest. (source : SourceLine)
         → IsTextLine placing.old.builder.text line source → BeginsWithTask task source
         → IsTextLine placing.old.builder.text rest (after_task task source)) }
+    ensures fits { IfOk result (λ _. IsLeafOpen placing.old.builder
+        → placing.old.builder.at ≤ line.start → IsInText placing.old.builder.text line
+        → HasTask placing.old.builder.text task line
+        → AllFitted placing.old → AllFitted placing.new) }
+    ensures within { IfOk result (λ rest. IsInText placing.old.builder.text line
+        → HasTask placing.old.builder.text task line → IsInText placing.old.builder.text rest) }
 {
     placing.step_to(line.start);
     let Some(done) = task else {
@@ -272,6 +294,8 @@ fn add_line(
         → IsLeft (record { text = placing.old.builder.text; options = options })
         (record ends { task = None }) (drop (number + 1) sources)
         placing.new.builder.levels all)) }
+    ensures fits { IfOk result (λ _. HasRoomFor placing.old.builder lines.now number ends
+        → AllFitted placing.old → AllFitted placing.new) }
 {
     let line = begin_line(placing, lines[number], ends.task)?;
     if number == lines.len() - 1 {
@@ -300,6 +324,8 @@ fn add_lines(
         (placing.old.builder.run ≡ None → HasItems placing.old.builder placing.new.builder
         (text_items (record { text = placing.old.builder.text; options = options }) ends.task
         (before_braces ends.braces (drop from sources))))) }
+    ensures fits { IfOk result (λ _. HasRoomFor placing.old.builder lines.now from ends
+        → AllFitted placing.old → AllFitted placing.new) }
 {
     'lines: for number in from..lines.len() {
         let task = if number == from { ends.task } else { None };
@@ -334,6 +360,8 @@ fn open_text(
         → IfFitted placing.old placing.new (MatchOption heading
         (Opens placing.old.builder placing.new.builder body.Paragraph)
         (λ h. OpensHeadingOf placing.old.builder placing.new.builder h.0 braces))) }
+    ensures fits { IfOk result (λ _. placing.old.builder.leaf ≡ false
+        → AllFitted placing.old → AllFitted placing.new) }
 {
     match heading {
         Some((level, _)) => open_heading(alloc, placing, level, braces),
@@ -429,6 +457,8 @@ impl<'a> Pass<'a> {
             → self.new.blanks.items ≡ []) }
         ensures dropped { IfOk result (λ _. self.old.placing.builder.leaf ≡ true
             → self.new.blanks.items ≡ []) }
+        ensures fits { IfOk result (λ _. IsClosable self.old
+            → AllFitted self.old.placing → AllFitted self.new.placing) }
     {
         if !self.has_paragraph() {
             self.make_room(depth)?;
@@ -452,6 +482,7 @@ impl<'a> Pass<'a> {
             → AreTextLines self.now.placing.builder.text self.now.lines.items sources
             → from < length self.now.lines.items
             → result ≡ heading_braces self.now.options heading (drop from sources) }
+        ensures fits { HaveBraces self.now.placing.builder.text result self.now.lines.items }
     {
         if heading.is_none() || !attributes_read(self.options) {
             return None;
@@ -486,6 +517,8 @@ impl<'a> Pass<'a> {
             (HasTrees self.old.placing.builder self.new.placing.builder
             (shown_ended (source_of self.old) marked b heading (drop from sources)))) }
         ensures same { self.new ≡ record self.old { placing = self.new.placing } }
+        ensures fits { IfOk result (λ _. IsPlaceable self.old from heading
+            → AllFitted self.old.placing → AllFitted self.new.placing) }
     {
         if let Some(first) = self.lines.get(from) {
             self.placing.step_to(first.start);
@@ -551,6 +584,11 @@ impl<'a> Pass<'a> {
         ensures emptied { IfOk result (λ _. self.new.lines.items ≡ []) }
         ensures same { self.new
             ≡ record self.old { placing = self.new.placing; lines = self.new.lines } }
+        ensures fits { IfOk result (λ _. self.old.placing.builder.leaf ≡ false
+            → AreAhead self.old.placing.builder self.old.lines.items
+            → HaveTask self.old.placing.builder.text self.old.task self.old.lines.items
+            → EndsHeading self.old.placing.builder.text self.old.lines.items heading
+            → AllFitted self.old.placing → AllFitted self.new.placing) }
     {
         let names = entity_names(self.options);
         let taken = take_definitions(self.alloc, &mut self.placing, &self.lines, names)?;

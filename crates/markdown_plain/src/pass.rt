@@ -16,6 +16,7 @@ ghost use Rattle.markdown_plain.specs.OpenLeaves.{IsPlaced, IsUnended, leaf_bloc
 ghost use Rattle.markdown_plain.specs.Fitting.{AllFitted, HasBody, IfFitted, PutsBlock, closed};
 ghost use Rattle.markdown_plain.specs.OpenedFrames.{MayOpen};
 ghost use Rattle.markdown_plain.specs.OpenBlocks.{innermost_is, is_list, room_in, without_leaf};
+ghost use Rattle.markdown_plain.specs.Closable.{AreClosable, IsClosable};
 ghost use Rattle.markdown_plain.specs.Containers.{closing_place};
 ghost use Rattle.markdown_plain.specs.Paragraphs.{has_paragraph};
 ghost use Rattle.markdown_plain.specs.Settled.{AreOpen, BlanksKnown, IsLooseAs, IsLooseBefore};
@@ -146,6 +147,12 @@ impl<'a> Pass<'a> {
             → AreNested (frames ++ f ∷ [])
             → IsLooseAs self.old.looseness (frames ++ f ∷ []) inside
             → IsLooseAs self.new.looseness frames (forgotten f inside) }
+        ensures fits { AreClosable self.old.placing.builder self.old.placed
+            → (self.old.placing.builder.blocks ≡ [] → ⊥)
+            → AllFitted self.old.placing → AllFitted self.new.placing }
+        ensures here { AreClosable self.old.placing.builder self.old.placed
+            → (self.old.placing.builder.blocks ≡ [] → ⊥) → AllFitted self.new.placing
+            → AreClosable self.new.placing.builder self.old.placed }
     {
         match innermost(&self.placing) {
             Some(ItemBody::List(_, character, first)) => {
@@ -202,6 +209,11 @@ impl<'a> Pass<'a> {
             → MayEnd s self.old frames inside b held
             → IfFitted self.old.placing self.new.placing (MayClose s self.new (take depth frames)
             (rebuilt (drop depth frames) (followed_by inside (leaf_block b))))) }
+        ensures fits { IfOk result (λ _. IsClosable self.old
+            → AllFitted self.old.placing → AllFitted self.new.placing) }
+        ensures here { IfOk result (λ _. IsClosable self.old
+            → AllFitted self.new.placing
+            → AreClosable self.new.placing.builder self.old.placed) }
     {
         self.end_leaf()?;
         'blocks: for _closed in depth..self.depth() {
@@ -266,6 +278,11 @@ impl<'a> Pass<'a> {
             (StandsFor s self.new (take (room_depth depth frames) frames)
             (rebuilt (drop (room_depth depth frames) frames)
             (followed_by inside (leaf_block b))))) }
+        ensures fits { IfOk result (λ _. IsClosable self.old
+            → AllFitted self.old.placing → AllFitted self.new.placing) }
+        ensures here { IfOk result (λ _. IsClosable self.old
+            → AllFitted self.new.placing
+            → AreClosable self.new.placing.builder self.old.placed) }
     {
         self.close_down(depth)?;
         if self.is_in_list() {
@@ -306,6 +323,11 @@ impl<'a> Pass<'a> {
           lines = self.new.lines;
           blanks = self.new.blanks;
         } }
+        ensures fits { IfOk result (λ _. IsClosable self.old
+            → AllFitted self.old.placing → AllFitted self.new.placing) }
+        ensures here { IfOk result (λ _. IsClosable self.old
+            → AllFitted self.new.placing
+            → AreClosable self.new.placing.builder self.old.placed) }
     {
         if self.placing.is_in_leaf() {
             self.lines.clear();
@@ -342,6 +364,8 @@ fn close_list(placing: &mut Placing<'_>, character: u8, first: u64, loose: bool)
         × (settled ≡ record placing.old.builder { blocks = settled.blocks })
         × HasBody placing.old.builder settled (body.List (not loose) character first)
         × PutsBlock settled placing.new.builder) }
+    ensures fits { placing.old.builder.leaf ≡ false → (placing.old.builder.blocks ≡ [] → ⊥)
+        → AllFitted placing.old → AllFitted placing.new }
 {
     placing.change(ItemBody::List(!loose, character, first));
     placing.close();

@@ -1,5 +1,5 @@
 -- A line and the break after it are its items; there is none where nothing is left of it.
-use Rattle.std.proofs.Common.{◌≡◌, ◌∷◌, [], ◌∙◌, ap, rules}
+use Rattle.std.proofs.Common.{◌≡◌, ◌∷◌, [], ◌∙◌, ap, rules, arith}
 use Rattle.markdown_builder.specs.BuilderView.{BuilderView, with_items}
 use Rattle.std.proofs.lemmas.Result.{IfOk-weaker}
 use Rattle.markdown_builder.specs.Shown.{plain_item}
@@ -8,6 +8,7 @@ use Rattle.markdown_items.specs.LineItems.{item_extensions}
 use Rattle.markdown_lines.specs.BlockBeginnings.{Source}
 use Rattle.markdown_plain.proofs.ParagraphLinesLemmas.{empty_line, line_and_break}
 use Rattle.markdown_plain.proofs.LeafTreesLemmas.{no_text, texts_after}
+use Rattle.markdown_plain.proofs.ClosableLemmas.{ahead_of, break_in, cut_in_text, inside_leaf, still_open, trimmed}
 use Rattle.markdown_plain.proofs.paragraph.add_broken_line.Goals as goal
 
 pub returns-then-line-clause-items : goal.returns-then-line-clause-items
@@ -59,3 +60,34 @@ returns-clause-texts c =
       texts_after _ _ _ read.1 (no_text _ _ (ap (λ (b : BuilderView). b.texts) added.1
           ∙ ap (λ (b : BuilderView). b.texts) stepped.1)),
     )) c.add_inline.ensures.appends
+
+pub returns-then-line-clause-fits : goal.returns-then-line-clause-fits
+returns-then-line-clause-fits c = λ within low is fitted.
+    let content = is.content in
+    let ending = is.ending in
+    c.step_to.ensures.fits (omega (arith, low, content, ending), is.next) (inside_leaf _ _ within) ∙ fitted
+
+pub returns-clause-fits : goal.returns-clause-fits
+returns-clause-fits c =
+    IfOk-weaker c.add_inline.result _ _ (λ done fits within low is fitted.
+    let old = c.args.placing.now.builder in
+    let between = break_in old.text c.args.line.start c.args.line.stop c.line_break-between.result is.stop is.content
+    (search rules) in
+    let read_to = between.low in
+    let ordered = between.ordered in
+    let high = between.high in
+    let ending = is.ending in
+    let first = c.in_ok-add_items.ensures.fits within.leaf (omega (arith, low, read_to), between.end) ∙ fitted in
+    let read = (c.in_ok-add_items.ensures.appends first).1 in
+    let begun = still_open old c.add_items.new.self.builder (ap (λ (b : BuilderView). b.leaf) read)
+    (ap (λ (b : BuilderView). b.blocks) read) within in
+    let second = c.step_to-2.ensures.fits
+    (ahead_of old.text c.line_break-between.result.text_end _ c.add_items.new.self.builder c.in_ok-add_items.ensures.text
+    (ap (λ (b : BuilderView). b.at) read) ordered between.start) (inside_leaf _ _ begun) ∙ first in
+    let stepped = (c.step_to-2.ensures.steps second).1 in
+    let still = still_open c.add_items.new.self.builder c.step_to-2.new.self.builder
+    (ap (λ (b : BuilderView). b.leaf) stepped) (ap (λ (b : BuilderView). b.blocks) stepped) begun in
+    fits still.leaf
+    (ahead_of old.text c.line_break-between.result.start _ c.step_to-2.new.self.builder
+    (c.step_to-2.ensures.text ∙ c.in_ok-add_items.ensures.text)
+    (ap (λ (b : BuilderView). b.at) stepped) (omega (arith, high, ending)) is.next) ∙ second) c.add_inline.ensures.fits

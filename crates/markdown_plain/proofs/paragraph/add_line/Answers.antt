@@ -1,5 +1,6 @@
 -- A line is appended after its task marker, and what is left then are the lines behind it.
-use Rattle.std.proofs.Common.{◌∙◌, ◌∷◌, [], ◌+◌, ◌<◌, List, ap, sym, subst, arith, length, None}
+use Rattle.std.specs.Prelude.{slice_get}
+use Rattle.std.proofs.Common.{◌≡◌, ◌-◌, Some, ◌∙◌, ◌∷◌, [], ◌+◌, ◌<◌, List, ap, sym, subst, arith, rules, length, None}
 use Rattle.std.proofs.lemmas.Bool.Decides.{nat_tests}
 use Rattle.std.proofs.lemmas.Result.{IfOk-weaker}
 use Rattle.markdown_builder.specs.BuilderView.{BuilderView, with_items}
@@ -15,6 +16,8 @@ use Rattle.markdown_plain.proofs.ParagraphTreesLemmas.{none_behind, some_behind,
 use Rattle.markdown_plain.specs.HeldSources.{IsTextLine}
 use Rattle.markdown_plain.specs.ParagraphItems.{IsLeft, after_task, line_or_nothing}
 use Rattle.markdown_plain.proofs.LeafTreesLemmas.{texts_after}
+use Rattle.markdown_plain.proofs.ClosableLemmas.{last_cut, line_at, still_open}
+use Rattle.markdown_plain.specs.Closable.{IsInText, IsLastInText}
 use Rattle.markdown_plain.proofs.paragraph.add_line.Goals as goal
 
 pub returns-then-number-lines-clause-left : goal.returns-then-number-lines-clause-left
@@ -106,3 +109,35 @@ returns-else-number-lines-clause-texts c =
     let added = texts fitted in
     let begun = c.in_ok-line.ensures.texts added.0 in
     (begun.0, texts_after _ _ _ begun.1 added.1)) c.add_broken_line.ensures.texts
+
+pub returns-then-number-lines-clause-fits : goal.returns-then-number-lines-clause-fits
+returns-then-number-lines-clause-fits c =
+    IfOk-weaker c.add_last_line.result _ _ (λ done fits room fitted.
+    let old = c.args.placing.now.builder in
+    let lines = c.args.lines.now in
+    let t = line_at old.text old.at c.args.ends.task lines c.args.number _ c.requires room.order room.task in
+    let last : c.args.number ≡ length lines - 1 = search rules in
+    let first = c.in_ok-line.ensures.fits room.inside t.low t.is t.marked fitted in
+    let begun = (c.in_ok-line.ensures.goes_on first).1 in
+    let is = c.in_ok-line.ensures.within t.is t.marked in
+    let here = ap (λ (b : BuilderView). b.at) begun ∙ sym (ap (λ (l : HeldLine). l.start) c.cut_off.ensures) in
+    fits (still_open old c.begin_line.new.placing.builder (ap (λ (b : BuilderView). b.leaf) begun)
+    (ap (λ (b : BuilderView). b.blocks) begun) room.inside)
+    (omega (arith, here)) (subst (λ text. IsLastInText text c.cut_off.result) (sym c.in_ok-line.ensures.text)
+    (last_cut old lines c.args.number c.args.ends _ c.in_ok-line.line c.cut_off.result last t.there room
+    (ap (λ (l : HeldLine). l.stop) c.in_ok-line.ensures.rest) is c.cut_off.ensures)) first) c.add_last_line.ensures.fits
+
+pub returns-else-number-lines-clause-fits : goal.returns-else-number-lines-clause-fits
+returns-else-number-lines-clause-fits c =
+    IfOk-weaker c.add_broken_line.result _ _ (λ done fits room fitted.
+    let old = c.args.placing.now.builder in
+    let lines = c.args.lines.now in
+    let t = line_at old.text old.at c.args.ends.task lines c.args.number _ c.requires room.order room.task in
+    let first = c.in_ok-line.ensures.fits room.inside t.low t.is t.marked fitted in
+    let begun = (c.in_ok-line.ensures.goes_on first).1 in
+    let is = c.in_ok-line.ensures.within t.is t.marked in
+    let here = ap (λ (b : BuilderView). b.at) begun in
+    fits (still_open old c.begin_line.new.placing.builder (ap (λ (b : BuilderView). b.leaf) begun)
+    (ap (λ (b : BuilderView). b.blocks) begun) room.inside)
+    (omega (arith, here)) (subst (λ text. IsInText text c.in_ok-line.line) (sym c.in_ok-line.ensures.text) is) first)
+    c.add_broken_line.ensures.fits

@@ -3,11 +3,18 @@ use Rattle.std.proofs.Common.{◌≡◌, ◌+◌, sym, subst, rules, arith, None
 use Rattle.std.specs.Prelude.{◌==◌, if◌then◌else◌}
 use Rattle.std.proofs.lemmas.Bool.Decides.{nat_tests}
 use Rattle.markdown_plain.proofs.ParagraphLinesLemmas.{on_false}
-use Rattle.markdown_plain.proofs.ParagraphTreesLemmas.{as_many, left_of_same, none_behind, nothing_left}
+use Rattle.markdown_plain.proofs.ParagraphTreesLemmas.{as_many, got, left_of_same, none_behind, nothing_left}
 use Rattle.markdown_plain.specs.HeldSources.{AreTextLines}
 use Rattle.markdown_plain.proofs.paragraph.add_lines.Goals.{then-number-from, else-number-from}
 use Rattle.markdown_plain.proofs.LeafTreesLemmas.{texts_after}
+use Rattle.markdown_lines.specs.declared.held_line.HeldLine.{HeldLine}
+use Rattle.markdown_plain.proofs.ClosableLemmas.{room_after}
+use Rattle.markdown_plain.specs.Closable.{HasRoomFor}
 use Rattle.markdown_plain.proofs.paragraph.add_lines.Goals as goal
+
+-- in place of a line that is not there
+any_line : HeldLine
+any_line = record { start = 0; stop = 0; next = 0; owed = 0 }
 
 task_is : (c : goal.In_ok-add_line)
     → c.if-number-from.task ≡ (if c.lines.number == c.args.from then c.args.ends.task else None)
@@ -28,6 +35,22 @@ lines-preserved c =
           let added = c.in_ok-add_line.ensures.texts fitted in
           let before = c.lines.invariant.texts added.0 in
           (before.0, texts_after _ _ _ before.1 added.1);
+      fits = λ room fitted.
+          let before = c.lines.invariant.fits room fitted in
+          let ends = c.args.ends in
+          let low = c.lines.auto.number in
+          let past : (c.lines.number + 1 == c.args.from) ≡ false = grind (arith, nat_tests, low) in
+          let here = subst (λ task. HasRoomFor c.lines.placing.builder c.args.lines.now c.lines.number
+          (record ends { task = task })) (sym (task_is c)) before.1 in
+          let done = c.in_ok-add_line.ensures.fits here before.0 in (
+            done,
+            subst (λ task. HasRoomFor c.add_line.new.placing.builder c.args.lines.now (c.lines.number + 1)
+                (record ends { task = task })) (sym (on_false (c.lines.number + 1 == c.args.from) ends.task None past))
+                (room_after c.lines.placing.builder c.add_line.new.placing.builder c.args.lines.now c.lines.number
+                (record ends { task = c.if-number-from.task }) any_line _ c.lines-test.true here
+                (got c.args.lines.now c.lines.number any_line c.lines-test.true)
+                (c.in_ok-add_line.ensures.goes_on done).1),
+          );
       left = λ sources are fit fitted.
           let text = c.args.placing.now.builder.text in
           let same = c.lines.invariant.text in

@@ -1,5 +1,5 @@
 -- A task marker lies within its line, and the line is read on after it.
-use Rattle.std.proofs.Common.{◌≡◌, ◌∷◌, [], ◌+◌, slice_range, ◌∙◌, ap, sym, subst, rules}
+use Rattle.std.proofs.Common.{◌≡◌, ◌∷◌, [], ◌+◌, slice_range, ◌∙◌, ap, sym, subst, rules, arith}
 use Rattle.markdown_builder.specs.BuilderView.{BuilderView, with_items}
 use Rattle.markdown_base.specs.declared.item.ItemBody.TheVariants as body
 use Rattle.markdown_builder.specs.Shown.{plain_item}
@@ -9,6 +9,9 @@ use Rattle.markdown_lines.specs.TaskMarkers.{task_length}
 use Rattle.markdown_plain.specs.HeldSources.{IsTextLine}
 use Rattle.markdown_plain.specs.ParagraphItems.{BeginsWithTask, after_task, task_items}
 use Rattle.markdown_plain.proofs.LeafTreesLemmas.{no_text}
+use Rattle.markdown_plain.proofs.ClosableLemmas.{IsPastTask, ahead_of, inside_leaf, past_task, rest_in_text, still_open}
+use Rattle.markdown_plain.specs.Closable.{HasTask, IsInText}
+use Rattle.std.specs.Str.{IsCharBoundary, IsUtf8}
 use Rattle.markdown_plain.proofs.paragraph.begin_line.Goals as goal
 
 pub returns-in_default-clause-items : goal.returns-in_default-clause-items
@@ -69,3 +72,56 @@ returns-clause-texts c = λ fitted.
       no_text _ _ (ap (λ (b : BuilderView). b.texts) after.1 ∙ (ap (λ (b : BuilderView). b.texts) marked.1
           ∙ ap (λ (b : BuilderView). b.texts) before.1)),
     )
+
+pub returns-in_default-clause-fits : goal.returns-in_default-clause-fits
+returns-in_default-clause-fits c = λ within low is task fitted.
+    c.step_to.ensures.fits (low, is.start) (inside_leaf _ _ within) ∙ fitted
+
+pub returns-in_default-clause-within : goal.returns-in_default-clause-within
+returns-in_default-clause-within c = λ is task. is
+
+-- where a task marker ends
+past : (c : goal.After-step_to-2) → IsInText c.args.placing.now.builder.text c.args.line
+    → HasTask c.args.placing.now.builder.text c.args.task c.args.line
+    → IsPastTask c.args.placing.now.builder.text c.args.line
+past c is task =
+    let text = c.args.placing.now.builder.text in
+    past_task text c.args.line c.in-Some.done (subst IsUtf8 (c.text.ensures ∙ c.step_to.ensures.text) c.text.utf8) is
+    (subst (λ t. HasTask text t c.args.line) c.in-Some.is task)
+
+pub returns-clause-within : goal.returns-clause-within
+returns-clause-within c = λ is task.
+    let after = past c is task in
+    let end = after.past in
+    let high = is.stop.0 in
+    let start : c.saturating_add-start.result ≡ c.args.line.start
+    + task_length (slice_range c.args.placing.now.builder.text c.args.line.start c.args.line.stop) = search rules in
+    rest_in_text c.args.placing.now.builder.text c.args.line c.saturating_add-start.result is after start
+
+pub returns-clause-fits : goal.returns-clause-fits
+returns-clause-fits c = λ within low is task fitted.
+    let old = c.args.placing.now.builder in
+    let after = past c is task in
+    let end = after.past in
+    let three = after.three in
+    let high = is.stop.0 in
+    let marker : c.saturating_add.result ≡ c.args.line.start + 3 = search rules in
+    let start : c.saturating_add-start.result ≡ c.args.line.start
+    + task_length (slice_range old.text c.args.line.start c.args.line.stop) = search rules in
+    let first = c.step_to.ensures.fits (low, is.start) (inside_leaf _ _ within) ∙ fitted in
+    let stepped = (c.step_to.ensures.steps first).1 in
+    let begun = still_open old c.step_to.new.self.builder (ap (λ (b : BuilderView). b.leaf) stepped)
+    (ap (λ (b : BuilderView). b.blocks) stepped) within in
+    let second = c.in_ok-add_inline.ensures.fits begun.leaf
+    (ahead_of old.text c.args.line.start _ c.step_to.new.self.builder c.step_to.ensures.text
+    (ap (λ (b : BuilderView). b.at) stepped) (omega (arith, marker))
+    (subst (IsCharBoundary old.text) (sym marker) after.marker)) ∙ first in
+    let added = (c.in_ok-add_inline.ensures.appends second).1 in
+    let marked = still_open c.step_to.new.self.builder c.add_inline.new.self.builder
+    (ap (λ (b : BuilderView). b.leaf) added) (ap (λ (b : BuilderView). b.blocks) added) begun in
+    c.step_to-2.ensures.fits
+    (ahead_of old.text c.saturating_add.result _ c.add_inline.new.self.builder
+    (c.in_ok-add_inline.ensures.text ∙ c.step_to.ensures.text)
+    (ap (λ (b : BuilderView). b.at) added) (omega (arith, marker, start, three))
+    (subst (IsCharBoundary old.text) (sym start) after.rest))
+    (inside_leaf _ _ marked) ∙ second

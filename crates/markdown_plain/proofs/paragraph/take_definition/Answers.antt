@@ -106,3 +106,12 @@ returns-clause-takes c =
       subst (TakesDefinitions c.args.names old new lines sources) taken
           (takes_first c.args.names old new lines sources line.start found filled is_first definitions),
     )
+
+pub returns-then-first-clause-fits : goal.returns-then-first-clause-fits
+returns-then-first-clause-fits c = ?
+
+pub returns-clause-fits : goal.returns-clause-fits
+returns-clause-fits c = ?
+
+pub returns-clause-ahead : goal.returns-clause-ahead
+returns-clause-ahead c = ?

@@ -1,8 +1,9 @@
 -- The text stays, and nothing but the current byte offset and the definitions change: those of the lines that are taken
 -- were added, after which the byte offset is.
-use Rattle.std.proofs.Common.{◌≡◌, ◌<◌, ◌≤◌, ◌-◌, List, length}
+use Rattle.std.proofs.Common.{◌≡◌, ◌<◌, ◌≤◌, ◌-◌, List, drop, length}
 use Rattle.markdown_lines.specs.SourceLines.{SourceLine}
-use Rattle.markdown_plain.specs.Fitting.{IfFitted, defining}
+use Rattle.markdown_plain.specs.Closable.{AreAhead}
+use Rattle.markdown_plain.specs.Fitting.{AllFitted, IfFitted, defining}
 use Rattle.markdown_plain.specs.HeldSources.{IsParagraph}
 use Rattle.markdown_plain.specs.Paragraphs.{end_of}
 use Rattle.markdown_plain.specs.TakenDefinitions.{TakesDefinitions}
@@ -15,6 +16,9 @@ invariant-definitions l = record {
       ≡ defining l.fn.placing.builder l.placing.builder.definitions l.placing.builder.at);
   within : l.taken ≤ length l.lines;
   after : 0 < l.taken → IfFitted l.fn.placing l.placing (l.placing.builder.at ≡ end_of l.lines l.taken);
+  fits : AreAhead l.fn.placing.builder l.lines → AllFitted l.fn.placing → AllFitted l.placing;
+  ahead : AreAhead l.fn.placing.builder l.lines → AllFitted l.placing
+      → AreAhead l.placing.builder (drop l.taken l.lines);
   takes : (sources : List SourceLine) → IsParagraph l.fn.placing.builder.text l.lines sources
       → IfFitted l.fn.placing l.placing
       (TakesDefinitions l.names l.fn.placing.builder l.placing.builder l.lines sources l.taken);

@@ -3,6 +3,9 @@ use Rattle.std.proofs.Common.{refl, rules, ap, subst, ◌∙◌, ◌≡◌, true
 use Rattle.markdown_builder.specs.BuilderView.{BuilderView}
 use Rattle.markdown_plain.specs.Fitting.{PutsBlock, closed}
 use Rattle.markdown_plain.proofs.ClosedFramesLemmas.{list_forgotten, other_forgotten, quote_forgotten}
+use Rattle.markdown_plain.proofs.ClosableLemmas.{closed_here, innermost_no_row}
+use Rattle.markdown_plain.specs.Containers.{closing_place}
+use Rattle.markdown_plain.specs.Fitting.{IfFitted}
 use Rattle.markdown_plain.proofs.pass.Pass.close_block.Goals as goal
 use Rattle.markdown_plain.proofs.FramesInsideLemmas.{list_of_last}
 use Rattle.markdown_plain.proofs.OpenListsLemmas.{other_closed}
@@ -75,3 +78,31 @@ returns-in_default-clause-loose c = λ texts frames f inside these nested loose.
     let inner : innermost_is is_list old.placing.builder.blocks ≡ false = search rules in
     other_closed old.looseness old.looseness frames f inside refl refl
     (sym (list_of_last texts old.placing.builder.blocks frames f these) ∙ inner) nested loose
+
+pub returns-in-Some-List-clause-here : goal.returns-in-Some-List-clause-here
+returns-in-Some-List-clause-here c = λ is some fitted.
+    let old = c.args.self.now in
+    let new = c.close_list.new.placing.builder in
+    let closes : IfFitted old.placing c.close_list.new.placing (new ≡ record (closed old.placing.builder new.levels)
+    { at = closing_place old }) = search rules in
+    closed_here old.placing.builder new old.placed new.levels is some (closes fitted).1
+
+pub returns-in-Some-BlockQuote-clause-here : goal.returns-in-Some-BlockQuote-clause-here
+returns-in-Some-BlockQuote-clause-here c = λ is some fitted.
+    let old = c.args.self.now in
+    let new = c.close.new.self.builder in
+    let closes : IfFitted old.placing c.close.new.self (new ≡ record (closed old.placing.builder new.levels)
+    { at = closing_place old }) = search rules in
+    closed_here old.placing.builder new old.placed new.levels is some (closes fitted).1
+
+pub returns-in_default-clause-here : goal.returns-in_default-clause-here
+returns-in_default-clause-here c = λ is some fitted.
+    let old = c.args.self.now in
+    let new = c.close-in_default.new.self.builder in
+    let closes : IfFitted old.placing c.close-in_default.new.self (new ≡ record (closed old.placing.builder new.levels)
+    { at = closing_place old }) = search rules in
+    closed_here old.placing.builder new old.placed new.levels is some (closes fitted).1
+
+pub returns-in_default-clause-fits : goal.returns-in_default-clause-fits
+returns-in_default-clause-fits c = λ is some fitted.
+    c.close-in_default.ensures.fits some (innermost_no_row _ is.containers) ∙ fitted

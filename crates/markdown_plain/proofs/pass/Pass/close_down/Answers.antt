@@ -1,10 +1,11 @@
 -- A turn closes the innermost block, which is not one of the outermost blocks that stay.
-use Rattle.std.proofs.Common.{◌≡◌, ◌∙◌, ◌<◌, suc, ap, refl, sym, subst, length, take, drop, arith, rules, ◌≤◌, List}
+use Rattle.std.proofs.Common.{◌≡◌, ◌∙◌, ◌<◌, suc, ap, refl, sym, subst, length, take, drop, arith, rules, ◌≤◌, List, []}
 use Rattle.markdown_base.specs.Forest.{Forest}
 use Rattle.markdown_builder.specs.BuilderView.{BuilderView}
 use Rattle.markdown_builder.specs.TreeLevels.{followed_by}
 use Rattle.markdown_lines.specs.BlockBeginnings.{Source}
 use Rattle.markdown_block_rules.specs.BlockGrowth.{Block}
+use Rattle.markdown_plain.specs.Closable.{AreClosable}
 use Rattle.markdown_plain.specs.Closing.{MayClose}
 use Rattle.markdown_plain.specs.Fitting.{AllFitted}
 use Rattle.markdown_plain.specs.Frames.{Frame, rebuilt}
@@ -29,6 +30,23 @@ one_less_open c fitted =
     let more : c.args.depth < length c.blocks-2.self.placing.builder.blocks = omega (arith, left) in
     let same = ap (λ (b : BuilderView). length b.blocks) done.1
     ∙ length_of_outer c.blocks-2.self.placing.builder.blocks in (more, omega (arith, more, same))
+
+-- where the block quotes end stays the same
+placed_is : (c : goal.After-close_block) → c.blocks-2.self.placed ≡ c.args.self.now.placed
+placed_is c = ap (λ (p : Pass). p.placed) c.blocks-2.invariant.same
+
+placed_same : (c : goal.After-close_block)
+    → AreClosable c.blocks-2.self.placing.builder c.args.self.now.placed
+    → AreClosable c.blocks-2.self.placing.builder c.blocks-2.self.placed
+placed_same c here = subst (AreClosable c.blocks-2.self.placing.builder) (sym (placed_is c)) here
+
+-- a block is open before each turn
+some_open : (c : goal.After-close_block) → AllFitted c.blocks-2.self.placing
+    → c.blocks-2.self.placing.builder.blocks ≡ [] → ⊥
+some_open c fitted none =
+    let left = (c.blocks-2.invariant.left fitted).1 in
+    let some : 0 < length c.blocks-2.self.placing.builder.blocks = omega (arith, left) in
+    absurd (omega (arith, some, ap length none))
 
 pub blocks-2-preserved : goal.blocks-2-preserved
 blocks-2-preserved c =
@@ -60,6 +78,14 @@ blocks-2-preserved c =
           let closed = one_less_open c fitted in
           ((before.least (fits fitted)).0, λ few. absurd (omega (arith, closed.0, closed.1, few)));
       fitted = λ fitted. before.fitted (fits fitted);
+      fits = λ is fitted.
+          let now = before.fits is fitted in
+          let here = before.here is now in
+          c.close_block.ensures.fits (placed_same c here) (some_open c now) now;
+      here = λ is fitted.
+          let here = before.here is (fits fitted) in
+          subst (AreClosable c.close_block.new.self.placing.builder) (placed_is c)
+          (c.close_block.ensures.here (placed_same c here) (some_open c (fits fitted)) fitted);
       forgets = λ s frames inside may fitted.
           let stands = before.forgets s frames inside may (fits fitted) in (
             stands.0,
@@ -95,6 +121,8 @@ blocks-2-init c = record {
   looseness = search rules;
   least = search rules;
   fitted = λ fitted. fitted;
+  fits = λ is fitted. c.in_ok-end_leaf.ensures.fits is fitted;
+  here = λ is fitted. c.in_ok-end_leaf.ensures.here is fitted;
   forgets = λ s frames inside may fitted. (
     fitted,
     all_kept s c.end_leaf.new.self frames inside _ (open_containers s c.end_leaf.new.self frames inside may) may,

@@ -4,6 +4,7 @@ use Rattle.std.proofs.Common.{◌≡◌, ◌+◌, ◌<◌, ◌≤◌, List, [], 
 use Rattle.markdown_base.specs.Forest.{Forest}
 use Rattle.markdown_lines.specs.BlockBeginnings.{Source}
 use Rattle.markdown_block_rules.specs.BlockGrowth.{Block}
+use Rattle.markdown_plain.specs.Closable.{AreClosable, IsClosable}
 use Rattle.markdown_plain.specs.Closing.{MayClose}
 use Rattle.markdown_plain.specs.Frames.{Frame, rebuilt, AreNested}
 use Rattle.markdown_plain.proofs.ClosedListsLemmas.{AreClosedTo}
@@ -37,6 +38,9 @@ invariant-blocks-2 l = record {
   least : IfFitted l.fn.self.placing l.self.placing (length l.self.placing.builder.blocks < l.depth
       → length l.initial.self.placing.builder.blocks ≤ length l.self.placing.builder.blocks);
   fitted : AllFitted l.self.placing → AllFitted l.initial.self.placing;
+  fits : IsClosable l.fn.self → AllFitted l.fn.self.placing → AllFitted l.self.placing;
+  here : IsClosable l.fn.self → AllFitted l.self.placing
+      → AreClosable l.self.placing.builder l.fn.self.placed;
   forgets : (s : Source) (frames : List Frame) (inside : Forest Block) → MayClose s l.initial.self frames inside
       → IfFitted l.initial.self.placing l.self.placing
       (MayClose s l.self (take (length l.self.placing.builder.blocks) frames)

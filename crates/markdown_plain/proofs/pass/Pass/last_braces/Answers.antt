@@ -7,6 +7,10 @@ use Rattle.markdown_lines.specs.declared.held_line.HeldLine.{HeldLine}
 use Rattle.markdown_plain.proofs.ParagraphBracesLemmas.{heading_last, none_of_paragraph, none_read}
 use Rattle.markdown_plain.proofs.pass.Pass.last_braces.Goals.{then-is_none-via-then-is_none}
 use Rattle.markdown_plain.proofs.pass.Pass.last_braces.Goals.{then-is_none-via-else-is_none+then-not-attributes_read}
+use Rattle.std.proofs.lemmas.Option.{same_Some}
+use Rattle.std.specs.Str.{IsUtf8}
+use Rattle.markdown_plain.specs.Closable.{HasBraces}
+use Rattle.markdown_plain.proofs.ParagraphBracesLemmas.{braces_within}
 use Rattle.markdown_plain.proofs.pass.Pass.last_braces.Goals as goal
 
 pub returns-then-is_none-clause-value : goal.returns-then-is_none-clause-value
@@ -28,3 +32,14 @@ returns-clause-value c = λ sources from are less.
     ∙ (ap (λ t. option_map (braces_from line.start) (braces_in (slice_range t line.start line.stop))) c.text.ensures
     ∙ heading_last c.args.self.now.options c.args.heading text lines sources from line c.if-is_none.ensures
     (sym c.attributes_read.ensures ∙ c.if-not-attributes_read.false) are less there)
+
+pub returns-clause-fits : goal.returns-clause-fits
+returns-clause-fits c = λ other found.
+    let text = c.args.self.now.placing.builder.text in
+    let line = c.in_ok-last.last.now in
+    let there = subst (λ (ls : List HeldLine). Some line ≡ slice_get ls (length ls - 1)) c.deref.ensures.value
+    c.in_ok-last.ensures.value in
+    subst (HasBraces text c.braces_at.result) (same_Some line other (there ∙ found))
+    (subst (λ braces. HasBraces text braces line) (sym (c.braces_at.ensures
+    ∙ ap (λ t. option_map (braces_from line.start) (braces_in (slice_range t line.start line.stop))) c.text.ensures))
+    (braces_within text line (subst IsUtf8 c.text.ensures c.text.utf8)))

@@ -1,0 +1,466 @@
+-- Calls that end a paragraph and close blocks fit.
+use Rattle.std.proofs.Common.{◌≡◌, ℕ, zero, suc, ◌+◌, ◌-◌, ◌<◌, ◌≤◌, Bool, true, false, List, [], ◌∷◌, ◌++◌, Option, Some, None}
+use Rattle.std.proofs.Common.{length, drop, take, slice_range, reverse, ⊎_elim, refl, sym, ap, ◌∙◌, subst, arith}
+use Rattle.std.specs.Prelude.{get_or, slice_get, slice_index, ◌==◌, ◌&&◌, ◌||◌, ◌%◌, if◌then◌else◌, nat_lt}
+use Rattle.std.specs.Str.{IsCharBoundary, IsUtf8}
+use Rattle.std.specs.List.{prefix_len, suffix_len}
+use Rattle.std.proofs.lemmas.Bool.{and_parts, cases_lt, true≢false}
+use Rattle.markdown_base.specs.Bytes.{backslash, close_bracket, open_bracket}
+use Rattle.markdown_base.specs.declared.item.ItemBody.TheVariants as body
+use Rattle.markdown_lines.specs.LineBreaks.{IsLineBreak}
+use Rattle.markdown_lines.specs.declared.line_break.LineBreak.{LineBreak}
+use Rattle.markdown_plain.proofs.LeafTreesLemmas.{on_test}
+use Rattle.std.proofs.lemmas.Bool.Decides.{nat_tests}
+use Rattle.std.proofs.lemmas.List.{get_or-drop, get_or-reverse, get_or-take}
+use Rattle.std.proofs.lemmas.List.Sums.{prefix_len_passes}
+use Rattle.std.proofs.lemmas.Option.{same_Some}
+use Rattle.std.proofs.lemmas.Str.{IsCharBoundary-after_ascii, IsCharBoundary-before_ascii}
+use Rattle.std.specs.Prelude.{MatchOption}
+use Rattle.markdown_base.specs.declared.item.ItemBody.{ItemBody}
+use Rattle.markdown_base.specs.declared.tag.HeadingLevel.{HeadingLevel}
+use Rattle.markdown_builder.specs.Bodies.{is_leaf}
+use Rattle.markdown_builder.specs.BuilderView.{BuilderView, Opens}
+use Rattle.markdown_builder.specs.EvenRows.{is_in_row, is_table_row}
+use Rattle.markdown_builder.specs.declared.open_block.OpenBlock.{OpenBlock}
+use Rattle.markdown_lines.specs.declared.line.Line.{Line}
+use Rattle.markdown_plain.proofs.OpenBlocksLemmas.{innermost_of_opened, last_apart}
+use Rattle.markdown_plain.specs.Containers.{is_container}
+use Rattle.markdown_plain.specs.OpenBlocks.{innermost_is, is_quote, outer_of}
+use Rattle.markdown_base.specs.Forest.{Forest}
+use Rattle.markdown_builder.specs.Shown.{Shown}
+use Rattle.markdown_plain.specs.declared.pass.Pass.{Pass}
+use Rattle.markdown_lines.specs.Lines.{AllPass, is_in_blank_line, is_space_or_tab}
+use Rattle.markdown_lines.specs.TaskMarkers.{is_task_done, is_task_space, task_length, task_marker}
+use Rattle.markdown_lines.specs.declared.held_line.HeldLine.{HeldLine}
+use Rattle.markdown_plain.proofs.ParagraphLinesLemmas.{if_some, marker_within, range_byte, range_length}
+use Rattle.markdown_plain.specs.declared.paragraph.Ends.{Ends}
+use Rattle.markdown_plain.specs.Closable.{AreApart, AreClosable, AreContainers, AreInText, has_quote, HasBraces, HasRoomFor, HasTask, HaveTask, IsPlaceable, IsInText, IsLastInText, IsLeafOpen}
+use Rattle.markdown_lines.specs.declared.braces.Braces.{Braces}
+use Rattle.std.specs.Option.{option_map_or}
+use Rattle.markdown_plain.specs.Fitting.{AllFitted, GoesOn, OpensHeading, closed, IsAhead, IsWhiteOutside, stepped}
+
+-- where a leaf is open, no call is outside blocks
+pub inside_leaf : (builder : BuilderView) (to : ℕ) → IsLeafOpen builder → IsWhiteOutside builder to
+inside_leaf builder to is none = absurd (is.some none)
+
+-- a leaf stays open
+pub still_open : (old new : BuilderView) → new.leaf ≡ old.leaf → new.blocks ≡ old.blocks → IsLeafOpen old
+    → IsLeafOpen new
+still_open old new leaf blocks is = record {
+  leaf = leaf ∙ is.leaf;
+  some = λ none. is.some (sym blocks ∙ none);
+}
+
+-- a byte offset is ahead of where a builder is now
+pub ahead_of : (text : List ℕ) (at to : ℕ) (builder : BuilderView) → builder.text ≡ text → builder.at ≡ at → at ≤ to
+    → IsCharBoundary text to → IsAhead builder to
+ahead_of text at to builder same here low boundary =
+    (omega (arith, here, low), subst (λ t. IsCharBoundary t to) (sym same) boundary)
+
+-- ---- a task marker
+
+small_space : (byte : ℕ) → is_task_space byte ≡ true → byte < 128
+small_space byte e = grind (arith, nat_tests, e)
+
+-- white space follows a task marker
+has_parted : (bytes : List ℕ) (done : Bool) → task_marker bytes ≡ Some done → is_task_space (slice_index bytes 3) ≡ true
+has_parted bytes done e =
+    let test = if_some ((slice_index bytes 0 == open_bracket) && (slice_index bytes 2 == close_bracket)
+    && is_task_space (slice_index bytes 3)) (is_task_done (slice_index bytes 1)) done e in
+    (and_parts _ _ test.0).1
+
+-- the byte offsets after a task marker, and after the white space that follows it
+pub record IsPastTask (text : List ℕ) (line : HeldLine) : Type 0 where
+  pub three : line.start + 3 ≤ line.start + task_length (slice_range text line.start line.stop)
+  pub past : line.start + task_length (slice_range text line.start line.stop) ≤ line.stop
+  pub marker : IsCharBoundary text (line.start + 3)
+  pub rest : IsCharBoundary text (line.start + task_length (slice_range text line.start line.stop))
+
+task_space_at : (bytes : List ℕ) (k : ℕ) → 3 ≤ k → k < task_length bytes
+    → is_task_space (get_or bytes k 0) ≡ true
+task_space_at bytes k low less =
+    let place : 3 + (k - 3) ≡ k = omega (arith, low) in
+    ap (λ n. is_task_space (get_or bytes n 0)) (sym place) ∙ (ap is_task_space (sym (get_or-drop 3 bytes (k - 3) 0))
+    ∙ prefix_len_passes is_task_space (drop 3 bytes) (k - 3) 0 (omega (arith, low, less)))
+
+some_space : (bytes : List ℕ) → 4 ≤ length bytes → is_task_space (slice_index bytes 3) ≡ true
+    → 0 < prefix_len is_task_space (drop 3 bytes)
+some_space (a ∷ b ∷ c ∷ d ∷ bytes) long e = rw e (omega arith)
+some_space [] long e = absurd (omega (arith, long))
+some_space (a ∷ []) long e = absurd (omega (arith, long))
+some_space (a ∷ b ∷ []) long e = absurd (omega (arith, long))
+some_space (a ∷ b ∷ c ∷ []) long e = absurd (omega (arith, long))
+
+pub past_task : (text : List ℕ) (line : HeldLine) (done : Bool) → IsUtf8 text → IsInText text line
+    → task_marker (slice_range text line.start line.stop) ≡ Some done → IsPastTask text line
+past_task text line done utf8 is e =
+    let bytes = slice_range text line.start line.stop in
+    let n = task_length bytes in
+    let parted = has_parted bytes done e in
+    let inside = marker_within bytes done e in
+    let size = range_length text line.start line.stop is.stop.0 in
+    let some = some_space bytes inside.0 parted in
+    let high = is.stop.0 in
+    let long = inside.0 in
+    let most = inside.1 in
+    let ordered = is.content in
+    let byte : (k : ℕ) → 3 ≤ k → k < n → get_or text (line.start + k) 0 < 128 = λ k low less.
+    subst (λ b. b < 128) (range_byte text line.start line.stop k (omega (arith, less, most, size)))
+    (small_space (get_or bytes k 0) (task_space_at bytes k low less)) in
+    let last : (line.start + (n - 1)) + 1 ≡ line.start + n = omega (arith, some) in
+    record {
+      three = omega arith;
+      past = omega (arith, most, size, ordered, long);
+      marker = IsCharBoundary-before_ascii text (line.start + 3) (omega (arith, high, long, size, ordered))
+          (byte 3 (omega arith) (omega (arith, some)));
+      rest = subst (IsCharBoundary text) last (IsCharBoundary-after_ascii text (line.start + (n - 1)) utf8
+          (omega (arith, high, long, most, some, size, ordered)) (byte (n - 1) (omega (arith, some)) (omega (arith, some))));
+    }
+
+-- what follows the marker in its line
+pub rest_in_text : (text : List ℕ) (line : HeldLine) (start : ℕ) → IsInText text line → IsPastTask text line
+    → start ≡ line.start + task_length (slice_range text line.start line.stop)
+    → IsInText text (record line { start = start })
+rest_in_text text line start is past e =
+    let end = past.past in
+    record {
+      content = omega (arith, e, end);
+      ending = is.ending;
+      start = subst (IsCharBoundary text) (sym e) past.rest;
+      stop = is.stop;
+      next = is.next;
+    }
+
+-- ---- the end of a line
+
+-- where a line is cut before its break
+pub record IsBreakIn (text : List ℕ) (from stop : ℕ) (between : LineBreak) : Type 0 where
+  pub low : from ≤ between.text_end
+  pub ordered : between.text_end ≤ between.start
+  pub high : between.start ≤ stop
+  pub end : IsCharBoundary text between.text_end
+  pub start : IsCharBoundary text between.start
+
+pub break_in : (text : List ℕ) (from stop : ℕ) (between : LineBreak) → IsCharBoundary text stop → from ≤ stop
+    → IsLineBreak text from stop between → IsBreakIn text from stop between
+break_in text from stop between boundary ordered is =
+    subst (IsBreakIn text from stop) (sym is.value)
+    (on_test (IsBreakIn text from stop) ((stop - is.backslashes) % 2 == 1)
+    (record { text_end = stop - 1; start = stop - 1; body = body.HardBreak true }) _
+    (λ odd.
+    let low = is.backslash_run.low in
+    let some : is.backslashes < stop = odd_some stop is.backslashes odd in
+    let slash = is.backslash_run.passes (stop - 1) (omega (arith, some)) (omega (arith, some)) in
+    let cut = IsCharBoundary-before_ascii text (stop - 1) (omega (arith, boundary.0, some)) (small_slash _ slash) in
+    record { low = omega (arith, low, some); ordered = omega arith; high = omega arith; end = cut; start = cut })
+    (λ even.
+    let low = is.content_run.low in
+    let high = is.content_run.high in
+    let most = is.space_run.high in
+    on_test (IsBreakIn text from stop) (nat_lt (stop - is.spaces) 2)
+    (record { text_end = is.content; start = stop; body = body.SoftBreak })
+    (record { text_end = is.content; start = is.spaces; body = body.HardBreak false })
+    (λ few. record {
+      low = low;
+      ordered = omega (arith, high, most);
+      high = omega arith;
+      end = is.content_run.boundary;
+      start = boundary;
+    })
+    (λ many. record {
+      low = low;
+      ordered = high;
+      high = most;
+      end = is.content_run.boundary;
+      start = is.space_run.boundary;
+    })))
+  where
+    odd_some : (stop from : ℕ) → ((stop - from) % 2 == 1) ≡ true → from < stop
+    odd_some stop from odd = ⊎_elim (λ (less : from < stop). less)
+        (λ (most : stop ≤ from).
+        let none : stop - from ≡ 0 = omega (arith, most) in
+        absurd (true≢false (sym odd ∙ ap (λ n. n % 2 == 1) none)))
+        (cases_lt from stop)
+    small_slash : (byte : ℕ) → (byte == backslash) ≡ true → byte < 128
+    small_slash byte e = grind (arith, nat_tests, e)
+
+-- the bytes at the end pass the test of the run there
+end_passes : (test : ℕ → Bool) (bytes : List ℕ) (k : ℕ) → length bytes - suffix_len test bytes ≤ k → k < length bytes
+    → test (get_or bytes k 0) ≡ true
+end_passes test bytes k low less =
+    let back = length bytes - 1 - k in
+    let place : length bytes - 1 - back ≡ k = omega (arith, less) in
+    ap (λ n. test (get_or bytes n 0)) (sym place)
+    ∙ (ap test (sym (get_or-reverse bytes back 0 (omega (arith, less))))
+    ∙ prefix_len_passes test (reverse bytes) back 0 (omega (arith, low, less)))
+
+-- where a line ends without the white space at its end
+pub record IsTrimmed (text : List ℕ) (line : HeldLine) (end : ℕ) : Type 0 where
+  pub low : line.start ≤ end
+  pub high : end ≤ line.next
+  pub boundary : IsCharBoundary text end
+
+pub trimmed : (text : List ℕ) (line : HeldLine) (n : ℕ) → IsLastInText text line
+    → n ≡ length (slice_range text line.start line.stop)
+    - suffix_len is_space_or_tab (slice_range text line.start line.stop)
+    → IsTrimmed text line (line.start + n)
+trimmed text line n is e =
+    let bytes = slice_range text line.start line.stop in
+    let size : length bytes ≡ line.stop - line.start = range_length text line.start line.stop is.stop.0 in
+    let begins = is.begins in
+    let ending = is.ending in
+    let first = is.start.0 in
+    let last = is.stop.0 in
+    record {
+      low = omega arith;
+      high = omega (arith, e, size, begins, ending);
+      boundary = ⊎_elim (λ (less : n < length bytes).
+          let space = end_passes is_space_or_tab bytes n (omega (arith, e)) less in
+          let byte = range_byte text line.start line.stop n (omega (arith, less, size)) in
+          IsCharBoundary-before_ascii text (line.start + n) (omega (arith, less, size, last))
+          (small_white (get_or text (line.start + n) 0) (ap is_space_or_tab (sym byte) ∙ space)))
+          (λ (all : length bytes ≤ n). ⊎_elim (λ (less : line.stop < line.start).
+          subst (IsCharBoundary text) (omega (arith, e, size, less)) is.start)
+          (λ (more : line.start ≤ line.stop).
+          subst (IsCharBoundary text) (omega (arith, e, all, size, more)) is.stop)
+          (cases_lt line.stop line.start))
+          (cases_lt n (length bytes));
+    }
+  where
+    small_white : (byte : ℕ) → is_space_or_tab byte ≡ true → byte < 128
+    small_white byte e = grind (arith, nat_tests, e)
+
+-- ---- lines cut off at braces
+
+pub last_in_text : (text : List ℕ) (line : HeldLine) → IsInText text line → IsLastInText text line
+last_in_text text line is =
+    let content = is.content in
+    let ending = is.ending in
+    record {
+      begins = omega (arith, content, ending);
+      ending = ending;
+      start = is.start;
+      stop = is.stop;
+      next = is.next;
+    }
+
+-- braces are in what follows a task marker
+pub braces_of_rest : (text : List ℕ) (line rest : HeldLine) (braces : Option Braces) → rest.stop ≡ line.stop
+    → HasBraces text braces line → HasBraces text braces rest
+braces_of_rest text line rest None same has = tt
+braces_of_rest text line rest (Some braces) same has = let within = has.0 in (omega (arith, within, same), has.1)
+
+pub cut_in_text : (text : List ℕ) (line : HeldLine) (braces : Option Braces) → IsInText text line
+    → HasBraces text braces line
+    → IsLastInText text (record line { stop = option_map_or (λ braces. braces.opening) braces line.stop })
+cut_in_text text line None is has = last_in_text text line is
+cut_in_text text line (Some braces) is has =
+    let content = is.content in
+    let ending = is.ending in
+    let within = has.0 in
+    record {
+      begins = omega (arith, content, ending);
+      ending = omega (arith, within, ending);
+      start = is.start;
+      stop = has.1;
+      next = is.next;
+    }
+
+-- ---- one line after another
+
+-- the line with a number, from a byte offset on, and the lines after it
+pub record IsLineAt (text : List ℕ) (from : ℕ) (task : Option Bool) (lines : List HeldLine) (n : ℕ) (line : HeldLine)
+    : Type 0 where
+  pub there : slice_get lines n ≡ Some line
+  pub low : from ≤ line.start
+  pub is : IsInText text line
+  pub marked : HasTask text task line
+  pub rest : AreInText text line.next (drop (suc n) lines)
+
+pub line_at : (text : List ℕ) (from : ℕ) (task : Option Bool) (lines : List HeldLine) (n : ℕ) (other : HeldLine)
+    → n < length lines → AreInText text from (drop n lines) → HaveTask text task (drop n lines)
+    → IsLineAt text from task lines n (get_or lines n other)
+line_at text from task [] n other less are has = absurd (omega (arith, less))
+line_at text from task (line ∷ lines) zero other less are has =
+    record { there = refl; low = are.0; is = are.1.0; marked = has; rest = are.1.1 }
+line_at text from task (line ∷ lines) (suc n) other less are has =
+    let found = line_at text from task lines n other (omega (arith, less)) are has in
+    record { there = found.there; low = found.low; is = found.is; marked = found.marked; rest = found.rest }
+
+-- the last line, without its task marker and its braces
+pub last_cut : (builder : BuilderView) (lines : List HeldLine) (n : ℕ) (ends : Ends) (line rest cut : HeldLine)
+    → n ≡ length lines - 1 → slice_get lines n ≡ Some line → HasRoomFor builder lines n ends → rest.stop ≡ line.stop
+    → IsInText builder.text rest
+    → cut ≡ record rest { stop = option_map_or (λ braces. braces.opening) ends.braces rest.stop }
+    → IsLastInText builder.text cut
+last_cut builder lines n ends line rest cut last there room same is e =
+    subst (IsLastInText builder.text) (sym e) (cut_in_text builder.text rest ends.braces is
+    (braces_of_rest builder.text line rest ends.braces same
+    (room.braces line (subst (λ k. slice_get lines k ≡ Some line) last there))))
+
+-- there is room for the lines after a line that was appended
+pub room_after : (old new : BuilderView) (lines : List HeldLine) (n : ℕ) (ends : Ends) (other : HeldLine) (next : ℕ)
+    → n < length lines → HasRoomFor old lines n ends → next ≡ (get_or lines n other).next → GoesOn old new next
+    → HasRoomFor new lines (n + 1) (record ends { task = None })
+room_after old new lines n ends other next less room e goes =
+    let t = line_at old.text old.at ends.task lines n other less room.order room.task in
+    let same : new.text ≡ old.text = ap (λ (b : BuilderView). b.text) goes in
+    let at : new.at ≡ (get_or lines n other).next = ap (λ (b : BuilderView). b.at) goes ∙ e in
+    let one : suc n ≡ n + 1 = omega arith in
+    record {
+      inside = still_open old new (ap (λ (b : BuilderView). b.leaf) goes) (ap (λ (b : BuilderView). b.blocks) goes)
+          room.inside;
+      order = subst (λ k. AreInText new.text new.at (drop k lines)) one
+          (subst (λ text. AreInText text new.at (drop (suc n) lines)) (sym same)
+          (subst (λ k. AreInText old.text k (drop (suc n) lines)) (sym at) t.rest));
+      task = no_task new.text (drop (n + 1) lines);
+      braces = λ line there. subst (λ text. HasBraces text ends.braces line) (sym same) (room.braces line there);
+    }
+  where
+    no_task : (text : List ℕ) (lines : List HeldLine) → HaveTask text None lines
+    no_task text [] = tt
+    no_task text (line ∷ lines) = tt
+
+-- ---- opening a paragraph or a heading
+
+-- blocks inside others are some
+pub never_none : (outer : List OpenBlock) (block : OpenBlock) → outer ++ block ∷ [] ≡ [] → ⊥
+never_none [] block e = absurd (omega (arith, ap length e))
+never_none (first ∷ outer) block e = absurd (omega (arith, ap length e))
+
+-- the leaf of a text was opened, which is no row
+pub record IsTextOpened (old new : BuilderView) : Type 0 where
+  pub text : new.text ≡ old.text
+  pub at : new.at ≡ old.at
+  pub inside : IsLeafOpen new
+  pub other : is_in_row new.blocks ≡ false
+
+opened_as : (old new : BuilderView) (b : ItemBody) → is_leaf b ≡ true → is_table_row b ≡ false → new.text ≡ old.text
+    → new.at ≡ old.at → new.leaf ≡ is_leaf b → new.blocks ≡ old.blocks ++ record { start = old.at; body = b } ∷ []
+    → IsTextOpened old new
+opened_as old new b leaf row text at now blocks =
+    let block : OpenBlock = record { start = old.at; body = b } in
+    record {
+      text = text;
+      at = at;
+      inside = record { leaf = now ∙ leaf; some = λ none. never_none old.blocks block (sym blocks ∙ none) };
+      other = ap is_in_row blocks
+          ∙ (ap (λ found. option_map_or (λ (block : OpenBlock). is_table_row block.body) found false)
+          (innermost_of_opened old.blocks block) ∙ row);
+    }
+
+pub text_opened : (old new : BuilderView) (heading : Option (HeadingLevel × Line))
+    → MatchOption heading (Opens old new body.Paragraph) (λ h. OpensHeading old new h.0) → IsTextOpened old new
+text_opened old new None opens =
+    opened_as old new body.Paragraph refl refl (ap (λ (b : BuilderView). b.text) opens)
+    (ap (λ (b : BuilderView). b.at) opens) (ap (λ (b : BuilderView). b.leaf) opens)
+    (ap (λ (b : BuilderView). b.blocks) opens)
+text_opened old new (Some heading) opens =
+    opened_as old new (body.Heading heading.0 opens.0) refl refl (ap (λ (b : BuilderView). b.text) opens.1)
+    (ap (λ (b : BuilderView). b.at) opens.1) (ap (λ (b : BuilderView). b.leaf) opens.1)
+    (ap (λ (b : BuilderView). b.blocks) opens.1)
+
+-- the first of the lines that are placed, and the lines from it on
+pub record IsFirstLine (pass : Pass) (from : ℕ) (line : HeldLine) : Type 0 where
+  pub ahead : IsAhead pass.placing.builder line.start
+  pub white : IsWhiteOutside pass.placing.builder line.start
+  pub order : AreInText pass.placing.builder.text line.start (drop from pass.lines.items)
+
+-- lines in order from a byte offset on are in order from the first on, before which there may be white space only
+first_cut : (text : List ℕ) (at : ℕ) (lines : List HeldLine) (n : ℕ) (line : HeldLine) → n < length lines
+    → AreInText text at (drop n lines) → AreInText text (get_or lines n line).start (drop n lines)
+first_cut text at [] n line less are = absurd (omega (arith, less))
+first_cut text at (first ∷ lines) zero line less are = (omega arith, are.1)
+first_cut text at (first ∷ lines) (suc n) line less are = first_cut text at lines n line (omega (arith, less)) are
+
+first_apart : (text : List ℕ) (at : ℕ) (lines : List HeldLine) (n : ℕ) (line : HeldLine) → n < length lines
+    → AreApart text at (drop n lines) → AllPass is_in_blank_line text at (get_or lines n line).start
+first_apart text at [] n line less are = absurd (omega (arith, less))
+first_apart text at (first ∷ lines) zero line less are = are.0
+first_apart text at (first ∷ lines) (suc n) line less are = first_apart text at lines n line (omega (arith, less)) are
+
+pub first_line : (pass : Pass) (from : ℕ) (heading : Option (HeadingLevel × Line)) (line : HeldLine)
+    → IsPlaceable pass from heading → line ≡ get_or pass.lines.items from line → IsFirstLine pass from line
+first_line pass from heading line is held =
+    let builder = pass.placing.builder in
+    let lines = pass.lines.items in
+    let t = line_at builder.text builder.at _ lines from line is.some is.ahead.order is.task in
+    let here = ap (λ (l : HeldLine). l.start) held in
+    record {
+      ahead = subst (IsAhead builder) (sym here) (t.low, t.is.start);
+      white = λ none. subst (AllPass is_in_blank_line builder.text builder.at) (sym here)
+          (first_apart builder.text builder.at lines from line is.some (is.ahead.apart none));
+      order = subst (λ at. AreInText builder.text at (drop from lines)) (sym here)
+          (first_cut builder.text builder.at lines from line is.some is.ahead.order);
+    }
+
+-- ---- closing blocks
+
+-- where the innermost block passes a test, some block is open
+pub some_innermost : (test : ItemBody → Bool) (blocks : List OpenBlock) → innermost_is test blocks ≡ true
+    → blocks ≡ [] → ⊥
+some_innermost test [] e none = true≢false (sym e)
+some_innermost test (block ∷ blocks) e none = never_none [] block (absurd (omega (arith, ap length none)))
+
+-- a container is no row
+container_no_row : (b : ItemBody) → is_container b ≡ true → is_table_row b ≡ false
+container_no_row (body.BlockQuote kind) e = refl
+container_no_row (body.List tight character first) e = refl
+container_no_row (body.ListItem indent) e = refl
+container_no_row (body.FootnoteDefinition ix) e = refl
+container_no_row other e = absurd (true≢false (sym e))
+
+containers_apart : (outer : List OpenBlock) (block : OpenBlock) → AreContainers (outer ++ block ∷ [])
+    → AreContainers outer × (is_container block.body ≡ true)
+containers_apart [] block are = (tt, are.0)
+containers_apart (first ∷ outer) block are = let rest = containers_apart outer block are.1 in ((are.0, rest.0), rest.1)
+
+no_quote_apart : (outer : List OpenBlock) (block : OpenBlock) → has_quote outer ≡ false → is_quote block.body ≡ false
+    → has_quote (outer ++ block ∷ []) ≡ false
+no_quote_apart [] block none other = ap (λ q. q || false) other
+no_quote_apart (first ∷ outer) block none other =
+    neither (is_quote first.body) (has_quote outer) (has_quote (outer ++ block ∷ [])) none
+    (λ rest. no_quote_apart outer block rest other)
+  where
+    neither : (a b c : Bool) → (a || b) ≡ false → (b ≡ false → c ≡ false) → (a || c) ≡ false
+    neither true b c e then_c = absurd (true≢false e)
+    neither false b c e then_c = then_c e
+
+pub innermost_no_row : (blocks : List OpenBlock) → AreContainers blocks → is_in_row blocks ≡ false
+innermost_no_row [] are = refl
+innermost_no_row (first ∷ blocks) are =
+    let p = last_apart (first ∷ blocks) (λ none. absurd (omega (arith, ap length none))) in
+    let outer = outer_of (first ∷ blocks) in
+    ap is_in_row p.is
+    ∙ (ap (λ found. option_map_or (λ (block : OpenBlock). is_table_row block.body) found false)
+    (innermost_of_opened outer p.block)
+    ∙ container_no_row p.block.body (containers_apart outer p.block (subst AreContainers p.is are)).1)
+
+pub closed_here : (old new : BuilderView) (placed : ℕ) (levels : List (Forest Shown)) → AreClosable old placed
+    → (old.blocks ≡ [] → ⊥)
+    → new ≡ record (closed old levels) { at = if innermost_is is_quote old.blocks then placed else old.at }
+    → AreClosable new placed
+closed_here old new placed levels is some e =
+    let p = last_apart old.blocks some in
+    let outer = outer_of old.blocks in
+    let now : new.blocks ≡ outer = ap (λ (b : BuilderView). b.blocks) e in
+    let apart = containers_apart outer p.block (subst AreContainers p.is is.containers) in
+    let inner : innermost_is is_quote old.blocks ≡ is_quote p.block.body =
+    ap (innermost_is is_quote) p.is ∙ ap (λ found. option_map_or (λ (block : OpenBlock). is_quote block.body) found false)
+    (innermost_of_opened outer p.block) in
+    let at = ap (λ (b : BuilderView). b.at) e in
+    let text = ap (λ (b : BuilderView). b.text) e in
+    record {
+      outside = ap (λ (b : BuilderView). b.leaf) e;
+      containers = subst AreContainers (sym now) apart.0;
+      low = subst (λ n. n ≤ placed) (sym at)
+          (on_test (λ n. n ≤ placed) (innermost_is is_quote old.blocks) placed old.at (λ quote. omega arith)
+          (λ other. is.low));
+      boundary = subst (λ t. IsCharBoundary t placed) (sym text) is.boundary;
+      white = λ none. subst (λ t. AllPass is_in_blank_line t new.at placed) (sym text)
+          (subst (λ n. AllPass is_in_blank_line old.text n placed) (sym at)
+          (on_test (λ n. AllPass is_in_blank_line old.text n placed) (innermost_is is_quote old.blocks) placed old.at
+          (λ quote k low high. absurd (omega (arith, low, high)))
+          (λ other. is.white (ap has_quote p.is
+          ∙ no_quote_apart outer p.block (ap has_quote (sym now) ∙ none) (sym inner ∙ other)))));
+    }
