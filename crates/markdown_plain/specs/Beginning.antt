@@ -24,7 +24,10 @@ use Rattle.markdown_block_rules.specs.BlockGrowth.{Block, begun_by, content_of, 
 use Rattle.markdown_plain.specs.declared.block_pass.LineRest.{LineRest}
 use Rattle.markdown_plain.specs.declared.pass.Pass.{Pass}
 use Rattle.markdown_block_rules.specs.TableLines.{reads_tables}
+use Rattle.markdown_lines.specs.declared.atx_heading.AtxHeading.{AtxHeading}
+use Rattle.markdown_plain.specs.Closable.{IsReady}
 use Rattle.markdown_plain.specs.Closing.{AreItemsInLists, MayClose, MayEnd}
+use Rattle.markdown_plain.specs.Fits.{MayStep}
 use Rattle.markdown_plain.specs.Frames.{Frame, innermost_is, is_list, rebuilt}
 use Rattle.markdown_builder.specs.TreeLevels.{followed_by}
 use Rattle.markdown_plain.specs.OpenLeaves.{AreItemsOpenedIn, InfoStands, IsLineRest}
@@ -79,6 +82,20 @@ FoundStands text line at (start.Footnote label inside) = IsCharBoundary text ins
 FoundStands text line at (start.Item item) = IsCharBoundary text item.inside.at
 FoundStands text line at other = Unit
 
+-- the content of an ATX heading that begins at a byte offset is in its line, between characters
+pub record IsHeadingIn (text : List ℕ) (line : Line) (at : ℕ) (heading : AtxHeading) : Type 0 where
+  pub after : at ≤ heading.from
+  pub from : IsCharBoundary text heading.from
+  pub ordered : heading.from ≤ heading.to
+  pub to : IsCharBoundary text heading.to
+  pub within : heading.to ≤ line.stop
+
+-- what was found fits into the line
+abbrev pub FoundFits : List ℕ → Line → ℕ → BlockStart → Type 0
+FoundFits text line at (start.Heading heading) = IsHeadingIn text line at heading
+FoundFits text line at (start.IndentedCode code) = IsCharBoundary text code.at × (code.at ≤ line.stop)
+FoundFits text line at other = Unit
+
 -- the blocks that begin with the rest of a line: none where it is blank
 abbrev pub begun_in_rest : Source → SourceLine → Forest Block
 begun_in_rest s l = if is_blank_rest l then nil else begun_by s l
@@ -106,6 +123,7 @@ pub record IsInside (s : Source) (pass : Pass) (rest : LineRest) (frames : List 
   pub before : rest.before ≡ paragraph.NoParagraph
   pub whole : blocks ≡ rebuilt frames (begun_in_rest s source)
   pub items : AreItemsInLists false blocks
+  pub ahead : pass.placing.builder.at ≤ rest.position.at
 
 -- ---- before anything was opened in it
 
@@ -124,6 +142,7 @@ pub record Holds (s : Source) (pass : Pass) (frames : List Frame) (inside : Fore
   pub before : lines_end pass.lines.items ≤ from
   pub unheld : pass.placing.builder.leaf ≡ false → pass.blanks.items ≡ []
   pub earlier : AreOpenedBefore from frames
+  pub ready : IsReady pass from
 
 -- What the open containers left of a line is still to be read, and makes the blocks so far these ones, where no tables
 -- are read. No block but a paragraph goes on in it.
@@ -200,6 +219,7 @@ pub record HasRoom (s : Source) (pass : Pass) (rest : LineRest) (source : Source
   pub inside : Forest Block
   pub may : MayBegin s pass rest.line frames inside
   pub built : IsBuilt s pass.placing.builder frames inside
+  pub ready : MayStep pass.placing.builder (content_of source)
   pub free : innermost_is is_list frames ≡ false
   -- what is directly under the root is in no container any more
   pub outermost : source.outermost ≡ true → frames ≡ []

@@ -13,6 +13,7 @@ use Rattle.markdown_lines.specs.declared.braces.Braces.{Braces}
 use Rattle.markdown_lines.specs.declared.held_line.HeldLine.{HeldLine}
 use Rattle.markdown_lines.specs.declared.line.Line.{Line}
 use Rattle.markdown_plain.specs.Containers.{is_container}
+use Rattle.markdown_plain.specs.Fits.{MayAddBefore}
 use Rattle.markdown_plain.specs.HeldSources.{AreInParagraph}
 use Rattle.markdown_plain.specs.OpenBlocks.{is_quote, without_leaf}
 use Rattle.markdown_plain.specs.Paragraphs.{has_paragraph, lines_end}
@@ -146,9 +147,15 @@ pub record IsClosable (pass : Pass) : Type 0 where
   pub white : has_quote (without_leaf pass.placing.builder) ≡ false
       → AllPass is_in_blank_line pass.placing.builder.text (leaf_end pass) pass.placed
 
--- Between two lines: all up to a byte offset was read, where a line begins.
+-- Between two lines: all up to a byte offset was read, where a line begins, and every call fits that the pass may make of
+-- the lines that it holds back.
 pub record IsReady (pass : Pass) (from : ℕ) : Type 0 where
   pub closable : IsClosable pass
   pub low : pass.placed ≤ from
   pub boundary : IsCharBoundary pass.placing.builder.text from
   pub white : AllPass is_in_blank_line pass.placing.builder.text pass.placed from
+  pub blanks : pass.placing.builder.leaf ≡ true → MayAddBefore pass.placing.builder pass.blanks.items from
+
+-- the same once it is recorded that a line which is not blank was read up to a byte offset
+abbrev pub IsReadyAfter : Pass → ℕ → Type 0
+IsReadyAfter pass to = IsReady (record pass { placed = to }) to

@@ -17,6 +17,7 @@ use Rattle.markdown_plain.specs.declared.pass.LeafKind.{LeafKind}
 use Rattle.markdown_plain.specs.declared.pass.LeafKind.TheVariants as leaf
 use Rattle.markdown_plain.specs.declared.pass.Pass.{Pass}
 use Rattle.markdown_plain.specs.Closing.{AreItemsInLists, MayClose, MayEnd}
+use Rattle.markdown_plain.specs.Closable.{IsReady, IsReadyAfter}
 use Rattle.markdown_plain.specs.Containers.{whole_line}
 use Rattle.markdown_plain.specs.Frames.{AreOver, Frame, is_item, rebuilt}
 use Rattle.markdown_plain.specs.HeldSources.{AreHeld}
@@ -89,6 +90,7 @@ pub record Stands (s : Source) (pass : Pass) (frames : List Frame) (inside : For
   pub unheld : pass.placing.builder.leaf ≡ false → pass.blanks.items ≡ []
   pub earlier : AreOpenedBefore from frames
   pub alone : MetadataAlone last frames
+  pub ready : IsReady pass from
 
 -- the pass stands for these blocks between two lines
 pub record StandsFor (s : Source) (pass : Pass) (from : ℕ) (blocks : Forest Block) : Type 0 where
@@ -129,6 +131,7 @@ pub record Places (s : Source) (pass : Pass) (frames : List Frame) (inside : For
   pub unheld : pass.placing.builder.leaf ≡ false → pass.blanks.items ≡ []
   pub earlier : AreOpenedBefore to frames
   pub alone : MetadataAlone last frames
+  pub ready : IsReadyAfter pass to
 
 -- the pass has placed a line that makes these blocks
 pub record PlacesFor (s : Source) (pass : Pass) (to : ℕ) (blocks : Forest Block) : Type 0 where

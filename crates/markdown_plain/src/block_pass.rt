@@ -1,7 +1,7 @@
 //! The block pass, line by line: which open blocks continue, which blocks begin, and what a lazy continuation line
 //! continues (CommonMark, appendix on parsing). Functions that return a `Result` fail only where memory is refused;
 //! what was built by then is not used.
-ghost use Rattle.std.specs.Prelude.{◌≡◌, [], true, false, Some, length, slice_range, take, IfOk, ℕ, None, List};
+ghost use Rattle.std.specs.Prelude.{◌≡◌, ◌≤◌, [], true, false, Some, length, slice_range, take, IfOk, ℕ, None, List};
 ghost use Rattle.std.specs.List.{list_all};
 ghost use Rattle.std.specs.Str.{IsCharBoundary};
 ghost use Rattle.markdown_base.specs.BlockTree.{tree_of};
@@ -28,7 +28,7 @@ ghost use Rattle.markdown_lines.specs.declared.line_reader.LineReader.{LineReade
 ghost use Rattle.markdown_lines.specs.BlockBeginnings.{Beginning};
 ghost use Rattle.markdown_lines.specs.BlockStarts.{beginning_found};
 ghost use Rattle.markdown_plain.specs.Beginning.{FoundStands, HasBegun, HasRoom, IsFound, IsHere, NeedsRoom};
-ghost use Rattle.markdown_plain.specs.Beginning.{ReadsOn, Turn, reads_metadata};
+ghost use Rattle.markdown_plain.specs.Beginning.{IsHeadingIn, ReadsOn, Turn, reads_metadata};
 ghost use Rattle.markdown_plain.specs.Paragraphs.{source_of};
 ghost use Rattle.markdown_lines.specs.HeldLines.{IsHeldLine};
 ghost use Rattle.markdown_plain.specs.OpenLeaves.{InfoStands};
@@ -168,6 +168,11 @@ impl<'a> Pass<'a> {
             → Stands s self.old before.frames before.inside before.last line.start
             → IsSource self.old line source → IfFitted self.old.placing self.new.placing
             (StandsFor s self.new line.next (with_line s (blocks_before before) source))) }
+        ensures fits { IfOk result (λ _. (s : Source) (before : lines.Before)
+            (source : SourceLine) → reads_tables s ≡ false → ahead.old.text.now ≡ s.text
+            → Stands s self.old before.frames before.inside before.last line.start
+            → IsSource self.old line source
+            → AllFitted self.old.placing → AllFitted self.new.placing) }
     {
         if !self.placing.open_blocks().is_empty()
             || !begins_text(self.placing.text(), line.start, line.stop)
@@ -191,6 +196,12 @@ impl<'a> Pass<'a> {
             → IsTextHere s self.old line start depth (blocks_in before) (reached_of s before source)
             → IfFitted self.old.placing self.new.placing
             (StandsFor s self.new line.next (with_line s (blocks_before before) source))) }
+        ensures fits { IfOk result (λ _. (s : Source) (before : lines.Before)
+            (source : SourceLine) → reads_tables s ≡ false
+            → Stands s self.old before.frames before.inside before.last line.start
+            → IsSource self.old line source
+            → IsTextHere s self.old line start depth (blocks_in before) (reached_of s before source)
+            → AllFitted self.old.placing → AllFitted self.new.placing) }
     {
         self.add_text(line, start, depth)?;
         self.see_content(line);
@@ -220,6 +231,11 @@ impl<'a> Pass<'a> {
             → Stands s self.old before.frames before.inside before.last line.start
             → IsSource self.old line source → IfFitted self.old.placing self.new.placing
             (StandsFor s self.new line.next (with_line s (blocks_before before) source))) }
+        ensures fits { IfOk result (λ _. (s : Source) (before : lines.Before)
+            (source : SourceLine) → reads_tables s ≡ false → ahead.old.text.now ≡ s.text
+            → Stands s self.old before.frames before.inside before.last line.start
+            → IsSource self.old line source
+            → AllFitted self.old.placing → AllFitted self.new.placing) }
     {
         let reached = reach(self, line);
         if reached.all && self.placing.is_in_leaf() && self.goes_on(line, reached)? {
@@ -261,6 +277,10 @@ impl<'a> Pass<'a> {
             → self.old.placing.builder.leaf ≡ true → (reached_of s before source).inner ≡ []
             → IfFitted self.old.placing self.new.placing
             (PlacesFor s self.new line.next (with_line s (blocks_before before) source))) }
+        ensures fits { IfOk result (λ goes. goes ≡ true → (s : Source) (before : lines.Before)
+            (source : SourceLine) → IsReachedBy s self.old line reached before source
+            → self.old.placing.builder.leaf ≡ true → (reached_of s before source).inner ≡ []
+            → AllFitted self.old.placing → AllFitted self.new.placing) }
         ensures leaves_off { IfOk result (λ goes. goes ≡ false → (self.new ≡ self.old)
             × ((s : Source) (before : lines.Before) (source : SourceLine)
             → IsReachedBy s self.old line reached before source
@@ -299,6 +319,12 @@ impl<'a> Pass<'a> {
             → LeavesOff s (reached_of s before source).rest before.last)
             → IfFitted self.old.placing self.new.placing
             (StandsFor s self.new line.next (with_line s (blocks_before before) source))) }
+        ensures fits { IfOk result (λ _. (s : Source) (before : lines.Before)
+            (source : SourceLine) → IsReachedBy s self.old line reached before source
+            → is_blank_rest (reached_of s before source).rest ≡ true
+            → ((reached_of s before source).inner ≡ []
+            → LeavesOff s (reached_of s before source).rest before.last)
+            → AllFitted self.old.placing → AllFitted self.new.placing) }
     {
         let in_code = match self.leaf {
             LeafKind::Indented => self.placing.is_in_leaf(),
@@ -355,6 +381,10 @@ impl<'a> Pass<'a> {
             → rest.old.unless_row ≡ None
             → IfFitted self.old.placing self.new.placing
             (PlacesFor s self.new rest.old.line.next blocks)) }
+        ensures fits { IfOk result (λ _. (s : Source) (turn : Turn) (source : SourceLine)
+            (blocks : Forest Block) → IsHere s self.old rest.old turn source blocks
+            → rest.old.unless_row ≡ None
+            → AllFitted self.old.placing → AllFitted self.new.placing) }
     {
         // each container takes at least one byte of the line; what is left after the last one is read too, and a line
         // that underlines definitions, or ends a table, is read twice
@@ -384,6 +414,10 @@ impl<'a> Pass<'a> {
             → rest.old.unless_row ≡ None
             → IfFitted self.old.placing self.new.placing
             (HasBegun s self.new rest.old rest.new blocks more)) }
+        ensures fits { IfOk result (λ more. (s : Source) (turn : Turn) (source : SourceLine)
+            (blocks : Forest Block) → IsHere s self.old rest.old turn source blocks
+            → rest.old.unless_row ≡ None
+            → AllFitted self.old.placing → AllFitted self.new.placing) }
     {
         if self.reads_table(rest)? {
             return Ok(false);
@@ -446,6 +480,11 @@ impl<'a> Pass<'a> {
             → IsHere s self.old rest turn source blocks → rest.line ≡ line
             → IsFound s rest source at start.Nothing → IfFitted self.old.placing self.new.placing
             (PlacesFor s self.new line.next blocks)) }
+        ensures fits { IfOk result (λ _. (s : Source) (rest : LineRest) (turn : Turn)
+            (source : SourceLine) (at : ℕ) (blocks : Forest Block)
+            → IsHere s self.old rest turn source blocks → rest.line ≡ line
+            → IsFound s rest source at start.Nothing
+            → AllFitted self.old.placing → AllFitted self.new.placing) }
     {
         self.placing.step_to(line.next);
         Ok(false)
@@ -468,6 +507,16 @@ impl<'a> Pass<'a> {
             })
             → IfFitted self.old.placing self.new.placing
             (PlacesFor s self.new rest.now.line.next blocks)) }
+        ensures fits { IfOk result (λ _. (s : Source) (turn : Turn) (source : SourceLine)
+            (blocks : Forest Block) → IsHere s self.old rest.now turn source blocks
+            → IsFound s rest.now source at start.Text
+            → IsHeldLine self.old.placing.builder.text (record {
+              start = at;
+              stop = rest.now.line.stop;
+              next = rest.now.line.next;
+              owed = 0;
+            })
+            → AllFitted self.old.placing → AllFitted self.new.placing) }
     {
         self.add_text(rest.line, at, rest.depth)?;
         Ok(false)
@@ -484,6 +533,11 @@ impl<'a> Pass<'a> {
             → IsFound s rest.now source at (start.IndentedCode code)
             → IfFitted self.old.placing self.new.placing
             (PlacesFor s self.new rest.now.line.next blocks)) }
+        ensures fits { IfOk result (λ _. (s : Source) (turn : Turn) (source : SourceLine)
+            (at : ℕ) (blocks : Forest Block) → IsHere s self.old rest.now turn source blocks
+            → IsFound s rest.now source at (start.IndentedCode code)
+            → IsCharBoundary self.old.placing.builder.text code.at → code.at ≤ rest.now.line.stop
+            → AllFitted self.old.placing → AllFitted self.new.placing) }
     {
         self.make_room_for(rest)?;
         self.open_indented(rest.line, code)?;
@@ -503,6 +557,11 @@ impl<'a> Pass<'a> {
             → beginning_found rest.now.reader start ≡ Some b → NeedsRoom b
             → IfFitted self.old.placing self.new.placing
             (HasRoom s self.new rest.now source b blocks)) }
+        ensures fits { IfOk result (λ _. (s : Source) (turn : Turn) (source : SourceLine)
+            (at : ℕ) (start : BlockStart) (b : Beginning) (blocks : Forest Block)
+            → IsHere s self.old rest.now turn source blocks → IsFound s rest.now source at start
+            → beginning_found rest.now.reader start ≡ Some b → NeedsRoom b
+            → AllFitted self.old.placing → AllFitted self.new.placing) }
         ensures same { self.new ≡ record self.old {
           placing = self.new.placing;
           lines = self.new.lines;
@@ -545,6 +604,11 @@ impl<'a> Pass<'a> {
             → IsCharBoundary self.old.placing.builder.text inside.at
             → IfFitted self.old.placing self.new.placing
             (ReadsOn s self.new rest.old rest.new blocks)) }
+        ensures fits { IfOk result (λ _. (s : Source) (turn : Turn) (source : SourceLine)
+            (blocks : Forest Block) → IsHere s self.old rest.old turn source blocks
+            → IsFound s rest.old source at (start.Quote inside)
+            → IsCharBoundary self.old.placing.builder.text inside.at
+            → AllFitted self.old.placing → AllFitted self.new.placing) }
     {
         self.make_room_for(rest)?;
         self.open_quote(at, None)?;
@@ -568,6 +632,10 @@ impl<'a> Pass<'a> {
             → IsFound s rest.now source at (start.Alert kind)
             → IfFitted self.old.placing self.new.placing
             (PlacesFor s self.new rest.now.line.next blocks)) }
+        ensures fits { IfOk result (λ _. (s : Source) (turn : Turn) (source : SourceLine)
+            (blocks : Forest Block) → IsHere s self.old rest.now turn source blocks
+            → IsFound s rest.now source at (start.Alert kind)
+            → AllFitted self.old.placing → AllFitted self.new.placing) }
     {
         self.make_room_for(rest)?;
         self.open_quote(at, Some(kind))?;
@@ -592,6 +660,12 @@ impl<'a> Pass<'a> {
             → BracesStand self.old.placing.builder.text heading.braces
             → IfFitted self.old.placing self.new.placing
             (PlacesFor s self.new rest.now.line.next blocks)) }
+        ensures fits { IfOk result (λ _. (s : Source) (turn : Turn) (source : SourceLine)
+            (blocks : Forest Block) → IsHere s self.old rest.now turn source blocks
+            → IsFound s rest.now source at (start.Heading heading)
+            → BracesStand self.old.placing.builder.text heading.braces
+            → IsHeadingIn self.old.placing.builder.text rest.now.line at heading
+            → AllFitted self.old.placing → AllFitted self.new.placing) }
     {
         self.make_room_for(rest)?;
         self.placing.step_to(at);
@@ -616,6 +690,11 @@ impl<'a> Pass<'a> {
             → InfoStands self.old.placing.builder.text opening
             → IfFitted self.old.placing self.new.placing
             (PlacesFor s self.new rest.now.line.next blocks)) }
+        ensures fits { IfOk result (λ _. (s : Source) (turn : Turn) (source : SourceLine)
+            (blocks : Forest Block) → IsHere s self.old rest.now turn source blocks
+            → IsFound s rest.now source at (start.Fence opening)
+            → InfoStands self.old.placing.builder.text opening
+            → AllFitted self.old.placing → AllFitted self.new.placing) }
     {
         self.make_room_for(rest)?;
         self.open_fenced(rest.line, at, opening)?;
@@ -639,6 +718,16 @@ impl<'a> Pass<'a> {
             })
             → IfFitted self.old.placing self.new.placing
             (PlacesFor s self.new rest.now.line.next blocks)) }
+        ensures fits { IfOk result (λ _. (s : Source) (turn : Turn) (source : SourceLine)
+            (at : ℕ) (blocks : Forest Block) → IsHere s self.old rest.now turn source blocks
+            → IsFound s rest.now source at (start.Html kind)
+            → IsHeldLine self.old.placing.builder.text (record {
+              start = at;
+              stop = rest.now.line.stop;
+              next = rest.now.line.next;
+              owed = 0;
+            })
+            → AllFitted self.old.placing → AllFitted self.new.placing) }
     {
         self.make_room_for(rest)?;
         self.open_html(rest.line, rest.position, kind)?;
@@ -663,6 +752,11 @@ impl<'a> Pass<'a> {
             → IsCharBoundary self.old.placing.builder.text inside.at
             → IfFitted self.old.placing self.new.placing
             (ReadsOn s self.new rest.old rest.new blocks)) }
+        ensures fits { IfOk result (λ _. (s : Source) (turn : Turn) (source : SourceLine)
+            (blocks : Forest Block) → IsHere s self.old rest.old turn source blocks
+            → IsFound s rest.old source at (start.Footnote label.entry inside)
+            → IsCharBoundary self.old.placing.builder.text inside.at
+            → AllFitted self.old.placing → AllFitted self.new.placing) }
     {
         self.make_room_for(rest)?;
         self.open_footnote(at, label)?;
@@ -684,6 +778,10 @@ impl<'a> Pass<'a> {
             → IsFound s rest.old source at (start.Underline level)
             → IfFitted self.old.placing self.new.placing
             (HasBegun s self.new rest.old rest.new blocks more)) }
+        ensures fits { IfOk result (λ more. (s : Source) (turn : Turn) (source : SourceLine)
+            (at : ℕ) (blocks : Forest Block) → IsHere s self.old rest.old turn source blocks
+            → IsFound s rest.old source at (start.Underline level)
+            → AllFitted self.old.placing → AllFitted self.new.placing) }
     {
         rest.before = Before::NoParagraph;
         let is_heading = self.end_paragraph(Some((level, rest.line)))?;
@@ -701,6 +799,10 @@ impl<'a> Pass<'a> {
             → IsFound s rest.now source at start.ThematicBreak
             → IfFitted self.old.placing self.new.placing
             (PlacesFor s self.new rest.now.line.next blocks)) }
+        ensures fits { IfOk result (λ _. (s : Source) (turn : Turn) (source : SourceLine)
+            (blocks : Forest Block) → IsHere s self.old rest.now turn source blocks
+            → IsFound s rest.now source at start.ThematicBreak
+            → AllFitted self.old.placing → AllFitted self.new.placing) }
     {
         self.make_room_for(rest)?;
         self.placing.step_to(at);
@@ -725,6 +827,11 @@ impl<'a> Pass<'a> {
             → IsCharBoundary self.old.placing.builder.text item.inside.at
             → IfFitted self.old.placing self.new.placing
             (ReadsOn s self.new rest.old rest.new blocks)) }
+        ensures fits { IfOk result (λ _. (s : Source) (turn : Turn) (source : SourceLine)
+            (blocks : Forest Block) → IsHere s self.old rest.old turn source blocks
+            → IsFound s rest.old source at (start.Item item)
+            → IsCharBoundary self.old.placing.builder.text item.inside.at
+            → AllFitted self.old.placing → AllFitted self.new.placing) }
     {
         self.open_item(item, at, rest.depth)?;
         Ok(self.go_inside(rest, item.inside))
@@ -745,6 +852,10 @@ impl<'a> Pass<'a> {
             → IsFound s rest.now source at (start.Metadata kind)
             → IfFitted self.old.placing self.new.placing
             (PlacesFor s self.new rest.now.line.next blocks)) }
+        ensures fits { IfOk result (λ _. (s : Source) (turn : Turn) (source : SourceLine)
+            (at : ℕ) (blocks : Forest Block) → IsHere s self.old rest.now turn source blocks
+            → IsFound s rest.now source at (start.Metadata kind)
+            → AllFitted self.old.placing → AllFitted self.new.placing) }
     {
         self.make_room_for(rest)?;
         self.open_metadata(kind, rest.line)?;
@@ -758,6 +869,9 @@ impl<'a> Pass<'a> {
         ensures made { IfOk result (λ _. (s : Source) → reads_tables s ≡ false
             → Stands s self.old [] nil None 0 → IfFitted self.old.placing self.new.placing
             (IsBuilt s self.new.placing.builder [] (blocks_of s))) }
+        ensures fits { IfOk result (λ _. (s : Source) → reads_tables s ≡ false
+            → Stands s self.old [] nil None 0
+            → AllFitted self.old.placing → AllFitted self.new.placing) }
     {
         let text = self.placing.text();
         let mut ahead = LinesAhead::new(text);
@@ -779,6 +893,8 @@ fn place_all<'a>(alloc: Global, text: &'a str, options: Options) -> Result<Placi
     ensures made { IfOk result (λ made. AllFitted made → (s : Source)
         → s ≡ record { text = text.now; options = options } → reads_tables s ≡ false
         → IsBuilt s made.builder [] (blocks_of s)) }
+    ensures fits { IfOk result (λ made. reads_tables (record { text = text.now; options = options })
+        ≡ false → AllFitted made) }
 {
     let mut pass = Pass::new(alloc, text, options)?;
     pass.read_lines()?;
