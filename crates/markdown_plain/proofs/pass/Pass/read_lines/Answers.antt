@@ -1,5 +1,5 @@
 -- The pass stands for the blocks of the lines that were read, and then all of them are closed.
-use Rattle.std.proofs.Common.{◌≡◌, ◌<◌, ◌∙◌, List, ap, arith, length, refl, rules, subst, sym, ℕ}
+use Rattle.std.proofs.Common.{◌≡◌, ◌<◌, ◌≤◌, ◌∙◌, List, ap, arith, length, refl, rules, subst, sym, ℕ}
 use Rattle.std.specs.Str.{IsCharBoundary}
 use Rattle.std.proofs.lemmas.Result.{IfOk-weaker}
 use Rattle.std.proofs.lemmas.Str.{IsCharBoundary-start}
@@ -52,5 +52,14 @@ lines-preserved c =
 pub returns-clause-made : goal.returns-clause-made
 returns-clause-made c =
     IfOk-weaker c.close_down.result _ _ (λ done told s tables stands fitted.
-    let closed = whole_text s c.lines.self c.close_down.new.self c.lines.from ? ? ? fitted in ?)
+    let end : length c.text-text.result.now ≤ c.lines.from = search rules in
+    let text = c.text-text.ensures ∙ ap (λ (s : Source). s.text) stands.source in
+    let so_far = c.lines.invariant.made s tables stands (told.1 fitted).0 in (
+      so_far.0,
+      (whole_text s c.lines.self c.close_down.new.self c.lines.from
+          (subst (λ (text : List ℕ). length text ≤ c.lines.from) text end) so_far.1
+          (record { forgets = told.0.0; finishes = told.0.1 }) fitted).1,
+    ))
+    (both_ok c.close_down.result _ _
     (both_ok c.close_down.result _ _ c.close_down.ensures.forgets c.close_down.ensures.finishes)
+    c.close_down.ensures.outside)
