@@ -1,1 +1,225 @@
--- The blocks of a whole text, line by line.
+-- The blocks of a whole text, line by line: what the pass stands for after each of its lines, and once all blocks are
+-- closed.
+use Rattle.std.proofs.Common.{◌≡◌, ⊎_elim, ℕ, ◌+◌, ◌-◌, ◌<◌, ◌≤◌, Bool, true, false, List, [], ◌∷◌, Option, Some, None}
+use Rattle.std.proofs.Common.{drop, get_or, get_or-drop, length, length-drop, arith, refl, sym, ap, ◌∙◌, subst}
+use Rattle.std.specs.Prelude.{slice_range, if◌then◌else◌}
+use Rattle.std.specs.List.{fold}
+use Rattle.std.specs.Str.{IsCharBoundary, IsUtf8}
+use Rattle.std.proofs.lemmas.Bool.{cases_lt}
+use Rattle.markdown_base.proofs.ByteListLemmas.{part_length}
+use Rattle.markdown_base.specs.Forest.{Forest, nil}
+use Rattle.markdown_builder.specs.BuilderView.{BuilderView, nothing_made}
+use Rattle.markdown_builder.specs.TreeLevels.{followed_by}
+use Rattle.markdown_scan.specs.LineStart.{LineLeft}
+use Rattle.markdown_lines.specs.BlockBeginnings.{Source}
+use Rattle.markdown_lines.specs.Lines.{IsLineFrom, ending_length, is_line_ending}
+use Rattle.markdown_lines.specs.MetadataBlocks.{lines_at}
+use Rattle.markdown_lines.specs.SourceLines.{SourceLine, first_line}
+use Rattle.markdown_lines.specs.declared.line.Line.{Line}
+use Rattle.markdown_lines.proofs.HeldLinesLemmas.{ends_within}
+use Rattle.markdown_lines.proofs.LinesAheadLemmas.{in_ending, line_read, lines_step, no_lines, some_ending}
+use Rattle.markdown_lines.proofs.LinesLemmas.{ending_ascii, past_ascii}
+use Rattle.markdown_block_rules.specs.BlockGrowth.{Block, blocks_of, with_line, with_next_line, within_limit}
+use Rattle.markdown_block_rules.specs.BlockRules.{block_definitions, block_footnotes, block_tree, definitions_in}
+use Rattle.markdown_block_rules.specs.BlockRules.{footnotes_in, shown_blocks}
+use Rattle.markdown_block_rules.specs.TableLines.{reads_tables}
+use Rattle.markdown_plain.specs.declared.pass.Pass.{Pass}
+use Rattle.markdown_plain.specs.Closing.{MayClose, MayEnd}
+use Rattle.markdown_plain.specs.Fitting.{AllFitted, FittedBefore, IfFitted}
+use Rattle.markdown_plain.specs.Frames.{Frame, rebuilt}
+use Rattle.markdown_plain.specs.OpenLeaves.{leaf_block}
+use Rattle.markdown_plain.specs.Standing.{HasLast, IsSource, Stands, StandsFor, with_last}
+use Rattle.markdown_plain.specs.ReachedLines.{Before, blocks_before}
+use Rattle.markdown_plain.specs.Settled.{IsBuilt}
+use Rattle.markdown_plain.proofs.BegunLeavesLemmas.{none_held}
+use Rattle.markdown_plain.proofs.LastBlocksLemmas.{nothing_is_over}
+
+-- ---- one line
+
+-- the line at a byte offset, as the pass reads it, is that of the definition
+pub source_at : (pass : Pass) (at : ℕ) (line : Line) → IsLineFrom pass.placing.builder.text at line
+    → IsCharBoundary pass.placing.builder.text at
+    → IsSource pass line (first_line at (drop at pass.placing.builder.text))
+source_at pass at line is boundary =
+    let text = pass.placing.builder.text in
+    let read = line_read text at line is in
+    let low = is.content.low in
+    let begins = is.begins in
+    let size = ap length read.0 ∙ part_length text line.start line.stop is.content.high in
+    record {
+      left = ap (λ n. record { scanned = n; owed = 0; column = 0; bytes = slice_range text line.start line.stop }) begins
+          ∙ ap (λ (bytes : List ℕ). record { scanned = at; owed = 0; column = 0; bytes = bytes }) (sym read.0);
+      stop = omega (arith, size, low, begins);
+      next = sym read.1;
+      outermost = refl;
+      indent = refl;
+      from = subst (λ n. IsLineFrom text n line) (sym begins) is;
+      boundary = subst (IsCharBoundary text) (sym begins) boundary;
+    }
+
+-- a text may be cut after a line
+pub boundary_after : (text : List ℕ) (at : ℕ) (line : Line) → IsUtf8 text → IsLineFrom text at line
+    → IsCharBoundary text line.next
+boundary_after text at line utf8 is =
+    let rest = drop line.stop text in
+    let within = ends_within rest in
+    let whole = length-drop line.stop text in
+    let ends = is.ends in
+    let high = is.content.high in
+    ⊎_elim (λ (less : line.stop < length text).
+    let some = some_ending rest (rw (get_or-drop line.stop text 0 0, add_zero line.stop) (is.content.stops less)) in
+    let last = line.stop + (ending_length rest - 1) in
+    let here : is_line_ending (get_or text last 0) ≡ true =
+    ap is_line_ending (sym (get_or-drop line.stop text (ending_length rest - 1) 0))
+    ∙ in_ending rest (ending_length rest - 1) (omega (arith, some)) in
+    let place : last + 1 ≡ line.next = omega (arith, some, ends) in
+    subst (IsCharBoundary text) place
+    (past_ascii text last utf8 (omega (arith, some, within, whole, less)) (ending_ascii (get_or text last 0) here)))
+    (λ (over : length text ≤ line.stop). (
+      omega (arith, within, whole, ends, high, over),
+      λ (less : line.next < length text). absurd (omega (arith, less, ends, over)),
+    ))
+    (cases_lt line.stop (length text))
+  where
+    add_zero : (n : ℕ) → n + 0 ≡ n
+    add_zero n = omega arith
+
+-- ---- line by line
+
+-- the pass stands for some blocks, and these with the lines from a byte offset on are the blocks of the text
+pub record StandsAt (s : Source) (pass : Pass) (from : ℕ) : Type 0 where
+  pub blocks : Forest Block
+  pub stands : StandsFor s pass from blocks
+  pub whole : blocks_of s ≡ fold (with_next_line s) blocks (lines_at s.text from)
+
+pub stands_first : (s : Source) (pass : Pass) → Stands s pass [] nil None 0 → StandsAt s pass 0
+stands_first s pass stands = record {
+  blocks = nil;
+  stands = record { frames = []; inside = nil; last = None; stands = stands; whole = refl };
+  whole = refl;
+}
+
+-- what the pass reads a line to
+abbrev pub ReadsLine : Source → Pass → Pass → Line → Type 0
+ReadsLine s old new line =
+    (before : Before) (source : SourceLine) → Stands s old before.frames before.inside before.last line.start
+    → IsSource old line source → IfFitted old.placing new.placing
+    (StandsFor s new line.next (with_line s (blocks_before before) source))
+
+-- so it stands after the next line
+pub stands_next : (s : Source) (old new : Pass) (at : ℕ) (line : Line) → reads_tables s ≡ false
+    → old.placing.builder.text ≡ s.text → at < length s.text → IsLineFrom s.text at line → IsCharBoundary s.text at
+    → StandsAt s old at → ReadsLine s old new line → IfFitted old.placing new.placing (StandsAt s new line.next)
+stands_next s old new at line tables same less is boundary so_far reads fitted =
+    let before : Before = record {
+      frames = so_far.stands.frames;
+      inside = so_far.stands.inside;
+      last = so_far.stands.last;
+    } in
+    let source = first_line at (drop at s.text) in
+    let own = subst (λ text. IsSource old line (first_line at (drop at text))) same
+    (source_at old at line (subst (λ text. IsLineFrom text at line) (sym same) is)
+    (subst (λ text. IsCharBoundary text at) (sym same) boundary)) in
+    let read = reads before source
+    (subst (Stands s old before.frames before.inside before.last) (sym is.begins) so_far.stands.stands) own fitted in (
+      read.0,
+      record {
+        blocks = with_line s (blocks_before before) source;
+        stands = read.1;
+        whole = so_far.whole
+            ∙ (ap (λ lines. fold (with_next_line s) so_far.blocks lines) (lines_step s.text at less)
+            ∙ (ap (λ blocks. fold (with_next_line s) blocks (lines_at s.text source.next))
+            (untabled s so_far.blocks source tables ∙ ap (λ blocks. with_line s blocks source) so_far.stands.whole)
+            ∙ ap (λ n. fold (with_next_line s) (with_line s (blocks_before before) source) (lines_at s.text n))
+            (line_read s.text at line is).1));
+      },
+    )
+  where
+    untabled : (s : Source) (blocks : Forest Block) (l : SourceLine) → reads_tables s ≡ false
+        → with_next_line s blocks l ≡ with_line s blocks l
+    untabled s blocks l none =
+        ap (λ test. if test then within_limit s l blocks (with_line s blocks l) else with_line s blocks l) none
+
+-- ---- the end
+
+-- what closing all blocks comes to
+pub record ClosesAll (old new : Pass) : Type 0 where
+  pub forgets : (s : Source) (frames : List Frame) (inside : Forest Block) → old.lines.items ≡ []
+      → MayClose s old frames inside → IfFitted old.placing new.placing (MayClose s new [] (rebuilt frames inside))
+  pub finishes : (s : Source) (frames : List Frame) (inside : Forest Block) (b : Block)
+      (held : Option (List SourceLine)) → MayEnd s old frames inside b held
+      → IfFitted old.placing new.placing (MayClose s new [] (rebuilt frames (followed_by inside (leaf_block b))))
+
+-- at the end of the text the blocks are those of all lines
+pub whole_text : (s : Source) (old new : Pass) (from : ℕ) → length s.text ≤ from → StandsAt s old from
+    → ClosesAll old new → IfFitted old.placing new.placing (IsBuilt s new.placing.builder [] (blocks_of s))
+whole_text s old new from end so_far closes fitted =
+    by_last so_far.stands.last so_far.stands.stands.unended
+    (so_far.whole ∙ (ap (fold (with_next_line s) so_far.blocks) (no_lines s.text from end) ∙ so_far.stands.whole))
+  where
+    by_last : (last : Option Block) → HasLast s old so_far.stands.frames so_far.stands.inside last
+        → blocks_of s ≡ rebuilt so_far.stands.frames (with_last so_far.stands.inside last)
+        → AllFitted old.placing × IsBuilt s new.placing.builder [] (blocks_of s)
+    by_last None has all =
+        let done = closes.forgets s so_far.stands.frames so_far.stands.inside has.1 has.0 fitted in
+        (done.0, subst (IsBuilt s new.placing.builder []) (sym all) done.1.stands.built)
+    by_last (Some b) has all =
+        let done = closes.finishes s so_far.stands.frames so_far.stands.inside b has.0 has.1 fitted in
+        (done.0, subst (IsBuilt s new.placing.builder []) (sym all) done.1.stands.built)
+
+-- ---- from nothing to the tree
+
+-- nothing was read yet
+pub record HasNothing (s : Source) (pass : Pass) : Type 0 where
+  pub made : pass.placing.builder ≡ nothing_made s.text
+  pub options : pass.options ≡ s.options
+  pub lines : pass.lines.items ≡ []
+  pub blanks : pass.blanks.items ≡ []
+  pub lists : pass.looseness.lists.items ≡ []
+
+nothing_built : (s : Source) → IsBuilt s (nothing_made s.text) [] nil
+unfolding shown_blocks definitions_in footnotes_in
+nothing_built s = record {
+  text = refl;
+  blocks = tt;
+  nested = tt;
+  outside = refl;
+  levels = refl;
+  definitions = refl;
+  footnotes = refl;
+}
+
+-- it stands for no blocks
+pub nothing_stands : (s : Source) (pass : Pass) → HasNothing s pass → Stands s pass [] nil None 0
+nothing_stands s pass is = record {
+  source = ap (λ (view : BuilderView). record { text = view.text; options = pass.options }) is.made
+      ∙ ap (λ options. record { text = s.text; options = options }) is.options;
+  unended = (
+    record {
+      stands = record {
+        built = subst (λ (view : BuilderView). IsBuilt s view [] nil) (sym is.made) (nothing_built s);
+        ends = record { at = ap (λ (view : BuilderView). view.at) is.made; quotes = tt };
+        items = tt;
+      };
+      lists = is.lists;
+    },
+    is.lines,
+    nothing_is_over s,
+  );
+  loose = record { lists = is.lists; empty = tt };
+  blanks = tt;
+  before = none_held pass.lines.items 0 is.lines;
+  unheld = λ outside. is.blanks;
+  earlier = tt;
+  alone = tt;
+}
+
+-- the blocks of a text are made, and all closed
+pub record HasBlocks (s : Source) (view : BuilderView) : Type 0 where
+  pub levels : view.levels ≡ block_tree s ∷ []
+  pub definitions : view.definitions ≡ block_definitions s
+  pub footnotes : view.footnotes ≡ block_footnotes s
+
+pub all_built : (s : Source) (view : BuilderView) → IsBuilt s view [] (blocks_of s) → HasBlocks s view
+all_built s view built =
+    record { levels = built.levels; definitions = built.definitions; footnotes = built.footnotes }

@@ -162,6 +162,7 @@ impl<'a> Pass<'a> {
         requires { IsCharBoundary ahead.old.text.now line.stop }
         ensures text { IfOk result (λ _. self.new.placing.builder.text
             ≡ self.old.placing.builder.text) }
+        ensures fitted { IfOk result (λ _. FittedBefore self.old.placing self.new.placing) }
         ensures ahead { ahead.new.text.now ≡ ahead.old.text.now }
         ensures stands { IfOk result (λ _. (s : Source) (before : lines.Before)
             (source : SourceLine) → reads_tables s ≡ false → ahead.old.text.now ≡ s.text
@@ -189,6 +190,7 @@ impl<'a> Pass<'a> {
     fn read_text_line(&mut self, line: Line, start: usize, depth: usize) -> Result<(), AllocError>
         ensures text { IfOk result (λ _. self.new.placing.builder.text
             ≡ self.old.placing.builder.text) }
+        ensures fitted { IfOk result (λ _. FittedBefore self.old.placing self.new.placing) }
         ensures stands { IfOk result (λ _. (s : Source) (before : lines.Before)
             (source : SourceLine) → reads_tables s ≡ false
             → Stands s self.old before.frames before.inside before.last line.start
@@ -225,6 +227,7 @@ impl<'a> Pass<'a> {
         requires { IsCharBoundary ahead.old.text.now line.stop }
         ensures text { IfOk result (λ _. self.new.placing.builder.text
             ≡ self.old.placing.builder.text) }
+        ensures fitted { IfOk result (λ _. FittedBefore self.old.placing self.new.placing) }
         ensures ahead { ahead.new.text.now ≡ ahead.old.text.now }
         ensures stands { IfOk result (λ _. (s : Source) (before : lines.Before)
             (source : SourceLine) → reads_tables s ≡ false → ahead.old.text.now ≡ s.text
@@ -272,6 +275,7 @@ impl<'a> Pass<'a> {
     fn goes_on(&mut self, line: Line, reached: Reached) -> Result<bool, AllocError>
         ensures text { IfOk result (λ _. self.new.placing.builder.text
             ≡ self.old.placing.builder.text) }
+        ensures fitted { IfOk result (λ _. FittedBefore self.old.placing self.new.placing) }
         ensures places { IfOk result (λ goes. goes ≡ true → (s : Source) (before : lines.Before)
             (source : SourceLine) → IsReachedBy s self.old line reached before source
             → self.old.placing.builder.leaf ≡ true → (reached_of s before source).inner ≡ []
@@ -312,6 +316,7 @@ impl<'a> Pass<'a> {
     fn read_blank(&mut self, line: Line, reached: Reached) -> Result<(), AllocError>
         ensures text { IfOk result (λ _. self.new.placing.builder.text
             ≡ self.old.placing.builder.text) }
+        ensures fitted { IfOk result (λ _. FittedBefore self.old.placing self.new.placing) }
         ensures stands { IfOk result (λ _. (s : Source) (before : lines.Before)
             (source : SourceLine) → IsReachedBy s self.old line reached before source
             → is_blank_rest (reached_of s before source).rest ≡ true
@@ -376,6 +381,7 @@ impl<'a> Pass<'a> {
     fn read_rest(&mut self, rest: &mut LineRest<'a>) -> Result<(), AllocError>
         ensures text { IfOk result (λ _. self.new.placing.builder.text
             ≡ self.old.placing.builder.text) }
+        ensures fitted { IfOk result (λ _. FittedBefore self.old.placing self.new.placing) }
         ensures places { IfOk result (λ _. (s : Source) (turn : Turn) (source : SourceLine)
             (blocks : Forest Block) → IsHere s self.old rest.old turn source blocks
             → rest.old.unless_row ≡ None

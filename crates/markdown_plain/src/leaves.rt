@@ -250,6 +250,7 @@ impl<'a> Pass<'a> {
     ) -> Result<(), AllocError>
         ensures text { IfOk result (λ _. self.new.placing.builder.text
             ≡ self.old.placing.builder.text) }
+        ensures fitted { IfOk result (λ _. FittedBefore self.old.placing self.new.placing) }
         ensures closes { IfOk result (λ _.
             is_closed_at self.old.placing.builder.text position line fence ≡ true →
             IfFitted self.old.placing self.new.placing (self.new.placing.builder
@@ -330,6 +331,7 @@ impl<'a> Pass<'a> {
     pub fn add_metadata(&mut self, kind: MetadataBlockKind, line: Line) -> Result<(), AllocError>
         ensures text { IfOk result (λ _. self.new.placing.builder.text
             ≡ self.old.placing.builder.text) }
+        ensures fitted { IfOk result (λ _. FittedBefore self.old.placing self.new.placing) }
         ensures closes { IfOk result (λ _. closes_metadata kind
             (slice_range self.old.placing.builder.text line.start line.stop) ≡ true →
             IfFitted self.old.placing self.new.placing (self.new.placing.builder
@@ -442,6 +444,7 @@ impl<'a> Pass<'a> {
     ) -> Result<(), AllocError>
         ensures text { IfOk result (λ _. self.new.placing.builder.text
             ≡ self.old.placing.builder.text) }
+        ensures fitted { IfOk result (λ _. FittedBefore self.old.placing self.new.placing) }
         ensures ends { IfOk result (λ _. ends_html_at self.old.placing.builder.text position line
             kind
             ≡ true →

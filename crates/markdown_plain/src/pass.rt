@@ -74,6 +74,7 @@ impl<'a> Pass<'a> {
         ensures options { IfOk result (λ made. made.options ≡ options) }
         ensures lines { IfOk result (λ made. made.lines.items ≡ []) }
         ensures blanks { IfOk result (λ made. made.blanks.items ≡ []) }
+        ensures lists { IfOk result (λ made. made.looseness.lists.items ≡ []) }
         ensures placed { IfOk result (λ made. made.placed ≡ 0) }
     {
         let old = options.contains(Options::ENABLE_OLD_FOOTNOTES);

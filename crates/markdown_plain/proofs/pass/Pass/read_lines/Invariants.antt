@@ -1,5 +1,12 @@
--- The text stays.
-use Rattle.std.proofs.Common.{◌≡◌, ◌-◌, length}
+-- The text stays, and the pass stands for the blocks of the lines so far; each turn reads a line.
+use Rattle.std.proofs.Common.{◌≡◌, ◌-◌, [], None, false, length}
+use Rattle.std.specs.Str.{IsCharBoundary}
+use Rattle.markdown_base.specs.Forest.{nil}
+use Rattle.markdown_lines.specs.BlockBeginnings.{Source}
+use Rattle.markdown_block_rules.specs.TableLines.{reads_tables}
+use Rattle.markdown_plain.specs.Fitting.{FittedBefore, IfFitted}
+use Rattle.markdown_plain.specs.Standing.{Stands}
+use Rattle.markdown_plain.proofs.WholeTextsLemmas.{StandsAt}
 use Rattle.markdown_plain.proofs.pass.Pass.read_lines.Given as goal
 
 abbrev pub invariant-lines : goal.invariant-lines
@@ -7,6 +14,10 @@ invariant-lines l = record {
   same : l.self.placing.builder.text ≡ l.fn.self.placing.builder.text;
   text : l.text ≡ l.fn.self.placing.builder.text;
   ahead : l.ahead.text.now ≡ l.text;
+  boundary : IsCharBoundary l.text l.from;
+  fitted : FittedBefore l.fn.self.placing l.self.placing;
+  made : (s : Source) → reads_tables s ≡ false → Stands s l.fn.self [] nil None 0
+      → IfFitted l.fn.self.placing l.self.placing (StandsAt s l.self l.from);
 }
 
 abbrev pub decreases-lines : goal.decreases-lines

@@ -6,11 +6,16 @@ use Rattle.markdown_plain.proofs.TurnsLemmas.{BeginsThere, before_turns, last_tu
 use Rattle.markdown_plain.proofs.pass.Pass.read_rest.Goals as goal
 
 pub blocks-2-init : goal.blocks-2-init
-blocks-2-init c = record { text = search rules; keeps = before_turns c.args.self.now c.args.rest.now }
+blocks-2-init c = record {
+  text = search rules;
+  fitted = λ fitted. fitted;
+  keeps = before_turns c.args.self.now c.args.rest.now;
+}
 
 pub blocks-2-preserved : goal.blocks-2-preserved
 blocks-2-preserved c = record {
   text = search rules;
+  fitted = λ fitted. c.blocks-2.invariant.fitted (c.in_ok-read_block.ensures.fitted fitted);
   keeps = next_turn c.args.self.now c.blocks-2.self c.read_block.new.self c.args.rest.now c.blocks-2.rest
       c.read_block.new.rest c.blocks-2._turn c.blocks-2.invariant.keeps c.in_ok-read_block.ensures.fitted
       (subst (BeginsThere c.blocks-2.self c.read_block.new.self c.blocks-2.rest c.read_block.new.rest)

@@ -1,0 +1,65 @@
+-- The pass stands for the blocks of the lines that were read, and then all of them are closed.
+use Rattle.std.proofs.Common.{◌≡◌, ◌<◌, ◌≤◌, ◌∙◌, List, ap, arith, length, refl, rules, subst, sym, ℕ}
+use Rattle.std.specs.Str.{IsCharBoundary}
+use Rattle.std.proofs.lemmas.Result.{IfOk-weaker}
+use Rattle.std.proofs.lemmas.Str.{IsCharBoundary-start}
+use Rattle.markdown_lines.specs.BlockBeginnings.{Source}
+use Rattle.markdown_lines.specs.Lines.{IsLineFrom}
+use Rattle.markdown_plain.proofs.OpenedFramesLemmas.{both_ok}
+use Rattle.markdown_plain.proofs.WholeTextsLemmas.{boundary_after, stands_first, stands_next, whole_text}
+use Rattle.markdown_plain.proofs.pass.Pass.read_lines.Goals as goal
+
+pub lines-init : goal.lines-init
+lines-init c = record {
+  same = refl;
+  text = c.text-text.ensures;
+  ahead = c.new-ahead.ensures;
+  boundary = IsCharBoundary-start c.text-text.result.now c.text-text.utf8;
+  fitted = λ fitted. fitted;
+  made = λ s tables stands fitted. (fitted, stands_first s c.args.self.now stands);
+}
+
+-- the line that is read is one of the text
+line_is : (c : goal.In_ok-read_line)
+    → (c.lines.from < length c.text-text.result.now)
+    × IsLineFrom c.text-text.result.now c.lines.from c.line_from-line.result
+line_is c =
+    let less : c.lines.from < length c.text-text.result.now = search rules in
+    (less, c.line_from-line.ensures.value (omega (arith, less)))
+
+pub lines-preserved : goal.lines-preserved
+lines-preserved c =
+    let loop = c.lines.invariant in
+    let line = line_is c in
+    record {
+      same = search rules;
+      text = search rules;
+      ahead = search rules;
+      boundary = boundary_after c.text-text.result.now c.lines.from c.line_from-line.result c.text-text.utf8 line.1;
+      fitted = λ fitted. loop.fitted (c.in_ok-read_line.ensures.fitted fitted);
+      made = λ s tables stands fitted.
+          let so_far = loop.made s tables stands (c.in_ok-read_line.ensures.fitted fitted) in
+          let own = ap (λ (s : Source). s.text) stands.source in
+          let text = c.text-text.ensures ∙ own in
+          let next = stands_next s c.lines.self c.read_line.new.self c.lines.from c.line_from-line.result tables
+          (loop.same ∙ own) (subst (λ (text : List ℕ). c.lines.from < length text) text line.0)
+          (subst (λ (text : List ℕ). IsLineFrom text c.lines.from c.line_from-line.result) text line.1)
+          (subst (λ (text : List ℕ). IsCharBoundary text c.lines.from) text loop.boundary) so_far.1
+          (λ before source. c.in_ok-read_line.ensures.stands s before source tables (loop.ahead ∙ text)) fitted in
+          (so_far.0, next.1);
+    }
+
+pub returns-clause-made : goal.returns-clause-made
+returns-clause-made c =
+    IfOk-weaker c.close_down.result _ _ (λ done told s tables stands fitted.
+    let end : length c.text-text.result.now ≤ c.lines.from = search rules in
+    let text = c.text-text.ensures ∙ ap (λ (s : Source). s.text) stands.source in
+    let so_far = c.lines.invariant.made s tables stands (told.1 fitted).0 in (
+      so_far.0,
+      (whole_text s c.lines.self c.close_down.new.self c.lines.from
+          (subst (λ (text : List ℕ). length text ≤ c.lines.from) text end) so_far.1
+          (record { forgets = told.0.0; finishes = told.0.1 }) fitted).1,
+    ))
+    (both_ok c.close_down.result _ _
+    (both_ok c.close_down.result _ _ c.close_down.ensures.forgets c.close_down.ensures.finishes)
+    c.close_down.ensures.outside)
