@@ -25,7 +25,7 @@ use Rattle.markdown_builder.specs.declared.open_block.OpenBlock.{OpenBlock}
 use Rattle.markdown_lines.specs.declared.line.Line.{Line}
 use Rattle.markdown_plain.proofs.OpenBlocksLemmas.{innermost_of_opened, last_apart}
 use Rattle.markdown_plain.specs.Containers.{is_container}
-use Rattle.markdown_plain.specs.OpenBlocks.{innermost_is, is_list, is_quote, outer_of, without_list}
+use Rattle.markdown_plain.specs.OpenBlocks.{innermost_is, is_list, is_quote, outer_of, room_in, without_leaf, without_list}
 use Rattle.markdown_plain.specs.declared.placing.Placing.{Placing}
 use Rattle.markdown_base.specs.Forest.{Forest}
 use Rattle.markdown_builder.specs.Shown.{Shown}
@@ -35,7 +35,7 @@ use Rattle.markdown_lines.specs.TaskMarkers.{is_task_done, is_task_space, task_l
 use Rattle.markdown_lines.specs.declared.held_line.HeldLine.{HeldLine}
 use Rattle.markdown_plain.proofs.ParagraphLinesLemmas.{if_some, marker_within, range_byte, range_length}
 use Rattle.markdown_plain.specs.declared.paragraph.Ends.{Ends}
-use Rattle.markdown_plain.specs.Closable.{AreApart, AreClosable, AreContainers, AreInText, has_quote, HasBraces, HasRoomFor, HasTask, HaveTask, IsPlaceable, IsInText, IsLastInText, IsLeafOpen, IsWhiteBefore}
+use Rattle.markdown_plain.specs.Closable.{AreApart, AreClosable, AreContainers, AreInText, has_quote, HasBraces, HasRoomFor, HasTask, HaveTask, IsInList, IsPlaceable, IsInText, IsLastInText, IsLeafOpen, IsWhiteBefore}
 use Rattle.markdown_lines.specs.declared.braces.Braces.{Braces}
 use Rattle.std.specs.Option.{option_map_or}
 use Rattle.markdown_plain.specs.Fitting.{AllFitted, GoesOn, OpensHeading, closed, IsAhead, IsWhiteOutside, stepped}
@@ -545,3 +545,28 @@ pub white_both : (text : List ℕ) (from mid to : ℕ) → AllPass is_in_blank_l
     → AllPass is_in_blank_line text mid to → AllPass is_in_blank_line text from to
 white_both text from mid to first second at low high =
     ⊎_elim (λ (less : at < mid). first at low less) (λ (more : mid ≤ at). second at more high) (cases_lt at mid)
+
+-- the byte offset of a marker is ahead once blocks were closed, and in the list that was opened then
+pub item_ahead : (old new : BuilderView) (placed at : ℕ) → new.text ≡ old.text → AreClosable new placed → placed ≤ at
+    → IsCharBoundary old.text at → IsAhead new at
+item_ahead old new placed at text is low boundary =
+    let here = is.low in (omega (arith, here, low), subst (λ t. IsCharBoundary t at) (sym text) boundary)
+
+pub listed_ahead : (old new : BuilderView) (at : ℕ) → new.text ≡ old.text → IsCharBoundary old.text at → IsInList new at
+    → IsAhead new at
+listed_ahead old new at text boundary is = (is.low, subst (λ t. IsCharBoundary t at) (sym text) boundary)
+
+pub item_white : (old new : BuilderView) (placed at depth : ℕ) → new.text ≡ old.text
+    → new.blocks ≡ take depth (without_leaf old) → AreClosable new placed
+    → (room_in depth (without_leaf old) ≡ [] → AllPass is_in_blank_line old.text placed at)
+    → without_list new.blocks ≡ [] → IsWhiteBefore new at
+item_white old new placed at depth text blocks is white none =
+    white_both new.text new.at placed at (is.white (no_quote_left new.blocks none))
+    (subst (λ t. AllPass is_in_blank_line t placed at) (sym text) (white (sym (ap without_list blocks) ∙ none)))
+
+-- where no list is open, and nothing else either
+pub item_outside : (blocks : List OpenBlock) → innermost_is is_list blocks ≡ false → without_list blocks ≡ []
+    → blocks ≡ []
+item_outside blocks other =
+    on_test (λ bs. bs ≡ [] → blocks ≡ []) (innermost_is is_list blocks) (outer_of blocks) blocks
+    (λ list. absurd (true≢false (sym list ∙ other))) (λ same none. none)
