@@ -19,13 +19,14 @@ use Rattle.std.specs.Prelude.{MatchOption}
 use Rattle.markdown_base.specs.declared.item.ItemBody.{ItemBody}
 use Rattle.markdown_base.specs.declared.tag.HeadingLevel.{HeadingLevel}
 use Rattle.markdown_builder.specs.Bodies.{is_leaf}
-use Rattle.markdown_builder.specs.BuilderView.{BuilderView, Opens}
+use Rattle.markdown_builder.specs.BuilderView.{BuilderView, Opens, innermost_block}
 use Rattle.markdown_builder.specs.EvenRows.{is_in_row, is_table_row}
 use Rattle.markdown_builder.specs.declared.open_block.OpenBlock.{OpenBlock}
 use Rattle.markdown_lines.specs.declared.line.Line.{Line}
 use Rattle.markdown_plain.proofs.OpenBlocksLemmas.{innermost_of_opened, last_apart}
 use Rattle.markdown_plain.specs.Containers.{is_container}
-use Rattle.markdown_plain.specs.OpenBlocks.{innermost_is, is_quote, outer_of}
+use Rattle.markdown_plain.specs.OpenBlocks.{innermost_is, is_list, is_quote, outer_of, room_in, without_leaf, without_list}
+use Rattle.markdown_plain.specs.declared.placing.Placing.{Placing}
 use Rattle.markdown_base.specs.Forest.{Forest}
 use Rattle.markdown_builder.specs.Shown.{Shown}
 use Rattle.markdown_plain.specs.declared.pass.Pass.{Pass}
@@ -34,7 +35,7 @@ use Rattle.markdown_lines.specs.TaskMarkers.{is_task_done, is_task_space, task_l
 use Rattle.markdown_lines.specs.declared.held_line.HeldLine.{HeldLine}
 use Rattle.markdown_plain.proofs.ParagraphLinesLemmas.{if_some, marker_within, range_byte, range_length}
 use Rattle.markdown_plain.specs.declared.paragraph.Ends.{Ends}
-use Rattle.markdown_plain.specs.Closable.{AreApart, AreClosable, AreContainers, AreInText, has_quote, HasBraces, HasRoomFor, HasTask, HaveTask, IsPlaceable, IsInText, IsLastInText, IsLeafOpen}
+use Rattle.markdown_plain.specs.Closable.{AreApart, AreClosable, AreContainers, AreInText, has_quote, HasBraces, HasRoomFor, HasTask, HaveTask, IsInList, IsPlaceable, IsInText, IsLastInText, IsLeafOpen, IsWhiteBefore}
 use Rattle.markdown_lines.specs.declared.braces.Braces.{Braces}
 use Rattle.std.specs.Option.{option_map_or}
 use Rattle.markdown_plain.specs.Fitting.{AllFitted, GoesOn, OpensHeading, closed, IsAhead, IsWhiteOutside, stepped}
@@ -464,3 +465,108 @@ closed_here old new placed levels is some e =
           (λ other. is.white (ap has_quote p.is
           ∙ no_quote_apart outer p.block (ap has_quote (sym now) ∙ none) (sym inner ∙ other)))));
     }
+
+-- ---- opening items
+
+list_no_quote : (b : ItemBody) → is_list b ≡ true → is_quote b ≡ false
+list_no_quote (body.List tight character first) e = refl
+list_no_quote other e = absurd (true≢false (sym e))
+
+-- a list is no block quote
+pub innermost_no_quote : (blocks : List OpenBlock) → innermost_is is_list blocks ≡ true
+    → innermost_is is_quote blocks ≡ false
+innermost_no_quote blocks e = found (innermost_block blocks) e
+  where
+    found : (block : Option OpenBlock) → option_map_or (λ (block : OpenBlock). is_list block.body) block false ≡ true
+        → option_map_or (λ (block : OpenBlock). is_quote block.body) block false ≡ false
+    found None e = absurd (true≢false (sym e))
+    found (Some block) e = list_no_quote block.body e
+
+-- a list may be opened at a byte offset
+pub record MayBeginList (placing : Placing) (to : ℕ) : Type 0 where
+  pub fitted : AllFitted placing
+  pub outside : placing.builder.leaf ≡ false
+  pub ahead : IsAhead placing.builder to
+  pub white : IsWhiteOutside placing.builder to
+
+pub begins_list : (placing : Placing) (to : ℕ) → innermost_is is_list placing.builder.blocks ≡ false
+    → placing.builder.leaf ≡ false → IsAhead placing.builder to
+    → (without_list placing.builder.blocks ≡ [] → IsWhiteBefore placing.builder to) → AllFitted placing
+    → MayBeginList placing to
+begins_list placing to other outside ahead white fitted = record {
+  fitted = fitted;
+  outside = outside;
+  ahead = ahead;
+  white = λ none. white (on_test (λ bs. bs ≡ []) (innermost_is is_list placing.builder.blocks)
+      (outer_of placing.builder.blocks) placing.builder.blocks (λ list. absurd (true≢false (sym list ∙ other)))
+      (λ same. none));
+}
+
+pub begins_list_after : (old new : Placing) (placed to : ℕ) → innermost_is is_list old.builder.blocks ≡ true
+    → IsAhead old.builder to → (without_list old.builder.blocks ≡ [] → IsWhiteBefore old.builder to)
+    → new.builder ≡ record (closed old.builder new.builder.levels)
+    { at = if innermost_is is_quote old.builder.blocks then placed else old.builder.at }
+    → AllFitted new → MayBeginList new to
+begins_list_after old new placed to list ahead white e fitted =
+    let at : new.builder.at ≡ old.builder.at = ap (λ (b : BuilderView). b.at) e
+    ∙ on_test (λ n. n ≡ old.builder.at) (innermost_is is_quote old.builder.blocks) placed old.builder.at
+    (λ quote. absurd (true≢false (sym quote ∙ innermost_no_quote old.builder.blocks list))) (λ other. refl) in
+    let text = ap (λ (b : BuilderView). b.text) e in
+    let blocks : new.builder.blocks ≡ outer_of old.builder.blocks = ap (λ (b : BuilderView). b.blocks) e in
+    record {
+      fitted = fitted;
+      outside = ap (λ (b : BuilderView). b.leaf) e;
+      ahead = ahead_of old.builder.text old.builder.at to new.builder text at ahead.0 ahead.1;
+      white = λ none. subst (λ t. AllPass is_in_blank_line t new.builder.at to) (sym text)
+          (subst (λ n. AllPass is_in_blank_line old.builder.text n to) (sym at)
+          (white (on_test (λ bs. bs ≡ []) (innermost_is is_list old.builder.blocks)
+          (outer_of old.builder.blocks) old.builder.blocks (λ same. sym blocks ∙ none)
+          (λ other. absurd (true≢false (sym list ∙ other))))));
+    }
+
+-- where nothing but a list is open, no block quote is
+pub no_quote_left : (blocks : List OpenBlock) → without_list blocks ≡ [] → has_quote blocks ≡ false
+no_quote_left [] none = refl
+no_quote_left (first ∷ blocks) none =
+    let all : List OpenBlock = first ∷ blocks in
+    let some : all ≡ [] → ⊥ = λ e. absurd (omega (arith, ap length e)) in
+    let p = last_apart all some in
+    on_test (λ bs. bs ≡ [] → has_quote all ≡ false) (innermost_is is_list all) (outer_of all) all
+    (λ list e.
+    let last : innermost_is is_quote all ≡ is_quote p.block.body =
+    ap (innermost_is is_quote) p.is ∙ ap (λ found. option_map_or (λ (block : OpenBlock). is_quote block.body) found false)
+    (innermost_of_opened (outer_of all) p.block) in
+    ap has_quote p.is ∙ no_quote_apart (outer_of all) p.block (ap has_quote e)
+    (sym last ∙ innermost_no_quote all list))
+    (λ other e. absurd (some e)) none
+
+-- white space up to a byte offset, and from there on
+pub white_both : (text : List ℕ) (from mid to : ℕ) → AllPass is_in_blank_line text from mid
+    → AllPass is_in_blank_line text mid to → AllPass is_in_blank_line text from to
+white_both text from mid to first second at low high =
+    ⊎_elim (λ (less : at < mid). first at low less) (λ (more : mid ≤ at). second at more high) (cases_lt at mid)
+
+-- the byte offset of a marker is ahead once blocks were closed, and in the list that was opened then
+pub item_ahead : (old new : BuilderView) (placed at : ℕ) → new.text ≡ old.text → AreClosable new placed → placed ≤ at
+    → IsCharBoundary old.text at → IsAhead new at
+item_ahead old new placed at text is low boundary =
+    let here = is.low in (omega (arith, here, low), subst (λ t. IsCharBoundary t at) (sym text) boundary)
+
+pub listed_ahead : (old new : BuilderView) (at : ℕ) → new.text ≡ old.text → IsCharBoundary old.text at → IsInList new at
+    → IsAhead new at
+listed_ahead old new at text boundary is = (is.low, subst (λ t. IsCharBoundary t at) (sym text) boundary)
+
+pub item_white : (old new : BuilderView) (placed at depth : ℕ) → new.text ≡ old.text
+    → new.blocks ≡ take depth (without_leaf old) → AreClosable new placed
+    → (room_in depth (without_leaf old) ≡ [] → AllPass is_in_blank_line old.text placed at)
+    → without_list new.blocks ≡ [] → IsWhiteBefore new at
+item_white old new placed at depth text blocks is white none =
+    white_both new.text new.at placed at (is.white (no_quote_left new.blocks none))
+    (subst (λ t. AllPass is_in_blank_line t placed at) (sym text) (white (sym (ap without_list blocks) ∙ none)))
+
+-- where no list is open, and nothing else either
+pub item_outside : (blocks : List OpenBlock) → innermost_is is_list blocks ≡ false → without_list blocks ≡ []
+    → blocks ≡ []
+item_outside blocks other =
+    on_test (λ bs. bs ≡ [] → blocks ≡ []) (innermost_is is_list blocks) (outer_of blocks) blocks
+    (λ list. absurd (true≢false (sym list ∙ other))) (λ same none. none)

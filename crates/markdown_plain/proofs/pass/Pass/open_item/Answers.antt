@@ -1,5 +1,5 @@
 -- The item is one more open container, in a list that goes on or is one more as well.
-use Rattle.std.proofs.Common.{◌≡◌, ◌∙◌, List, Option, Some, None, sym, subst, ap, arith, true, take, drop}
+use Rattle.std.proofs.Common.{◌≡◌, ◌∙◌, List, Option, Some, None, sym, subst, ap, arith, true, take, drop, [], false}
 use Rattle.std.proofs.lemmas.Bool.{true≢false}
 use Rattle.std.proofs.lemmas.Result.{IfOk-weaker}
 use Rattle.markdown_base.specs.Forest.{Forest, nil}
@@ -9,7 +9,7 @@ use Rattle.markdown_lines.specs.BlockBeginnings.{Source}
 use Rattle.markdown_block_rules.specs.BlockGrowth.{Block, item_container}
 use Rattle.markdown_plain.specs.Beginning.{HoldsLast}
 use Rattle.markdown_plain.specs.Closing.{MayClose}
-use Rattle.markdown_plain.specs.Fitting.{AllFitted, IfFitted, stepped}
+use Rattle.markdown_plain.specs.Fitting.{AllFitted, IfFitted, stepped, IsAhead}
 use Rattle.markdown_plain.specs.Standing.{with_last}
 use Rattle.markdown_plain.specs.Frames.{Frame, forgotten, innermost_is, is_list, rebuilt}
 use Rattle.markdown_plain.specs.OpenedFrames.{with_frame}
@@ -20,6 +20,9 @@ use Rattle.markdown_plain.proofs.RoomForBlocksLemmas.{last_open}
 use Rattle.markdown_plain.proofs.ClosedListsLemmas.{known_of_outermost}
 use Rattle.markdown_plain.proofs.OpenedFramesLemmas.{as_many_containers, innermost_of_more, item_is, item_placed}
 use Rattle.markdown_plain.proofs.OpenedFramesLemmas.{list_for_item, plain_is_built}
+use Rattle.markdown_plain.proofs.ClosableLemmas.{item_ahead, item_outside, item_white, listed_ahead}
+use Rattle.markdown_plain.specs.Closable.{AreClosable, IsWhiteBefore}
+use Rattle.markdown_plain.specs.OpenBlocks as own
 use Rattle.markdown_plain.proofs.pass.Pass.open_item.Goals as goal
 
 -- once its list is the innermost open container
@@ -125,3 +128,50 @@ returns-clause-loose c =
           (subst (λ n. BlanksKnown n 0 (take depth frames) (rebuilt (drop depth frames) blocks)) (sym from)
           (known_of_outermost old.looseness.blank_from depth frames blocks known)) lists items first.0).1,
     )) c.open_block.ensures.opens
+
+-- the item is opened in its list
+item_fits : (c : goal.After-open_block) → c.close_down.new.self.placing.builder.leaf ≡ false
+    → IsAhead c.close_down.new.self.placing.builder c.args.at
+    → (own.without_list c.close_down.new.self.placing.builder.blocks ≡ []
+    → IsWhiteBefore c.close_down.new.self.placing.builder c.args.at)
+    → (own.innermost_is own.is_list c.close_down.new.self.placing.builder.blocks ≡ true
+    → AreClosable c.close_down.new.self.placing.builder c.close_down.new.self.placed)
+    → AllFitted c.close_down.new.self.placing → AllFitted c.step_to.new.self
+    × (c.step_to.new.self.builder.leaf ≡ false)
+item_fits c outside ahead white closable fitted =
+    let second = c.in_ok-open_list.ensures.fits outside ahead white closable fitted in
+    let listed = c.in_ok-open_list.ensures.here outside ahead.0 second in
+    let third = c.step_to.ensures.fits
+    (listed_ahead c.close_down.new.self.placing.builder _ c.args.at c.in_ok-open_list.ensures.text ahead.1 listed)
+    (λ none. absurd (listed.some none)) ∙ second in
+    (third, ap (λ (b : BuilderView). b.leaf) (c.step_to.ensures.steps third).1 ∙ listed.outside)
+
+pub returns-clause-fits : goal.returns-clause-fits
+returns-clause-fits c =
+    IfOk-weaker c.open_block.result _ _ (λ done fits is low boundary white fitted.
+    let old = c.args.self.now in
+    let down = c.close_down.new.self in
+    let first = c.in_ok-close_down.ensures.fits is fitted in
+    let here = c.in_ok-close_down.ensures.here is first in
+    let placed : down.placed ≡ old.placed = ap (λ (p : Pass). p.placed) c.in_ok-close_down.ensures.same in
+    let text = c.in_ok-close_down.ensures.text in
+    let blocks = (c.in_ok-close_down.ensures.closes first).1 in
+    let opened = item_fits c here.outside (item_ahead old.placing.builder down.placing.builder old.placed c.args.at text here low boundary)
+    (item_white old.placing.builder down.placing.builder old.placed c.args.at c.args.depth text blocks here white)
+    (λ list. subst (AreClosable down.placing.builder) (sym placed) here) first in
+    fits opened.1 ∙ opened.0) c.open_block.ensures.fits
+
+-- nothing is closed inside a container that was opened last
+pub returns-clause-fits_inside : goal.returns-clause-fits_inside
+returns-clause-fits_inside c =
+    IfOk-weaker c.open_block.result _ _ (λ done fits outside none deep other ahead white fitted.
+    let old = c.args.self.now in
+    let kept : c.close_down.new.self ≡ old = c.in_ok-close_down.ensures.kept outside none deep in
+    let opened = item_fits c (ap (λ (p : Pass). p.placing.builder.leaf) kept ∙ outside)
+    (subst (λ (p : Pass). IsAhead p.placing.builder c.args.at) (sym kept) ahead)
+    (subst (λ (p : Pass). own.without_list p.placing.builder.blocks ≡ [] → IsWhiteBefore p.placing.builder c.args.at)
+    (sym kept) (λ left. white (item_outside _ other left)))
+    (λ list. absurd (true≢false (sym list ∙ (ap (λ (p : Pass). own.innermost_is own.is_list p.placing.builder.blocks) kept
+    ∙ other))))
+    (subst (λ (p : Pass). AllFitted p.placing) (sym kept) fitted) in
+    fits opened.1 ∙ opened.0) c.open_block.ensures.fits

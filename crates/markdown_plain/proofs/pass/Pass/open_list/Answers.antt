@@ -1,6 +1,6 @@
 -- The list goes on, or is one more open container.
-use Rattle.std.proofs.Common.{append_assoc, ap, Bool, drop, if◌then◌else◌, length, take}
-use Rattle.std.proofs.Common.{◌≡◌, ◌∙◌, ◌++◌, ◌∷◌, [], List, sym, subst, rules, true, false}
+use Rattle.std.proofs.Common.{append_assoc, ap, Bool, drop, if◌then◌else◌, length, take, ◌≡◌, ◌∙◌, ◌++◌, ◌∷◌, []}
+use Rattle.std.proofs.Common.{List, sym, subst, rules, true, false}
 use Rattle.std.proofs.lemmas.Bool.{true≢false}
 use Rattle.std.proofs.lemmas.Result.{IfOk-weaker}
 use Rattle.markdown_base.specs.declared.item.ItemBody.TheVariants as body
@@ -24,6 +24,9 @@ use Rattle.markdown_plain.proofs.OpenedFramesLemmas.{list_goes_on, list_innermos
 use Rattle.markdown_plain.proofs.OpenedFramesLemmas.{plain_is_built}
 use Rattle.markdown_plain.proofs.pass.Pass.open_list.Goals.{in-Some-List+else-character-marker}
 use Rattle.markdown_plain.proofs.pass.Pass.open_list.Goals.{in-Some+in-MaybeEmphasis-1, in-None-1}
+use Rattle.markdown_plain.proofs.ClosableLemmas.{MayBeginList, begins_list, begins_list_after, some_innermost}
+use Rattle.markdown_plain.specs.Closable.{AreClosable, IsWhiteBefore}
+use Rattle.markdown_plain.specs.Fitting.{IsAhead}
 use Rattle.markdown_plain.proofs.pass.Pass.open_list.Goals as goal
 
 pub returns-then-character-marker-clause-begins : goal.returns-then-character-marker-clause-begins
@@ -197,3 +200,39 @@ returns-clause-loose c =
           else with_frame (with_list list frames inside) nil b) (sym other))
           (added (take n frames) (rebuilt (drop n frames) inside) list b made lists items),
     )) c.open_list.ensures.begins
+
+-- after another list was closed, or where none is open
+may_begin : (c : goal.After-open_list) → c.args.self.now.placing.builder.leaf ≡ false
+    → IsAhead c.args.self.now.placing.builder c.args.at
+    → (own.without_list c.args.self.now.placing.builder.blocks ≡ []
+    → IsWhiteBefore c.args.self.now.placing.builder c.args.at)
+    → (own.innermost_is own.is_list c.args.self.now.placing.builder.blocks ≡ true
+    → AreClosable c.args.self.now.placing.builder c.args.self.now.placed)
+    → AllFitted c.args.self.now.placing → MayBeginList c.match-innermost.self.placing c.args.at
+may_begin c outside ahead white closable fitted =
+    let old = c.args.self.now in
+    elim c.match-innermost.branch [
+      | in-Some-List+else-character-marker w ↦
+          let list : own.innermost_is own.is_list old.placing.builder.blocks ≡ true = search rules in
+          let done = w.close_block.ensures.fits (closable list) (some_innermost own.is_list _ list) fitted in
+          subst (λ (p : Pass). MayBeginList p.placing c.args.at) (sym w.self-is)
+          (begins_list_after old.placing w.close_block.new.self.placing old.placed c.args.at list ahead white
+          (w.close_block.ensures.closes done).1 done)
+      | in-Some+in-MaybeEmphasis-1 w ↦
+          let other : own.innermost_is own.is_list old.placing.builder.blocks ≡ false = search rules in
+          subst (λ (p : Pass). MayBeginList p.placing c.args.at) (sym w.self-is)
+          (begins_list old.placing c.args.at other outside ahead white fitted)
+      | in-None-1 w ↦
+          let other : own.innermost_is own.is_list old.placing.builder.blocks ≡ false = search rules in
+          subst (λ (p : Pass). MayBeginList p.placing c.args.at) (sym w.self-is)
+          (begins_list old.placing c.args.at other outside ahead white fitted)
+    ]
+
+pub returns-clause-fits : goal.returns-clause-fits
+returns-clause-fits c =
+    IfOk-weaker c.open_list.result _ _ (λ done read outside ahead white closable fitted.
+    let m = may_begin c outside ahead white closable fitted in
+    let first = c.step_to.ensures.fits m.ahead m.white ∙ m.fitted in
+    let stepped = (c.step_to.ensures.steps first).1 in
+    c.in_ok-open_block.ensures.fits (ap (λ (b : BuilderView). b.leaf) stepped ∙ m.outside) ∙ first)
+    c.open_list.ensures.read
