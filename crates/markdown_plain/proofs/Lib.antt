@@ -65,6 +65,7 @@ pub mod BegunBlocksLemmas
 pub mod BegunContainersLemmas
 pub mod BegunItemsLemmas
 pub mod BegunRestsLemmas
+pub mod PassedMarkersLemmas
 pub mod BegunLeavesLemmas
 pub mod BegunTextsLemmas
 pub mod FirstTurnsLemmas

@@ -17,6 +17,7 @@ returns-clause-reads_on c = λ s turn source blocks state found boundary fitted.
     (record {
       text = opens.text;
       options = ap (λ (p : Pass). p.options) c.open_item.ensures.same;
+      here = opens.here;
       ended = opens.ended;
       dropped = opens.dropped;
       unheld = opens.unheld;
