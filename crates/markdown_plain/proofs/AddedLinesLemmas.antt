@@ -31,11 +31,11 @@ use Rattle.markdown_plain.proofs.ParagraphTreesLemmas.{as_many}
 -- ---- a line more
 
 -- where the last of some lines ends, or the number before them
-abbrev past : ℕ → List HeldLine → ℕ
+abbrev pub past : ℕ → List HeldLine → ℕ
 past from [] = from
 past from (line ∷ lines) = past line.next lines
 
-past_is_end : (line : HeldLine) (lines : List HeldLine) → lines_end (line ∷ lines) ≡ past line.next lines
+pub past_is_end : (line : HeldLine) (lines : List HeldLine) → lines_end (line ∷ lines) ≡ past line.next lines
 past_is_end line [] = refl
 past_is_end line (m ∷ lines) = end_inside line m lines ∙ past_is_end m lines
   where
@@ -46,7 +46,7 @@ past_last : (from : ℕ) (lines : List HeldLine) (line : HeldLine) → past from
 past_last from [] line = refl
 past_last from (m ∷ lines) line = past_last m.next lines line
 
-end_after : (lines : List HeldLine) (line : HeldLine) → lines_end (lines ++ line ∷ []) ≡ line.next
+pub end_after : (lines : List HeldLine) (line : HeldLine) → lines_end (lines ++ line ∷ []) ≡ line.next
 end_after [] line = refl
 end_after (m ∷ lines) line = past_is_end m (lines ++ line ∷ []) ∙ past_last m.next lines line
 

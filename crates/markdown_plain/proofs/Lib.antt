@@ -56,6 +56,7 @@ pub mod GrownLeavesLemmas
 pub mod HeldTextLemmas
 pub mod AddedTextLemmas
 pub mod RoomLemmas
+pub mod ReadyTextsLemmas
 pub mod PlacedTextLemmas
 pub mod TextStepsLemmas
 pub mod TextReachedLemmas

@@ -18,6 +18,7 @@ use Rattle.markdown_block_rules.specs.TableLines.{reads_tables}
 use Rattle.markdown_plain.specs.declared.looseness.Looseness.{Looseness}
 use Rattle.markdown_plain.specs.declared.pass.Pass.{Pass}
 use Rattle.markdown_plain.specs.Beginning.{Holds}
+use Rattle.markdown_plain.specs.Closable.{IsReadyAfter}
 use Rattle.markdown_plain.specs.Closing as closing
 use Rattle.markdown_plain.specs.Closing.{AreItemsInLists, MayEnd}
 use Rattle.markdown_plain.specs.Frames.{AreContainers, AreNested, Frame, reached, rebuilt, room_depth, touched}
@@ -33,6 +34,8 @@ use Rattle.markdown_plain.proofs.HeldTextLemmas.{begins_block, comes_after, ends
 use Rattle.markdown_plain.proofs.ItemsInListsLemmas.{line_keeps}
 use Rattle.markdown_plain.proofs.LastBlocksLemmas.{open_are_containers}
 use Rattle.markdown_plain.proofs.LooseFramesLemmas.{ends_more}
+use Rattle.markdown_plain.proofs.ReadyTextsLemmas.{BeginsReady, begun_ready, further_ready, none_left, opened_none}
+use Rattle.markdown_plain.proofs.ReadyTextsLemmas.{whole_left}
 use Rattle.markdown_plain.proofs.RoomLemmas.{begins_in_room}
 use Rattle.markdown_plain.proofs.TouchedFramesLemmas.{earlier_touched, holds_touched, quotes_touched}
 
@@ -47,8 +50,9 @@ placed_text : (s : Source) (pass : Pass) (source : SourceLine) (line : Line) (fr
     → line.start ≤ line.next → AreOpenedBefore line.start frames → IsUnheld pass
     → IsLooseAs pass.looseness frames (followed_by inside (leaf_block b)) → AreItemsInLists false blocks
     → with_line s blocks source ≡ rebuilt (map (touched source) frames) (followed_by inside (leaf_block b))
-    → PlacesFor s pass line.next (with_line s blocks source)
-placed_text s pass source line frames inside b sources blocks of holds next last low earlier unheld loose items whole =
+    → IsReadyAfter pass line.next → PlacesFor s pass line.next (with_line s blocks source)
+placed_text s pass source line frames inside b sources blocks of holds next last low earlier unheld loose items whole
+    ready =
     record {
       frames = map (touched source) frames;
       inside = inside;
@@ -65,6 +69,7 @@ placed_text s pass source line frames inside b sources blocks of holds next last
         unheld = unheld;
         earlier = earlier_touched source line.start line.next low frames earlier;
         alone = λ metadata. absurd (true≢false (sym metadata ∙ ap is_metadata holds.kind));
+        ready = ready;
       };
       whole = whole;
     }
@@ -74,6 +79,7 @@ placed_text s pass source line frames inside b sources blocks of holds next last
 -- a line was added to the lines that are held back
 pub record AddsLine (old new : Pass) (line : Line) (start : ℕ) : Type 0 where
   pub same : new ≡ record old { lines = new.lines }
+  pub lines : new.lines.items ≡ old.lines.items ++ held_line line start ∷ []
   pub further : (s : Source) (frames : List Frame) (inside : Forest Block) (b : Block) (sources : List SourceLine)
       (source : SourceLine) → HoldsParagraph s old frames inside b sources
       → ComesAfter old.placing.builder.text old.lines.items (held_line line start) source
@@ -101,15 +107,19 @@ text_added s old new line start frames inside b sources source tables stands may
     let containers = open_are_containers old.placing.builder.texts old.placing.builder.blocks frames
     holds.built.blocks in
     let after = ends_after text line rest start at is.from in
+    let now = adds.further s frames inside b sources (text_line rest) holds
+    (comes_after text line rest start at is.from old.lines.items stands.before) in
     placed_text s new source line frames inside grown (sources ++ text_line rest ∷ []) (rebuilt frames blocks)
-    (ap source_of adds.same ∙ stands.source)
-    (adds.further s frames inside b sources (text_line rest) holds
-    (comes_after text line rest start at is.from old.lines.items stands.before))
+    (ap source_of adds.same ∙ stands.source) now
     is.next (sym at.next) (omega (arith, after)) stands.earlier (subst IsUnheld (sym adds.same) stands.unheld)
     (subst (λ (now : Looseness). IsLooseAs now frames (followed_by inside (leaf_block grown)))
     (sym (ap (λ (p : Pass). p.looseness) adds.same)) loose)
     may.items
     (paragraph_line s frames inside b sources source tables containers holds.built.nested may.items kind at.filled goes)
+    (further_ready old new line start rest source adds.same adds.lines holds.built.outside holds.some stands.ready is at
+    (λ none. none_left s frames blocks source
+    (opened_none old.placing.builder.texts old.placing.builder.blocks frames holds.built.blocks none))
+    now.lines.inside)
 
 -- ---- a paragraph that begins
 
@@ -150,8 +160,9 @@ pub text_begun : (s : Source) (old new : Pass) (line : Line) (start : ℕ) (fram
     → BeginsLine s new line start
     (take (room_depth (length (reached s frames inside source).outer) frames) frames)
     (rebuilt (drop (room_depth (length (reached s frames inside source).outer) frames) frames) inside)
+    → BeginsReady old new line start
     → PlacesFor s new line.next (with_line s (rebuilt frames inside) source)
-text_begun s old new line start frames inside source of same is are nested items earlier at none text begun =
+text_begun s old new line start frames inside source of same is are nested items earlier at none text begun ready =
     let r = reached s frames inside source in
     let n = room_depth (length r.outer) frames in
     let outer = take n frames in
@@ -174,3 +185,7 @@ text_begun s old new line start frames inside source of same is are nested items
     (begins_in_room s frames inside source are nested none
     (λ marker. text_no_item s r.rest marker own at.filled text)
     ∙ ap (λ made. rebuilt (map (touched source) outer) (followed_by now made)) (text_made s r.rest at.filled text))
+    (begun_ready old new line start r.rest source ready is at
+    (λ closed. whole_left s frames inside source
+    (opened_none new.placing.builder.texts new.placing.builder.blocks outer begun.stands.built.blocks closed))
+    begins_it.inside)

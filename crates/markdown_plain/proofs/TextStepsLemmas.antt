@@ -18,6 +18,7 @@ use Rattle.markdown_block_rules.specs.BlockGrowth.{Block, goes_on, is_nil, with_
 use Rattle.markdown_block_rules.specs.TableLines.{reads_tables}
 use Rattle.markdown_plain.specs.declared.pass.Pass.{Pass}
 use Rattle.markdown_plain.specs.Beginning.{Holds, HoldsLast}
+use Rattle.markdown_plain.specs.Closable.{AreClosable, IsClosable}
 use Rattle.markdown_plain.specs.Closing as closing
 use Rattle.markdown_plain.specs.Closing.{AreItemsInLists, MayClose, MayEnd}
 use Rattle.markdown_plain.specs.Fitting.{AllFitted, IfFitted}
@@ -25,7 +26,7 @@ use Rattle.markdown_plain.specs.Frames.{AreNested, Frame, Reached, reached, rebu
 use Rattle.markdown_plain.specs.OpenBlocks.{without_leaf}
 use Rattle.markdown_plain.specs.OpenLeaves.{AreItemsOpenedIn, BeginsText, ComesAfter, HoldsParagraph, leaf_block}
 use Rattle.markdown_plain.specs.OpenedFrames.{MayOpen}
-use Rattle.markdown_plain.specs.Paragraphs.{has_paragraph, source_of}
+use Rattle.markdown_plain.specs.Paragraphs.{has_paragraph, source_of, task_at}
 use Rattle.markdown_plain.specs.ReachedFrames.{are_none}
 use Rattle.markdown_plain.specs.Settled.{AreOpen, BlanksKnown, IsBuilt, IsLooseAs, IsLooseBefore}
 use Rattle.markdown_plain.specs.Standing.{HasLast, IsSource, PlacesFor, Stands, with_last}
@@ -70,6 +71,11 @@ pub record AddsText (old new : Pass) (line : Line) (start depth : ℕ) : Type 0 
         last = source.next;
         kind = was.paragraph_leaf (sources ++ source ∷ []);
       }) (sources ++ source ∷ [])
+  -- what is closed, and that the calls fit
+  pub task : has_paragraph old ≡ false → new.task ≡ task_at new line start
+  pub here : has_paragraph old ≡ false → IsClosable old → AllFitted new.placing
+      → AreClosable new.placing.builder old.placed
+  pub fits : IsClosable old → AllFitted old.placing → AllFitted new.placing
   -- which lines are held back then, and what becomes of containers that were opened in the line
   pub lines : new.lines.items ≡ (if has_paragraph old then old.lines.items else []) ++ held_line line start ∷ []
   pub inside : (s : Source) (frames : List Frame) → MayOpen s old frames nil → depth ≡ length frames
@@ -95,6 +101,7 @@ stands_holds s pass frames inside last from stands = record {
   before = stands.before;
   unheld = stands.unheld;
   earlier = stands.earlier;
+  ready = stands.ready;
 }
 
 -- ---- what is open
@@ -172,6 +179,12 @@ module _ (s : Source) (old new : Pass) (line : Line) (start depth : ℕ) (source
   none_kept true is unheld = adds.dropped is
   none_kept false is unheld = adds.unheld (unheld is)
 
+  -- which lines are held back then
+  held_then : (has : Bool) → has_paragraph old ≡ has
+      → new.lines.items ≡ (if has then old.lines.items else []) ++ held_line line start ∷ []
+  held_then has is = adds.lines
+      ∙ ap (λ (has : Bool). (if has then old.lines.items else []) ++ held_line line start ∷ []) is
+
   -- a paragraph begins
   begins_there : (frames : List Frame) (inside : Forest Block) (last : Option Block)
       → Holds s old frames inside last line.start → HasContainers s old frames (with_last inside last)
@@ -212,7 +225,14 @@ module _ (s : Source) (old new : Pass) (line : Line) (start depth : ℕ) (source
             (ap (λ test. begins s (if test then (if are_none r.inner then paragraph.Reached else paragraph.Lazy)
             else paragraph.NoParagraph) r.rest) (sym around.none) ∙ here.text)
             (subst (λ n. BeginsLine s new line start (take (room_depth n frames) frames)
-            (rebuilt (drop (room_depth n frames) frames) blocks)) here.depth_is begun),
+            (rebuilt (drop (room_depth n frames) frames) blocks)) here.depth_is begun)
+            (record {
+              text = adds.text;
+              lines = held_then false around.none;
+              task = adds.task around.none;
+              before = stands.ready;
+              here = adds.here around.none stands.ready.closable fitted;
+            }),
       )
 
   -- the pass has placed the line
@@ -238,6 +258,6 @@ module _ (s : Source) (old new : Pass) (line : Line) (start depth : ℕ) (source
           let same = adds.goes_on some in (
             subst AllFitted (ap (λ (p : Pass). p.placing) same) fitted,
             text_added s old new line start frames inside b sources source tables stands may is
-                (record { same = same; further = adds.further }) here.content
+                (record { same = same; lines = held_then true some; further = adds.further }) here.content
                 (goes_as s old (reached s frames (followed_by inside (leaf_block b)) source) some here.text),
           )

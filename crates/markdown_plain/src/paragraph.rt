@@ -6,8 +6,8 @@ ghost use Rattle.markdown_base.specs.declared.item.ItemBody.TheVariants as body;
 ghost use Rattle.markdown_builder.specs.BuilderView.{Opens};
 ghost use Rattle.markdown_plain.specs.Fitting.{BracesStand, FittedBefore, IfFitted, GoesOn, OpensHeading, OpensHeadingOf};
 ghost use Rattle.markdown_plain.specs.Fitting.{AllFitted, defining};
-ghost use Rattle.markdown_plain.specs.Closable.{AreAhead, EndsHeading, HasRoomFor, HasTask, HaveBraces, HaveTask};
-ghost use Rattle.markdown_plain.specs.Closable.{IsClosable, IsInText, IsLastInText, IsLeafOpen, IsPlaceable};
+ghost use Rattle.markdown_plain.specs.Closable.{AreAhead, AreClosable, EndsHeading, HasRoomFor, HasTask, HaveBraces};
+ghost use Rattle.markdown_plain.specs.Closable.{HaveTask, IsClosable, IsInText, IsLastInText, IsLeafOpen, IsPlaceable};
 ghost use Rattle.markdown_plain.specs.OpenBlocks.{room_in, without_leaf};
 ghost use Rattle.markdown_plain.specs.Paragraphs.{end_of, has_paragraph, is_item_in, lines_end};
 ghost use Rattle.markdown_plain.specs.Paragraphs.{paragraph_end, divided_of, first_task, shown_ended};
@@ -459,6 +459,9 @@ impl<'a> Pass<'a> {
             → self.new.blanks.items ≡ []) }
         ensures fits { IfOk result (λ _. IsClosable self.old
             → AllFitted self.old.placing → AllFitted self.new.placing) }
+        ensures here { IfOk result (λ _. has_paragraph self.old ≡ false → IsClosable self.old
+            → AllFitted self.new.placing
+            → AreClosable self.new.placing.builder self.old.placed) }
     {
         if !self.has_paragraph() {
             self.make_room(depth)?;

@@ -3,7 +3,9 @@ use Rattle.std.proofs.Common.{◌≡◌, ◌∙◌, ◌++◌, ◌∷◌, [], ap,
 use Rattle.markdown_lines.specs.declared.held_line.HeldLine.{HeldLine}
 use Rattle.markdown_plain.proofs.AddedLinesLemmas.{has_held, line_added, no_leaf_open, paragraph_begun}
 use Rattle.markdown_plain.proofs.ClosedFramesLemmas.{stands_on}
+use Rattle.markdown_plain.specs.Closable.{AreClosable}
 use Rattle.markdown_plain.specs.Fitting.{AllFitted}
+use Rattle.markdown_plain.specs.declared.placing.Placing.{Placing}
 use Rattle.markdown_plain.specs.Paragraphs.{has_paragraph, task_at}
 use Rattle.markdown_base.specs.Forest.{nil}
 use Rattle.markdown_plain.proofs.BegunTextsLemmas.{none_open}
@@ -73,4 +75,16 @@ returns-clause-inside c = λ s frames may deep loose.
       | else-not-has_paragraph w ↦
           let held : has_paragraph c.args.self.now ≡ true = search rules in
           absurd (true≢false (sym held ∙ none_open c.args.self.now may.lines))
+    ]
+
+-- what was closed may be, where room was made
+pub returns-clause-here : goal.returns-clause-here
+returns-clause-here c = λ none closable fitted.
+    elim c.if-not-has_paragraph.branch [
+      | then-not-has_paragraph+in_ok-make_room w ↦
+          let placing = ap (λ (p : Pass). p.placing) w.self-is in
+          subst (λ (p : Placing). AreClosable p.builder c.args.self.now.placed) (sym placing)
+          (w.in_ok-make_room.ensures.here closable (subst AllFitted placing fitted))
+      | else-not-has_paragraph w ↦
+          let held : has_paragraph c.args.self.now ≡ true = search rules in absurd (true≢false (sym held ∙ none))
     ]

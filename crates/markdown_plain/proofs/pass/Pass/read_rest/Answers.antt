@@ -38,6 +38,9 @@ adds c =
       loose = done.loose;
       first = done.first;
       further = done.further;
+      task = done.task;
+      here = done.here;
+      fits = done.fits;
       lines = done.line;
       inside = done.inside;
     }

@@ -1,0 +1,461 @@
+-- Lines of text that are held back: where they are, so that the calls which place them fit.
+use Rattle.std.proofs.Common.{◌≡◌, ℕ, zero, suc, ◌+◌, ◌-◌, ◌<◌, ◌≤◌, Bool, true, false, not, ◌&&◌, ◌==◌, List, [], ◌∷◌, ◌++◌}
+use Rattle.std.proofs.Common.{Option, Some, None, length, take, refl, sym, ap, ◌∙◌, subst, arith, true≢false}
+use Rattle.std.specs.Prelude.{◌||◌, if◌then◌else◌, slice_range, slice_index, get_or}
+use Rattle.std.specs.List.{prefix_len}
+use Rattle.std.specs.Option.{option_map_or}
+use Rattle.std.specs.Str.{IsCharBoundary, IsUtf8}
+use Rattle.std.proofs.lemmas.Bool.Decides.{nat_tests}
+use Rattle.std.proofs.lemmas.Option.{same_Some}
+use Rattle.std.proofs.lemmas.List.Sums.{prefix_len-le-length, prefix_len_passes}
+use Rattle.markdown_base.specs.Forest.{Forest}
+use Rattle.markdown_base.specs.declared.item.ItemBody.{ItemBody}
+use Rattle.markdown_base.specs.declared.options.Options.{Options}
+use Rattle.markdown_base.specs.declared.options.TheConstants.Options.{ENABLE_TASKLISTS}
+use Rattle.markdown_builder.specs.BuilderView.{BuilderView, innermost_block}
+use Rattle.markdown_builder.specs.declared.open_block.OpenBlock.{OpenBlock}
+use Rattle.markdown_scan.specs.LineStart.{LineLeft}
+use Rattle.markdown_lines.specs.BlockBeginnings.{Source}
+use Rattle.markdown_lines.specs.ExtendedOnly.{is_read}
+use Rattle.markdown_lines.specs.Lines.{AllPass, IsLineEnd, IsLineFrom, is_in_blank_line, is_line_ending, is_space_or_tab}
+use Rattle.markdown_lines.specs.SourceLines.{SourceLine}
+use Rattle.markdown_lines.specs.TaskMarkers.{task_marker, task_read}
+use Rattle.markdown_lines.specs.declared.held_line.HeldLine.{HeldLine}
+use Rattle.markdown_lines.specs.declared.line.Line.{Line}
+use Rattle.markdown_lines.proofs.PositionsLemmas.{in_part}
+use Rattle.markdown_block_rules.specs.BlockGrowth as was
+use Rattle.markdown_block_rules.specs.BlockGrowth.{Block, Kind, is_nil}
+use Rattle.markdown_block_rules.proofs.BlockBeginningsLemmas.{either}
+use Rattle.markdown_plain.specs.declared.pass.Pass.{Pass}
+use Rattle.markdown_plain.specs.Closable.{AreAhead, AreApart, AreClosable, AreContainers, AreInText, HasTask, HaveTask}
+use Rattle.markdown_plain.specs.Closable.{IsClosable, IsInText, IsReady, IsReadyAfter, has_quote, leaf_end}
+use Rattle.markdown_plain.specs.Containers.{is_container}
+use Rattle.markdown_plain.specs.Frames.{Frame, Reached, innermost_is, inside_container, is_list, reached, reached_past}
+use Rattle.markdown_plain.specs.Frames.{rebuilt, room_depth}
+use Rattle.markdown_plain.specs.HeldSources.{AreInParagraph}
+use Rattle.markdown_plain.specs.OpenBlocks.{outer_of, without_leaf}
+use Rattle.markdown_plain.specs.Paragraphs.{has_paragraph, is_item_in, lines_end, task_at}
+use Rattle.markdown_plain.specs.Settled.{AreOpen, IsBodyOf}
+use Rattle.markdown_plain.specs.Standing.{IsSource}
+use Rattle.markdown_plain.specs.TextLines.{IsContentAt, held_line}
+use Rattle.markdown_plain.proofs.AddedLinesLemmas.{end_after, past, past_is_end}
+use Rattle.markdown_plain.proofs.ClosableLemmas.{innermost_no_row, white_both}
+use Rattle.markdown_plain.proofs.HeldTextLemmas.{starts_after, starts_before}
+use Rattle.markdown_plain.proofs.WholeTextsLemmas.{boundary_after}
+
+-- ---- open blocks
+
+-- open containers are containers
+pub opened_containers : (texts : List (List ℕ)) (blocks : List OpenBlock) (frames : List Frame)
+    → AreOpen texts blocks frames → AreContainers blocks
+opened_containers texts [] frames are = tt
+opened_containers texts (block ∷ blocks) [] are = absurd are
+opened_containers texts (block ∷ blocks) (f ∷ frames) are =
+    (of_kind f.block.kind are.0.body, opened_containers texts blocks frames are.1)
+  where
+    of_kind : (kind : Kind) → IsBodyOf texts kind block.body → is_container block.body ≡ true
+    of_kind was.quote_container is = ap is_container is
+    of_kind (was.alert_container kind) is = ap is_container is
+    of_kind (was.list_container marker) is = ap is_container is
+    of_kind (was.item_container indent) is = ap is_container is
+    of_kind (was.footnote_container label) is = ap is_container is.1
+    of_kind other is = absurd is
+
+-- where no block is open, no container is
+pub opened_none : (texts : List (List ℕ)) (blocks : List OpenBlock) (frames : List Frame) → AreOpen texts blocks frames
+    → blocks ≡ [] → frames ≡ []
+opened_none texts [] [] are none = refl
+opened_none texts [] (f ∷ frames) are none = absurd are
+opened_none texts (block ∷ blocks) frames are none = absurd (omega (arith, ap length none))
+
+-- no leaf is open, so that the open blocks are those without one
+pub outside_leaf : (view : BuilderView) → view.leaf ≡ false → without_leaf view ≡ view.blocks
+outside_leaf view outside = ap (λ leaf. if leaf then outer_of view.blocks else view.blocks) outside
+
+-- lines are held back, where no leaf is open
+pub some_held : (pass : Pass) → pass.placing.builder.leaf ≡ false → 0 < length pass.lines.items
+    → has_paragraph pass ≡ true
+some_held pass outside some =
+    let other : (length pass.lines.items == 0) ≡ false = grind (arith, nat_tests, some) in
+    ap (λ leaf. not leaf && not (length pass.lines.items == 0)) outside ∙ ap not other
+
+-- ---- what is ready then
+
+-- the lines of a paragraph are held back up to a byte offset, and may be placed
+pub record HoldsText (pass : Pass) (to : ℕ) : Type 0 where
+  pub outside : pass.placing.builder.leaf ≡ false
+  pub some : 0 < length pass.lines.items
+  pub containers : AreContainers pass.placing.builder.blocks
+  pub ahead : AreAhead pass.placing.builder pass.lines.items
+  pub task : HaveTask pass.placing.builder.text pass.task pass.lines.items
+  pub ends : lines_end pass.lines.items ≡ to
+  pub boundary : IsCharBoundary pass.placing.builder.text to
+
+pub held_ready : (pass : Pass) (to : ℕ) → HoldsText pass to → IsReadyAfter pass to
+held_ready pass to holds =
+    let view = pass.placing.builder in
+    let has = some_held pass holds.outside holds.some in
+    let end : leaf_end pass ≡ to =
+    ap {B = ℕ} (λ has. if has then lines_end pass.lines.items else view.at) has ∙ holds.ends in
+    record {
+      closable = record {
+        some = λ leaf none. absurd (true≢false (sym leaf ∙ holds.outside));
+        other = innermost_no_row view.blocks holds.containers;
+        held = λ outside. holds.ahead;
+        task = holds.task;
+        containers = subst AreContainers (sym (outside_leaf view holds.outside)) holds.containers;
+        low = omega (arith, end);
+        boundary = holds.boundary;
+        white = λ none at low high. absurd (omega (arith, end, low, high));
+      };
+      low = omega arith;
+      boundary = holds.boundary;
+      white = λ at low high. absurd (omega (arith, low, high));
+      blanks = λ leaf. absurd (true≢false (sym leaf ∙ holds.outside));
+    }
+
+-- no leaf is open, and no line held back, where a builder is
+pub record HoldsNothing (pass : Pass) (to : ℕ) : Type 0 where
+  pub outside : pass.placing.builder.leaf ≡ false
+  pub none : pass.lines.items ≡ []
+  pub containers : AreContainers pass.placing.builder.blocks
+  pub here : pass.placing.builder.at ≡ to
+  pub boundary : IsCharBoundary pass.placing.builder.text to
+
+-- without lines there are none ahead, and no task marker
+pub none_ahead : (builder : BuilderView) (lines : List HeldLine) → lines ≡ [] → AreAhead builder lines
+none_ahead builder lines none =
+    subst (AreAhead builder) (sym none) (record { inside = tt; order = tt; apart = λ outside. tt })
+
+pub no_task : (text : List ℕ) (task : Option Bool) (lines : List HeldLine) → lines ≡ [] → HaveTask text task lines
+no_task text task lines none = subst (HaveTask text task) (sym none) tt
+
+-- the open leaf ends where the builder is
+pub end_here : (pass : Pass) → pass.lines.items ≡ [] → leaf_end pass ≡ pass.placing.builder.at
+end_here pass none =
+    ap {B = ℕ} (λ (lines : List HeldLine). if not pass.placing.builder.leaf && not (length lines == 0)
+    then lines_end lines else pass.placing.builder.at) none
+    ∙ never (not pass.placing.builder.leaf)
+  where
+    never : (b : Bool) → (if b && false then 0 else pass.placing.builder.at) ≡ pass.placing.builder.at
+    never true = refl
+    never false = refl
+
+pub nothing_ready : (pass : Pass) (to : ℕ) → HoldsNothing pass to → IsReadyAfter pass to
+nothing_ready pass to holds =
+    let view = pass.placing.builder in
+    let end = end_here pass holds.none ∙ holds.here in
+    record {
+      closable = record {
+        some = λ leaf none. absurd (true≢false (sym leaf ∙ holds.outside));
+        other = innermost_no_row view.blocks holds.containers;
+        held = λ outside. none_ahead view pass.lines.items holds.none;
+        task = no_task view.text pass.task pass.lines.items holds.none;
+        containers = subst AreContainers (sym (outside_leaf view holds.outside)) holds.containers;
+        low = omega (arith, end);
+        boundary = holds.boundary;
+        white = λ none at low high. absurd (omega (arith, end, low, high));
+      };
+      low = omega arith;
+      boundary = holds.boundary;
+      white = λ at low high. absurd (omega (arith, low, high));
+      blanks = λ leaf. absurd (true≢false (sym leaf ∙ holds.outside));
+    }
+
+-- ---- a line more
+
+-- a line comes after others, from a byte offset on, and only white space is before it where no block is open
+pub record IsNextLine (builder : BuilderView) (lines : List HeldLine) (line : HeldLine) : Type 0 where
+  pub low : past builder.at lines ≤ line.start
+  pub is : IsInText builder.text line
+  pub white : builder.blocks ≡ [] → AllPass is_in_blank_line builder.text (past builder.at lines) line.start
+
+order_after : (text : List ℕ) (from : ℕ) (lines : List HeldLine) (line : HeldLine) → AreInText text from lines
+    → past from lines ≤ line.start → IsInText text line → AreInText text from (lines ++ line ∷ [])
+order_after text from [] line are low is = (low, (is, tt))
+order_after text from (m ∷ lines) line are low is =
+    (are.0, (are.1.0, order_after text m.next lines line are.1.1 low is))
+
+apart_after : (text : List ℕ) (from : ℕ) (lines : List HeldLine) (line : HeldLine) → AreApart text from lines
+    → AllPass is_in_blank_line text (past from lines) line.start → AreApart text from (lines ++ line ∷ [])
+apart_after text from [] line are white = (white, tt)
+apart_after text from (m ∷ lines) line are white = (are.0, apart_after text m.next lines line are.1 white)
+
+pub ahead_after : (builder : BuilderView) (lines : List HeldLine) (line : HeldLine) → AreAhead builder lines
+    → AreInParagraph builder.text (lines ++ line ∷ []) → IsNextLine builder lines line
+    → AreAhead builder (lines ++ line ∷ [])
+ahead_after builder lines line ahead inside next = record {
+  inside = inside;
+  order = order_after builder.text builder.at lines line ahead.order next.low next.is;
+  apart = λ none. apart_after builder.text builder.at lines line (ahead.apart none) (next.white none);
+}
+
+-- the task marker is still that of the first line
+task_after : (text : List ℕ) (task : Option Bool) (lines more : List HeldLine) → 0 < length lines
+    → HaveTask text task lines → HaveTask text task (lines ++ more)
+task_after text task [] more some has = absurd (omega (arith, some))
+task_after text task (line ∷ lines) more some has = has
+
+-- lines end where the last of some lines does
+past_end : (from : ℕ) (lines : List HeldLine) → 0 < length lines → past from lines ≡ lines_end lines
+past_end from [] some = absurd (omega (arith, some))
+past_end from (line ∷ lines) some = sym (past_is_end line lines)
+
+-- what is read as a task marker is one
+read_task : (options : Options) (text : List ℕ) (line : HeldLine)
+    → HasTask text (task_read options (slice_range text line.start line.stop)) line
+read_task options text line = by_test (is_read ENABLE_TASKLISTS options)
+  where
+    of_marker : (found : Option Bool) → task_marker (slice_range text line.start line.stop) ≡ found
+        → HasTask text found line
+    of_marker None is = tt
+    of_marker (Some done) is = is
+
+    by_test : (reads : Bool)
+        → HasTask text (if reads then task_marker (slice_range text line.start line.stop) else None) line
+    by_test true = of_marker (task_marker (slice_range text line.start line.stop)) refl
+    by_test false = tt
+
+-- what begins at a byte offset of a line has the task marker that was read there
+pub first_task_held : (pass : Pass) (line : Line) (start : ℕ) (task : Option Bool) → task ≡ task_at pass line start
+    → HasTask pass.placing.builder.text task (held_line line start)
+first_task_held pass line start task is =
+    subst (λ found. HasTask pass.placing.builder.text found (held_line line start)) (sym is)
+    (either (λ found. HasTask pass.placing.builder.text found (held_line line start))
+    (option_map_or (λ block. is_item_in block line) (innermost_block pass.placing.builder.blocks) false)
+    (task_read pass.options (slice_range pass.placing.builder.text start line.stop)) None
+    (read_task pass.options pass.placing.builder.text (held_line line start)) tt)
+
+-- ---- where the line is
+
+-- the content of a line ends between characters
+stop_between : (text : List ℕ) (from stop : ℕ) → IsLineEnd text from stop → IsCharBoundary text stop
+stop_between text from stop ends = (
+  ends.high,
+  λ less high.
+      let ending = ends.stops less in
+      let ascii : slice_index text stop < 128 = grind (arith, nat_tests, ending) in
+      absurd (omega (arith, ascii, high)),
+)
+
+-- only white space is before the content of what is left of a line
+content_white : (text : List ℕ) (line : Line) (rest : SourceLine) (start : ℕ) → IsContentAt text line rest start
+    → AllPass is_in_blank_line text rest.left.scanned start
+content_white text line rest start at k low high =
+    let bytes = rest.left.bytes in
+    let here = at.here in
+    let within = prefix_len-le-length is_space_or_tab bytes in
+    let i = k - rest.left.scanned in
+    let inside : i < prefix_len is_space_or_tab bytes = omega (arith, here, low, high) in
+    let there = in_part text bytes rest.left.scanned line.stop i (sym at.bytes) (omega (arith, inside, within)) in
+    let place : rest.left.scanned + i ≡ k = omega (arith, low) in
+    let passes : is_space_or_tab (get_or text k 0) ≡ true =
+    ap (λ n. is_space_or_tab (get_or text n 0)) (sym place)
+    ∙ (sym (ap is_space_or_tab there.byte) ∙ prefix_len_passes is_space_or_tab bytes i 0 inside) in
+    ap (λ white. white || is_line_ending (get_or text k 0)) passes
+
+-- a line of text is one to be held back
+module _ (text : List ℕ) (line : Line) (rest : SourceLine) (start : ℕ) (at : IsContentAt text line rest start)
+    (from : IsLineFrom text line.start line) (utf8 : IsUtf8 text) where
+  pub line_in_text : IsInText text (held_line line start)
+  line_in_text =
+      let first = starts_before text line rest start at in
+      let ends = from.ends in
+      record {
+        content = omega (arith, first);
+        ending = omega (arith, ends);
+        start = at.boundary;
+        stop = stop_between text line.start line.stop from.content;
+        next = boundary_after text line.start line utf8 from;
+      }
+
+  -- where nothing takes a part of the line, only white space is before its content
+  pub line_white : rest.left.scanned ≡ line.start → AllPass is_in_blank_line text line.start start
+  line_white whole = subst (λ n. AllPass is_in_blank_line text n start) whole (content_white text line rest start at)
+
+-- ---- what a line takes outside all blocks
+
+-- where no container goes on in a line, nothing is taken of it
+nothing_taken : (s : Source) (frames : List Frame) (inside : Forest Block) (l : SourceLine)
+    → (reached s frames inside l).outer ≡ [] → (reached s frames inside l).rest ≡ l
+unfolding reached
+nothing_taken s [] inside l none = refl
+nothing_taken s (f ∷ frames) inside l none =
+    by_rest (inside_container s l (is_nil (rebuilt frames inside)) f.block.kind) none
+  where
+    by_rest : (rest : Option SourceLine) → (reached_past f frames l (reached s frames inside) rest).outer ≡ []
+        → (reached_past f frames l (reached s frames inside) rest).rest ≡ l
+    by_rest None none = refl
+    by_rest (Some m) none = absurd (omega (arith, ap length none))
+
+-- nor where no container is open
+pub none_left : (s : Source) (frames : List Frame) (inside : Forest Block) (l : SourceLine) → frames ≡ []
+    → (reached s frames inside l).rest ≡ l
+unfolding reached
+none_left s [] inside l none = refl
+none_left s (f ∷ frames) inside l none = absurd (omega (arith, ap length none))
+
+-- room outside all containers is where none goes on, or a list alone
+only_list : (n : ℕ) (f : Frame) (frames : List Frame)
+    → take (room_depth (suc n) (f ∷ frames)) (f ∷ frames) ≡ [] → (n ≡ 0) × (is_list f.block.kind ≡ true)
+only_list n f frames = by_test (innermost_is is_list (take (suc n) (f ∷ frames))) refl
+  where
+    by_count : (n : ℕ) → innermost_is is_list (take (suc n) (f ∷ frames)) ≡ true
+        → take (suc n - 1) (f ∷ frames) ≡ [] → (n ≡ 0) × (is_list f.block.kind ≡ true)
+    by_count zero list none = (refl, list)
+    by_count (suc n) list none =
+        let less : suc (suc n) - 1 ≡ suc n = omega arith in
+        let some : take (suc n) (f ∷ frames) ≡ [] = subst (λ k. take k (f ∷ frames) ≡ []) less none in
+        absurd (omega (arith, ap length some))
+
+    by_test : (list : Bool) → innermost_is is_list (take (suc n) (f ∷ frames)) ≡ list
+        → take (if list then suc n - 1 else suc n) (f ∷ frames) ≡ [] → (n ≡ 0) × (is_list f.block.kind ≡ true)
+    by_test true list none = by_count n list none
+    by_test false list none = absurd (omega (arith, ap length none))
+
+-- a list takes nothing
+list_takes_none : (s : Source) (l : SourceLine) (empty : Bool) (kind : Kind) → is_list kind ≡ true
+    → inside_container s l empty kind ≡ Some l
+list_takes_none s l empty (was.list_container marker) list = refl
+list_takes_none s l empty other list = absurd (true≢false (sym list))
+
+-- so that all of the line is left where there is room outside all containers
+pub whole_left : (s : Source) (frames : List Frame) (inside : Forest Block) (l : SourceLine)
+    → take (room_depth (length (reached s frames inside l).outer) frames) frames ≡ []
+    → (reached s frames inside l).rest ≡ l
+unfolding reached
+whole_left s [] inside l none = refl
+whole_left s (f ∷ frames) inside l none =
+    by_rest (inside_container s l (is_nil (rebuilt frames inside)) f.block.kind) refl none
+  where
+    none_of : (outer : List Frame) → length outer ≡ 0 → outer ≡ []
+    none_of [] none = refl
+    none_of (g ∷ outer) none = absurd (omega (arith, none))
+
+    by_rest : (rest : Option SourceLine)
+        → inside_container s l (is_nil (rebuilt frames inside)) f.block.kind ≡ rest
+        → take (room_depth (length (reached_past f frames l (reached s frames inside) rest).outer) (f ∷ frames))
+        (f ∷ frames) ≡ []
+        → (reached_past f frames l (reached s frames inside) rest).rest ≡ l
+    by_rest None is none = refl
+    by_rest (Some m) is none =
+        let outer = (reached s frames inside m).outer in
+        let only = only_list (length outer) f frames none in
+        let same : m ≡ l =
+        same_Some m l (sym is ∙ list_takes_none s l (is_nil (rebuilt frames inside)) f.block.kind only.1) in
+        nothing_taken s frames inside m (none_of outer only.0) ∙ same
+
+-- ---- lines of text
+
+-- a paragraph whose lines are held back has one line more
+pub further_ready : (old new : Pass) (line : Line) (start : ℕ) (rest source : SourceLine)
+    → new ≡ record old { lines = new.lines } → new.lines.items ≡ old.lines.items ++ held_line line start ∷ []
+    → old.placing.builder.leaf ≡ false → 0 < length old.lines.items → IsReady old line.start
+    → IsSource old line source → IsContentAt old.placing.builder.text line rest start
+    → (old.placing.builder.blocks ≡ [] → rest ≡ source)
+    → AreInParagraph new.placing.builder.text new.lines.items → IsReadyAfter new line.next
+further_ready old new line start rest source same lines outside some ready is at alone inside =
+    let view = old.placing.builder in
+    let held = held_line line start in
+    let closable = ready.closable in
+    let has = some_held old outside some in
+    let end : leaf_end old ≡ past view.at old.lines.items =
+    ap {B = ℕ} (λ has. if has then lines_end old.lines.items else view.at) has
+    ∙ sym (past_end view.at old.lines.items some) in
+    let low = closable.low in
+    let ready_low = ready.low in
+    let after = starts_after view.text line rest start at in
+    let within = subst (AreInParagraph view.text) lines
+    (subst (λ (p : Pass). AreInParagraph p.placing.builder.text new.lines.items) same inside) in
+    let next : IsNextLine view old.lines.items held = record {
+      low = omega (arith, end, low, ready_low, after);
+      is = line_in_text view.text line rest start at is.from is.utf8;
+      white = λ none.
+          let quotes : has_quote (without_leaf view) ≡ false =
+          ap has_quote (outside_leaf view outside ∙ none) in
+          let scanned = ap (λ (l : SourceLine). l.left.scanned) (alone none)
+          ∙ sym (ap (λ (left : LineLeft). left.scanned) is.left) in
+          white_both view.text (past view.at old.lines.items) old.placed start
+              (subst (λ n. AllPass is_in_blank_line view.text n old.placed) end (closable.white quotes))
+              (white_both view.text old.placed line.start start ready.white
+              (line_white view.text line rest start at is.from is.utf8 scanned));
+    } in
+    subst (λ (p : Pass). IsReadyAfter p line.next) (sym same) (held_ready (record old { lines = new.lines }) line.next
+    (record {
+      outside = outside;
+      some = subst (λ (ls : List HeldLine). 0 < length ls) (sym lines) (some_more old.lines.items);
+      containers = subst AreContainers (outside_leaf view outside) closable.containers;
+      ahead = subst (AreAhead view) (sym lines)
+          (ahead_after view old.lines.items held (closable.held outside) within next);
+      task = subst (HaveTask view.text old.task) (sym lines)
+          (task_after view.text old.task old.lines.items (held ∷ []) some closable.task);
+      ends = ap lines_end lines ∙ end_after old.lines.items held;
+      boundary = boundary_after view.text line.start line is.utf8 is.from;
+    }))
+  where
+    some_more : (ls : List HeldLine) → 0 < length (ls ++ held_line line start ∷ [])
+    some_more [] = omega arith
+    some_more (m ∷ ls) = omega arith
+
+-- the first line of a paragraph is held back, where containers are open
+pub record HoldsFirst (pass : Pass) (line : Line) (start : ℕ) : Type 0 where
+  pub outside : pass.placing.builder.leaf ≡ false
+  pub containers : AreContainers pass.placing.builder.blocks
+  pub lines : pass.lines.items ≡ held_line line start ∷ []
+  pub task : pass.task ≡ task_at pass line start
+  pub inside : AreInParagraph pass.placing.builder.text (held_line line start ∷ [])
+  pub next : IsNextLine pass.placing.builder [] (held_line line start)
+
+pub first_ready : (pass : Pass) (line : Line) (start : ℕ) → HoldsFirst pass line start → IsReadyAfter pass line.next
+first_ready pass line start holds =
+    let view = pass.placing.builder in
+    let held = held_line line start in
+    held_ready pass line.next (record {
+      outside = holds.outside;
+      some = subst (λ (ls : List HeldLine). 0 < length ls) (sym holds.lines) (omega arith);
+      containers = holds.containers;
+      ahead = subst (AreAhead view) (sym holds.lines)
+          (ahead_after view [] held (none_ahead view [] refl) holds.inside holds.next);
+      task = subst (HaveTask view.text pass.task) (sym holds.lines)
+          (first_task_held pass line start pass.task holds.task);
+      ends = ap lines_end holds.lines;
+      boundary = holds.next.is.next;
+    })
+
+-- it is what is left of a line inside the containers that it reaches, once the others are closed
+pub record BeginsReady (old new : Pass) (line : Line) (start : ℕ) : Type 0 where
+  pub text : new.placing.builder.text ≡ old.placing.builder.text
+  pub lines : new.lines.items ≡ held_line line start ∷ []
+  pub task : new.task ≡ task_at new line start
+  pub before : IsReady old line.start
+  pub here : AreClosable new.placing.builder old.placed
+
+pub begun_ready : (old new : Pass) (line : Line) (start : ℕ) (rest source : SourceLine)
+    → BeginsReady old new line start → IsSource old line source
+    → IsContentAt old.placing.builder.text line rest start → (new.placing.builder.blocks ≡ [] → rest ≡ source)
+    → AreInParagraph new.placing.builder.text (held_line line start ∷ []) → IsReadyAfter new line.next
+begun_ready old new line start rest source begins is at alone inside =
+    let text = old.placing.builder.text in
+    let view = new.placing.builder in
+    let low = begins.here.low in
+    let before = begins.before.low in
+    let after = starts_after text line rest start at in
+    first_ready new line start (record {
+      outside = begins.here.outside;
+      containers = begins.here.containers;
+      lines = begins.lines;
+      task = begins.task;
+      inside = inside;
+      next = record {
+        low = omega (arith, low, before, after);
+        is = subst (λ t. IsInText t (held_line line start)) (sym begins.text)
+            (line_in_text text line rest start at is.from is.utf8);
+        white = λ none.
+            let scanned = ap (λ (l : SourceLine). l.left.scanned) (alone none)
+            ∙ sym (ap (λ (left : LineLeft). left.scanned) is.left) in
+            white_both view.text view.at old.placed start (begins.here.white (ap has_quote none))
+                (subst (λ t. AllPass is_in_blank_line t old.placed start) (sym begins.text)
+                (white_both text old.placed line.start start begins.before.white
+                (line_white text line rest start at is.from is.utf8 scanned)));
+      };
+    })
