@@ -38,7 +38,7 @@ use Rattle.markdown_plain.specs.Beginning.{HasBegun, IsFirst, IsFound, IsHere, I
 use Rattle.markdown_plain.specs.Closable.{AreAhead, EndsHeading, HaveTask}
 use Rattle.markdown_plain.specs.Containers.{whole_line}
 use Rattle.markdown_plain.specs.Closing.{AreItemsInLists, MayEnd}
-use Rattle.markdown_plain.specs.Fitting.{AllFitted, IfFitted, defining}
+use Rattle.markdown_plain.specs.Fitting.{AllFitted, IfFitted, defining as with_definitions}
 use Rattle.markdown_plain.specs.Frames.{Frame, is_item, reached, rebuilt, touched}
 use Rattle.markdown_plain.specs.HeldSources.{IsParagraph}
 use Rattle.markdown_plain.specs.OpenLeaves.{HoldsParagraph, IsPlaced, ended_block, leaf_block}
@@ -211,7 +211,7 @@ pub record EndsUnderlined (old new : Pass) (level : HeadingLevel) (line : Line) 
       new.placing.builder line.next)
   pub defines : some ≡ false → IfFitted old.placing new.placing
       (new.placing.builder
-      ≡ defining old.placing.builder new.placing.builder.definitions new.placing.builder.at)
+      ≡ with_definitions old.placing.builder new.placing.builder.definitions new.placing.builder.at)
   pub after : some ≡ false → 0 < length old.lines.items → IfFitted old.placing new.placing
       (new.placing.builder.at ≡ lines_end old.lines.items)
 
