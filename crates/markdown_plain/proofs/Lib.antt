@@ -73,6 +73,8 @@ pub mod FoundBlocksLemmas
 pub mod InnerBeginningsLemmas
 -- on calls that fit
 pub mod FittingLemmas
+pub mod ReadyPlacesLemmas
+pub mod RoomReadyLemmas
 pub mod BegunMetadataLemmas
 pub mod UnderlinesLemmas
 pub mod RoomForBlocksLemmas
