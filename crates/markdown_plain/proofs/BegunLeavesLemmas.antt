@@ -35,6 +35,7 @@ use Rattle.markdown_plain.specs.declared.block_pass.LineRest.{LineRest}
 use Rattle.markdown_plain.specs.declared.looseness.Looseness.{Looseness}
 use Rattle.markdown_plain.specs.declared.pass.Pass.{Pass}
 use Rattle.markdown_plain.specs.declared.placing.Placing.{Placing}
+use Rattle.markdown_plain.specs.Closable.{IsReadyAfter}
 use Rattle.markdown_plain.specs.Closing.{AreItemsInLists}
 use Rattle.markdown_plain.specs.Fitting.{AllFitted, IfFitted, stepped}
 use Rattle.markdown_plain.specs.Frames.{Frame, rebuilt}
@@ -82,9 +83,9 @@ pub line_places : (s : Source) (now : Pass) (to : ℕ) (frames : List Frame) (be
     → QuotesEnd to frames → AreOpenedBefore to frames → IsLooseBefore now.looseness frames before
     → now.blanks.items ≡ [] → lines_end now.lines.items ≤ to
     → blocks ≡ rebuilt frames (followed_by before (leaf_block b)) → AreItemsInLists false blocks
-    → PlacesFor s now to blocks
+    → IsReadyAfter now to → PlacesFor s now to blocks
 line_places s now to frames before blocks b inside last is leaf source unended alone quotes earlier loose blanks ends
-    begins items =
+    begins items ready =
     let whole : blocks ≡ rebuilt frames (with_last inside last) = begins ∙ ap (rebuilt frames) (sym is) in
     record {
       frames = frames;
@@ -102,6 +103,7 @@ line_places s now to frames before blocks b inside last is leaf source unended a
         unheld = λ e. blanks;
         earlier = earlier;
         alone = alone;
+        ready = ready;
       };
       whole = whole;
     }

@@ -19,6 +19,7 @@ use Rattle.markdown_block_rules.specs.BlockGrowth as was
 use Rattle.markdown_block_rules.specs.BlockGrowth.{Block, content_of}
 use Rattle.markdown_block_rules.specs.BlockRules.{block_ends_blank, is_blank_block}
 use Rattle.markdown_plain.specs.declared.pass.Pass.{Pass}
+use Rattle.markdown_plain.specs.Closable.{IsReadyAfter}
 use Rattle.markdown_plain.specs.Closing.{AreItemsInLists}
 use Rattle.markdown_plain.specs.Frames.{Frame, rebuilt}
 use Rattle.markdown_plain.specs.HeldSources.{AreInOrder}
@@ -104,13 +105,13 @@ pub text_inside : (s : Source) (now : Pass) (line : Line) (at : ℕ) (frames : L
     → AreOpenedBefore line.next frames → IsLooseBefore now.looseness frames before → now.blanks.items ≡ []
     → now.lines.items ≡ held_from line at ∷ []
     → blocks ≡ rebuilt frames (followed_by before (leaf_block b)) → AreItemsInLists false blocks
-    → PlacesFor s now line.next blocks
+    → IsReadyAfter now line.next → PlacesFor s now line.next blocks
 text_inside s now line at frames before blocks b source kind same holds quotes earlier loose blanks lines begins
-    items =
+    items ready =
     line_places s now line.next frames before blocks b before (Some b) refl
     (record {
       filled = ap is_blank_block kind;
       ends = ap (block_ends_blank false) kind;
     }) same (Some (source ∷ []), holds, tt)
     (λ is. absurd (true≢false (sym is ∙ ap is_metadata kind))) quotes earlier loose blanks
-    (subst (λ (ls : List HeldLine). lines_end ls ≤ line.next) (sym lines) (omega arith)) begins items
+    (subst (λ (ls : List HeldLine). lines_end ls ≤ line.next) (sym lines) (omega arith)) begins items ready

@@ -77,6 +77,7 @@ inside_same s pass rest new frames source blocks same state = record {
   before = state.before;
   whole = state.whole;
   items = state.items;
+  ahead = state.ahead;
 }
 
 first_same : (s : Source) (pass : Pass) (rest : LineRest) (new : LineReader) (before : LineBefore)

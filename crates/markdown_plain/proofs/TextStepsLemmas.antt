@@ -95,6 +95,7 @@ stands_holds s pass frames inside last from stands = record {
   before = stands.before;
   unheld = stands.unheld;
   earlier = stands.earlier;
+  ready = stands.ready;
 }
 
 -- ---- what is open

@@ -6,7 +6,7 @@ use Rattle.std.proofs.lemmas.Bool.{true≢false}
 use Rattle.std.proofs.lemmas.Option.{none-some}
 use Rattle.std.specs.Prelude.{◌&&◌, if◌then◌else◌, unwrap_or}
 use Rattle.std.specs.Option.{option_and_then, option_map}
-use Rattle.std.specs.Str.{IsCharBoundary}
+use Rattle.std.specs.Str.{IsCharBoundary, IsUtf8}
 use Rattle.markdown_base.specs.Forest.{Forest, nil}
 use Rattle.markdown_base.specs.declared.tag.HeadingLevel.{HeadingLevel}
 use Rattle.markdown_base.specs.declared.tag.MetadataBlockKind.{MetadataBlockKind}
@@ -345,6 +345,7 @@ module _ (s : Source) (old new : Pass) (rest : LineRest) (level : HeadingLevel) 
           indent = here.is.indent;
           from = subst (λ text. IsLineFrom text rest.line.start rest.line) (sym ends.text) here.is.from;
           boundary = subst (λ text. IsCharBoundary text rest.line.start) (sym ends.text) here.is.boundary;
+          utf8 = subst IsUtf8 (sym ends.text) here.is.utf8;
         };
         reached = here.reached;
         left = left_again;

@@ -38,9 +38,9 @@ use Rattle.markdown_plain.proofs.LastBlocksLemmas.{nothing_is_over}
 
 -- the line at a byte offset, as the pass reads it, is that of the definition
 pub source_at : (pass : Pass) (at : ℕ) (line : Line) → IsLineFrom pass.placing.builder.text at line
-    → IsCharBoundary pass.placing.builder.text at
+    → IsCharBoundary pass.placing.builder.text at → IsUtf8 pass.placing.builder.text
     → IsSource pass line (first_line at (drop at pass.placing.builder.text))
-source_at pass at line is boundary =
+source_at pass at line is boundary utf8 =
     let text = pass.placing.builder.text in
     let read = line_read text at line is in
     let low = is.content.low in
@@ -55,6 +55,7 @@ source_at pass at line is boundary =
       indent = refl;
       from = subst (λ n. IsLineFrom text n line) (sym begins) is;
       boundary = subst (IsCharBoundary text) (sym begins) boundary;
+      utf8 = utf8;
     }
 
 -- a text may be cut after a line
@@ -109,8 +110,8 @@ ReadsLine s old new line =
 -- so it stands after the next line
 pub stands_next : (s : Source) (old new : Pass) (at : ℕ) (line : Line) → reads_tables s ≡ false
     → old.placing.builder.text ≡ s.text → at < length s.text → IsLineFrom s.text at line → IsCharBoundary s.text at
-    → StandsAt s old at → ReadsLine s old new line → IfFitted old.placing new.placing (StandsAt s new line.next)
-stands_next s old new at line tables same less is boundary so_far reads fitted =
+    → IsUtf8 s.text → StandsAt s old at → ReadsLine s old new line → IfFitted old.placing new.placing (StandsAt s new line.next)
+stands_next s old new at line tables same less is boundary utf8 so_far reads fitted =
     let before : Before = record {
       frames = so_far.stands.frames;
       inside = so_far.stands.inside;
@@ -119,7 +120,7 @@ stands_next s old new at line tables same less is boundary so_far reads fitted =
     let source = first_line at (drop at s.text) in
     let own = subst (λ text. IsSource old line (first_line at (drop at text))) same
     (source_at old at line (subst (λ text. IsLineFrom text at line) (sym same) is)
-    (subst (λ text. IsCharBoundary text at) (sym same) boundary)) in
+    (subst (λ text. IsCharBoundary text at) (sym same) boundary) (subst IsUtf8 (sym same) utf8)) in
     let read = reads before source
     (subst (Stands s old before.frames before.inside before.last) (sym is.begins) so_far.stands.stands) own fitted in (
       read.0,

@@ -2,7 +2,7 @@
 -- stands
 -- for once a line that is not blank is placed, before that is recorded.
 use Rattle.std.specs.Prelude.{◌≡◌, ℕ, ◌<◌, ◌≤◌, Bool, true, false, List, [], ◌∷◌, ◌++◌, Option, Some, None}
-use Rattle.std.specs.Str.{IsCharBoundary}
+use Rattle.std.specs.Str.{IsCharBoundary, IsUtf8}
 use Rattle.markdown_base.specs.Forest.{Forest}
 use Rattle.markdown_builder.specs.TreeLevels.{followed_by}
 use Rattle.markdown_lines.specs.BlockBeginnings.{Source}
@@ -109,6 +109,7 @@ pub record IsSource (pass : Pass) (line : Line) (source : SourceLine) : Type 0 w
   pub indent : source.indent ≡ None
   pub from : IsLineFrom pass.placing.builder.text line.start line
   pub boundary : IsCharBoundary pass.placing.builder.text line.start
+  pub utf8 : IsUtf8 pass.placing.builder.text
 
 -- which block has not ended, once a line is placed
 abbrev pub PlacesLast : Source → Pass → List Frame → Forest Block → Option Block → Type 0

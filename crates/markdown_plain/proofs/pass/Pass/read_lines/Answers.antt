@@ -1,6 +1,6 @@
 -- The pass stands for the blocks of the lines that were read, and then all of them are closed.
 use Rattle.std.proofs.Common.{◌≡◌, ◌<◌, ◌≤◌, ◌∙◌, List, ap, arith, length, refl, rules, subst, sym, ℕ}
-use Rattle.std.specs.Str.{IsCharBoundary}
+use Rattle.std.specs.Str.{IsCharBoundary, IsUtf8}
 use Rattle.std.proofs.lemmas.Result.{IfOk-weaker}
 use Rattle.std.proofs.lemmas.Str.{IsCharBoundary-start}
 use Rattle.markdown_lines.specs.BlockBeginnings.{Source}
@@ -44,7 +44,8 @@ lines-preserved c =
           let next = stands_next s c.lines.self c.read_line.new.self c.lines.from c.line_from-line.result tables
           (loop.same ∙ own) (subst (λ (text : List ℕ). c.lines.from < length text) text line.0)
           (subst (λ (text : List ℕ). IsLineFrom text c.lines.from c.line_from-line.result) text line.1)
-          (subst (λ (text : List ℕ). IsCharBoundary text c.lines.from) text loop.boundary) so_far.1
+          (subst (λ (text : List ℕ). IsCharBoundary text c.lines.from) text loop.boundary)
+          (subst IsUtf8 text c.text-text.utf8) so_far.1
           (λ before source. c.in_ok-read_line.ensures.stands s before source tables (loop.ahead ∙ text)) fitted in
           (so_far.0, next.1);
     }
