@@ -81,6 +81,8 @@ pub mod RoomForBlocksLemmas
 pub mod FoundPlacesLemmas
 pub mod TextHereLemmas
 pub mod TurnsLemmas
+-- on readiness between two lines
+pub mod ReadyLinesLemmas
 -- on a whole text
 pub mod WholeTextsLemmas
 -- on where blocks end
