@@ -16,7 +16,8 @@ use Rattle.markdown_lines.specs.declared.block_start.BlockStart.TheVariants as s
 use Rattle.markdown_lines.specs.declared.held_line.HeldLine.{HeldLine}
 use Rattle.markdown_block_rules.specs.BlockGrowth as was
 use Rattle.markdown_block_rules.specs.BlockGrowth.{Block, Kind, begun_by, content_of, inside_of, new_blocks}
-use Rattle.markdown_block_rules.specs.BlockRules.{block_ends_blank, ends_blank, is_blank_block}
+use Rattle.markdown_block_rules.specs.BlockRules.{block_end, block_ends_blank, code_lines, ends_blank, is_blank_block}
+use Rattle.markdown_block_rules.specs.BlockRules.{lines_end as source_lines_end}
 use Rattle.markdown_lines.specs.Positions.{left_from}
 use Rattle.markdown_plain.specs.HeldSources.{AreHeld}
 use Rattle.markdown_plain.specs.Beginning.{HasRoom, IsFound, IsHere, IsInside, IsLeft, MayBegin, Turn, first, later}
@@ -24,6 +25,7 @@ use Rattle.markdown_plain.proofs.ReachedFramesLemmas.{AreAlike}
 use Rattle.std.proofs.lemmas.List.{get_or-drop, get_or-take}
 use Rattle.std.proofs.lemmas.List.Sums.{prefix_len-le-length, prefix_len_passes}
 use Rattle.std.specs.List.{prefix_len}
+use Rattle.std.specs.Str.{IsCharBoundary}
 use Rattle.markdown_scan.specs.LineStart.{LineLeft}
 use Rattle.markdown_lines.specs.HeldLines.{IsHeldLine}
 use Rattle.markdown_lines.specs.Lines.{IsNextContent, is_line_ending, is_space_or_tab}
@@ -41,7 +43,7 @@ use Rattle.markdown_plain.specs.Fitting.{AllFitted, IfFitted, stepped}
 use Rattle.markdown_plain.specs.Frames.{Frame, rebuilt}
 use Rattle.markdown_plain.specs.OpenLeaves.{IsLeafIn, IsLineRest, IsOpenIn, IsPlaced, is_leaf, leaf_block}
 use Rattle.markdown_plain.specs.Paragraphs.{lines_end, source_of}
-use Rattle.markdown_plain.specs.Settled.{IsBuilt, IsLooseAs, IsLooseBefore, QuotesEnd}
+use Rattle.markdown_plain.specs.Settled.{IsBuilt, IsLooseAs, IsLooseBefore, QuotesEnd, placed_end}
 use Rattle.markdown_plain.specs.Standing.{AreOpenedBefore, HoldsBlanks, IsLeafKind, MetadataAlone, PlacesFor}
 use Rattle.markdown_plain.specs.Standing.{PlacesLast, is_metadata, with_last}
 use Rattle.std.proofs.lemmas.Bool.{true≢false}
@@ -51,6 +53,8 @@ use Rattle.markdown_plain.proofs.BegunBlocksLemmas.{KeepsRest, begun_in_room, so
 use Rattle.markdown_plain.proofs.BegunRestsLemmas.{HoldsRest, begins_rest}
 use Rattle.markdown_plain.proofs.LooseFramesLemmas.{ends_more}
 use Rattle.markdown_plain.proofs.LastBlocksLemmas.{is_over, leaf_is_over, nothing_is_over}
+use Rattle.markdown_plain.proofs.LeavesInPlaceLemmas.{leaf_end}
+use Rattle.markdown_plain.proofs.ReadyPlacesLemmas.{next_between, ready_last}
 
 -- what is built does not depend on the place
 pub built_at : (s : Source) (old new : BuilderView) (to : ℕ) (frames : List Frame) (inside : Forest Block)
@@ -114,38 +118,50 @@ leaf_in_room : (s : Source) (room now : Pass) (rest : LineRest) (source : Source
     (has : HasRoom s room rest source begun blocks) → MayBegin s now rest.line has.frames has.inside → IsLeafOf b
     → with_last inside last ≡ followed_by has.inside (leaf_block b) → PlacesLast s now has.frames inside last
     → MetadataAlone last has.frames → new_blocks (inside_of (begun_by s) source) source begun ≡ leaf_block b
-    → PlacesFor s now rest.line.next blocks
-leaf_in_room s room now rest source begun blocks b inside last has may leaf is unended alone begins =
+    → now.placing.builder.at ≡ rest.line.next → PlacesFor s now rest.line.next blocks
+leaf_in_room s room now rest source begun blocks b inside last has may leaf is unended alone begins here =
     line_places s now rest.line.next has.frames has.inside blocks b inside last is leaf may.source unended alone
     may.quotes may.earlier may.loose may.blanks (none_held now.lines.items rest.line.next may.lines)
     (begun_in_room s room rest source begun blocks has
     ∙ ap (λ made. rebuilt has.frames (followed_by has.inside made)) begins)
     has.items
+    (ready_last s now has.frames inside last rest.line.next unended may.lines may.blanks here
+    (subst (λ text. IsCharBoundary text rest.line.next) (sym (ap (λ (r : Source). r.text) may.source))
+    (next_between s.text rest.line.start rest.line has.left.utf8 has.left.from)))
+
+-- a leaf that ends with the line is the last block there
+ends_here : (s : Source) (view : BuilderView) (frames : List Frame) (inside : Forest Block) (b : Block) (to : ℕ)
+    → is_leaf b.kind ≡ true → block_end b b.first b.kind ≡ to
+    → view.at ≡ placed_end 0 frames (followed_by inside (leaf_block b)) → view.at ≡ to
+ends_here s view frames inside b to kind ends at = at ∙ (leaf_end frames inside b kind ∙ ends)
 
 -- by one that has ended
 pub ended_in_room : (s : Source) (room now : Pass) (rest : LineRest) (source : SourceLine) (begun : Beginning)
     (blocks : Forest Block) (b : Block) (has : HasRoom s room rest source begun blocks) → KeepsRest room now
-    → IsLeafOf b → is_over b.kind ≡ true
+    → IsLeafOf b → is_over b.kind ≡ true → is_leaf b.kind ≡ true → block_end b b.first b.kind ≡ rest.line.next
     → IsPlaced s now.placing.builder has.frames (followed_by has.inside (leaf_block b))
     → new_blocks (inside_of (begun_by s) source) source begun ≡ leaf_block b
     → PlacesFor s now rest.line.next blocks
-ended_in_room s room now rest source begun blocks b has keeps leaf over placed begins =
+ended_in_room s room now rest source begun blocks b has keeps leaf over kind ends placed begins =
     let may = still_may s room now rest.line has.frames has.inside has.may keeps in
     leaf_in_room s room now rest source begun blocks b (followed_by has.inside (leaf_block b)) None has may leaf refl
     (placed, may.lines, leaf_is_over s has.inside b over) tt begins
+    (ends_here s now.placing.builder has.frames has.inside b rest.line.next kind ends placed.at)
 
 -- by one that is open
 pub open_in_room : (s : Source) (room now : Pass) (rest : LineRest) (source : SourceLine) (begun : Beginning)
     (blocks : Forest Block) (b : Block) (has : HasRoom s room rest source begun blocks) → KeepsRest room now
-    → IsLeafOf b → is_leaf b.kind ≡ true → (is_metadata b.kind ≡ true → has.frames ≡ [])
+    → IsLeafOf b → is_leaf b.kind ≡ true → block_end b b.first b.kind ≡ rest.line.next
+    → (is_metadata b.kind ≡ true → has.frames ≡ [])
     → IsOpenIn s now.placing.builder has.frames has.inside true b → IsLeafKind now.leaf b.kind
     → HoldsBlanks now.blanks.items b.kind
     → new_blocks (inside_of (begun_by s) source) source begun ≡ leaf_block b
     → PlacesFor s now rest.line.next blocks
-open_in_room s room now rest source begun blocks b has keeps leaf kind alone opens known held begins =
+open_in_room s room now rest source begun blocks b has keeps leaf kind ends alone opens known held begins =
     let may = still_may s room now rest.line has.frames has.inside has.may keeps in
     leaf_in_room s room now rest source begun blocks b has.inside (Some b) has may leaf refl
     (None, (kind, opens), (known, held, may.lines)) alone begins
+    (ends_here s now.placing.builder has.frames has.inside b rest.line.next kind ends opens.end)
 
 -- a leaf that is no metadata may be open in any container
 pub other_alone : (kind : Kind) (frames : List Frame) → is_metadata kind ≡ false → is_metadata kind ≡ true
@@ -172,31 +188,36 @@ nothing_inside s old now rest frames source at blocks state found same steps =
     let whole : blocks ≡ rebuilt frames nil =
     state.whole ∙ ap (rebuilt frames) (blank_begins s source (is_blank_rest source)
     (found.is ∙ ap (λ p. begins_unless_blank s p source) state.before)) in
+    let source_is = source_kept s old now (ap (λ (v : BuilderView). v.text) steps) (ap (λ (p : Pass). p.options) same)
+    opened.source in
+    let blanks : now.blanks.items ≡ [] = ap (λ (p : Pass). p.blanks.items) same ∙ opened.blanks in
+    let placed : PlacesLast s now frames nil None = (
+      record {
+        built = built_at s old.placing.builder now.placing.builder rest.line.next frames nil steps opened.free.built;
+        at = ap (λ (v : BuilderView). v.at) steps ∙ sym opened.first;
+      },
+      lines,
+      nothing_is_over s,
+    ) in
     record {
       frames = frames;
       inside = nil;
       last = None;
       places = record {
-        source = source_kept s old now (ap (λ (v : BuilderView). v.text) steps) (ap (λ (p : Pass). p.options) same)
-            opened.source;
-        unended = (
-          record {
-            built = built_at s old.placing.builder now.placing.builder rest.line.next frames nil steps
-                opened.free.built;
-            at = ap (λ (v : BuilderView). v.at) steps ∙ sym opened.first;
-          },
-          lines,
-          nothing_is_over s,
-        );
+        source = source_is;
+        unended = placed;
         quotes = opened.quotes;
         items = subst (AreItemsInLists false) whole state.items;
         loose = subst (λ (n : Looseness). IsLooseAs n frames nil) (sym (ap (λ (p : Pass). p.looseness) same))
             opened.loose;
         filled = refl;
         before = none_held now.lines.items rest.line.next lines;
-        unheld = λ e. ap (λ (p : Pass). p.blanks.items) same ∙ opened.blanks;
+        unheld = λ e. blanks;
         earlier = opened.earlier;
         alone = tt;
+        ready = ready_last s now frames nil None rest.line.next placed lines blanks (ap (λ (v : BuilderView). v.at) steps)
+            (subst (λ text. IsCharBoundary text rest.line.next) (sym (ap (λ (r : Source). r.text) source_is))
+            (next_between s.text rest.line.start rest.line state.left.utf8 state.left.from));
       };
       whole = whole;
     }
@@ -220,17 +241,18 @@ nothing_places s old now rest (later frames) source at blocks here found same st
 
 pub html_places : (s : Source) (room now : Pass) (rest : LineRest) (source : SourceLine) (blocks : Forest Block)
     (kind : HtmlKind) (ended : Bool) (b : Block) (has : HasRoom s room rest source (line.begins_html kind) blocks)
-    → b.kind ≡ was.html_leaf kind ended (source ∷ []) → KeepsRest room now
+    → b.kind ≡ was.html_leaf kind ended (source ∷ []) → b.last ≡ rest.line.next → KeepsRest room now
     → IsLeafIn s now.placing.builder has.frames has.inside b ended → now.leaf ≡ leaf.Html kind
     → new_blocks (inside_of (begun_by s) source) source (line.begins_html kind) ≡ leaf_block b
     → PlacesFor s now rest.line.next blocks
-html_places s room now rest source blocks kind true b has is keeps placed known begins =
+html_places s room now rest source blocks kind true b has is last keeps placed known begins =
     ended_in_room s room now rest source (line.begins_html kind) blocks b has keeps
-    (record { filled = ap is_blank_block is; ends = ap (block_ends_blank false) is }) (ap is_over is) placed begins
-html_places s room now rest source blocks kind false b has is keeps opens known begins =
+    (record { filled = ap is_blank_block is; ends = ap (block_ends_blank false) is }) (ap is_over is) (ap is_leaf is)
+    (ap (block_end b b.first) is ∙ last) placed begins
+html_places s room now rest source blocks kind false b has is last keeps opens known begins =
     open_in_room s room now rest source (line.begins_html kind) blocks b has keeps
     (record { filled = ap is_blank_block is; ends = ap (block_ends_blank false) is }) (ap is_leaf is)
-    (other_alone b.kind has.frames (ap is_metadata is)) opens
+    (ap (block_end b b.first) is ∙ last) (other_alone b.kind has.frames (ap is_metadata is)) opens
     (subst (λ how. IsLeafKind how b.kind) (sym known) (subst (IsLeafKind (leaf.Html kind)) (sym is) refl))
     (subst (HoldsBlanks now.blanks.items) (sym is) (keeps.blanks ∙ has.may.blanks)) begins
 
@@ -284,6 +306,11 @@ code_holds held l filled none = (
   sym (ap (λ blank. (if blank then [] else l ∷ []) ++ []) filled),
   subst (λ lines. AreHeld lines []) (sym none) tt,
 )
+
+-- and ends the code
+pub code_ends : (before : ℕ) (l : SourceLine) → is_blank_rest l ≡ false
+    → source_lines_end before (code_lines (l ∷ [])) ≡ l.next
+code_ends before l filled = ap (λ blank. source_lines_end before (if blank then [] else l ∷ [])) filled
 
 -- what is left of a line after the space of indented code
 pub code_left : (s : Source) (rest : LineRest) (source : SourceLine) (code : Position) → IsLeft s rest source

@@ -62,7 +62,7 @@ not_in_quote l blank =
     neither false some = refl
 
 -- what a container leaves of a line without a marker is as blank as the line
-indented_alike : (l m : SourceLine) (indent : ℕ)
+pub indented_alike : (l m : SourceLine) (indent : ℕ)
     → option_map (λ rest. rest_inside rest l) (past_indentation indent l) ≡ Some m
     → is_blank_rest m ≡ is_blank_rest l
 indented_alike l m indent takes =

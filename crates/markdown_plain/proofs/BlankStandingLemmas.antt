@@ -27,7 +27,9 @@ use Rattle.markdown_plain.specs.ListLooseness.{blank_from}
 use Rattle.markdown_plain.specs.OpenLeaves.{is_leaf, leaf_block}
 use Rattle.markdown_plain.specs.Paragraphs.{lines_end, source_of}
 use Rattle.markdown_plain.specs.ReachedFrames.{are_none, quote_depth}
-use Rattle.markdown_plain.specs.Fitting.{IfFitted}
+use Rattle.markdown_plain.specs.Closable.{AreClosable, IsClosable}
+use Rattle.markdown_plain.specs.Fits.{MayAddBefore}
+use Rattle.markdown_plain.specs.Fitting.{AllFitted, IfFitted}
 use Rattle.markdown_plain.specs.OpenBlocks.{without_leaf}
 use Rattle.markdown_builder.specs.declared.open_block.OpenBlock.{OpenBlock}
 use Rattle.markdown_plain.specs.declared.pass.LeafKind.{LeafKind}
@@ -50,6 +52,7 @@ use Rattle.markdown_plain.proofs.LeafLinesLemmas.{loose_grown, open_leaf_touched
 use Rattle.markdown_plain.proofs.LinedLeavesLemmas.{grown_to}
 use Rattle.markdown_plain.proofs.LooseFramesLemmas.{ends_more}
 use Rattle.markdown_plain.proofs.IndentedLeavesLemmas.{blank_cut, blank_held, code_before_blank}
+use Rattle.markdown_plain.proofs.ReadyLinesLemmas.{SeesBlank, blank_moves, closed_ready, held_ready}
 use Rattle.markdown_plain.proofs.ReachedLemmas.{block_begins, inner_goes_lazily, inner_left, item_begins}
 use Rattle.markdown_plain.proofs.ReachedLemmas.{outer_taken, reached_parts}
 use Rattle.markdown_plain.proofs.TouchedFramesLemmas.{built_touched, earlier_touched, quotes_touched}
@@ -164,6 +167,7 @@ pub record HasClosed (s : Source) (old mid : Pass) (outer : List Frame) (inside 
   pub blanks : mid.blanks.items ≡ []
   pub source : source_of mid ≡ s
   pub from : mid.looseness.blank_from ≡ old.looseness.blank_from
+  pub closable : AreClosable mid.placing.builder old.placed
 
 pub items_of : (s : Source) (pass : Pass) (frames : List Frame) (inside : Forest Block) (last : Option Block)
     → HasLast s pass frames inside last → AreItemsInLists false (rebuilt frames (with_last inside last))
@@ -203,8 +207,9 @@ pub blank_stands : (s : Source) (old mid : Pass) (line : Line) (reached : code.R
     → HasClosed s old mid (reached_of s before source).outer
     (rebuilt (reached_of s before source).inner (blocks_in before))
     → QuotesEnd placed (map (touched source) (reached_of s before source).outer)
+    → SeesBlank old line source placed
     → StandsFor s (blank_seen mid reached.quoted placed) line.next (with_line s (blocks_before before) source)
-blank_stands s old mid line reached before source placed by blank off closed quotes =
+blank_stands s old mid line reached before source placed by blank off closed quotes sees =
     let stands = by.stands in
     let now = blocks_in before in
     let r = reached_of s before source in
@@ -261,6 +266,10 @@ blank_stands s old mid line reached before source placed by blank off closed quo
             (earlier_outer line.start r.outer r.inner
             (subst (AreOpenedBefore line.start) (sym (reached_parts s before.frames now source)) stands.earlier));
         alone = tt;
+        ready = closed_ready old new line.next closed.closable closed.lines
+            (ap (λ (s : Source). s.text) (closed.source ∙ sym stands.source))
+            (blank_moves s old line reached before source placed view.texts view.blocks by blank sees
+            closed.may.stands.built.blocks);
       };
       whole = whole;
     })
@@ -310,9 +319,10 @@ code_stands_for : (s : Source) (old mid : Pass) (line : Line) (found : code.Reac
     → HoldsBlank s old mid b lines (reached_of s (last_of frames inside b) source).rest
     → (may : MayEnd s old frames inside b None) → old.lines.items ≡ []
     → QuotesEnd placed (map (touched source) (reached_of s (last_of frames inside b) source).outer)
+    → SeesBlank old line source placed → MayAddBefore old.placing.builder mid.blanks.items line.next
     → StandsFor s (blank_seen (record old { blanks = mid.blanks }) found.quoted placed) line.next
     (with_line s (blocks_before (last_of frames inside b)) source)
-code_stands_for s old mid line found frames inside b source lines placed by none held may empty quotes =
+code_stands_for s old mid line found frames inside b source lines placed by none held may empty quotes sees fits =
     let before = last_of frames inside b in
     let now = followed_by inside (leaf_block b) in
     let r = reached_of s before source in
@@ -367,6 +377,12 @@ code_stands_for s old mid line found frames inside b source lines placed by none
         earlier = earlier_touched source line.start line.next (next_after old line source by.is) frames
             by.stands.earlier;
         alone = λ metadata. absurd (true≢false (sym metadata));
+        ready =
+            let parts = open_parts s old frames inside (Some b) by.stands.unended by.stands.loose in
+            held_ready old new line.start line.next by.stands.ready fits
+            (blank_moves s old line found before source placed texts (without_leaf old.placing.builder) by held.blank
+            sees (subst (AreOpen texts (without_leaf old.placing.builder)) (sym all)
+            (subst (λ (bs : List OpenBlock). AreOpen texts bs frames) (sym parts.without) parts.are)));
       };
       whole = whole;
     })
@@ -384,11 +400,13 @@ pub code_stands : (s : Source) (old mid : Pass) (line : Line) (found : code.Reac
     → old.placing.builder.leaf ≡ true → ((blank : List SourceLine) → AreHeld old.blanks.items blank
     → AreHeld mid.blanks.items (blank ++ cut 4 (reached s frames (with_last inside last) source).rest ∷ []))
     → QuotesEnd placed (map (touched source) (reached s frames (with_last inside last) source).outer)
+    → SeesBlank old line source placed → MayAddBefore old.placing.builder mid.blanks.items line.next
     → StandsFor s (blank_seen (record old { blanks = mid.blanks }) found.quoted placed) line.next
     (with_line s (rebuilt frames (with_last inside last)) source)
-code_stands s old mid line found frames inside None source placed by blank none how open_leaf holds quotes =
+code_stands s old mid line found frames inside None source placed by blank none how open_leaf holds quotes sees fits =
     absurd (true≢false (sym open_leaf ∙ by.stands.unended.0.stands.built.outside))
-code_stands s old mid line found frames inside (Some b) source placed by blank none how open_leaf holds quotes =
+code_stands s old mid line found frames inside (Some b) source placed by blank none how open_leaf holds quotes sees
+    fits =
     by_held by.stands.unended.0 by.stands.unended.1 by.stands.unended.2
   where
     by_kind : (kind : Kind) → b.kind ≡ kind → MayEnd s old frames inside b None → IsLeafKind leaf.Indented kind
@@ -402,7 +420,7 @@ code_stands s old mid line found frames inside (Some b) source placed by blank n
           blank = blank;
           holds = more_blank mid.blanks.items lines knows.0 (cut 4 (reached_of s (last_of frames inside b) source).rest)
               (blank_cut 4 (reached_of s (last_of frames inside b) source).rest blank) knows.1 (holds knows.0 knows.2);
-        }) may empty quotes
+        }) may empty quotes sees fits
     by_kind other kind may is knows empty = absurd is
 
     by_held : (held : Option (List SourceLine)) → MayEnd s old frames inside b held → KnowsLast old b held
@@ -430,6 +448,7 @@ pub record ClosesDown (s : Source) (old mid : Pass) (depth : ℕ) : Type 0 where
   pub unheld : old.blanks.items ≡ [] → mid.blanks.items ≡ []
   pub source : source_of mid ≡ source_of old
   pub from : mid.looseness.blank_from ≡ old.looseness.blank_from
+  pub here : IsClosable old → AllFitted mid.placing → AreClosable mid.placing.builder old.placed
 
 may_close : (s : Source) (old mid : Pass) (depth : ℕ) (frames : List Frame) (inside : Forest Block)
     (last : Option Block) → ClosesDown s old mid depth → HasLast s old frames inside last
@@ -474,6 +493,7 @@ closed_to_reached s old mid line found before source by closes fitted =
         blanks = none_held s old mid found.depth old.placing.builder.leaf closes refl stands.unheld;
         source = closes.source ∙ stands.source;
         from = closes.from;
+        closable = closes.here stands.ready.closable fitted;
       },
     )
 

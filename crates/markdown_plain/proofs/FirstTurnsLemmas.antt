@@ -179,6 +179,7 @@ first_holds s pass frames inside last from stands = record {
   before = stands.before;
   unheld = stands.unheld;
   earlier = stands.earlier;
+  ready = stands.ready;
 }
   where
     by_last : (last : Option Block) → HasLast s pass frames inside last → HoldsLast s pass frames inside last

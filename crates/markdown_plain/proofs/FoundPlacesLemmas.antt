@@ -9,7 +9,7 @@ use Rattle.std.specs.Option.{option_and_then, option_map}
 use Rattle.std.specs.Str.{IsCharBoundary, IsUtf8}
 use Rattle.std.proofs.lemmas.Bool.{true≢false}
 use Rattle.std.proofs.lemmas.Bool.Decides.{eqb_tells, nat_tests}
-use Rattle.std.proofs.lemmas.List.{get_or-drop, get_or-reverse, length-drop, length-take}
+use Rattle.std.proofs.lemmas.List.{get_or-drop, get_or-reverse, get_or-take, length-drop, length-take}
 use Rattle.std.proofs.lemmas.List.Sums.{prefix_len-le-length, prefix_len_passes, suffix_len-le-length}
 use Rattle.std.proofs.lemmas.Str.{IsCharBoundary-after_ascii, IsCharBoundary-before_ascii}
 use Rattle.markdown_base.specs.EnabledOptions.{footnotes_on}
@@ -53,6 +53,7 @@ use Rattle.markdown_lines.specs.declared.block_start.BlockStart.TheVariants as s
 use Rattle.markdown_lines.specs.declared.braces.Braces.{Braces}
 use Rattle.markdown_lines.specs.declared.fence.OpeningFence.{OpeningFence}
 use Rattle.markdown_lines.specs.declared.line_reader.LineReader.{LineReader}
+use Rattle.markdown_lines.specs.declared.line.Line.{Line}
 use Rattle.markdown_lines.specs.declared.list_marker.ListMarker.{ListMarker}
 use Rattle.markdown_lines.proofs.BlockStartsLemmas.{slice_same}
 use Rattle.markdown_lines.proofs.LineBytesLemmas.{trimmed_is}
@@ -62,8 +63,8 @@ use Rattle.markdown_block_rules.specs.TableLines.{reads_tables}
 use Rattle.markdown_block_rules.proofs.BlockBeginningsLemmas.{either}
 use Rattle.markdown_plain.specs.declared.block_pass.LineRest.{LineRest}
 use Rattle.markdown_plain.specs.declared.pass.Pass.{Pass}
-use Rattle.markdown_plain.specs.Beginning.{FoundStands, HasBegun, IsFound, IsHere, IsLeft, ReadsOn, StandsAsText}
-use Rattle.markdown_plain.specs.Beginning.{Turn, first, later}
+use Rattle.markdown_plain.specs.Beginning.{FoundFits, FoundStands, HasBegun, IsFound, IsHeadingIn, IsHere, IsLeft}
+use Rattle.markdown_plain.specs.Beginning.{ReadsOn, StandsAsText, Turn, first, later}
 use Rattle.markdown_plain.specs.Fitting.{AllFitted, BracesStand}
 use Rattle.markdown_plain.specs.OpenLeaves.{InfoStands}
 use Rattle.markdown_plain.specs.Paragraphs.{source_of}
@@ -173,25 +174,83 @@ braces_there bytes =
       sym (taken_byte (length bytes - suffix_len is_space_or_tab bytes) bytes last (omega (arith, close))) ∙ close,
     )) (λ none. tt)) (λ none. tt)
 
--- a heading begins after a byte offset, and has no braces so far
-abbrev HeadsFrom : ℕ → Option AtxHeading → Type 0
-HeadsFrom at None = Unit
-HeadsFrom at (Some heading) = (at ≤ heading.from) × (heading.braces ≡ None)
+-- ---- the content of a heading
 
-heading_after : (text : List ℕ) (at stop : ℕ) → HeadsFrom at (atx_heading_at text at stop)
-heading_after text at stop =
-    let content = slice_range text at stop in
-    let count = prefix_len is_hash content in
-    let rest = drop count content in
-    let white = prefix_len is_space_or_tab rest in
-    either (HeadsFrom at) (is_parted rest)
-    (heading_from (level_of count) (at + count + white) (heading_content (drop white rest))) None
-    (by_level (level_of count) (at + count + white) (heading_content (drop white rest)) (omega arith)) tt
+-- bytes were cut off at an ASCII byte, if at all
+record IsCut (bytes kept : List ℕ) : Type 0 where
+  same : (i : ℕ) → i < length kept → slice_index kept i ≡ slice_index bytes i
+  high : length kept ≤ length bytes
+  ascii : length kept < length bytes → slice_index bytes (length kept) < 128
+
+cut_more : (bytes kept fewer : List ℕ) → IsCut bytes kept → IsCut kept fewer → IsCut bytes fewer
+cut_more bytes kept fewer is more =
+    let one = is.high in
+    let other = more.high in
+    record {
+      same = λ i less. more.same i less ∙ is.same i (omega (arith, less, other));
+      high = omega (arith, one, other);
+      ascii = λ less. elim (eqb_tells (length fewer) (length kept)) [
+          | inl all ↦ let e = all.1 in
+              subst (λ n. slice_index bytes n < 128) (sym e) (is.ascii (omega (arith, e, less)))
+          | inr some ↦ let differs = some.1 in
+              let fits : length fewer < length kept = omega (arith, differs, other) in
+              subst (λ b. b < 128) (is.same (length fewer) fits) (more.ascii fits)
+        ];
+    }
+
+cut_taken : (n : ℕ) (bytes : List ℕ) → n < length bytes → slice_index bytes n < 128 → IsCut bytes (take n bytes)
+cut_taken n bytes less ascii =
+    let size : length (take n bytes) ≡ n = omega (arith, length-take n bytes, less) in
+    record {
+      same = λ i few. get_or-take n bytes i 0 (omega (arith, few, size));
+      high = omega (arith, size, less);
+      ascii = λ some. subst (λ k. slice_index bytes k < 128) (sym size) ascii;
+    }
+
+cut_end : (test : ℕ → Bool) → ((b : ℕ) → test b ≡ true → b < 128) → (bytes : List ℕ)
+    → IsCut bytes (without_end test bytes)
+cut_end test small bytes =
+    let n = length bytes - suffix_len test bytes in
+    record {
+      same = λ i few. get_or-take n bytes i 0 (omega (arith, few, length-take n bytes));
+      high = prefix_within test bytes;
+      ascii = λ less. small (slice_index bytes (length (without_end test bytes))) (first_at_end test bytes less);
+    }
+
+small_white : (b : ℕ) → is_space_or_tab b ≡ true → b < 128
+small_white b white = grind (arith, nat_tests, white)
+
+small_hash : (b : ℕ) → is_hash b ≡ true → b < 128
+small_hash b hash = grind (arith, nat_tests, hash)
+
+cut_heading : (bytes : List ℕ) → IsCut bytes (heading_content bytes)
+cut_heading bytes =
+    let trimmed = without_end is_space_or_tab bytes in
+    let unclosed = without_end is_hash trimmed in
+    let before = without_end is_space_or_tab unclosed in
+    let once = cut_end is_space_or_tab small_white bytes in
+    either (IsCut bytes) (nat_lt (length before) (length unclosed) || (length unclosed == 0)) before trimmed
+    (cut_more bytes unclosed before
+    (cut_more bytes trimmed unclosed once (cut_end is_hash small_hash trimmed))
+    (cut_end is_space_or_tab small_white unclosed)) once
+
+-- white space before the content of a line is before that of its heading
+white_first : (bytes : List ℕ)
+    → prefix_len is_space_or_tab bytes
+    ≤ prefix_len is_hash bytes + prefix_len is_space_or_tab (drop (prefix_len is_hash bytes) bytes)
+white_first [] = omega arith
+white_first (b ∷ bytes) =
+    on_test (λ n. prefix_len is_space_or_tab (b ∷ bytes) ≤ n + prefix_len is_space_or_tab (drop n (b ∷ bytes)))
+    (is_hash b) (1 + prefix_len is_hash bytes) 0
+    (λ hash.
+    let solid : is_space_or_tab b ≡ false = no_white b hash in
+    let none : prefix_len is_space_or_tab (b ∷ bytes) ≡ 0 =
+    ap (λ space. if space then 1 + prefix_len is_space_or_tab bytes else 0) solid in
+    omega (arith, none))
+    (λ other. omega arith)
   where
-    by_level : (level : Option HeadingLevel) (from : ℕ) (content : List ℕ) → at ≤ from
-        → HeadsFrom at (heading_from level from content)
-    by_level None from content low = tt
-    by_level (Some level) from content low = (low, refl)
+    no_white : (b : ℕ) → is_hash b ≡ true → is_space_or_tab b ≡ false
+    no_white b hash = grind (arith, nat_tests, hash)
 
 -- ---- list markers
 
@@ -241,33 +300,37 @@ standing_ends bytes content (Some marker) interrupts ends =
 
 -- ---- what a line begins
 
--- what a line begins lies between characters
-abbrev BeginsWithin : List ℕ → Beginning → Type 0
-BeginsWithin text (line.begins_quote rest) = IsCharBoundary text rest.scanned
-BeginsWithin text (line.begins_footnote label rest) = IsCharBoundary text rest.scanned
-BeginsWithin text (line.begins_item marker indent rest) = IsCharBoundary text rest.scanned
-BeginsWithin text (line.begins_heading heading) = BracesStand text heading.braces
-BeginsWithin text (line.begins_fence opening) = InfoStands text opening
-BeginsWithin text other = Unit
+-- what a line begins, whose content begins at a byte offset, lies between characters, and a heading and indented code in
+-- the line
+abbrev BeginsWithin : List ℕ → Line → ℕ → Beginning → Type 0
+BeginsWithin text whole at (line.begins_quote rest) = IsCharBoundary text rest.scanned
+BeginsWithin text whole at (line.begins_footnote label rest) = IsCharBoundary text rest.scanned
+BeginsWithin text whole at (line.begins_item marker indent rest) = IsCharBoundary text rest.scanned
+BeginsWithin text whole at (line.begins_heading heading) =
+    BracesStand text heading.braces × IsHeadingIn text whole at heading
+BeginsWithin text whole at (line.begins_indented rest) =
+    IsCharBoundary text rest.scanned × (rest.scanned ≤ whole.stop)
+BeginsWithin text whole at (line.begins_fence opening) = InfoStands text opening
+BeginsWithin text whole at other = Unit
 
-abbrev IfWithin : List ℕ → Option Beginning → Type 0
-IfWithin text None = Unit
-IfWithin text (Some b) = BeginsWithin text b
+abbrev IfWithin : List ℕ → Line → ℕ → Option Beginning → Type 0
+IfWithin text whole at None = Unit
+IfWithin text whole at (Some b) = BeginsWithin text whole at b
 
-abbrev AllWithin : List ℕ → List (Option Beginning) → Type 0
-AllWithin text [] = Unit
-AllWithin text (o ∷ others) = IfWithin text o × AllWithin text others
+abbrev AllWithin : List ℕ → Line → ℕ → List (Option Beginning) → Type 0
+AllWithin text whole at [] = Unit
+AllWithin text whole at (o ∷ others) = IfWithin text whole at o × AllWithin text whole at others
 
-first_within : (text : List ℕ) (found : List (Option Beginning)) → AllWithin text found
-    → BeginsWithin text (first_found found)
-first_within text [] all = tt
-first_within text (None ∷ others) all = first_within text others all.1
-first_within text (Some b ∷ others) all = all.0
+first_within : (text : List ℕ) (whole : Line) (at : ℕ) (found : List (Option Beginning)) → AllWithin text whole at found
+    → BeginsWithin text whole at (first_found found)
+first_within text whole at [] all = tt
+first_within text whole at (None ∷ others) all = first_within text whole at others all.1
+first_within text whole at (Some b ∷ others) all = all.0
 
-mapped_within : {A : Type 0} (text : List ℕ) (f : A → Beginning) (found : Option A)
-    → ((a : A) → BeginsWithin text (f a)) → IfWithin text (option_map f found)
-mapped_within text f None within = tt
-mapped_within text f (Some a) within = within a
+mapped_within : {A : Type 0} (text : List ℕ) (whole : Line) (at : ℕ) (f : A → Beginning) (found : Option A)
+    → ((a : A) → BeginsWithin text whole at (f a)) → IfWithin text whole at (option_map f found)
+mapped_within text whole at f None within = tt
+mapped_within text whole at f (Some a) within = within a
 
 -- a line ends between characters
 line_end_within : (text : List ℕ) (from stop : ℕ) → IsLineEnd text from stop → IsCharBoundary text stop
@@ -279,7 +342,7 @@ line_end_within text from stop ends = (
       absurd (omega (arith, ascii, high)),
 )
 
-module _ (text : List ℕ) (from : ℕ) (utf8 : IsUtf8 text) where
+module _ (text : List ℕ) (from : ℕ) (utf8 : IsUtf8 text) (whole : Line) (at : ℕ) where
   -- the place before an ASCII byte of a line, and that after one
   before_byte : (left : LineLeft) (i : ℕ) → IsWithin text from left → i < length left.bytes
       → slice_index left.bytes i < 128 → IsCharBoundary text (left.scanned + i)
@@ -326,26 +389,26 @@ module _ (text : List ℕ) (from : ℕ) (utf8 : IsUtf8 text) where
       (λ other. subst (IsCharBoundary text) (omega arith) is.boundary)
 
   -- a quote
-  quote_within : (s : Source) (here : LineLeft) → IsWithin text from here → IfWithin text (quote_in_line s here)
+  quote_within : (s : Source) (here : LineLeft) → IsWithin text from here → IfWithin text whole at (quote_in_line s here)
   quote_within s here is =
-      on_test (IfWithin text) (begins_with (codes ">") here.bytes) (Some (quote_of s.options (past_marker here))) None
+      on_test (IfWithin text whole at) (begins_with (codes ">") here.bytes) (Some (quote_of s.options (past_marker here))) None
       (λ marker. of_alert (past_marker here) (alert_read s.options (past_marker here))
       (marker_within text from utf8 here.scanned here.owed here.column here.bytes marker
       (record { own = is.own; boundary = is.boundary; low = is.low })).boundary) (λ none. tt)
     where
       of_alert : (rest : LineLeft) (alert : Option BlockQuoteKind) → IsCharBoundary text rest.scanned
-          → BeginsWithin text (quote_or_alert rest alert)
+          → BeginsWithin text whole at (quote_or_alert rest alert)
       of_alert rest None boundary = boundary
       of_alert rest (Some kind) boundary = tt
 
   -- a footnote definition, after a colon
   label_within : (here : LineLeft) (label : Option (ℕ × List ℕ)) → IsWithin text from here
-      → IfWithin text (option_map (λ marker. line.begins_footnote marker.0 (past_bytes marker.1 here))
+      → IfWithin text whole at (option_map (λ marker. line.begins_footnote marker.0 (past_bytes marker.1 here))
       (label_before_colon here.bytes label))
   label_within here None is = tt
   label_within here (Some label) is =
       on_test (λ (found : Option (List ℕ × ℕ)).
-      IfWithin text (option_map (λ marker. line.begins_footnote marker.0 (past_bytes marker.1 here)) found))
+      IfWithin text whole at (option_map (λ marker. line.begins_footnote marker.0 (past_bytes marker.1 here)) found))
       (slice_index here.bytes (label.0 + 2) == 58) (Some (label.1, label.0 + 3)) None
       (λ colon.
       let byte : slice_index here.bytes (label.0 + 2) ≡ 58 = grind (arith, nat_tests, colon) in
@@ -354,18 +417,18 @@ module _ (text : List ℕ) (from : ℕ) (utf8 : IsUtf8 text) where
       (omega (arith, byte)))) (λ none. tt)
 
   footnote_within : (s : Source) (here : LineLeft) → IsWithin text from here
-      → IfWithin text (footnote_in_line s.options here)
+      → IfWithin text whole at (footnote_in_line s.options here)
   footnote_within s here is =
       let label = link_label in_one_line false (drop 2 here.bytes) in
       let found : Option (List ℕ × ℕ) → Option Beginning =
       option_map (λ marker. line.begins_footnote marker.0 (past_bytes marker.1 here)) in
-      either (IfWithin text) (footnotes_on s.options) (found (footnote_marker here.bytes)) None
-      (either (λ o. IfWithin text (found o)) (begins_with (codes "[^") here.bytes)
+      either (IfWithin text whole at) (footnotes_on s.options) (found (footnote_marker here.bytes)) None
+      (either (λ o. IfWithin text whole at (found o)) (begins_with (codes "[^") here.bytes)
       (label_before_colon here.bytes label) None (label_within here label is) tt) tt
 
   -- an item
   marked_within : (columns : ℕ) (here : LineLeft) (found : Option ListMarker) → IsWithin text from here
-      → MarkerEnds here.bytes found → IfWithin text (option_map (item_of columns here) found)
+      → MarkerEnds here.bytes found → IfWithin text whole at (option_map (item_of columns here) found)
   marked_within columns here None is ends = tt
   marked_within columns here (Some marker) is ends =
       let width = ends.1 in
@@ -380,7 +443,7 @@ module _ (text : List ℕ) (from : ℕ) (utf8 : IsUtf8 text) where
       (space_within text from utf8 5 left after).boundary (space_within text from utf8 1 left after).boundary
 
   item_within : (s : Source) (before : Before) (columns : ℕ) (here : LineLeft) → s.text ≡ text
-      → IsWithin text from here → IfWithin text (item_in_line s before columns here)
+      → IsWithin text from here → IfWithin text whole at (item_in_line s before columns here)
   item_within s before columns here same is =
       let interrupts = is_reached before in
       let stop = here.scanned + length here.bytes in
@@ -409,23 +472,154 @@ module _ (text : List ℕ) (from : ℕ) (utf8 : IsUtf8 text) where
             (byte_there here.bytes (m + braces.closing) (omega (arith, close))) (omega (arith, close))),
       )
 
+  -- what is kept of some bytes ends between characters
+  cut_within : (left : LineLeft) (kept : List ℕ) → IsWithin text from left
+      → IsCharBoundary text (left.scanned + length left.bytes) → IsCut left.bytes kept
+      → IsCharBoundary text (left.scanned + length kept)
+  cut_within left kept is end cut =
+      elim (eqb_tells (length kept) (length left.bytes)) [
+        | inl all ↦ let same = all.1 in subst (IsCharBoundary text) (omega (arith, same)) end
+        | inr some ↦ let differs = some.1 in
+            let high = cut.high in
+            let less : length kept < length left.bytes = omega (arith, differs, high) in
+            before_byte left (length kept) is less (cut.ascii less)
+      ]
+
+  -- the heading that begins with the rest of the line is in it, and has no braces so far
+  abbrev HeadsIn : LineLeft → Option AtxHeading → Type 0
+  HeadsIn here None = Unit
+  HeadsIn here (Some heading) =
+      (here.scanned ≤ heading.from) × (heading.braces ≡ None) × IsHeadingIn text whole at heading
+
+  heads_in : (here : LineLeft) → IsWithin text from here → at ≡ here.scanned + prefix_len is_space_or_tab here.bytes
+      → whole.stop ≡ here.scanned + length here.bytes → IsCharBoundary text (here.scanned + length here.bytes)
+      → HeadsIn here (atx_heading_at text here.scanned (here.scanned + length here.bytes))
+  heads_in here is content stop end = subst (λ bytes. HeadsIn here (heading_of bytes)) (sym is.own) stands
+    where
+      heading_of : List ℕ → Option AtxHeading
+      heading_of bytes =
+          let count = prefix_len is_hash bytes in
+          let rest = drop count bytes in
+          let white = prefix_len is_space_or_tab rest in
+          if is_parted rest
+          then heading_from (level_of count) (here.scanned + count + white) (heading_content (drop white rest))
+          else None
+
+      count : ℕ
+      count = prefix_len is_hash here.bytes
+
+      rest : List ℕ
+      rest = drop count here.bytes
+
+      white : ℕ
+      white = prefix_len is_space_or_tab rest
+
+      counted : count ≤ length here.bytes
+      counted = prefix_len-le-length is_hash here.bytes
+
+      whited : white ≤ length rest
+      whited = prefix_len-le-length is_space_or_tab rest
+
+      hashed : IsWithin text from (past_bytes count here)
+      hashed =
+          past_within here count is counted (run_within is_hash small_hash here.scanned here.owed here.column here.bytes
+          (record { own = is.own; boundary = is.boundary; low = is.low }))
+
+      low : IsCharBoundary text (here.scanned + count + white)
+      low =
+          content_within text from utf8 (here.scanned + count) 0 (past_bytes count here).column rest
+          (record { own = hashed.own; boundary = hashed.boundary; low = hashed.low })
+
+      there : IsWithin text from (past_bytes white (past_bytes count here))
+      there = past_within (past_bytes count here) white hashed whited low
+
+      is_in : (level : HeadingLevel) → IsHeadingIn text whole at (record {
+        level = level;
+        from = here.scanned + count + white;
+        to = here.scanned + count + white + length (heading_content (drop white rest));
+        braces = None;
+      })
+      is_in level =
+          let cut = cut_heading (drop white rest) in
+          let high = cut.high in
+          let rests = length-drop count here.bytes in
+          let contents = length-drop white rest in
+          let one = counted in
+          let other = whited in
+          let before = white_first here.bytes in
+          record {
+            after = omega (arith, content, before);
+            from = low;
+            ordered = omega arith;
+            to = cut_within (past_bytes white (past_bytes count here)) (heading_content (drop white rest)) there
+                (subst (IsCharBoundary text) (omega (arith, one, other, rests, contents)) end) cut;
+            within = omega (arith, high, stop, one, other, rests, contents);
+          }
+
+      by_level : (level : Option HeadingLevel)
+          → HeadsIn here (heading_from level (here.scanned + count + white) (heading_content (drop white rest)))
+      by_level None = tt
+      by_level (Some level) = (omega arith, refl, is_in level)
+
+      stands : HeadsIn here (heading_of here.bytes)
+      stands =
+          either (HeadsIn here) (is_parted rest)
+          (heading_from (level_of count) (here.scanned + count + white) (heading_content (drop white rest))) None
+          (by_level (level_of count)) tt
+
+  attributed_in : (here : LineLeft) (heading : AtxHeading) (braces : Option Braces) → IsWithin text from here
+      → whole.stop ≡ here.scanned + length here.bytes → IsCharBoundary text (here.scanned + length here.bytes)
+      → here.scanned ≤ heading.from → IsHeadingIn text whole at heading
+      → AreBraces (drop (heading.from - here.scanned) here.bytes) braces
+      → IsHeadingIn text whole at (attributed_by (drop (heading.from - here.scanned) here.bytes) heading braces)
+  attributed_in here heading None is stop end low in_line are = in_line
+  attributed_in here heading (Some braces) is stop end low in_line are =
+      let m = heading.from - here.scanned in
+      let content = drop m here.bytes in
+      let kept = heading_content (take braces.opening content) in
+      let ordered = in_line.ordered in
+      let within = in_line.within in
+      let few : m ≤ length here.bytes = omega (arith, ordered, within, stop, low) in
+      let size = length-drop m here.bytes in
+      let there = past_within here m is few (subst (IsCharBoundary text) (omega (arith, low)) in_line.from) in
+      let byte = are.0 in
+      let cut = cut_more content (take braces.opening content) kept
+      (cut_taken braces.opening content (byte_there content braces.opening (omega (arith, byte))) (omega (arith, byte)))
+      (cut_heading (take braces.opening content)) in
+      let high = cut.high in
+      record {
+        after = in_line.after;
+        from = in_line.from;
+        ordered = omega arith;
+        to = subst (IsCharBoundary text) (omega (arith, low))
+            (cut_within (past_bytes m here) kept there
+            (subst (IsCharBoundary text) (omega (arith, few, size)) end) cut);
+        within = omega (arith, high, size, few, stop, low);
+      }
+
   whole_within : (options : Options) (here : LineLeft) (found : Option AtxHeading) → IsWithin text from here
-      → HeadsFrom here.scanned found
-      → IfWithin text (option_map (λ heading. line.begins_heading (whole_heading options here heading)) found)
-  whole_within options here None is heads = tt
-  whole_within options here (Some heading) is heads =
+      → whole.stop ≡ here.scanned + length here.bytes → IsCharBoundary text (here.scanned + length here.bytes)
+      → HeadsIn here found
+      → IfWithin text whole at
+      (option_map (λ heading. line.begins_heading (whole_heading options here heading)) found)
+  whole_within options here None is stop end heads = tt
+  whole_within options here (Some heading) is stop end heads =
       let content = drop (heading.from - here.scanned) here.bytes in
-      either (λ (h : AtxHeading). BracesStand text h.braces) (attributes_read options) (attributed content heading)
-      heading (braces_within here heading (braces_in content) is heads.0 heads.1 (braces_there content))
-      (subst (BracesStand text) (sym heads.1) tt)
+      let there = braces_there content in (
+        either (λ (h : AtxHeading). BracesStand text h.braces) (attributes_read options) (attributed content heading)
+            heading (braces_within here heading (braces_in content) is heads.0 heads.1 there)
+            (subst (BracesStand text) (sym heads.1) tt),
+        either (IsHeadingIn text whole at) (attributes_read options) (attributed content heading) heading
+            (attributed_in here heading (braces_in content) is stop end heads.0 heads.2 there) heads.2,
+      )
 
   -- a fence
   info_within : (here : LineLeft) (byte columns : ℕ) → byte < 128 → IsWithin text from here
       → IsCharBoundary text (here.scanned + length here.bytes)
-      → IfWithin text (option_map line.begins_fence
+      → IfWithin text whole at (option_map line.begins_fence
       (opening_fence_at text here.scanned (here.scanned + length here.bytes) byte columns))
   info_within here byte columns ascii is end =
-      subst (λ content. IfWithin text (option_map line.begins_fence (fence_of content))) (sym is.own) stands
+      subst (λ content. IfWithin text whole at (option_map line.begins_fence (fence_of content))) (sym is.own) stands
     where
       fence_of : List ℕ → Option OpeningFence
       fence_of content =
@@ -494,47 +688,50 @@ module _ (text : List ℕ) (from : ℕ) (utf8 : IsUtf8 text) where
               (before_byte here (count + (white + size)) is (omega (arith, less, rests, contents))
               (omega (arith, ascii, place, same)))
 
-      stands : IfWithin text (option_map line.begins_fence (fence_of here.bytes))
+      stands : IfWithin text whole at (option_map line.begins_fence (fence_of here.bytes))
       stands =
-          either (λ o. IfWithin text (option_map line.begins_fence o)) (opens_fence byte count rest) _ None
+          either (λ o. IfWithin text whole at (option_map line.begins_fence o)) (opens_fence byte count rest) _ None
           (record { ordered = omega arith; from = low; to = high }) tt
 
   fence_within : (s : Source) (columns : ℕ) (here : LineLeft) → s.text ≡ text → IsWithin text from here
-      → IsCharBoundary text (here.scanned + length here.bytes) → IfWithin text (fence_in_line s columns here)
+      → IsCharBoundary text (here.scanned + length here.bytes) → IfWithin text whole at (fence_in_line s columns here)
   fence_within s columns here same is end =
       let byte = slice_index here.bytes 0 in
       let stop = here.scanned + length here.bytes in
-      on_test (IfWithin text) ((byte == 96) || (byte == 126))
+      on_test (IfWithin text whole at) ((byte == 96) || (byte == 126))
       (option_map line.begins_fence (opening_fence_at s.text here.scanned stop byte columns)) None
-      (λ fence. subst (λ t. IfWithin text (option_map line.begins_fence
+      (λ fence. subst (λ t. IfWithin text whole at (option_map line.begins_fence
       (opening_fence_at t here.scanned stop byte columns))) (sym same)
       (info_within here byte columns (grind (arith, nat_tests, fence)) is end)) (λ none. tt)
 
   after_within : (s : Source) (before : Before) (columns : ℕ) (here : LineLeft) → s.text ≡ text
-      → IsWithin text from here → IsCharBoundary text (here.scanned + length here.bytes)
-      → BeginsWithin text (begins_after s before columns here)
-  after_within s before columns here same is end =
+      → IsWithin text from here → at ≡ here.scanned + prefix_len is_space_or_tab here.bytes
+      → whole.stop ≡ here.scanned + length here.bytes → IsCharBoundary text (here.scanned + length here.bytes)
+      → BeginsWithin text whole at (begins_after s before columns here)
+  after_within s before columns here same is content stop end =
       let html = html_kind_of here.bytes (is_paragraph before) in
       let underline = setext_level here.bytes in
-      first_within text (quote_in_line s here ∷ heading_in_line s here ∷ fence_in_line s columns here
+      first_within text whole at (quote_in_line s here ∷ heading_in_line s here ∷ fence_in_line s columns here
       ∷ html_in_line before here ∷ footnote_in_line s.options here ∷ underline_in_line before here
       ∷ break_in_line here ∷ item_in_line s before columns here ∷ []) (
         quote_within s here is,
         (
-          whole_within s.options here (atx_heading_at s.text here.scanned (here.scanned + length here.bytes)) is
-              (heading_after s.text here.scanned (here.scanned + length here.bytes)),
+          whole_within s.options here (atx_heading_at s.text here.scanned (here.scanned + length here.bytes)) is stop
+              end
+              (subst (λ t. HeadsIn here (atx_heading_at t here.scanned (here.scanned + length here.bytes))) (sym same)
+              (heads_in here is content stop end)),
           (
             fence_within s columns here same is end,
             (
-              either (IfWithin text) (begins_with (codes "<") here.bytes) (option_map line.begins_html html) None
-                  (mapped_within text line.begins_html html (λ a. tt)) tt,
+              either (IfWithin text whole at) (begins_with (codes "<") here.bytes) (option_map line.begins_html html) None
+                  (mapped_within text whole at line.begins_html html (λ a. tt)) tt,
               (
                 footnote_within s here is,
                 (
-                  either (IfWithin text) (is_reached before) (option_map line.begins_underline underline) None
-                      (mapped_within text line.begins_underline underline (λ a. tt)) tt,
+                  either (IfWithin text whole at) (is_reached before) (option_map line.begins_underline underline) None
+                      (mapped_within text whole at line.begins_underline underline (λ a. tt)) tt,
                   (
-                    either (IfWithin text) (is_thematic_break here.bytes) (Some line.begins_break) None tt tt,
+                    either (IfWithin text whole at) (is_thematic_break here.bytes) (Some line.begins_break) None tt tt,
                     (item_within s before columns here same is, tt),
                   ),
                 ),
@@ -545,43 +742,49 @@ module _ (text : List ℕ) (from : ℕ) (utf8 : IsUtf8 text) where
       )
 
   metadata_within : (before : Before) (opened : Option MetadataBlockKind)
-      → IfWithin text (option_and_then (metadata_begun before) opened)
+      → IfWithin text whole at (option_and_then (metadata_begun before) opened)
   metadata_within before None = tt
   metadata_within before (Some metadata.YamlStyle) =
-      either (IfWithin text) (is_reached before) None (Some (line.begins_metadata metadata.YamlStyle)) tt tt
+      either (IfWithin text whole at) (is_reached before) None (Some (line.begins_metadata metadata.YamlStyle)) tt tt
   metadata_within before (Some metadata.PlusesStyle) =
-      either (IfWithin text) (is_paragraph before) None (Some (line.begins_metadata metadata.PlusesStyle)) tt tt
+      either (IfWithin text whole at) (is_paragraph before) None (Some (line.begins_metadata metadata.PlusesStyle)) tt tt
 
-  found_or_within : (found : Option Beginning) (other : Beginning) → IfWithin text found → BeginsWithin text other
-      → BeginsWithin text (unwrap_or found other)
+  found_or_within : (found : Option Beginning) (other : Beginning) → IfWithin text whole at found → BeginsWithin text whole at other
+      → BeginsWithin text whole at (unwrap_or found other)
   found_or_within None other one more = more
   found_or_within (Some b) other one more = one
 
   begins_within : (s : Source) (before : Before) (l : SourceLine) → s.text ≡ text → IsWithin text from l.left
-      → IsCharBoundary text (l.left.scanned + length l.left.bytes) → BeginsWithin text (begins s before l)
-  begins_within s before l same is end =
+      → at ≡ content_of l → whole.stop ≡ l.left.scanned + length l.left.bytes
+      → IsCharBoundary text (l.left.scanned + length l.left.bytes) → BeginsWithin text whole at (begins s before l)
+  begins_within s before l same is here stop end =
       let space = leading_space 4 l.left in
+      let alike = space_alike 4 l.left in
+      let there = space_within text from utf8 4 l.left is in
+      let over : whole.stop ≡ space.after.scanned + length space.after.bytes = stop ∙ sym alike.end in
       let after = begins_after s before space.columns space.after in
       let opened = metadata_opened s.options s.text l.left.bytes l.next in
-      either (BeginsWithin text) (space.columns == 4)
+      either (BeginsWithin text whole at) (space.columns == 4)
       (if is_paragraph before then line.begins_text else line.begins_indented space.after)
       (unwrap_or (metadata_in_line s before l) after)
-      (either (BeginsWithin text) (is_paragraph before) line.begins_text (line.begins_indented space.after) tt tt)
+      (either (BeginsWithin text whole at) (is_paragraph before) line.begins_text (line.begins_indented space.after) tt
+      (there.boundary, omega (arith, over)))
       (found_or_within (metadata_in_line s before l) after
-      (either (IfWithin text) l.outermost (option_and_then (metadata_begun before) opened) None
+      (either (IfWithin text whole at) l.outermost (option_and_then (metadata_begun before) opened) None
       (metadata_within before opened) tt)
-      (after_within s before space.columns space.after same (space_within text from utf8 4 l.left is)
-      (subst (IsCharBoundary text) (sym (space_alike 4 l.left).end) end)))
+      (after_within s before space.columns space.after same there (here ∙ sym alike.content) over
+      (subst (IsCharBoundary text) (sym alike.end) end)))
 
 -- ---- what was found
 
 begun_within : (s : Source) (rest : LineRest) (source : SourceLine) (at : ℕ) (start : BlockStart) (b : Beginning)
     → IsLeft s rest source → IsFound s rest source at start → beginning_found rest.reader start ≡ Some b
-    → BeginsWithin s.text b
+    → BeginsWithin s.text rest.line at b
 begun_within s rest source at start b left found is =
     let begun = found_begins s rest source at start b found is in
-    subst (BeginsWithin s.text) begun.1
-    (begins_within s.text rest.line.start left.utf8 s rest.before source refl (left_within s rest source left)
+    subst (BeginsWithin s.text rest.line at) begun.1
+    (begins_within s.text rest.line.start left.utf8 rest.line at s rest.before source refl
+    (left_within s rest source left) found.begins left.is.stop
     (subst (IsCharBoundary s.text) left.is.stop
     (line_end_within s.text rest.line.start rest.line.stop left.from.content)))
 
@@ -594,7 +797,7 @@ found_stands s rest source at (start.Html kind) left found =
     left_stands s rest source at left
     (found_begins s rest source at (start.Html kind) (line.begins_html kind) found refl).0 found.begins
 found_stands s rest source at (start.Heading heading) left found =
-    begun_within s rest source at (start.Heading heading) (line.begins_heading heading) left found refl
+    (begun_within s rest source at (start.Heading heading) (line.begins_heading heading) left found refl).0
 found_stands s rest source at (start.Fence opening) left found =
     begun_within s rest source at (start.Fence opening) (line.begins_fence opening) left found refl
 found_stands s rest source at (start.Quote inside) left found =
@@ -604,6 +807,15 @@ found_stands s rest source at (start.Footnote label inside) left found =
 found_stands s rest source at (start.Item item) left found =
     begun_within s rest source at (start.Item item) _ left found refl
 found_stands s rest source at other left found = tt
+
+-- and fits into the line
+pub found_fits : (s : Source) (rest : LineRest) (source : SourceLine) (at : ℕ) (start : BlockStart)
+    → IsLeft s rest source → IsFound s rest source at start → FoundFits s.text rest.line at start
+found_fits s rest source at (start.Heading heading) left found =
+    (begun_within s rest source at (start.Heading heading) (line.begins_heading heading) left found refl).1
+found_fits s rest source at (start.IndentedCode code) left found =
+    begun_within s rest source at (start.IndentedCode code) _ left found refl
+found_fits s rest source at other left found = tt
 
 -- ---- where nothing else has changed
 

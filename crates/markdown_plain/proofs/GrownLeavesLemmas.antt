@@ -2,6 +2,7 @@
 use Rattle.std.proofs.Common.{◌≡◌, ℕ, ◌≤◌, Bool, true, false, ◌&&◌, List, [], ◌∷◌, ◌++◌, Option, Some, None}
 use Rattle.std.proofs.Common.{map, refl, sym, ap, ◌∙◌, subst, append-nil, true≢false, arith}
 use Rattle.std.specs.Prelude.{◌==◌, nat_le}
+use Rattle.std.specs.Str.{IsCharBoundary}
 use Rattle.markdown_base.specs.Forest.{Forest}
 use Rattle.markdown_builder.specs.BuilderView.{BuilderView}
 use Rattle.markdown_builder.specs.TreeLevels.{followed_by}
@@ -21,13 +22,15 @@ use Rattle.markdown_lines.specs.declared.position.Position.{Position}
 use Rattle.markdown_plain.specs.Fitting.{IfFitted}
 use Rattle.markdown_plain.specs.declared.pass.LeafKind.{LeafKind}
 use Rattle.markdown_plain.specs.declared.pass.LeafKind.TheVariants as leaf
-use Rattle.markdown_block_rules.specs.BlockRules.{block_ends_blank, code_lines, is_blank_block, last_is_blank}
+use Rattle.markdown_block_rules.specs.BlockRules.{block_end, block_ends_blank, code_lines, is_blank_block}
+use Rattle.markdown_block_rules.specs.BlockRules.{last_is_blank, lines_end as lines_end_from}
 use Rattle.markdown_lines.specs.Positions.{left_from}
 use Rattle.markdown_scan.specs.LineStart.{LineLeft, leading_space}
 use Rattle.markdown_plain.specs.HeldSources.{AreHeld}
 use Rattle.std.proofs.Math.Bool.{and-true, or-true}
 use Rattle.markdown_plain.specs.declared.containers.Reached as code
 use Rattle.markdown_plain.specs.declared.pass.Pass.{Pass}
+use Rattle.markdown_plain.specs.Closable.{IsReadyAfter}
 use Rattle.markdown_plain.specs.Closing.{AreItemsInLists, MayEnd}
 use Rattle.markdown_plain.specs.Frames.{Frame, reached, rebuilt, touched}
 use Rattle.markdown_plain.specs.OpenLeaves.{IsLeafIn, IsLineRest, IsPlaced, has_ended, is_leaf, leaf_block}
@@ -39,7 +42,8 @@ use Rattle.markdown_plain.specs.Standing.{HasLast, HoldsBlanks, IsLeafKind, Know
 use Rattle.markdown_plain.specs.Standing.{is_metadata}
 use Rattle.markdown_plain.proofs.BlankStandingLemmas.{all_reached, last_of, next_after}
 use Rattle.markdown_plain.proofs.BlankLinesLemmas.{blank_alike, whole_left}
-use Rattle.markdown_plain.proofs.IndentedLeavesLemmas.{code_to_end}
+use Rattle.markdown_plain.proofs.IndentedLeavesLemmas.{code_to_end, end_of_last}
+use Rattle.markdown_plain.proofs.ReadyLinesLemmas.{boundary_after, leaf_ready}
 use Rattle.markdown_plain.proofs.LeafTreesLemmas.{few_owed}
 use Rattle.markdown_plain.proofs.ReachedFramesLemmas.{space_alike}
 use Rattle.markdown_plain.proofs.ItemsInListsLemmas.{line_keeps}
@@ -60,12 +64,13 @@ no_blank_line : (kind : Kind) → is_leaf kind ≡ true → is_blank_block kind 
 no_blank_line was.blank_line leaf = absurd (true≢false (sym leaf))
 no_blank_line other leaf = refl
 
--- what a leaf may be that has grown from one of another kind
-pub record MayGrow (kind now : Kind) : Type 0 where
+-- what a leaf may be that has grown from one of another kind with a line that ends at a byte offset
+pub record MayGrow (kind now : Kind) (next : ℕ) : Type 0 where
   pub leaf : is_leaf now ≡ true
   pub over : has_ended now ≡ true → is_over now ≡ true
   pub filled : block_ends_blank false now ≡ false
   pub alone : is_metadata now ≡ true → is_metadata kind ≡ true
+  pub end : (b : Block) → b.last ≡ next → block_end b b.first now ≡ next
 
 -- the pass has added a line to the open leaf
 pub record AddsTo (s : Source) (old new : Pass) (frames : List Frame) (inside : Forest Block) (c : Block) : Type 0
@@ -74,14 +79,15 @@ pub record AddsTo (s : Source) (old new : Pass) (frames : List Frame) (inside : 
     pub lines : new.lines.items ≡ old.lines.items
     pub looseness : new.looseness ≡ old.looseness
     pub is : IsLeafIn s new.placing.builder frames inside c (has_ended c.kind)
-    pub held : has_ended c.kind ≡ true → new.blanks.items ≡ []
+    pub held : new.blanks.items ≡ []
     pub knows : has_ended c.kind ≡ false → IsLeafKind new.leaf c.kind × HoldsBlanks new.blanks.items c.kind
 
 pub grown_places : (s : Source) (old new : Pass) (line : Line) (found : code.Reached) (frames : List Frame)
     (inside : Forest Block) (b : Block) (source : SourceLine) (now : Kind)
     → IsReachedBy s old line found (last_of frames inside b) source
     → (reached_of s (last_of frames inside b) source).inner ≡ []
-    → MayEnd s old frames inside b None → old.lines.items ≡ [] → MayGrow b.kind now
+    → MayEnd s old frames inside b None → old.lines.items ≡ []
+    → MayGrow b.kind now (reached_of s (last_of frames inside b) source).rest.next
     → leaf_with s (reached_of s (last_of frames inside b) source).rest b.kind ≡ Some now
     → AddsTo s old new frames inside (grown_to b (reached_of s (last_of frames inside b) source).rest.next now)
     → PlacesFor s new line.next (with_line s (blocks_before (last_of frames inside b)) source)
@@ -117,6 +123,16 @@ grown_places s old new line found frames inside b source now by none may empty g
         let next = next_after old line source by.is in
         subst (λ (ls : List HeldLine). lines_end ls ≤ line.next) (sym adds.lines) (omega (arith, last, next))
 
+    ready : IsReadyAfter new line.next
+    ready =
+        let next = by.reaches.rest.next in
+        let text : new.placing.builder.text ≡ old.placing.builder.text = ap (λ (s : Source). s.text) adds.source in
+        leaf_ready s new frames inside (grown_to b (reached_of s (last_of frames inside b) source).rest.next now)
+        (has_ended now) line.next grows.leaf adds.is (adds.lines ∙ empty) adds.held
+        (grows.end (grown_to b (reached_of s (last_of frames inside b) source).rest.next now) refl ∙ sym next)
+        (subst (λ t. IsCharBoundary t line.next) (sym text)
+        (boundary_after old.placing.builder.text line.start line by.is.utf8 by.is.from))
+
     by_end : (ended : Bool) → has_ended now ≡ ended
         → IsLeafIn s new.placing.builder frames inside
         (grown_to b (reached_of s (last_of frames inside b) source).rest.next now) ended
@@ -141,10 +157,11 @@ grown_places s old new line found frames inside b source now by none may empty g
         filled = ends_more false inside
             (leaf_block (grown_to b (reached_of s (last_of frames inside b) source).rest.next now)) ∙ grows.filled;
         before = before;
-        unheld = λ outside. adds.held ends;
+        unheld = λ outside. adds.held;
         earlier = earlier_touched source line.start line.next (next_after old line source by.is) frames
             by.stands.earlier;
         alone = tt;
+        ready = ready;
       };
       whole = whole;
     }
@@ -173,6 +190,7 @@ grown_places s old new line found frames inside b source now by none may empty g
         earlier = earlier_touched source line.start line.next (next_after old line source by.is) frames
             by.stands.earlier;
         alone = λ metadata. ap (map (touched source)) (by.stands.alone (grows.alone metadata));
+        ready = ready;
       };
       whole = whole;
     }
@@ -218,7 +236,7 @@ line_rest s pass line found before source by = record {
 record GrownFrom (s : Source) (rest : SourceLine) (how : LeafKind) (kind : Kind) : Type 0 where
   now : Kind
   is : leaf_with s rest kind ≡ Some now
-  grows : MayGrow kind now
+  grows : MayGrow kind now rest.next
   knows : has_ended now ≡ false → IsLeafKind how now
   none : (held : List HeldLine) → held ≡ [] → HoldsBlanks held now
 
@@ -231,14 +249,26 @@ fenced_grown s rest opening lines = by_test (closes s rest opening.fence) refl
     by_test true is = record {
       now = was.fenced_leaf opening true lines;
       is = rw is refl;
-      grows = record { leaf = refl; over = λ e. e; filled = refl; alone = λ e. absurd (true≢false (sym e)) };
+      grows = record {
+        leaf = refl;
+        over = λ e. e;
+        filled = refl;
+        alone = λ e. absurd (true≢false (sym e));
+        end = λ b e. e;
+      };
       knows = λ e. absurd (true≢false e);
       none = λ held e. e;
     }
     by_test false is = record {
       now = was.fenced_leaf opening false (lines ++ cut opening.fence.indent rest ∷ []);
       is = rw is refl;
-      grows = record { leaf = refl; over = λ e. e; filled = refl; alone = λ e. absurd (true≢false (sym e)) };
+      grows = record {
+        leaf = refl;
+        over = λ e. e;
+        filled = refl;
+        alone = λ e. absurd (true≢false (sym e));
+        end = λ b e. e;
+      };
       knows = λ e. refl;
       none = λ held e. e;
     }
@@ -252,14 +282,14 @@ metadata_grown s rest kind lines = by_test (closes_metadata kind rest.left.bytes
     by_test true is = record {
       now = was.metadata_leaf kind true lines;
       is = rw is refl;
-      grows = record { leaf = refl; over = λ e. e; filled = refl; alone = λ e. refl };
+      grows = record { leaf = refl; over = λ e. e; filled = refl; alone = λ e. refl; end = λ b e. e };
       knows = λ e. absurd (true≢false e);
       none = λ held e. e;
     }
     by_test false is = record {
       now = was.metadata_leaf kind false (lines ++ rest ∷ []);
       is = rw is refl;
-      grows = record { leaf = refl; over = λ e. e; filled = refl; alone = λ e. refl };
+      grows = record { leaf = refl; over = λ e. e; filled = refl; alone = λ e. refl; end = λ b e. e };
       knows = λ e. refl;
       none = λ held e. e;
     }
@@ -270,7 +300,13 @@ html_grown : (s : Source) (rest : SourceLine) (kind : HtmlKind) (lines : List So
 html_grown s rest kind lines more = record {
   now = was.html_leaf kind (ends_html kind rest) (lines ++ rest ∷ []);
   is = rw more refl;
-  grows = record { leaf = refl; over = λ e. e; filled = refl; alone = λ e. absurd (true≢false (sym e)) };
+  grows = record {
+        leaf = refl;
+        over = λ e. e;
+        filled = refl;
+        alone = λ e. absurd (true≢false (sym e));
+        end = λ b e. e;
+      };
   knows = λ e. subst (λ t. IsLeafKind (leaf.Html kind) (was.html_leaf kind t (lines ++ rest ∷ []))) (sym e) refl;
   none = λ held e. e;
 }
@@ -293,7 +329,7 @@ kept_places s old new line found frames inside b source by none may empty unheld
       lines = ap (λ (p : Pass). p.lines.items) same;
       looseness = ap (λ (p : Pass). p.looseness) same;
       is = is;
-      held = λ e. ap (λ (p : Pass). p.blanks.items) same ∙ unheld;
+      held = ap (λ (p : Pass). p.blanks.items) same ∙ unheld;
       knows = λ e. (
         subst (λ how. IsLeafKind how grown.now) (sym (ap (λ (p : Pass). p.leaf) same)) (grown.knows e),
         grown.none new.blanks.items (ap (λ (p : Pass). p.blanks.items) same ∙ unheld),
@@ -506,6 +542,7 @@ indented_places s old new line found before source after how open_leaf same empt
             over = λ e. absurd (true≢false (sym e));
             filled = last_filled lines (cut 4 rest) filled;
             alone = λ e. absurd (true≢false (sym e));
+            end = λ b e. ap (lines_end_from b.first) all ∙ end_of_last b.first lines (cut 4 rest);
           }) (ap (leaf_with s rest) kind ∙ goes rest lines enough) (record {
             source = ap (λ t. record { text = t; options = new.options }) text
                 ∙ ap (λ (p : Pass). record { text = old.placing.builder.text; options = p.options }) same;
@@ -513,7 +550,7 @@ indented_places s old new line found before source after how open_leaf same empt
             looseness = ap (λ (p : Pass). p.looseness) same;
             is = subst (λ ls. IsLeafIn s new.placing.builder before.frames before.inside
                 (grown_to b rest.next (was.indented_leaf (ls ++ cut 4 rest ∷ []))) false) (sym unheld.1) added.1;
-            held = λ e. emptied;
+            held = emptied;
             knows = λ e. (
               subst (λ h. IsLeafKind h now) (sym (ap (λ (p : Pass). p.leaf) same ∙ how)) tt,
               none_left new.blanks.items (lines ++ cut 4 rest ∷ []) emptied all,

@@ -75,12 +75,16 @@ pub mod FoundBlocksLemmas
 pub mod InnerBeginningsLemmas
 -- on calls that fit
 pub mod FittingLemmas
+pub mod ReadyPlacesLemmas
+pub mod RoomReadyLemmas
 pub mod BegunMetadataLemmas
 pub mod UnderlinesLemmas
 pub mod RoomForBlocksLemmas
 pub mod FoundPlacesLemmas
 pub mod TextHereLemmas
 pub mod TurnsLemmas
+-- on readiness between two lines
+pub mod ReadyLinesLemmas
 -- on a whole text
 pub mod WholeTextsLemmas
 -- on where blocks end

@@ -13,6 +13,7 @@ use Rattle.markdown_base.specs.declared.item.ItemBody.{ItemBody}
 use Rattle.markdown_base.specs.declared.options.Options.{Options}
 use Rattle.markdown_base.specs.declared.options.TheConstants.Options.{ENABLE_TASKLISTS}
 use Rattle.markdown_builder.specs.BuilderView.{BuilderView, innermost_block}
+use Rattle.markdown_builder.specs.EvenRows.{is_in_row}
 use Rattle.markdown_builder.specs.declared.open_block.OpenBlock.{OpenBlock}
 use Rattle.markdown_scan.specs.LineStart.{LineLeft}
 use Rattle.markdown_lines.specs.BlockBeginnings.{Source}
@@ -30,6 +31,7 @@ use Rattle.markdown_plain.specs.declared.pass.Pass.{Pass}
 use Rattle.markdown_plain.specs.Closable.{AreAhead, AreApart, AreClosable, AreContainers, AreInText, HasTask, HaveTask}
 use Rattle.markdown_plain.specs.Closable.{IsClosable, IsInText, IsReady, IsReadyAfter, has_quote, leaf_end}
 use Rattle.markdown_plain.specs.Containers.{is_container}
+use Rattle.markdown_plain.specs.Fitting.{defining}
 use Rattle.markdown_plain.specs.Frames.{Frame, Reached, innermost_is, inside_container, is_list, reached, reached_past}
 use Rattle.markdown_plain.specs.Frames.{rebuilt, room_depth}
 use Rattle.markdown_plain.specs.HeldSources.{AreInParagraph}
@@ -459,3 +461,51 @@ begun_ready old new line start rest source begins is at alone inside =
                 (line_white text line rest start at is.from is.utf8 scanned)));
       };
     })
+
+-- ---- a paragraph that held definitions alone
+
+-- it was ended before a line, which is still to be read
+pub record EndsBefore (old new : Pass) : Type 0 where
+  pub held : has_paragraph old ≡ true
+  pub placed : new.placed ≡ old.placed
+  pub emptied : new.lines.items ≡ []
+  pub outside : new.placing.builder.leaf ≡ false
+  pub defines : new.placing.builder
+      ≡ defining old.placing.builder new.placing.builder.definitions new.placing.builder.at
+  pub after : new.placing.builder.at ≡ lines_end old.lines.items
+
+pub again_ready : (old new : Pass) (from : ℕ) → EndsBefore old new → IsReady old from → IsReady new from
+again_ready old new from ends ready =
+    let was = old.placing.builder in
+    let view = new.placing.builder in
+    let closable = ready.closable in
+    let text : view.text ≡ was.text = ap (λ (b : BuilderView). b.text) ends.defines in
+    let blocks : view.blocks ≡ was.blocks = ap (λ (b : BuilderView). b.blocks) ends.defines in
+    let outer : without_leaf view ≡ without_leaf was = ap without_leaf ends.defines in
+    let here : leaf_end new ≡ leaf_end old =
+    end_here new ends.emptied ∙ (ends.after
+    ∙ sym (ap {B = ℕ} (λ has. if has then lines_end old.lines.items else was.at) ends.held)) in
+    let low = closable.low in
+    let placed = ends.placed in
+    let before = ready.low in
+    record {
+      closable = record {
+        some = λ leaf none. absurd (true≢false (sym leaf ∙ ends.outside));
+        other = ap is_in_row blocks ∙ closable.other;
+        held = λ outside. none_ahead view new.lines.items ends.emptied;
+        task = no_task view.text new.task new.lines.items ends.emptied;
+        containers = subst AreContainers (sym outer) closable.containers;
+        low = omega (arith, low, here, placed);
+        boundary = subst (IsCharBoundary view.text) (sym placed)
+            (subst (λ t. IsCharBoundary t old.placed) (sym text) closable.boundary);
+        white = λ none. subst (AllPass is_in_blank_line view.text (leaf_end new)) (sym placed)
+            (subst (λ n. AllPass is_in_blank_line view.text n old.placed) (sym here)
+            (subst (λ t. AllPass is_in_blank_line t (leaf_end old) old.placed) (sym text)
+            (closable.white (ap has_quote (sym outer) ∙ none))));
+      };
+      low = omega (arith, before, placed);
+      boundary = subst (λ t. IsCharBoundary t from) (sym text) ready.boundary;
+      white = subst (λ n. AllPass is_in_blank_line view.text n from) (sym placed)
+          (subst (λ t. AllPass is_in_blank_line t old.placed from) (sym text) ready.white);
+      blanks = λ leaf. absurd (true≢false (sym leaf ∙ ends.outside));
+    }

@@ -38,6 +38,7 @@ use Rattle.markdown_plain.specs.declared.pass.Pass.{Pass}
 use Rattle.markdown_plain.specs.Beginning as turn
 use Rattle.markdown_plain.specs.Beginning.{HasRoom, HoldsLast, IsFirst, IsFound, IsHere, IsInside, IsLeft}
 use Rattle.markdown_plain.specs.Beginning.{NeedsRoom, Turn}
+use Rattle.markdown_plain.specs.Closable.{AreClosable, IsClosable}
 use Rattle.markdown_plain.specs.Closing as closing
 use Rattle.markdown_plain.specs.Closing.{AreItemsInLists, MayClose, MayEnd}
 use Rattle.markdown_plain.specs.Fitting.{AllFitted, IfFitted}
@@ -49,7 +50,7 @@ use Rattle.markdown_plain.specs.OpenedFrames.{MayOpen}
 use Rattle.markdown_plain.specs.Paragraphs.{has_paragraph, source_of}
 use Rattle.markdown_plain.specs.ReachedFrames.{are_none}
 use Rattle.markdown_plain.specs.ReachedLines.{Before, blocks_in, reached_of}
-use Rattle.markdown_plain.specs.Settled.{AreOpen, BlanksKnown, IsBuilt, IsLooseAs, IsLooseBefore}
+use Rattle.markdown_plain.specs.Settled.{AreOpen, BlanksKnown, IsBuilt, IsLooseAs, IsLooseBefore, placed_end}
 use Rattle.markdown_plain.specs.Standing.{AreOpenedBefore, with_last}
 use Rattle.markdown_plain.specs.TextLines.{paragraph_before}
 use Rattle.markdown_plain.proofs.AddedLinesLemmas.{has_held}
@@ -62,7 +63,9 @@ use Rattle.markdown_plain.proofs.LastBlocksLemmas.{open_are_containers}
 use Rattle.markdown_plain.proofs.OpenBlocksLemmas.{outer_of_these}
 use Rattle.markdown_plain.proofs.OpenedFramesLemmas.{room_is_free}
 use Rattle.markdown_plain.proofs.ReachedLemmas.{inner_goes_lazily, outer_taken, reached_parts}
+use Rattle.markdown_plain.proofs.ReadyPlacesLemmas.{no_frames}
 use Rattle.markdown_plain.proofs.RoomLemmas.{begins_in_room}
+use Rattle.markdown_plain.proofs.RoomReadyLemmas.{IsReadyIn, nothing_taken, ready_first, ready_later}
 use Rattle.markdown_plain.proofs.TouchedFramesLemmas.{built_touched, earlier_touched, quotes_touched}
 
 -- ---- a line that goes on with no paragraph
@@ -396,6 +399,8 @@ pub record MakesRoom (old new : Pass) (depth : ℕ) : Type 0 where
   pub inside : (s : Source) (frames : List Frame) → MayOpen s old frames nil → depth ≡ length frames
       → IsLooseAs old.looseness frames nil
       → (new ≡ record old { looseness = new.looseness }) × IsLooseBefore new.looseness frames nil
+  pub fits : IsClosable old → AllFitted old.placing → AllFitted new.placing
+  pub here : IsClosable old → AllFitted new.placing → AreClosable new.placing.builder old.placed
 
 -- what is built then is that of the containers where there is room
 room_built : (s : Source) (old new : Pass) (depth : ℕ) (frames : List Frame) (inside : Forest Block)
@@ -495,7 +500,17 @@ module _ (s : Source) (old new : Pass) (rest : LineRest) (before : Before) (l so
       (λ some. holds.blanks) fitted in
       let after = line_some s rest source state.left state.filled in
       let earlier = earlier_taken rest.line.start n frames holds.earlier in
-      let whole = first_whole are around.nested in (
+      let whole = first_whole are around.nested in
+      let now : new.placing.builder.text ≡ s.text =
+      makes.text ∙ ap (λ (r : Source). r.text) holds.source in
+      let ready = ready_first s old new.placing.builder rest source (ap (λ (r : Source). r.text) holds.source) now
+      holds.ready (makes.here holds.ready.closable fitted) state.left state.filled
+      (λ none.
+      let alone = no_frames new.placing.builder.texts new.placing.builder.blocks (take n frames) there.1.built.blocks none
+      in
+      let same : source ≡ l = state.reached ∙ nothing_taken s frames inside l alone in
+      ap (λ (left : LineLeft). left.scanned) state.left.is.rest.left
+      ∙ (ap (λ (m : SourceLine). m.left.scanned) same ∙ sym (ap (λ (left : LineLeft). left.scanned) state.is.left))) in (
         there.0,
         record {
           frames = map (touched l) (take n frames);
@@ -511,6 +526,8 @@ module _ (s : Source) (old new : Pass) (rest : LineRest) (before : Before) (l so
             earlier = earlier_touched l rest.line.start rest.line.next (omega (arith, after)) (take n frames) earlier;
           };
           built = built_touched l s new.placing.builder (take n frames) (rebuilt (drop n frames) inside) there.1.built;
+          ready = ready.ready;
+          low = ready.low;
           free = free_touched l (take n frames) ∙ room_is_free depth frames few around.nested;
           outermost = λ outermost.
               ap (λ m. map (touched l) (take m frames))
@@ -536,7 +553,15 @@ later_room : (s : Source) (old new : Pass) (rest : LineRest) (frames : List Fram
 later_room s old new rest frames source b blocks state filled is makes fitted =
     let opened = state.opened in
     let made = makes.inside s frames opened.free state.depth opened.loose in
-    let same = made.0 in (
+    let same = made.0 in
+    let view = old.placing.builder in
+    let is_now : new.placing.builder ≡ view = ap (λ (p : Pass). p.placing.builder) same in
+    let some : view.blocks ≡ [] → ⊥ = λ none.
+    let alone = no_frames view.texts view.blocks frames opened.free.built.blocks none in
+    let at : 0 ≡ rest.line.next = ap (λ (fs : List Frame). placed_end 0 fs nil) (sym alone) ∙ opened.first in
+    absurd (omega (arith, at, line_some s rest source state.left filled)) in
+    let ready = subst (λ (v : BuilderView). IsReadyIn v rest source) (sym is_now)
+    (ready_later s view rest source (ap (λ (r : Source). r.text) opened.source) some state.ahead state.left filled) in (
       subst (λ (p : Pass). AllFitted p.placing) same fitted,
       record {
         frames = frames;
@@ -551,6 +576,8 @@ later_room s old new rest frames source b blocks state filled is makes fitted =
           earlier = opened.earlier;
         };
         built = subst (λ (p : Pass). IsBuilt s p.placing.builder frames nil) (sym same) opened.free.built;
+        ready = ready.ready;
+        low = ready.low;
         free = opened.free.free;
         outermost = λ outermost. absurd (true≢false (sym outermost ∙ state.inner));
         left = state.left;
@@ -577,3 +604,14 @@ room_for s old new rest (turn.first before l) source at start b blocks makes sta
 room_for s old new rest (turn.later frames) source at start b blocks makes state found begins needs =
     let begun = is_begun s rest source at start b found begins in
     later_room s old new rest frames source b blocks state begun.0 begun.1 makes
+
+-- and it is made by calls that fit
+pub room_fits : (s : Source) (old new : Pass) (rest : LineRest) (turn : Turn) (source : SourceLine)
+    (blocks : Forest Block) → MakesRoom old new rest.depth → IsHere s old rest turn source blocks → AllFitted old.placing
+    → AllFitted new.placing
+room_fits s old new rest (turn.first before l) source blocks makes state fitted =
+    makes.fits state.holds.ready.closable fitted
+room_fits s old new rest (turn.later frames) source blocks makes state fitted =
+    let opened = state.opened in
+    subst (λ (p : Pass). AllFitted p.placing)
+    (sym (makes.inside s frames opened.free state.depth opened.loose).0) fitted

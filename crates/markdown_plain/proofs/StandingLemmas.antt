@@ -11,6 +11,7 @@ use Rattle.markdown_plain.specs.OpenLeaves.{IsUnended}
 use Rattle.markdown_plain.specs.Settled.{AreOpen}
 use Rattle.markdown_plain.specs.Standing.{HasLast, KnowsLast, Places, PlacesFor, PlacesLast, StandsFor}
 use Rattle.markdown_plain.specs.Standing.{with_last}
+use Rattle.markdown_plain.proofs.ReadyLinesLemmas.{seen_ready}
 use Rattle.markdown_plain.proofs.BlanksKnownLemmas.{content_known}
 
 -- open blocks are these containers
@@ -102,6 +103,7 @@ placed_stands s old new to blocks same places =
         unheld = p.unheld;
         earlier = p.earlier;
         alone = p.alone;
+        ready = seen_ready old (content_seen old to) to p.ready;
       };
       whole = places.whole;
     })

@@ -1,7 +1,8 @@
 -- Text that is left of a line: what the pass has placed once it is added, at either turn.
-use Rattle.std.proofs.Common.{◌≡◌, ◌∙◌, ◌++◌, ℕ, Bool, false, List, [], ◌∷◌, refl, sym, ap, subst}
+use Rattle.std.proofs.Common.{◌≡◌, ◌∙◌, ◌++◌, ℕ, Bool, false, List, [], ◌∷◌, arith, refl, sym, ap, subst}
 use Rattle.std.specs.Prelude.{if◌then◌else◌}
 use Rattle.markdown_base.specs.Forest.{Forest, nil}
+use Rattle.markdown_scan.specs.LineStart.{LineLeft}
 use Rattle.markdown_lines.specs.BlockBeginnings as beginning
 use Rattle.markdown_lines.specs.BlockBeginnings.{Source, begins}
 use Rattle.markdown_lines.specs.SourceLines.{SourceLine, is_blank_rest, text_line}
@@ -13,11 +14,14 @@ use Rattle.markdown_block_rules.specs.BlockGrowth.{Block, begun_by, content_of, 
 use Rattle.markdown_plain.specs.declared.block_pass.LineRest.{LineRest}
 use Rattle.markdown_plain.specs.declared.pass.Pass.{Pass}
 use Rattle.markdown_plain.specs.Beginning.{IsFirst, IsFound, IsHere, IsInside, IsLeft, Turn, first, later}
+use Rattle.markdown_plain.specs.Closable.{IsInText, IsReadyAfter}
 use Rattle.markdown_plain.specs.Fitting.{AllFitted, IfFitted}
 use Rattle.markdown_plain.specs.Frames.{Frame, rebuilt}
+use Rattle.markdown_plain.specs.HeldSources.{AreInParagraph}
 use Rattle.markdown_plain.specs.OpenLeaves.{BeginsText}
+use Rattle.markdown_plain.specs.Paragraphs.{task_at}
 use Rattle.markdown_plain.specs.ReachedLines.{Before, blocks_in, reached_of}
-use Rattle.markdown_plain.specs.Settled.{IsBuilt}
+use Rattle.markdown_plain.specs.Settled.{IsBuilt, placed_end}
 use Rattle.markdown_plain.specs.Standing.{PlacesFor}
 use Rattle.markdown_plain.specs.TextLines.{IsContentAt, IsTextFrom, IsTextHere, held_line}
 use Rattle.markdown_plain.proofs.BegunBlocksLemmas.{begun_block, source_kept}
@@ -25,6 +29,8 @@ use Rattle.markdown_plain.proofs.BegunLemmas.{begun_once}
 use Rattle.markdown_plain.proofs.BegunTextsLemmas.{none_open, text_begins, text_inside}
 use Rattle.markdown_plain.proofs.FoundBlocksLemmas.{found_begins}
 use Rattle.markdown_plain.proofs.FoundPlacesLemmas.{left_content, left_stands}
+use Rattle.markdown_plain.proofs.HeldTextLemmas.{starts_before}
+use Rattle.markdown_plain.proofs.ReadyTextsLemmas.{first_ready, line_in_text, opened_containers, opened_none}
 use Rattle.markdown_plain.proofs.TextStepsLemmas.{AddsText, text_places}
 
 -- what is left of a line is text, whose first byte of content is at a byte offset
@@ -72,6 +78,46 @@ text_first s old new rest at before line source blocks adds state left fitted =
     before.inside before.last state.holds there fitted in
     (placed.0, subst (PlacesFor s new rest.line.next) (sym state.whole) placed.1)
 
+-- it may be placed where it is the first line of a paragraph inside containers that the line opened
+later_ready : (s : Source) (old new : Pass) (rest : LineRest) (at : ℕ) (frames : List Frame) (source : SourceLine)
+    (blocks : Forest Block) → AddsText old new rest.line at rest.depth → IsInside s old rest frames source blocks
+    → IsTextLeft s rest source at → IsReadyAfter new rest.line.next
+later_ready s old new rest at frames source blocks adds state left =
+    let opened = state.opened in
+    let view = old.placing.builder in
+    let held = held_line rest.line at in
+    let same = (adds.inside s frames opened.free state.depth opened.loose).0 in
+    let none = none_open old opened.free.lines in
+    let text : view.text ≡ s.text = ap (λ (r : Source). r.text) opened.source in
+    let content = left_content s rest source at state.left left.filled left.here in
+    let begun = text_begins s.text rest.position rest.line source at state.left.is left.here
+    (left_stands s rest source at state.left left.filled left.here) in
+    let ahead = state.ahead in
+    let here = left.here in
+    let scanned = ap (λ (l : LineLeft). l.scanned) state.left.is.rest.left in
+    let started = starts_before s.text rest.line source at content in
+    let ends = state.left.is.ends in
+    let first = opened.first in
+    let now : Pass = record old { lines = new.lines; task = new.task; looseness = new.looseness } in
+    subst (λ (p : Pass). IsReadyAfter p rest.line.next) (sym same)
+    (first_ready now rest.line at (record {
+      outside = opened.free.built.outside;
+      containers = opened_containers view.texts view.blocks frames opened.free.built.blocks;
+      lines = adds.lines ∙ ap (λ (has : Bool). (if has then old.lines.items else []) ++ held ∷ []) none;
+      task = subst (λ (p : Pass). new.task ≡ task_at p rest.line at) same (adds.task none);
+      inside = subst (λ bytes. AreInParagraph bytes (held ∷ [])) (sym text) begun.inside;
+      next = record {
+        low = omega (arith, ahead, here, scanned);
+        is = subst (λ bytes. IsInText bytes held) (sym text)
+            (line_in_text s.text rest.line source at content state.left.from state.left.utf8);
+        white = λ closed.
+            let outside = opened_none view.texts view.blocks frames opened.free.built.blocks closed in
+            let over : 0 ≡ rest.line.next = subst (λ (fs : List Frame). placed_end 0 fs nil ≡ rest.line.next) outside
+            first in
+            absurd (omega (arith, over, started, ends));
+      };
+    }))
+
 -- inside containers that the line opened, where it begins a paragraph
 text_later : (s : Source) (old new : Pass) (rest : LineRest) (at : ℕ) (frames : List Frame) (source : SourceLine)
     (blocks : Forest Block) → AddsText old new rest.line at rest.depth
@@ -104,7 +150,7 @@ text_later s old new rest at frames source blocks adds state left fitted =
           ∙ (ap (λ (blank : Bool). rebuilt frames (if blank then nil else begun_by s source)) left.filled
           ∙ (ap (rebuilt frames) (begun_once s source)
           ∙ ap (λ found. rebuilt frames (new_blocks (inside_of (begun_by s) source) source found)) made)))
-          state.items,
+          state.items (later_ready s old new rest at frames source blocks adds state left),
     )
 
 -- the line is placed at either turn
@@ -115,3 +161,13 @@ text_here s old new rest at (first before line) source blocks adds state left =
     text_first s old new rest at before line source blocks adds state left
 text_here s old new rest at (later frames) source blocks adds state left =
     text_later s old new rest at frames source blocks adds state left
+
+-- and all calls fit
+pub text_fits : (s : Source) (old new : Pass) (rest : LineRest) (at : ℕ) (turn : Turn) (source : SourceLine)
+    (blocks : Forest Block) → AddsText old new rest.line at rest.depth → IsHere s old rest turn source blocks
+    → AllFitted old.placing → AllFitted new.placing
+text_fits s old new rest at (first before line) source blocks adds state fitted =
+    adds.fits state.holds.ready.closable fitted
+text_fits s old new rest at (later frames) source blocks adds state fitted =
+    subst (λ (p : Pass). AllFitted p.placing)
+    (sym (adds.inside s frames state.opened.free state.depth state.opened.loose).0) fitted

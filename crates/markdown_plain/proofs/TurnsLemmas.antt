@@ -7,18 +7,21 @@ use Rattle.markdown_base.specs.Forest.{Forest}
 use Rattle.markdown_lines.specs.BlockBeginnings.{Source, is_paragraph}
 use Rattle.markdown_lines.specs.Positions.{left_from}
 use Rattle.markdown_lines.specs.SourceLines.{SourceLine, is_blank_rest}
+use Rattle.markdown_lines.specs.declared.block_start.BlockStart.{BlockStart}
 use Rattle.markdown_lines.specs.declared.line.Line.{Line}
 use Rattle.markdown_lines.specs.BlockBeginnings as beginning
 use Rattle.markdown_block_rules.specs.BlockGrowth.{Block}
 use Rattle.markdown_plain.specs.declared.block_pass.LineRest.{LineRest}
 use Rattle.markdown_plain.specs.declared.pass.Pass.{Pass}
-use Rattle.markdown_plain.specs.Beginning.{HasBegun, IsHere, IsLeft, ReadsOn, Turn, first, later, turn_place}
+use Rattle.markdown_plain.specs.Beginning.{FoundFits, HasBegun, IsFound, IsHere, IsLeft, ReadsOn, Turn, first, later}
+use Rattle.markdown_plain.specs.Beginning.{turn_place}
 use Rattle.markdown_plain.specs.Fitting.{AllFitted, FittedBefore, IfFitted}
 use Rattle.markdown_plain.specs.Paragraphs.{source_of}
 use Rattle.markdown_plain.specs.Standing.{PlacesFor}
 use Rattle.markdown_plain.specs.TextLines.{IsTextFrom}
-use Rattle.markdown_plain.specs.Turns.{KeepsReading, StillReads}
-use Rattle.markdown_plain.proofs.TextHereLemmas.{IsTextLeft, text_here}
+use Rattle.markdown_plain.specs.Turns.{KeepsFitting, KeepsReading, StillReads}
+use Rattle.markdown_plain.proofs.FoundPlacesLemmas.{found_fits}
+use Rattle.markdown_plain.proofs.TextHereLemmas.{IsTextLeft, text_fits, text_here}
 use Rattle.markdown_plain.proofs.TextStepsLemmas.{AddsText}
 
 -- at either turn, this is left of the line
@@ -114,3 +117,29 @@ turns_end before now old rest place keeps many s turn source blocks here row fit
     at_most_one : (test : Bool) → (if test then 0 else 1) ≤ 1
     at_most_one true = omega arith
     at_most_one false = omega arith
+
+-- ---- calls that fit
+
+-- after a turn whose calls fit, all have fitted
+pub turn_fits : (before now new : Pass) (old rest : LineRest) (place : ℕ) → KeepsReading before now old rest place
+    → KeepsFitting before now old → KeepsFitting now new rest → KeepsFitting before new old
+turn_fits before now new old rest place keeps fits more s turn source blocks here row fitted =
+    let so_far = fits s turn source blocks here row fitted in
+    let still = (keeps s turn source blocks here row so_far).1 in
+    more s still.turn still.source blocks still.here still.row so_far
+
+-- and after one that adds text
+pub text_turn_fits : (before now new : Pass) (old rest : LineRest) (place : ℕ)
+    → KeepsReading before now old rest place → KeepsFitting before now old
+    → AddsText now new rest.line rest.position.at rest.depth → KeepsFitting before new old
+text_turn_fits before now new old rest place keeps fits adds =
+    turn_fits before now new old rest place keeps fits
+    (λ s turn source blocks here row. text_fits s now new rest rest.position.at turn source blocks adds here)
+
+-- what was found fits into the line that is read
+pub here_fits : (s : Source) (pass : Pass) (rest : LineRest) (turn : Turn) (source : SourceLine)
+    (blocks : Forest Block) (at : ℕ) (start : BlockStart) → IsHere s pass rest turn source blocks
+    → IsFound s rest source at start → FoundFits pass.placing.builder.text rest.line at start
+here_fits s pass rest turn source blocks at start here found =
+    subst (λ text. FoundFits text rest.line at start) (sym (here_text s pass rest turn source blocks here))
+    (found_fits s rest source at start (here_left s pass rest turn source blocks here) found)

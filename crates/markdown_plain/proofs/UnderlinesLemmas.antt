@@ -1,6 +1,6 @@
 -- A line that underlines the paragraph that it reaches: this becomes a heading, or, where it holds definitions alone,
 -- ends, and the line is read once more.
-use Rattle.std.proofs.Common.{◌≡◌, ℕ, ◌==◌, Bool, true, false, not, List, [], Option, Some, None}
+use Rattle.std.proofs.Common.{◌≡◌, ℕ, ◌<◌, ◌==◌, Bool, true, false, not, List, [], Option, Some, None}
 use Rattle.std.proofs.Common.{map, length, refl, sym, ap, ◌∙◌, subst, arith}
 use Rattle.std.proofs.lemmas.Bool.{true≢false}
 use Rattle.std.proofs.lemmas.Option.{none-some}
@@ -13,6 +13,7 @@ use Rattle.markdown_base.specs.declared.tag.MetadataBlockKind.{MetadataBlockKind
 use Rattle.markdown_base.specs.declared.tag.MetadataBlockKind.TheVariants as metadata
 use Rattle.markdown_scan.specs.Entity.{entity_names}
 use Rattle.markdown_scan.specs.LineStart.{Space, leading_space}
+use Rattle.markdown_builder.specs.BuilderView.{BuilderView}
 use Rattle.markdown_builder.specs.TreeLevels.{followed_by}
 use Rattle.markdown_lines.specs.BlockBeginnings as line
 use Rattle.markdown_lines.specs.BlockBeginnings.{Beginning, Source, begins, begins_after, is_paragraph, is_reached}
@@ -34,17 +35,19 @@ use Rattle.markdown_plain.specs.declared.block_pass.LineRest.{LineRest}
 use Rattle.markdown_plain.specs.declared.looseness.Looseness.{Looseness}
 use Rattle.markdown_plain.specs.declared.pass.Pass.{Pass}
 use Rattle.markdown_plain.specs.Beginning.{HasBegun, IsFirst, IsFound, IsHere, IsLeft, Turn, first, later}
+use Rattle.markdown_plain.specs.Closable.{AreAhead, EndsHeading, HaveTask}
 use Rattle.markdown_plain.specs.Containers.{whole_line}
 use Rattle.markdown_plain.specs.Closing.{AreItemsInLists, MayEnd}
-use Rattle.markdown_plain.specs.Fitting.{AllFitted, IfFitted}
+use Rattle.markdown_plain.specs.Fitting.{AllFitted, IfFitted, defining as with_definitions}
 use Rattle.markdown_plain.specs.Frames.{Frame, is_item, reached, rebuilt, touched}
 use Rattle.markdown_plain.specs.HeldSources.{IsParagraph}
 use Rattle.markdown_plain.specs.OpenLeaves.{HoldsParagraph, IsPlaced, ended_block, leaf_block}
-use Rattle.markdown_plain.specs.Paragraphs.{divided_of, has_paragraph}
+use Rattle.markdown_plain.specs.Paragraphs.{IsPlacedTo, divided_of, has_paragraph, lines_end}
 use Rattle.markdown_plain.specs.ReachedFrames.{are_none}
 use Rattle.markdown_plain.specs.ReachedLines.{reached_of}
 use Rattle.markdown_plain.specs.Settled.{BlanksKnown, IsLooseAs, QuotesEnd}
 use Rattle.markdown_plain.specs.Standing.{PlacesFor, with_last}
+use Rattle.markdown_plain.proofs.AddedLinesLemmas.{has_held, no_leaf_open}
 use Rattle.markdown_plain.proofs.AddedTextLemmas.{around_text, loose_as_leaf}
 use Rattle.markdown_plain.proofs.BegunBlocksLemmas.{source_kept}
 use Rattle.markdown_plain.proofs.BegunLeavesLemmas.{none_held}
@@ -58,7 +61,9 @@ use Rattle.markdown_plain.proofs.ItemsInListsLemmas.{line_keeps}
 use Rattle.markdown_plain.proofs.LastBlocksLemmas.{leaf_is_over, open_are_containers}
 use Rattle.markdown_plain.proofs.LooseFramesLemmas.{ends_more}
 use Rattle.markdown_plain.proofs.ReachedLemmas.{all_go_on, reached_next}
+use Rattle.markdown_plain.proofs.ReadyTextsLemmas.{again_ready, nothing_ready, opened_containers}
 use Rattle.markdown_plain.proofs.TouchedFramesLemmas.{earlier_touched, quotes_touched}
+use Rattle.markdown_plain.proofs.WholeTextsLemmas.{boundary_after}
 
 -- ---- the line begins an underline
 
@@ -201,6 +206,14 @@ pub record EndsUnderlined (old new : Pass) (level : HeadingLevel) (line : Line) 
       → IfFitted old.placing new.placing
       (IsPlaced s new.placing.builder frames (followed_by inside
       (leaf_block (ended_block b sources some (Some (level, line))))))
+  pub ends : some ≡ true → IfFitted old.placing new.placing
+      (IsPlacedTo (record old.placing.builder { definitions = new.placing.builder.definitions })
+      new.placing.builder line.next)
+  pub defines : some ≡ false → IfFitted old.placing new.placing
+      (new.placing.builder
+      ≡ with_definitions old.placing.builder new.placing.builder.definitions new.placing.builder.at)
+  pub after : some ≡ false → 0 < length old.lines.items → IfFitted old.placing new.placing
+      (new.placing.builder.at ≡ lines_end old.lines.items)
 
 heads_not : (test : Bool) → true ≡ not test → test ≡ false
 heads_not true is = absurd (true≢false is)
@@ -277,6 +290,15 @@ module _ (s : Source) (old new : Pass) (rest : LineRest) (level : HeadingLevel) 
           earlier = earlier_touched l rest.line.start rest.line.next (next_after old rest.line l here.is) frames
               here.holds.earlier;
           alone = tt;
+          ready = nothing_ready new rest.line.next (record {
+            outside = placed.built.outside;
+            none = ends.emptied;
+            containers = opened_containers new.placing.builder.texts new.placing.builder.blocks frames
+                placed.built.blocks;
+            here = ap (λ (b : BuilderView). b.at) (ends.ends refl fitted).1;
+            boundary = subst (λ text. IsCharBoundary text rest.line.next) (sym ends.text)
+                (boundary_after old.placing.builder.text rest.line.start rest.line here.is.utf8 here.is.from);
+          });
         };
         whole = whole;
       }
@@ -336,6 +358,16 @@ module _ (s : Source) (old new : Pass) (rest : LineRest) (level : HeadingLevel) 
           before = none_held new.lines.items rest.line.start ends.emptied;
           unheld = λ e. ap (λ (p : Pass). p.blanks.items) ends.same ∙ here.holds.unheld holds.built.outside;
           earlier = here.holds.earlier;
+          ready = again_ready old new rest.line.start
+              (record {
+                held = has_held s old frames inside b sources holds;
+                placed = ap (λ (p : Pass). p.placed) ends.same;
+                emptied = ends.emptied;
+                outside = placed.built.outside;
+                defines = (ends.defines refl fitted).1;
+                after = (ends.after refl holds.some fitted).1;
+              })
+              here.holds.ready;
         };
         is = record {
           left = ap (λ text. whole_line text rest.line) ends.text ∙ here.is.left;
@@ -417,6 +449,42 @@ underline_begun s old new rest (first before l) source at blocks level some here
     paragraph_underlined s old new rest level some before.frames before.inside before.last l source blocks here
     (ap (λ now. begins s now source) (sym is) ∙ begun) is held.0 (none_inside inner held.1) ends
 underline_begun s old new rest (later frames) source at blocks level some here found ends =
+    let begun = found_begins (line.begins_underline level) (begins s rest.before source) (is_blank_rest source)
+    found.is in
+    absurd (true≢false (sym (underline_reaches s rest.before source level begun) ∙ ap is_reached here.before))
+
+-- ---- the calls fit
+
+-- a paragraph may be ended with a line that underlines it
+pub record MayEndWith (pass : Pass) (heading : Option (HeadingLevel × Line)) : Type 0 where
+  pub outside : pass.placing.builder.leaf ≡ false
+  pub ahead : AreAhead pass.placing.builder pass.lines.items
+  pub task : HaveTask pass.placing.builder.text pass.task pass.lines.items
+  pub ends : EndsHeading pass.placing.builder.text pass.lines.items heading
+
+-- so it is where the line begins an underline
+pub underline_fits : (s : Source) (pass : Pass) (rest : LineRest) (turn : Turn) (source : SourceLine) (at : ℕ)
+    (blocks : Forest Block) (level : HeadingLevel) → IsHere s pass rest turn source blocks
+    → IsFound s rest source at (start.Underline level) → MayEndWith pass (Some (level, rest.line))
+underline_fits s pass rest (first before l) source at blocks level here found =
+    let begun = found_begins (line.begins_underline level) (begins s rest.before source) (is_blank_rest source)
+    found.is in
+    let reaches = underline_reaches s rest.before source level begun in
+    let inner = (reached_of s before l).inner in
+    let held = reached_all (has_paragraph pass) (are_none inner) (sym (ap is_reached here.paragraph) ∙ reaches) in
+    let outside = no_leaf_open pass held.0 in
+    let low = here.holds.before in
+    let next = next_after pass rest.line l here.is in
+    record {
+      outside = outside;
+      ahead = here.holds.ready.closable.held outside;
+      task = here.holds.ready.closable.task;
+      ends = (
+        omega (arith, low, next),
+        boundary_after pass.placing.builder.text rest.line.start rest.line here.is.utf8 here.is.from,
+      );
+    }
+underline_fits s pass rest (later frames) source at blocks level here found =
     let begun = found_begins (line.begins_underline level) (begins s rest.before source) (is_blank_rest source)
     found.is in
     absurd (true≢false (sym (underline_reaches s rest.before source level begun) ∙ ap is_reached here.before))

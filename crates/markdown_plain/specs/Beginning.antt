@@ -220,6 +220,7 @@ pub record HasRoom (s : Source) (pass : Pass) (rest : LineRest) (source : Source
   pub may : MayBegin s pass rest.line frames inside
   pub built : IsBuilt s pass.placing.builder frames inside
   pub ready : MayStep pass.placing.builder (content_of source)
+  pub low : pass.placing.builder.at ≤ rest.position.at
   pub free : innermost_is is_list frames ≡ false
   -- what is directly under the root is in no container any more
   pub outermost : source.outermost ≡ true → frames ≡ []

@@ -356,6 +356,9 @@ impl<'a> Pass<'a> {
         ensures placed { list_all is_space_or_tab
             (slice_range self.old.placing.builder.text line.start line.stop) ≡ false
             → self.new.placed ≡ line.next }
+        ensures stays { list_all is_space_or_tab
+            (slice_range self.old.placing.builder.text line.start line.stop) ≡ true
+            → self.new.placed ≡ self.old.placed }
     {
         self.looseness.see_blank(quoted);
         if !is_white(bytes_of(self.placing.text(), line.start, line.stop)) {

@@ -1,13 +1,15 @@
 -- The open leaf has one more line, by its kind.
-use Rattle.std.proofs.Common.{◌≡◌, ◌∙◌, true, false, ap, refl, sym, rules, arith}
+use Rattle.std.proofs.Common.{◌≡◌, ◌∙◌, true, false, ap, refl, subst, sym, rules, arith}
 use Rattle.std.proofs.Math.Bool.{and-false}
 use Rattle.std.proofs.lemmas.Bool.Decides.{nat_tests}
 use Rattle.std.specs.Prelude.{◌==◌, ◌&&◌, nat_le}
 use Rattle.markdown_lines.specs.HtmlKinds.{ends_at_blank}
-use Rattle.markdown_lines.specs.Positions.{left_from}
+use Rattle.markdown_lines.specs.Positions.{IsSpaceAt, left_from}
 use Rattle.markdown_scan.specs.LineStart.{leading_space}
 use Rattle.markdown_plain.proofs.GrownLeavesLemmas.{fenced_places, html_leaves_off, html_places, indented_leaves_off}
 use Rattle.markdown_plain.proofs.GrownLeavesLemmas.{indented_places, metadata_places}
+use Rattle.markdown_plain.proofs.ReadyLinesLemmas.{line_fits, line_fits_after, place_after_space, place_first}
+use Rattle.markdown_plain.proofs.ReadyLinesLemmas.{place_reached}
 use Rattle.markdown_plain.proofs.pass.Pass.goes_on.Goals.{then-blank-2-via-then-blank-2}
 use Rattle.markdown_plain.proofs.pass.Pass.goes_on.Goals.{then-blank-2-via-else-blank-2+then-before-lt4}
 use Rattle.markdown_plain.proofs.pass.Pass.goes_on.Goals.{else-blank-via-then-blank+else-ends_at_blank}
@@ -91,3 +93,45 @@ returns-then-blank-2-clause-leaves_off c = λ goes. (
       ] in
       indented_leaves_off s c.args.self.now c.args.line c.args.reached before source c.in-Indented.is leaf few by by,
 )
+
+-- ---- where it fits
+
+pub returns-in_ok-add_fenced-in-Fenced-clause-fits :
+    goal.returns-in_ok-add_fenced-in-Fenced-clause-fits
+returns-in_ok-add_fenced-in-Fenced-clause-fits c = λ goes s before source by leaf none.
+    let place = place_reached s c.args.self.now c.args.line c.args.reached before source by in
+    let high = place.high in
+    let ends = place.ends in
+    c.in_ok-add_fenced-in-Fenced.ensures.fits
+    (line_fits c.args.self.now c.args.line c.args.reached.position.at by.stands.ready leaf place)
+    (omega (arith, high, ends))
+
+pub returns-in_ok-add_html-in-Html-clause-fits : goal.returns-in_ok-add_html-in-Html-clause-fits
+returns-in_ok-add_html-in-Html-clause-fits c = λ goes s before source by leaf none.
+    c.in_ok-add_html-in-Html.ensures.fits
+    (line_fits c.args.self.now c.args.line c.args.reached.position.at by.stands.ready leaf
+    (place_reached s c.args.self.now c.args.line c.args.reached before source by))
+
+pub returns-in_ok-add_indented-in-Indented-clause-fits :
+    goal.returns-in_ok-add_indented-in-Indented-clause-fits
+returns-in_ok-add_indented-in-Indented-clause-fits c = λ goes s before source by leaf none.
+    let old = c.args.self.now in
+    let text = old.placing.builder.text in
+    let read = c.read_space-before in
+    let is : IsSpaceAt text c.args.reached.position c.args.line.stop 4 read.result =
+    subst (λ t. IsSpaceAt t c.args.reached.position c.args.line.stop 4 read.result) c.text.ensures
+    read.ensures.value in
+    c.in_ok-add_indented-in-Indented.ensures.fits
+    (line_fits_after old c.args.line read.result.after.at by.stands.ready leaf
+    (place_after_space text c.args.line c.args.reached.position 4 read.result by.is.utf8 is
+    (place_reached s old c.args.line c.args.reached before source by)))
+
+pub returns-in_ok-add_metadata-in-Metadata-clause-fits :
+    goal.returns-in_ok-add_metadata-in-Metadata-clause-fits
+returns-in_ok-add_metadata-in-Metadata-clause-fits c = λ goes s before source by leaf none.
+    let place = place_first s c.args.self.now c.args.line c.args.reached before source by in
+    let high = place.high in
+    let ends = place.ends in
+    c.in_ok-add_metadata-in-Metadata.ensures.fits
+    (line_fits c.args.self.now c.args.line c.args.line.start by.stands.ready leaf place)
+    (omega (arith, high, ends))

@@ -18,6 +18,7 @@ use Rattle.markdown_plain.specs.declared.pass.Pass.{Pass}
 use Rattle.markdown_plain.proofs.BlankStandingLemmas.{ClosesDown, blank_ends, blank_seen, blank_stands}
 use Rattle.markdown_plain.proofs.BlankStandingLemmas.{closed_to_reached}
 use Rattle.markdown_plain.proofs.BlankStandingLemmas.{code_stands, goes_not, none_inside}
+use Rattle.markdown_plain.proofs.ReadyLinesLemmas.{SeesBlank, line_fits_after, place_reached}
 use Rattle.markdown_plain.proofs.pass.Pass.read_blank.Goals.{in-Indented, in_default}
 use Rattle.markdown_plain.proofs.pass.Pass.read_blank.Goals.{then-in_code+then-reached+in_ok-hold_blank}
 use Rattle.markdown_plain.proofs.pass.Pass.read_blank.Goals.{else-in_code+in_ok-close_down}
@@ -50,10 +51,11 @@ seen : (c : goal.After-see_blank) (s : Source) (before : Before) (source : Sourc
     → is_blank_rest (reached_of s before source).rest ≡ true
     → ((reached_of s before source).inner ≡ [] → LeavesOff s (reached_of s before source).rest before.last)
     → QuotesEnd placed (map (touched source) (reached_of s before source).outer)
+    → SeesBlank c.args.self.now c.args.line source placed
     → IfFitted c.args.self.now.placing c.if-in_code.self.placing
     (StandsFor s (blank_seen c.if-in_code.self c.args.reached.quoted placed) c.args.line.next
     (with_line s (blocks_before before) source))
-seen c s before source placed by blank off quotes fits =
+seen c s before source placed by blank off quotes sees fits =
     let old = c.args.self.now in
     elim c.if-in_code.branch [
       | then-in_code+then-reached+in_ok-hold_blank w ↦
@@ -68,7 +70,11 @@ seen c s before source placed by blank off quotes fits =
                 (code_stands s old mid c.args.line c.args.reached before.frames before.inside before.last source placed
                 by blank all code.how code.there
                 (λ held are. w.in_ok-hold_blank.ensures.source held (reached_of s before source).rest are
-                by.reaches.rest) quotes),
+                by.reaches.rest) quotes sees
+                (let place = place_reached s old c.args.line c.args.reached before source by in
+                w.in_ok-hold_blank.ensures.fits
+                (line_fits_after old c.args.line c.args.reached.position.at by.stands.ready code.there place)
+                place.high place.ends)),
           )
       | else-in_code+in_ok-close_down w ↦
           let mid = w.close_down.new.self in
@@ -81,6 +87,7 @@ seen c s before source placed by blank off quotes fits =
             unheld = w.in_ok-close_down.ensures.unheld;
             source = search rules;
             from = search rules;
+            here = w.in_ok-close_down.ensures.here;
           } in
           let there = closed_to_reached s old mid c.args.line c.args.reached before source by closes
           (subst (λ (p : Pass). AllFitted p.placing) w.self-is fits) in (
@@ -96,8 +103,18 @@ seen c s before source placed by blank off quotes fits =
                   | else-in_code-via-else-in_code v ↦
                       not_in_code c v.if-in_code.false (record { how = how; there = there })
                 ]))
-                there.1 quotes),
+                there.1 quotes sees),
           )
+    ]
+
+-- closing blocks, or holding back the line, changes nothing of where the lines before it end
+before_it : (c : goal.After-see_blank) → c.if-in_code.self.placed ≡ c.args.self.now.placed
+before_it c =
+    elim c.if-in_code.branch [
+      | then-in_code+then-reached+in_ok-hold_blank w ↦
+          ap (λ (p : Pass). p.placed) (w.self-is ∙ w.in_ok-hold_blank.ensures.same)
+      | else-in_code+in_ok-close_down w ↦
+          ap (λ (p : Pass). p.placed) (w.self-is ∙ w.in_ok-close_down.ensures.same)
     ]
 
 pub returns-clause-stands : goal.returns-clause-stands
@@ -109,9 +126,25 @@ returns-clause-stands c = λ s before source by blank off fits.
     ∙ ap (λ (left : LineLeft). left.bytes) by.is.left in
     let quotes = blank_ends s old c.args.line c.args.reached before source c.see_blank.new.self.placed by
     (λ some. c.see_blank.ensures.placed (ap (list_all is_space_or_tab) bytes ∙ some)) in
-    let made = seen c s before source c.see_blank.new.self.placed by blank off quotes
+    let sees : SeesBlank old c.args.line source c.see_blank.new.self.placed = record {
+      moves = λ some. c.see_blank.ensures.placed (ap (list_all is_space_or_tab) bytes ∙ some);
+      stays = λ white. c.see_blank.ensures.stays (ap (list_all is_space_or_tab) bytes ∙ white) ∙ before_it c;
+    } in
+    let made = seen c s before source c.see_blank.new.self.placed by blank off quotes sees
     (subst (λ (p : Pass). AllFitted p.placing) same fits) in (
       made.0,
       subst (λ (p : Pass). StandsFor s p c.args.line.next (with_line s (blocks_before before) source)) (sym same)
           made.1,
     )
+
+-- the line is held back, which calls nothing of the builder, or what it does not reach may be closed
+pub returns-clause-fits : goal.returns-clause-fits
+returns-clause-fits c = λ s before source by blank off fitted.
+    subst (λ (p : Pass). AllFitted p.placing) (sym c.see_blank.ensures.same)
+    (elim c.if-in_code.branch [
+      | then-in_code+then-reached+in_ok-hold_blank w ↦
+          subst (λ (p : Pass). AllFitted p.placing) (sym (w.self-is ∙ w.in_ok-hold_blank.ensures.same)) fitted
+      | else-in_code+in_ok-close_down w ↦
+          subst (λ (p : Pass). AllFitted p.placing) (sym w.self-is)
+              (w.in_ok-close_down.ensures.fits by.stands.ready.closable fitted)
+    ])

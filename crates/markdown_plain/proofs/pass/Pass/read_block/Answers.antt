@@ -1,11 +1,12 @@
 -- What begins is what the definition says, by what the reader found.
-use Rattle.std.proofs.Common.{refl, subst}
+use Rattle.std.proofs.Common.{refl, subst, sym}
 use Rattle.std.proofs.lemmas.Result.{IfOk-weaker}
 use Rattle.markdown_lines.specs.declared.block_start.BlockStart.TheVariants as start
 use Rattle.markdown_plain.specs.Fitting.{AllFitted}
 use Rattle.markdown_plain.specs.declared.pass.Pass.{Pass}
 use Rattle.markdown_plain.proofs.FoundPlacesLemmas.{begun_old, begun_places, begun_reads, meets}
 use Rattle.markdown_plain.proofs.OpenedFramesLemmas.{both_ok}
+use Rattle.markdown_plain.proofs.TurnsLemmas.{here_fits}
 use Rattle.markdown_plain.proofs.pass.Pass.read_block.Goals as goal
 
 pub returns-in-Nothing-clause-begins : goal.returns-in-Nothing-clause-begins
@@ -219,3 +220,206 @@ returns-in-Underline-clause-begins c =
       subst (λ (p : Pass). AllFitted p.placing) met.kept done.0,
       begun_old s _ rest c.read_underline.new.rest reader blocks more done.1,
     )) c.read_underline.ensures.begins
+
+-- ---- the calls fit
+
+pub returns-in-Nothing-clause-fits : goal.returns-in-Nothing-clause-fits
+returns-in-Nothing-clause-fits c =
+    IfOk-weaker c.skip_blank.result _ _ (λ more told s turn source blocks state none fitted.
+    let rest = c.args.rest.now in
+    let reader = c.beginning.new.self in
+    let at = c.in_ok-begun.begun.at in
+    let row = c.in_ok-reads_table.ensures in
+    let begun = c.in_ok-begun.ensures in
+    let met = meets s c.args.self.now c.reads_table.new.self rest _ reader turn source blocks at
+    c.in_ok-begun.begun.start start.Nothing
+    (record { none = row.none; off = row.off; begins = begun.begins; place = begun.at; same = begun.same })
+    c.in-Nothing.is state in
+    told s (record rest { reader = reader }) turn source at blocks met.here refl met.found
+    (subst (λ (p : Pass). AllFitted p.placing) (sym met.kept) fitted)) c.skip_blank.ensures.fits
+
+pub returns-in-Text-clause-fits : goal.returns-in-Text-clause-fits
+returns-in-Text-clause-fits c =
+    IfOk-weaker c.read_text.result _ _ (λ more told s turn source blocks state none fitted.
+    let rest = c.args.rest.now in
+    let reader = c.beginning.new.self in
+    let at = c.in_ok-begun.begun.at in
+    let row = c.in_ok-reads_table.ensures in
+    let begun = c.in_ok-begun.ensures in
+    let met = meets s c.args.self.now c.reads_table.new.self rest _ reader turn source blocks at
+    c.in_ok-begun.begun.start start.Text
+    (record { none = row.none; off = row.off; begins = begun.begins; place = begun.at; same = begun.same })
+    c.in-Text.is state in
+    told s turn source blocks met.here met.found met.stands
+    (subst (λ (p : Pass). AllFitted p.placing) (sym met.kept) fitted)) c.read_text.ensures.fits
+
+pub returns-in-IndentedCode-clause-fits : goal.returns-in-IndentedCode-clause-fits
+returns-in-IndentedCode-clause-fits c =
+    IfOk-weaker c.read_indented.result _ _ (λ more told s turn source blocks state none fitted.
+    let rest = c.args.rest.now in
+    let reader = c.beginning.new.self in
+    let at = c.in_ok-begun.begun.at in
+    let row = c.in_ok-reads_table.ensures in
+    let begun = c.in_ok-begun.ensures in
+    let met = meets s c.args.self.now c.reads_table.new.self rest _ reader turn source blocks at
+    c.in_ok-begun.begun.start (start.IndentedCode c.in-IndentedCode.code)
+    (record { none = row.none; off = row.off; begins = begun.begins; place = begun.at; same = begun.same })
+    c.in-IndentedCode.is state in
+    let fits = here_fits s c.reads_table.new.self (record rest { reader = reader }) turn source blocks at
+    (start.IndentedCode c.in-IndentedCode.code) met.here met.found in
+    told s turn source at blocks met.here met.found fits.0 fits.1
+    (subst (λ (p : Pass). AllFitted p.placing) (sym met.kept) fitted)) c.read_indented.ensures.fits
+
+pub returns-in-Quote-clause-fits : goal.returns-in-Quote-clause-fits
+returns-in-Quote-clause-fits c =
+    IfOk-weaker c.read_quote.result _ _ (λ more told s turn source blocks state none fitted.
+    let rest = c.args.rest.now in
+    let reader = c.beginning.new.self in
+    let at = c.in_ok-begun.begun.at in
+    let row = c.in_ok-reads_table.ensures in
+    let begun = c.in_ok-begun.ensures in
+    let met = meets s c.args.self.now c.reads_table.new.self rest _ reader turn source blocks at
+    c.in_ok-begun.begun.start (start.Quote c.in-Quote.inside)
+    (record { none = row.none; off = row.off; begins = begun.begins; place = begun.at; same = begun.same })
+    c.in-Quote.is state in
+    told s turn source blocks met.here met.found met.stands
+    (subst (λ (p : Pass). AllFitted p.placing) (sym met.kept) fitted)) c.read_quote.ensures.fits
+
+pub returns-in-Alert-clause-fits : goal.returns-in-Alert-clause-fits
+returns-in-Alert-clause-fits c =
+    IfOk-weaker c.read_alert.result _ _ (λ more told s turn source blocks state none fitted.
+    let rest = c.args.rest.now in
+    let reader = c.beginning.new.self in
+    let at = c.in_ok-begun.begun.at in
+    let row = c.in_ok-reads_table.ensures in
+    let begun = c.in_ok-begun.ensures in
+    let met = meets s c.args.self.now c.reads_table.new.self rest _ reader turn source blocks at
+    c.in_ok-begun.begun.start (start.Alert c.in-Alert.kind)
+    (record { none = row.none; off = row.off; begins = begun.begins; place = begun.at; same = begun.same })
+    c.in-Alert.is state in
+    told s turn source blocks met.here met.found
+    (subst (λ (p : Pass). AllFitted p.placing) (sym met.kept) fitted)) c.read_alert.ensures.fits
+
+pub returns-in-Heading-clause-fits : goal.returns-in-Heading-clause-fits
+returns-in-Heading-clause-fits c =
+    IfOk-weaker c.read_heading.result _ _ (λ more told s turn source blocks state none fitted.
+    let rest = c.args.rest.now in
+    let reader = c.beginning.new.self in
+    let at = c.in_ok-begun.begun.at in
+    let row = c.in_ok-reads_table.ensures in
+    let begun = c.in_ok-begun.ensures in
+    let met = meets s c.args.self.now c.reads_table.new.self rest _ reader turn source blocks at
+    c.in_ok-begun.begun.start (start.Heading c.in-Heading.heading)
+    (record { none = row.none; off = row.off; begins = begun.begins; place = begun.at; same = begun.same })
+    c.in-Heading.is state in
+    let fits = here_fits s c.reads_table.new.self (record rest { reader = reader }) turn source blocks at
+    (start.Heading c.in-Heading.heading) met.here met.found in
+    told s turn source blocks met.here met.found met.stands fits
+    (subst (λ (p : Pass). AllFitted p.placing) (sym met.kept) fitted)) c.read_heading.ensures.fits
+
+pub returns-in-Fence-clause-fits : goal.returns-in-Fence-clause-fits
+returns-in-Fence-clause-fits c =
+    IfOk-weaker c.read_fence.result _ _ (λ more told s turn source blocks state none fitted.
+    let rest = c.args.rest.now in
+    let reader = c.beginning.new.self in
+    let at = c.in_ok-begun.begun.at in
+    let row = c.in_ok-reads_table.ensures in
+    let begun = c.in_ok-begun.ensures in
+    let met = meets s c.args.self.now c.reads_table.new.self rest _ reader turn source blocks at
+    c.in_ok-begun.begun.start (start.Fence c.in-Fence.opening)
+    (record { none = row.none; off = row.off; begins = begun.begins; place = begun.at; same = begun.same })
+    c.in-Fence.is state in
+    told s turn source blocks met.here met.found met.stands
+    (subst (λ (p : Pass). AllFitted p.placing) (sym met.kept) fitted)) c.read_fence.ensures.fits
+
+pub returns-in-Html-clause-fits : goal.returns-in-Html-clause-fits
+returns-in-Html-clause-fits c =
+    IfOk-weaker c.read_html.result _ _ (λ more told s turn source blocks state none fitted.
+    let rest = c.args.rest.now in
+    let reader = c.beginning.new.self in
+    let at = c.in_ok-begun.begun.at in
+    let row = c.in_ok-reads_table.ensures in
+    let begun = c.in_ok-begun.ensures in
+    let met = meets s c.args.self.now c.reads_table.new.self rest _ reader turn source blocks at
+    c.in_ok-begun.begun.start (start.Html c.in-Html.kind)
+    (record { none = row.none; off = row.off; begins = begun.begins; place = begun.at; same = begun.same })
+    c.in-Html.is state in
+    told s turn source at blocks met.here met.found met.stands
+    (subst (λ (p : Pass). AllFitted p.placing) (sym met.kept) fitted)) c.read_html.ensures.fits
+
+pub returns-in-Footnote-clause-fits : goal.returns-in-Footnote-clause-fits
+returns-in-Footnote-clause-fits c =
+    IfOk-weaker c.read_footnote.result _ _ (λ more told s turn source blocks state none fitted.
+    let rest = c.args.rest.now in
+    let reader = c.beginning.new.self in
+    let at = c.in_ok-begun.begun.at in
+    let row = c.in_ok-reads_table.ensures in
+    let begun = c.in_ok-begun.ensures in
+    let met = meets s c.args.self.now c.reads_table.new.self rest _ reader turn source blocks at
+    c.in_ok-begun.begun.start (start.Footnote c.in-Footnote.label c.in-Footnote.inside)
+    (record { none = row.none; off = row.off; begins = begun.begins; place = begun.at; same = begun.same })
+    c.in-Footnote.is state in
+    told s turn source blocks met.here
+    (rw (c.in-Footnote.label-is, c.in-Footnote.inside-is) met.found)
+    (rw (c.in-Footnote.inside-is) met.stands)
+    (subst (λ (p : Pass). AllFitted p.placing) (sym met.kept) fitted)) c.read_footnote.ensures.fits
+
+pub returns-in-ThematicBreak-clause-fits : goal.returns-in-ThematicBreak-clause-fits
+returns-in-ThematicBreak-clause-fits c =
+    IfOk-weaker c.read_break.result _ _ (λ more told s turn source blocks state none fitted.
+    let rest = c.args.rest.now in
+    let reader = c.beginning.new.self in
+    let at = c.in_ok-begun.begun.at in
+    let row = c.in_ok-reads_table.ensures in
+    let begun = c.in_ok-begun.ensures in
+    let met = meets s c.args.self.now c.reads_table.new.self rest _ reader turn source blocks at
+    c.in_ok-begun.begun.start start.ThematicBreak
+    (record { none = row.none; off = row.off; begins = begun.begins; place = begun.at; same = begun.same })
+    c.in-ThematicBreak.is state in
+    told s turn source blocks met.here met.found
+    (subst (λ (p : Pass). AllFitted p.placing) (sym met.kept) fitted)) c.read_break.ensures.fits
+
+pub returns-in-Item-clause-fits : goal.returns-in-Item-clause-fits
+returns-in-Item-clause-fits c =
+    IfOk-weaker c.read_item.result _ _ (λ more told s turn source blocks state none fitted.
+    let rest = c.args.rest.now in
+    let reader = c.beginning.new.self in
+    let at = c.in_ok-begun.begun.at in
+    let row = c.in_ok-reads_table.ensures in
+    let begun = c.in_ok-begun.ensures in
+    let met = meets s c.args.self.now c.reads_table.new.self rest _ reader turn source blocks at
+    c.in_ok-begun.begun.start (start.Item c.in-Item.item)
+    (record { none = row.none; off = row.off; begins = begun.begins; place = begun.at; same = begun.same })
+    c.in-Item.is state in
+    told s turn source blocks met.here met.found met.stands
+    (subst (λ (p : Pass). AllFitted p.placing) (sym met.kept) fitted)) c.read_item.ensures.fits
+
+pub returns-in-Metadata-clause-fits : goal.returns-in-Metadata-clause-fits
+returns-in-Metadata-clause-fits c =
+    IfOk-weaker c.read_metadata.result _ _ (λ more told s turn source blocks state none fitted.
+    let rest = c.args.rest.now in
+    let reader = c.beginning.new.self in
+    let at = c.in_ok-begun.begun.at in
+    let row = c.in_ok-reads_table.ensures in
+    let begun = c.in_ok-begun.ensures in
+    let met = meets s c.args.self.now c.reads_table.new.self rest _ reader turn source blocks at
+    c.in_ok-begun.begun.start (start.Metadata c.in-Metadata.kind)
+    (record { none = row.none; off = row.off; begins = begun.begins; place = begun.at; same = begun.same })
+    c.in-Metadata.is state in
+    told s turn source at blocks met.here met.found
+    (subst (λ (p : Pass). AllFitted p.placing) (sym met.kept) fitted)) c.read_metadata.ensures.fits
+
+pub returns-in-Underline-clause-fits : goal.returns-in-Underline-clause-fits
+returns-in-Underline-clause-fits c =
+    IfOk-weaker c.read_underline.result _ _ (λ more told s turn source blocks state none fitted.
+    let rest = c.args.rest.now in
+    let reader = c.beginning.new.self in
+    let at = c.in_ok-begun.begun.at in
+    let row = c.in_ok-reads_table.ensures in
+    let begun = c.in_ok-begun.ensures in
+    let met = meets s c.args.self.now c.reads_table.new.self rest _ reader turn source blocks at
+    c.in_ok-begun.begun.start (start.Underline c.in-Underline.level)
+    (record { none = row.none; off = row.off; begins = begun.begins; place = begun.at; same = begun.same })
+    c.in-Underline.is state in
+    told s turn source at blocks met.here met.found
+    (subst (λ (p : Pass). AllFitted p.placing) (sym met.kept) fitted)) c.read_underline.ensures.fits

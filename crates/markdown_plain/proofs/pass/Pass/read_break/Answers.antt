@@ -25,5 +25,5 @@ returns-clause-places c = λ s turn source blocks here found fitted.
       ended_in_room s room now rest source line.begins_break blocks b has
           (keeps_leaf room now c.add_thematic_break.ensures.same
           (c.in_ok-add_thematic_break.ensures.text ∙ c.step_to.ensures.text))
-          (record { filled = refl; ends = refl }) refl leaf.1 refl,
+          (record { filled = refl; ends = refl }) refl refl (sym has.left.is.rest.next) leaf.1 refl,
     )

@@ -30,6 +30,7 @@ returns-clause-places c = λ s turn source blocks here found stand fitted.
     (sym has.left.is.rest.next) fitted in (
       made.0,
       open_in_room s room now rest source begins blocks b has keeps (record { filled = refl; ends = refl }) refl
+          (sym has.left.is.rest.next)
           (other_alone b.kind has.frames refl) leaf.1
           (subst (λ (kind : LeafKind). IsLeafKind kind b.kind) (sym c.in_ok-open_fenced.ensures.kind) refl)
           (keeps.blanks ∙ has.may.blanks) refl,

@@ -31,5 +31,5 @@ returns-clause-places c = λ s turn source blocks here found stand fitted.
       made.0,
       ended_in_room s room now rest source begins blocks b has
           (keeps_leaf room now c.add_heading.ensures.same (c.in_ok-add_heading.ensures.text ∙ c.step_to.ensures.text))
-          (record { filled = refl; ends = refl }) refl leaf.1 refl,
+          (record { filled = refl; ends = refl }) refl refl (sym has.left.is.rest.next) leaf.1 refl,
     )

@@ -36,6 +36,7 @@ returns-clause-places c = λ s turn source at blocks here found holds fitted.
     (subst (λ bytes. IsNextContent bytes rest.position.at (Some (content_of source))) (sym text) next) refl fitted in (
       made.0,
       html_places s room now rest source blocks kind (ends_html kind source) b has refl
+          (sym has.left.is.rest.next)
           (keeps_rest room now c.open_html.ensures.same c.in_ok-open_html.ensures.text) leaf.1
           c.in_ok-open_html.ensures.kind refl,
     )

@@ -11,7 +11,7 @@ use Rattle.markdown_plain.specs.OpenLeaves.{IsLineRest}
 use Rattle.markdown_plain.specs.Standing.{IsLeafKind}
 use Rattle.markdown_plain.specs.declared.pass.LeafKind.{LeafKind}
 use Rattle.markdown_plain.proofs.BegunBlocksLemmas.{keeps_rest}
-use Rattle.markdown_plain.proofs.BegunLeavesLemmas.{code_holds, code_in_room, code_left, open_in_room, other_alone}
+use Rattle.markdown_plain.proofs.BegunLeavesLemmas.{code_ends, code_holds, code_in_room, code_left, open_in_room, other_alone}
 use Rattle.markdown_plain.proofs.BegunRestsLemmas.{blank_alike}
 use Rattle.markdown_plain.proofs.pass.Pass.read_indented.Goals as goal
 
@@ -38,6 +38,7 @@ returns-clause-places c = λ s turn source at blocks here found fitted.
     (code_left s rest source code has.left alike.0 alike.1)) filled refl refl fitted in (
       made.0,
       open_in_room s room now rest source begins blocks b has keeps (record { filled = refl; ends = filled }) refl
+          (code_ends b.first l filled ∙ sym has.left.is.rest.next)
           (other_alone kind has.frames refl) leaf.1
           (subst (λ (how : LeafKind). IsLeafKind how kind) (sym c.in_ok-open_indented.ensures.kind) tt)
           (code_holds now.blanks.items l filled (keeps.blanks ∙ has.may.blanks)) refl,

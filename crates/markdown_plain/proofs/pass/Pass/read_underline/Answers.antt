@@ -1,5 +1,5 @@
 -- The underlined paragraph is a heading, or the line is read once more.
-use Rattle.markdown_plain.proofs.UnderlinesLemmas.{underline_begun}
+use Rattle.markdown_plain.proofs.UnderlinesLemmas.{underline_begun, underline_fits}
 use Rattle.markdown_plain.proofs.pass.Pass.read_underline.Goals as goal
 
 pub returns-clause-begins : goal.returns-clause-begins
@@ -12,4 +12,12 @@ returns-clause-begins c = λ s turn source at blocks here found.
       emptied = ends.emptied;
       left = ends.left;
       frame = ends.frame;
+      ends = ends.ends;
+      defines = ends.defines;
+      after = ends.after;
     })
+
+pub returns-clause-fits : goal.returns-clause-fits
+returns-clause-fits c = λ s turn source at blocks here found fitted.
+    let may = underline_fits s c.args.self.now c.args.rest.now turn source at blocks c.args.level here found in
+    c.in_ok-is_heading.ensures.fits may.outside may.ahead may.task may.ends fitted

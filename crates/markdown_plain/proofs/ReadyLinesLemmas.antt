@@ -1,0 +1,585 @@
+-- Readiness between two lines: where a line takes the pass, the calls for the next one fit.
+use Rattle.std.proofs.Common.{◌≡◌, ⊎_elim, ℕ, ◌+◌, ◌-◌, ◌<◌, ◌≤◌, Bool, true, false, not, ◌&&◌, ◌||◌, ◌==◌, List, []}
+use Rattle.std.proofs.Common.{◌∷◌, ◌++◌, Option, Some, None, drop, get_or, get_or-drop, length, length-drop, arith}
+use Rattle.std.proofs.Common.{refl, sym, ap, ◌∙◌, subst, true≢false}
+use Rattle.std.specs.Prelude.{slice_range, if◌then◌else◌}
+use Rattle.std.specs.List.{list_all}
+use Rattle.std.specs.Option.{option_map}
+use Rattle.std.specs.Str.{IsCharBoundary, IsUtf8}
+use Rattle.std.proofs.Math.Bool.{and-false, or-true}
+use Rattle.std.proofs.lemmas.Bool.{cases_lt}
+use Rattle.std.proofs.lemmas.List.Sums.{AllPass-from_list_all}
+use Rattle.std.proofs.lemmas.Option.{none-some, same_Some}
+use Rattle.markdown_base.proofs.ByteListLemmas.{part_length}
+use Rattle.markdown_base.specs.EnabledOptions.{old_footnotes_on}
+use Rattle.markdown_base.specs.Forest.{Forest}
+use Rattle.markdown_base.specs.declared.item.ItemBody.{ItemBody}
+use Rattle.markdown_builder.specs.BuilderView.{BuilderView}
+use Rattle.markdown_builder.specs.EvenRows.{is_in_row}
+use Rattle.markdown_builder.specs.declared.open_block.OpenBlock.{OpenBlock}
+use Rattle.markdown_scan.specs.LineStart.{LineLeft}
+use Rattle.markdown_lines.specs.BlockBeginnings.{Source}
+use Rattle.markdown_lines.specs.Lines.{AllPass, IsLineFrom, ending_length, is_in_blank_line, is_line_ending}
+use Rattle.markdown_lines.specs.Lines.{is_space_or_tab}
+use Rattle.markdown_lines.specs.Positions.{IsSpaceAt}
+use Rattle.markdown_lines.specs.SourceLines.{SourceLine, is_blank_rest, rest_inside}
+use Rattle.markdown_lines.specs.declared.held_line.HeldLine.{HeldLine}
+use Rattle.markdown_lines.specs.declared.line.Line.{Line}
+use Rattle.markdown_lines.specs.declared.position.Position.{Position}
+use Rattle.markdown_lines.specs.declared.space.Space.{Space}
+use Rattle.markdown_lines.proofs.HeldLinesLemmas.{ends_within}
+use Rattle.markdown_lines.proofs.LinesAheadLemmas.{in_ending, some_ending}
+use Rattle.markdown_lines.proofs.LinesLemmas.{AllPass-none, ending_ascii, past_ascii}
+use Rattle.markdown_lines.proofs.PositionsLemmas.{in_part}
+use Rattle.markdown_block_rules.specs.BlockGrowth as was
+use Rattle.markdown_block_rules.specs.BlockGrowth.{Block, Kind, is_nil, past_footnote, past_indentation}
+use Rattle.markdown_block_rules.specs.BlockRules.{block_end}
+use Rattle.markdown_plain.specs.declared.containers.Reached as code
+use Rattle.markdown_plain.specs.declared.pass.Pass.{Pass}
+use Rattle.markdown_plain.specs.Closable.{AreAhead, AreClosable, AreContainers, HaveTask, IsReady, IsReadyAfter}
+use Rattle.markdown_plain.specs.Closable.{has_quote, leaf_end}
+use Rattle.markdown_plain.specs.Containers.{is_container}
+use Rattle.markdown_plain.specs.Fits.{IsInLeaf, MayAddAfter, MayAddBefore, MayAddLine}
+use Rattle.markdown_plain.specs.Frames.{Frame, inside_container, is_quote as is_quote_kind, reached, reached_past}
+use Rattle.markdown_plain.specs.Frames.{rebuilt}
+use Rattle.markdown_plain.specs.OpenBlocks.{is_quote, outer_of, without_leaf}
+use Rattle.markdown_plain.specs.OpenLeaves.{IsLeafIn, is_leaf}
+use Rattle.markdown_plain.specs.Paragraphs.{has_paragraph, lines_end}
+use Rattle.markdown_plain.specs.ReachedLines.{Before, IsReachedBy, blocks_in, reached_of}
+use Rattle.markdown_plain.specs.Settled.{AreOpen, IsBodyOf}
+use Rattle.markdown_plain.proofs.BlankLinesLemmas.{indented_alike}
+use Rattle.markdown_plain.proofs.ClosableLemmas.{innermost_no_row, white_both}
+use Rattle.markdown_plain.proofs.FittingLemmas.{open_in_leaf, space_ahead, space_stops}
+use Rattle.markdown_plain.proofs.LeavesInPlaceLemmas.{leaf_end as placed_leaf_end}
+use Rattle.markdown_plain.proofs.OpenBlocksLemmas.{outer_of_opened}
+use Rattle.markdown_plain.proofs.TextReachedLemmas.{reached_within, whole_within}
+
+-- ---- a line
+
+-- a text may be cut after a line
+pub boundary_after : (text : List ℕ) (at : ℕ) (line : Line) → IsUtf8 text → IsLineFrom text at line
+    → IsCharBoundary text line.next
+boundary_after text at line utf8 is =
+    let rest = drop line.stop text in
+    let within = ends_within rest in
+    let whole = length-drop line.stop text in
+    let ends = is.ends in
+    let high = is.content.high in
+    ⊎_elim (λ (less : line.stop < length text).
+    let some = some_ending rest (rw (get_or-drop line.stop text 0 0, add_zero line.stop) (is.content.stops less)) in
+    let last = line.stop + (ending_length rest - 1) in
+    let here : is_line_ending (get_or text last 0) ≡ true =
+    ap is_line_ending (sym (get_or-drop line.stop text (ending_length rest - 1) 0))
+    ∙ in_ending rest (ending_length rest - 1) (omega (arith, some)) in
+    let place : last + 1 ≡ line.next = omega (arith, some, ends) in
+    subst (IsCharBoundary text) place
+    (past_ascii text last utf8 (omega (arith, some, within, whole, less)) (ending_ascii (get_or text last 0) here)))
+    (λ (over : length text ≤ line.stop). (
+      omega (arith, within, whole, ends, high, over),
+      λ (less : line.next < length text). absurd (omega (arith, less, ends, over)),
+    ))
+    (cases_lt line.stop (length text))
+  where
+    add_zero : (n : ℕ) → n + 0 ≡ n
+    add_zero n = omega arith
+
+-- a line is white space, with its ending, where its content is
+pub white_line : (text : List ℕ) (line : Line) → IsLineFrom text line.start line
+    → list_all is_space_or_tab (slice_range text line.start line.stop) ≡ true
+    → AllPass is_in_blank_line text line.start line.next
+white_line text line is white = λ k low high.
+    ⊎_elim (λ (less : k < line.stop). content k low less) (λ (more : line.stop ≤ k). ending k more high)
+    (cases_lt k line.stop)
+  where
+    content : (k : ℕ) → line.start ≤ k → k < line.stop → is_in_blank_line (get_or text k 0) ≡ true
+    content k low less =
+        let bytes = slice_range text line.start line.stop in
+        let size = part_length text line.start line.stop is.content.high in
+        let inside : k - line.start < length bytes = omega (arith, size, low, less) in
+        let place : line.start + (k - line.start) ≡ k = omega (arith, low) in
+        let there = in_part text bytes line.start line.stop (k - line.start) refl inside in
+        let here : is_space_or_tab (get_or text k 0) ≡ true =
+        ap (λ n. is_space_or_tab (get_or text n 0)) (sym place)
+        ∙ (ap is_space_or_tab (sym there.byte)
+        ∙ AllPass-from_list_all is_space_or_tab bytes white (k - line.start) 0 inside) in
+        ap (λ t. t || is_line_ending (get_or text k 0)) here
+
+    ending : (k : ℕ) → line.stop ≤ k → k < line.next → is_in_blank_line (get_or text k 0) ≡ true
+    ending k more high =
+        let ends = is.ends in
+        let place : line.stop + (k - line.stop) ≡ k = omega (arith, more) in
+        let here : is_line_ending (get_or text k 0) ≡ true =
+        ap (λ n. is_line_ending (get_or text n 0)) (sym place)
+        ∙ (ap is_line_ending (sym (get_or-drop line.stop text (k - line.stop) 0))
+        ∙ in_ending (drop line.stop text) (k - line.stop) (omega (arith, more, high, ends))) in
+        ap (λ t. is_space_or_tab (get_or text k 0) || t) here ∙ or-true (is_space_or_tab (get_or text k 0))
+
+-- ---- places in a line
+
+-- a byte offset is in a line, between characters
+pub record IsPlaceIn (text : List ℕ) (line : Line) (at : ℕ) : Type 0 where
+  pub low : line.start ≤ at
+  pub high : at ≤ line.stop
+  pub boundary : IsCharBoundary text at
+  pub ends : line.stop ≤ line.next
+  pub next : IsCharBoundary text line.next
+
+-- the place is in the line that what is left of it begins at
+pub place_reached : (s : Source) (old : Pass) (line : Line) (found : code.Reached) (before : Before)
+    (source : SourceLine) → IsReachedBy s old line found before source
+    → IsPlaceIn old.placing.builder.text line found.position.at
+place_reached s old line found before source by =
+    let text = old.placing.builder.text in
+    let within = reached_within text line.start by.is.utf8 s before.frames (blocks_in before) source
+    (whole_within old line source by.is) in
+    let same : found.position.at ≡ (reached_of s before source).rest.left.scanned =
+    ap (λ (left : LineLeft). left.scanned) by.reaches.rest.left in
+    let low = within.low in
+    let stop = by.reaches.stop in
+    let ends = by.is.from.ends in
+    record {
+      low = omega (arith, same, low);
+      high = omega (arith, same, stop);
+      boundary = subst (IsCharBoundary text) (sym same) within.boundary;
+      ends = omega (arith, ends);
+      next = boundary_after text line.start line by.is.utf8 by.is.from;
+    }
+
+-- so is its beginning
+pub place_first : (s : Source) (old : Pass) (line : Line) (found : code.Reached) (before : Before)
+    (source : SourceLine) → IsReachedBy s old line found before source
+    → IsPlaceIn old.placing.builder.text line line.start
+place_first s old line found before source by =
+    let reached = place_reached s old line found before source by in
+    let low = reached.low in
+    let high = reached.high in
+    record {
+      low = omega arith;
+      high = omega (arith, low, high);
+      boundary = by.is.boundary;
+      ends = reached.ends;
+      next = reached.next;
+    }
+
+-- and the place after white space
+pub place_after_space : (text : List ℕ) (line : Line) (position : Position) (most : ℕ) (read : Space) → IsUtf8 text
+    → IsSpaceAt text position line.stop most read → IsPlaceIn text line position.at
+    → IsPlaceIn text line read.after.at
+place_after_space text line position most read utf8 is place =
+    let ahead = space_ahead text position line.stop most read utf8 is place.boundary in
+    let low = place.low in
+    let more = ahead.1 in
+    record {
+      low = omega (arith, low, more);
+      high = space_stops text position line.stop most read is place.high;
+      boundary = ahead.0;
+      ends = place.ends;
+      next = place.next;
+    }
+
+-- ---- lines in the open leaf
+
+-- where a leaf is open, it ends here
+open_leaf_end : (pass : Pass) → pass.placing.builder.leaf ≡ true → leaf_end pass ≡ pass.placing.builder.at
+open_leaf_end pass leaf =
+    ap (λ test. if not test && not (length pass.lines.items == 0) then lines_end pass.lines.items
+    else pass.placing.builder.at) leaf
+
+-- items fit into it
+leaf_fits : (pass : Pass) (from : ℕ) → IsReady pass from → pass.placing.builder.leaf ≡ true
+    → IsInLeaf pass.placing.builder
+leaf_fits pass from ready leaf =
+    record { leaf = leaf; some = ready.closable.some leaf; plain = ready.closable.other }
+
+-- and the rest of the next line
+pub line_fits : (pass : Pass) (line : Line) (at : ℕ) → IsReady pass line.start → pass.placing.builder.leaf ≡ true
+    → IsPlaceIn pass.placing.builder.text line at → MayAddLine pass.placing.builder at line.next
+line_fits pass line at ready leaf place =
+    let end = open_leaf_end pass leaf in
+    let low = ready.closable.low in
+    let next = ready.low in
+    let after = place.low in
+    record {
+      inside = leaf_fits pass line.start ready leaf;
+      ahead = (omega (arith, end, low, next, after), place.boundary);
+      next = place.next;
+    }
+
+-- after the lines that were held back too
+pub line_fits_after : (pass : Pass) (line : Line) (at : ℕ) → IsReady pass line.start
+    → pass.placing.builder.leaf ≡ true → IsPlaceIn pass.placing.builder.text line at
+    → MayAddAfter pass.placing.builder pass.blanks.items at line.next
+line_fits_after pass line at ready leaf place =
+    let held = ready.blanks leaf in
+    let low = held.low in
+    let after = place.low in
+    record {
+      before = record { may = held.may; low = omega (arith, low, after) };
+      boundary = place.boundary;
+      next = place.next;
+    }
+
+-- ---- where nothing is held back
+
+no_paragraph : (pass : Pass) → pass.lines.items ≡ [] → has_paragraph pass ≡ false
+no_paragraph pass none =
+    ap (λ (lines : List HeldLine). not pass.placing.builder.leaf && not (length lines == 0)) none
+    ∙ and-false (not pass.placing.builder.leaf)
+
+leaf_end_here : (pass : Pass) → pass.lines.items ≡ [] → leaf_end pass ≡ pass.placing.builder.at
+leaf_end_here pass none =
+    ap (λ test. if test then lines_end pass.lines.items else pass.placing.builder.at) (no_paragraph pass none)
+
+none_ahead : (builder : BuilderView) (lines : List HeldLine) → lines ≡ [] → AreAhead builder lines
+none_ahead builder lines none =
+    subst (AreAhead builder) (sym none) (record { inside = tt; order = tt; apart = λ e. tt })
+
+none_marked : (text : List ℕ) (task : Option Bool) (lines : List HeldLine) → lines ≡ [] → HaveTask text task lines
+none_marked text task lines none = subst (HaveTask text task) (sym none) tt
+
+outside_blocks : (view : BuilderView) → view.leaf ≡ false → without_leaf view ≡ view.blocks
+outside_blocks view outside = ap (λ t. if t then outer_of view.blocks else view.blocks) outside
+
+-- all is placed up to a byte offset, in containers or in a leaf in them
+pub record IsPlacedHere (pass : Pass) (to : ℕ) : Type 0 where
+  pub at : pass.placing.builder.at ≡ to
+  pub boundary : IsCharBoundary pass.placing.builder.text to
+  pub lines : pass.lines.items ≡ []
+  pub blanks : pass.blanks.items ≡ []
+  pub containers : AreContainers (without_leaf pass.placing.builder)
+  pub row : is_in_row pass.placing.builder.blocks ≡ false
+  pub leaf : pass.placing.builder.leaf ≡ true → IsInLeaf pass.placing.builder
+
+pub placed_ready : (pass : Pass) (to : ℕ) → IsPlacedHere pass to → IsReadyAfter pass to
+placed_ready pass to is =
+    let view = pass.placing.builder in
+    let here : leaf_end pass ≡ to = leaf_end_here pass is.lines ∙ is.at in
+    let at = is.at in
+    record {
+      closable = record {
+        some = λ leaf. (is.leaf leaf).some;
+        other = is.row;
+        held = λ outside. none_ahead view pass.lines.items is.lines;
+        task = none_marked view.text pass.task pass.lines.items is.lines;
+        containers = is.containers;
+        low = subst (λ n. n ≤ to) (sym here) (omega arith);
+        boundary = is.boundary;
+        white = λ none. subst (λ n. AllPass is_in_blank_line view.text n to) (sym here)
+            (AllPass-none is_in_blank_line view.text to);
+      };
+      low = omega arith;
+      boundary = is.boundary;
+      white = AllPass-none is_in_blank_line view.text to;
+      blanks = λ leaf. subst (λ lines. MayAddBefore view lines to) (sym is.blanks)
+          (record { may = record { inside = is.leaf leaf; are = tt }; low = omega (arith, at) });
+    }
+
+-- ---- leaves
+
+-- open blocks that are containers of the definition are containers
+pub containers_open : (texts : List (List ℕ)) (blocks : List OpenBlock) (frames : List Frame)
+    → AreOpen texts blocks frames → AreContainers blocks
+containers_open texts [] frames are = tt
+containers_open texts (block ∷ blocks) [] are = absurd are
+containers_open texts (block ∷ blocks) (f ∷ frames) are =
+    (one f.block.kind are.0.body, containers_open texts blocks frames are.1)
+  where
+    one : (kind : Kind) → IsBodyOf texts kind block.body → is_container block.body ≡ true
+    one was.quote_container body = ap is_container body
+    one (was.alert_container kind) body = ap is_container body
+    one (was.list_container marker) body = ap is_container body
+    one (was.item_container indent) body = ap is_container body
+    one (was.footnote_container label) body = ap is_container body.1
+    one other body = absurd body
+
+-- after the last line of a leaf, or after one with which it has not ended
+pub leaf_ready : (s : Source) (pass : Pass) (frames : List Frame) (inside : Forest Block) (b : Block) (ended : Bool)
+    (to : ℕ) → is_leaf b.kind ≡ true → IsLeafIn s pass.placing.builder frames inside b ended
+    → pass.lines.items ≡ [] → pass.blanks.items ≡ [] → block_end b b.first b.kind ≡ to
+    → IsCharBoundary pass.placing.builder.text to → IsReadyAfter pass to
+leaf_ready s pass frames inside b true to leaf is lines blanks end boundary =
+    let view = pass.placing.builder in
+    let are = containers_open view.texts view.blocks frames is.built.blocks in
+    placed_ready pass to (record {
+      at = is.at ∙ (placed_leaf_end frames inside b leaf ∙ end);
+      boundary = boundary;
+      lines = lines;
+      blanks = blanks;
+      containers = subst AreContainers (sym (outside_blocks view is.built.outside)) are;
+      row = innermost_no_row view.blocks are;
+      leaf = λ there. absurd (true≢false (sym there ∙ is.built.outside));
+    })
+leaf_ready s pass frames inside b false to leaf is lines blanks end boundary =
+    let view = pass.placing.builder in
+    let in_it = open_in_leaf s view frames inside b leaf is in
+    let without : without_leaf view ≡ is.outer =
+    ap (λ t. if t then outer_of view.blocks else view.blocks) is.leaf
+    ∙ (ap outer_of is.blocks ∙ outer_of_opened is.outer is.block) in
+    placed_ready pass to (record {
+      at = is.end ∙ (placed_leaf_end frames inside b leaf ∙ end);
+      boundary = boundary;
+      lines = lines;
+      blanks = blanks;
+      containers = subst AreContainers (sym without) (containers_open view.texts is.outer frames is.around.blocks);
+      row = in_it.plain;
+      leaf = λ there. in_it;
+    })
+
+-- ---- blank lines
+
+-- one of these open containers is a block quote
+quotes_in : List Frame → Bool
+quotes_in [] = false
+quotes_in (f ∷ frames) = is_quote_kind f.block.kind || quotes_in frames
+
+quotes_alike : (texts : List (List ℕ)) (blocks : List OpenBlock) (frames : List Frame) → AreOpen texts blocks frames
+    → has_quote blocks ≡ quotes_in frames
+unfolding quotes_in
+quotes_alike texts [] [] are = refl
+quotes_alike texts [] (f ∷ frames) are = absurd are
+quotes_alike texts (block ∷ blocks) [] are = absurd are
+quotes_alike texts (block ∷ blocks) (f ∷ frames) are =
+    ap (λ t. t || has_quote blocks) (one f.block.kind are.0.body)
+    ∙ ap (λ t. is_quote_kind f.block.kind || t) (quotes_alike texts blocks frames are.1)
+  where
+    one : (kind : Kind) → IsBodyOf texts kind block.body → is_quote block.body ≡ is_quote_kind kind
+    one was.quote_container body = ap is_quote body
+    one (was.alert_container kind) body = ap is_quote body
+    one (was.list_container marker) body = ap is_quote body
+    one (was.item_container indent) body = ap is_quote body
+    one (was.footnote_container label) body = ap is_quote body.1
+    one other body = absurd body
+
+-- what a container other than a block quote leaves of a line is as blank as the line
+taken_alike : (s : Source) (l m : SourceLine) (empty : Bool) (kind : Kind) → is_quote_kind kind ≡ false
+    → inside_container s l empty kind ≡ Some m → is_blank_rest m ≡ is_blank_rest l
+taken_alike s l m empty was.quote_container plain takes = absurd (true≢false plain)
+taken_alike s l m empty (was.alert_container kind) plain takes = absurd (true≢false plain)
+taken_alike s l m empty (was.item_container indent) plain takes = by_test (is_blank_rest l && empty) takes
+  where
+    by_test : (test : Bool) → (if test then None
+        else option_map (λ rest. rest_inside rest l) (past_indentation indent l)) ≡ Some m
+        → is_blank_rest m ≡ is_blank_rest l
+    by_test true takes = absurd (none-some m takes)
+    by_test false takes = indented_alike l m indent takes
+taken_alike s l m empty (was.footnote_container label) plain takes = by_style (old_footnotes_on s.options) takes
+  where
+    left_whole : (white : Bool) → option_map (λ rest. rest_inside rest l) (if white then None else Some l.left) ≡ Some m
+        → is_blank_rest m ≡ is_blank_rest l
+    left_whole true takes = absurd (none-some m takes)
+    left_whole false takes = ap is_blank_rest (sym (same_Some (rest_inside l.left l) m takes))
+
+    by_style : (old : Bool) → option_map (λ rest. rest_inside rest l)
+        (if not old then past_indentation 4 l else if is_blank_rest l then None else Some l.left) ≡ Some m
+        → is_blank_rest m ≡ is_blank_rest l
+    by_style false takes = indented_alike l m 4 takes
+    by_style true takes = left_whole (is_blank_rest l) takes
+taken_alike s l m empty other plain takes = ap is_blank_rest (sym (same_Some l m takes))
+
+-- so is what is left where no block quote goes on
+unquoted_alike : (s : Source) (frames : List Frame) (inside : Forest Block) (l : SourceLine)
+    → quotes_in (reached s frames inside l).outer ≡ false
+    → is_blank_rest (reached s frames inside l).rest ≡ is_blank_rest l
+unfolding reached quotes_in
+unquoted_alike s [] inside l none = refl
+unquoted_alike s (f ∷ frames) inside l none =
+    past (inside_container s l (is_nil (rebuilt frames inside)) f.block.kind) refl
+    (λ m plain. unquoted_alike s frames inside m plain) none
+  where
+    first : (a b : Bool) → (a || b) ≡ false → a ≡ false
+    first true b e = e
+    first false b e = refl
+
+    second : (a b : Bool) → (a || b) ≡ false → b ≡ false
+    second true b e = absurd (true≢false e)
+    second false b e = e
+
+    past : (rest : Option SourceLine)
+        → inside_container s l (is_nil (rebuilt frames inside)) f.block.kind ≡ rest
+        → ((m : SourceLine) → quotes_in (reached s frames inside m).outer ≡ false
+        → is_blank_rest (reached s frames inside m).rest ≡ is_blank_rest m)
+        → quotes_in (reached_past f frames l (reached s frames inside) rest).outer ≡ false
+        → is_blank_rest (reached_past f frames l (reached s frames inside) rest).rest ≡ is_blank_rest l
+    past None takes alike none = refl
+    past (Some m) takes alike none =
+        let kind = is_quote_kind f.block.kind in
+        let others = quotes_in (reached s frames inside m).outer in
+        alike m (second kind others none)
+        ∙ taken_alike s l m (is_nil (rebuilt frames inside)) f.block.kind (first kind others none) takes
+
+-- the byte offset up to which lines are not blank moves past a blank line, or stays
+pub record SeesBlank (old : Pass) (line : Line) (source : SourceLine) (placed : ℕ) : Type 0 where
+  pub moves : is_blank_rest source ≡ false → placed ≡ line.next
+  pub stays : is_blank_rest source ≡ true → placed ≡ old.placed
+
+-- it moves over white space where no block quote is open, and there is white space after it
+pub record MovesOver (text : List ℕ) (blocks : List OpenBlock) (from placed to : ℕ) : Type 0 where
+  pub low : from ≤ placed
+  pub high : placed ≤ to
+  pub boundary : IsCharBoundary text placed
+  pub next : IsCharBoundary text to
+  pub before : has_quote blocks ≡ false → AllPass is_in_blank_line text from placed
+  pub after : AllPass is_in_blank_line text placed to
+
+pub blank_moves : (s : Source) (old : Pass) (line : Line) (found : code.Reached) (before : Before)
+    (source : SourceLine) (placed : ℕ) (texts : List (List ℕ)) (blocks : List OpenBlock)
+    → IsReachedBy s old line found before source → is_blank_rest (reached_of s before source).rest ≡ true
+    → SeesBlank old line source placed → AreOpen texts blocks (reached_of s before source).outer
+    → MovesOver old.placing.builder.text blocks old.placed placed line.next
+blank_moves s old line found before source placed texts blocks by blank sees are =
+    by_white (is_blank_rest source) refl
+  where
+    text : List ℕ
+    text = old.placing.builder.text
+
+    next : IsCharBoundary text line.next
+    next = boundary_after text line.start line by.is.utf8 by.is.from
+
+    by_white : (white : Bool) → is_blank_rest source ≡ white
+        → MovesOver old.placing.builder.text blocks old.placed placed line.next
+    by_white true is =
+        let ready = by.stands.ready in
+        let low = ready.low in
+        let place = place_first s old line found before source by in
+        let high = place.high in
+        let ends = place.ends in
+        let bytes = ap (λ (left : LineLeft). list_all is_space_or_tab left.bytes) by.is.left ∙ is in
+        subst (λ n. MovesOver text blocks old.placed n line.next) (sym (sees.stays is)) (record {
+          low = omega arith;
+          high = omega (arith, low, high, ends);
+          boundary = ready.closable.boundary;
+          next = next;
+          before = λ none. AllPass-none is_in_blank_line text old.placed;
+          after = white_both text old.placed line.start line.next ready.white (white_line text line by.is.from bytes);
+        })
+    by_white false is =
+        let low = by.stands.ready.low in
+        let place = place_first s old line found before source by in
+        let high = place.high in
+        let ends = place.ends in
+        subst (λ n. MovesOver text blocks old.placed n line.next) (sym (sees.moves is)) (record {
+          low = omega (arith, low, high, ends);
+          high = omega arith;
+          boundary = next;
+          next = next;
+          before = λ none. absurd (true≢false (sym blank
+              ∙ (unquoted_alike s before.frames (blocks_in before) source
+              (sym (quotes_alike texts blocks (reached_of s before source).outer are) ∙ none) ∙ is)));
+          after = AllPass-none is_in_blank_line text line.next;
+        })
+
+-- no leaf is open, no lines are held back, and what is open may be closed
+pub record IsRead (pass : Pass) (to : ℕ) : Type 0 where
+  pub closable : AreClosable pass.placing.builder pass.placed
+  pub lines : pass.lines.items ≡ []
+  pub low : pass.placed ≤ to
+  pub boundary : IsCharBoundary pass.placing.builder.text to
+  pub white : AllPass is_in_blank_line pass.placing.builder.text pass.placed to
+
+pub read_ready : (pass : Pass) (to : ℕ) → IsRead pass to → IsReady pass to
+read_ready pass to is =
+    let view = pass.placing.builder in
+    let without = outside_blocks view is.closable.outside in
+    let here = leaf_end_here pass is.lines in
+    record {
+      closable = record {
+        some = λ leaf. absurd (true≢false (sym leaf ∙ is.closable.outside));
+        other = innermost_no_row view.blocks is.closable.containers;
+        held = λ outside. none_ahead view pass.lines.items is.lines;
+        task = none_marked view.text pass.task pass.lines.items is.lines;
+        containers = subst AreContainers (sym without) is.closable.containers;
+        low = subst (λ n. n ≤ pass.placed) (sym here) is.closable.low;
+        boundary = is.closable.boundary;
+        white = λ none. subst (λ n. AllPass is_in_blank_line view.text n pass.placed) (sym here)
+            (is.closable.white (ap has_quote (sym without) ∙ none));
+      };
+      low = is.low;
+      boundary = is.boundary;
+      white = is.white;
+      blanks = λ leaf. absurd (true≢false (sym leaf ∙ is.closable.outside));
+    }
+
+-- after a blank line, where the containers were closed that it does not reach
+pub closed_ready : (old new : Pass) (to : ℕ) → AreClosable new.placing.builder old.placed → new.lines.items ≡ []
+    → new.placing.builder.text ≡ old.placing.builder.text
+    → MovesOver old.placing.builder.text new.placing.builder.blocks old.placed new.placed to → IsReady new to
+closed_ready old new to closable lines text moves =
+    let view = new.placing.builder in
+    let at = closable.low in
+    let low = moves.low in
+    read_ready new to (record {
+      closable = record {
+        outside = closable.outside;
+        containers = closable.containers;
+        low = omega (arith, at, low);
+        boundary = subst (λ t. IsCharBoundary t new.placed) (sym text) moves.boundary;
+        white = λ none. white_both view.text view.at old.placed new.placed (closable.white none)
+            (subst (λ t. AllPass is_in_blank_line t old.placed new.placed) (sym text) (moves.before none));
+      };
+      lines = lines;
+      low = moves.high;
+      boundary = subst (λ t. IsCharBoundary t to) (sym text) moves.next;
+      white = subst (λ t. AllPass is_in_blank_line t new.placed to) (sym text) moves.after;
+    })
+
+-- after one that is held back
+pub held_ready : (old now : Pass) (from to : ℕ) → IsReady old from
+    → MayAddBefore old.placing.builder now.blanks.items to
+    → MovesOver old.placing.builder.text (without_leaf old.placing.builder) old.placed now.placed to
+    → IsReady (record old { blanks = now.blanks; looseness = now.looseness; placed = now.placed }) to
+held_ready old now from to ready held moves =
+    let text = old.placing.builder.text in
+    let end = ready.closable.low in
+    let low = moves.low in
+    record {
+      closable = record {
+        some = ready.closable.some;
+        other = ready.closable.other;
+        held = ready.closable.held;
+        task = ready.closable.task;
+        containers = ready.closable.containers;
+        low = omega (arith, end, low);
+        boundary = moves.boundary;
+        white = λ none. white_both text (leaf_end old) old.placed now.placed (ready.closable.white none)
+            (moves.before none);
+      };
+      low = moves.high;
+      boundary = moves.next;
+      white = moves.after;
+      blanks = λ leaf. held;
+    }
+
+-- ---- lines that are not blank
+
+-- once it is recorded that such a line was read
+pub seen_ready : (old now : Pass) (to : ℕ) → IsReadyAfter old to
+    → IsReady (record old { looseness = now.looseness; placed = to }) to
+seen_ready old now to ready = record {
+  closable = record {
+    some = ready.closable.some;
+    other = ready.closable.other;
+    held = ready.closable.held;
+    task = ready.closable.task;
+    containers = ready.closable.containers;
+    low = ready.closable.low;
+    boundary = ready.closable.boundary;
+    white = ready.closable.white;
+  };
+  low = ready.low;
+  boundary = ready.boundary;
+  white = ready.white;
+  blanks = ready.blanks;
+}
+
+-- ---- the end
+
+-- once all blocks are closed only white space is left
+pub white_at_end : (old new : Pass) (from : ℕ) → IsReady old from → AreClosable new.placing.builder old.placed
+    → new.placing.builder.blocks ≡ [] → new.placing.builder.text ≡ old.placing.builder.text
+    → length new.placing.builder.text ≤ from
+    → AllPass is_in_blank_line new.placing.builder.text new.placing.builder.at (length new.placing.builder.text)
+white_at_end old new from ready closable none text end =
+    let view = new.placing.builder in
+    let all = white_both view.text view.at old.placed from (closable.white (ap has_quote none))
+    (subst (λ t. AllPass is_in_blank_line t old.placed from) (sym text) ready.white) in
+    λ k low high. all k low (omega (arith, high, end))

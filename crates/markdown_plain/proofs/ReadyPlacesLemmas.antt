@@ -1,0 +1,198 @@
+-- What a placed line leaves is ready for the next one: a leaf is open, or none, and nothing is held back.
+use Rattle.std.proofs.Common.{◌≡◌, ℕ, zero, suc, ◌+◌, ◌-◌, ◌<◌, ◌≤◌, Bool, true, false, not, ◌&&◌, List, [], ◌∷◌}
+use Rattle.std.proofs.Common.{Option, Some, None, get_or, length, drop, take, ⊎_elim, refl, sym, ap, ◌∙◌, subst, arith}
+use Rattle.std.specs.Prelude.{◌==◌, if◌then◌else◌, slice_index}
+use Rattle.std.specs.List.{list_all}
+use Rattle.std.specs.Str.{IsCharBoundary, IsUtf8}
+use Rattle.std.proofs.Math.Bool.{and-false}
+use Rattle.std.proofs.lemmas.Bool.{and_parts, cases_lt, true≢false}
+use Rattle.std.proofs.lemmas.Bool.Decides.{nat_tests}
+use Rattle.std.proofs.lemmas.List.{get_or-drop, get_or-take, length-drop, length-take}
+use Rattle.std.proofs.lemmas.Str.{IsCharBoundary-after_ascii}
+use Rattle.markdown_base.specs.Forest.{Forest}
+use Rattle.markdown_builder.specs.BuilderView.{BuilderView}
+use Rattle.markdown_builder.specs.EvenRows.{is_in_row}
+use Rattle.markdown_builder.specs.declared.open_block.OpenBlock.{OpenBlock}
+use Rattle.markdown_lines.specs.BlockBeginnings.{Source}
+use Rattle.markdown_lines.specs.Lines.{IsLineEnd, IsLineFrom, ending_length, is_line_ending}
+use Rattle.markdown_lines.specs.SourceLines.{SourceLine}
+use Rattle.markdown_lines.specs.declared.held_line.HeldLine.{HeldLine}
+use Rattle.markdown_lines.specs.declared.line.Line.{Line}
+use Rattle.markdown_lines.proofs.HeldLinesLemmas.{ends_within, line_left}
+use Rattle.markdown_lines.proofs.LinesLemmas.{ending_ascii}
+use Rattle.markdown_lines.proofs.TitleLemmas.{ending_bytes}
+use Rattle.markdown_block_rules.specs.BlockGrowth as was
+use Rattle.markdown_block_rules.specs.BlockGrowth.{Block, Kind}
+use Rattle.markdown_plain.specs.declared.pass.Pass.{Pass}
+use Rattle.markdown_plain.specs.Closable.{AreAhead, AreContainers, HaveTask, IsReadyAfter, leaf_end}
+use Rattle.markdown_plain.specs.Containers.{is_container}
+use Rattle.markdown_plain.specs.Fits.{IsInLeaf, MayAddBefore}
+use Rattle.markdown_plain.specs.Frames.{Frame}
+use Rattle.markdown_plain.specs.OpenBlocks.{outer_of, without_leaf}
+use Rattle.markdown_plain.specs.OpenLeaves.{IsOpenIn, IsUnended}
+use Rattle.markdown_plain.specs.Paragraphs.{has_paragraph, lines_end}
+use Rattle.markdown_plain.specs.Settled.{AreOpen, IsBodyOf, IsBuilt}
+use Rattle.markdown_plain.specs.Standing.{PlacesLast}
+use Rattle.markdown_plain.proofs.ClosableLemmas.{innermost_no_row}
+use Rattle.markdown_plain.proofs.FittingLemmas.{open_in_leaf}
+use Rattle.markdown_plain.proofs.LeafTreesLemmas.{on_test}
+use Rattle.markdown_plain.proofs.OpenBlocksLemmas.{outer_of_these}
+
+-- ---- where a line ends
+
+byte_passes : (test : ℕ → Bool) (bytes : List ℕ) (at : ℕ) → list_all test bytes ≡ true → at < length bytes
+    → test (get_or bytes at 0) ≡ true
+byte_passes test [] at all less = absurd (omega (arith, less))
+byte_passes test (b ∷ bytes) zero all less = (and_parts (test b) (list_all test bytes) all).0
+byte_passes test (b ∷ bytes) (suc at) all less =
+    byte_passes test bytes at (and_parts (test b) (list_all test bytes) all).1 (omega (arith, less))
+
+-- the content of a line ends between characters
+pub stop_between : (text : List ℕ) (from stop : ℕ) → IsLineEnd text from stop → IsCharBoundary text stop
+stop_between text from stop ends = (
+  ends.high,
+  λ less high.
+      let ending = ends.stops less in
+      let ascii : slice_index text stop < 128 = grind (arith, nat_tests, ending) in
+      absurd (omega (arith, ascii, high)),
+)
+
+-- and so does the line, with its line ending
+pub next_between : (text : List ℕ) (from : ℕ) (line : Line) → IsUtf8 text → IsLineFrom text from line
+    → IsCharBoundary text line.next
+next_between text from line utf8 is =
+    let rest = drop line.stop text in
+    let n = ending_length rest in
+    let high = is.content.high in
+    let ends = is.ends in
+    ⊎_elim (λ (some : 0 < n).
+    let few = ends_within rest in
+    let size = length-take n rest in
+    let whole = length-drop line.stop text in
+    let passes = ending_bytes rest (line_left text line.stop is.content.high is.content.stops) in
+    let last = byte_passes is_line_ending (take n rest) (n - 1) passes (omega (arith, some, few, size)) in
+    let byte : get_or (take n rest) (n - 1) 0 ≡ get_or text (line.stop + (n - 1)) 0 =
+    get_or-take n rest (n - 1) 0 (omega (arith, some)) ∙ get_or-drop line.stop text (n - 1) 0 in
+    let ascii = ending_ascii (get_or (take n rest) (n - 1) 0) last in
+    let place : (line.stop + (n - 1)) + 1 ≡ line.next = omega (arith, some, ends) in
+    subst (IsCharBoundary text) place
+    (IsCharBoundary-after_ascii text (line.stop + (n - 1)) utf8 (omega (arith, some, few, whole, high))
+    (omega (arith, ascii, byte))))
+    (λ (none : n ≤ 0). subst (IsCharBoundary text) (omega (arith, none, ends))
+    (stop_between text from line.stop is.content)) (cases_lt 0 n)
+
+-- ---- open containers
+
+-- open blocks that are these containers have the bodies of containers
+pub are_bodies : (texts : List (List ℕ)) (blocks : List OpenBlock) (frames : List Frame) → AreOpen texts blocks frames
+    → AreContainers blocks
+are_bodies texts [] frames are = tt
+are_bodies texts (block ∷ blocks) [] are = absurd are
+are_bodies texts (block ∷ blocks) (f ∷ frames) are =
+    (of_kind f.block.kind are.0.body, are_bodies texts blocks frames are.1)
+  where
+    of_kind : (kind : Kind) → IsBodyOf texts kind block.body → is_container block.body ≡ true
+    of_kind was.quote_container body = ap is_container body
+    of_kind (was.alert_container kind) body = ap is_container body
+    of_kind (was.list_container marker) body = ap is_container body
+    of_kind (was.item_container indent) body = ap is_container body
+    of_kind (was.footnote_container label) body = ap is_container body.1
+    of_kind other body = absurd body
+
+-- and where none are open, there are none of them
+pub no_frames : (texts : List (List ℕ)) (blocks : List OpenBlock) (frames : List Frame) → AreOpen texts blocks frames
+    → blocks ≡ [] → frames ≡ []
+no_frames texts [] [] are none = refl
+no_frames texts [] (f ∷ frames) are none = absurd are
+no_frames texts (block ∷ blocks) frames are none = absurd (omega (arith, ap length none))
+
+-- the blocks around what is built are containers
+pub built_containers : (s : Source) (view : BuilderView) (frames : List Frame) (inside : Forest Block)
+    → IsBuilt s view frames inside → AreContainers (without_leaf view)
+built_containers s view frames inside built =
+    on_test AreContainers view.leaf (outer_of view.blocks) view.blocks
+    (λ leaf. absurd (true≢false (sym leaf ∙ built.outside)))
+    (λ other. are_bodies view.texts view.blocks frames built.blocks)
+
+-- those around an open leaf are
+pub leaf_containers : (s : Source) (view : BuilderView) (frames : List Frame) (inside : Forest Block) (b : Block)
+    → IsOpenIn s view frames inside true b → AreContainers (without_leaf view)
+leaf_containers s view frames inside b is =
+    on_test AreContainers view.leaf (outer_of view.blocks) view.blocks
+    (λ leaf. subst AreContainers (sym (outer_of_these view.blocks is.outer is.block is.blocks))
+    (are_bodies view.texts is.outer frames is.around.blocks))
+    (λ other. absurd (true≢false (sym is.leaf ∙ other)))
+
+-- ---- nothing is held back
+
+-- A line was placed up to a byte offset: a leaf is open, or none, inside containers, and no lines are held back.
+pub record IsLeftAt (pass : Pass) (to : ℕ) : Type 0 where
+  pub lines : pass.lines.items ≡ []
+  pub blanks : pass.blanks.items ≡ []
+  pub at : pass.placing.builder.at ≡ to
+  pub boundary : IsCharBoundary pass.placing.builder.text to
+  pub containers : AreContainers (without_leaf pass.placing.builder)
+  pub leaf : pass.placing.builder.leaf ≡ true → IsInLeaf pass.placing.builder
+
+-- no paragraph is held back where no line is
+none_held_back : (pass : Pass) → pass.lines.items ≡ [] → has_paragraph pass ≡ false
+none_held_back pass none =
+    ap (λ (lines : List HeldLine). not pass.placing.builder.leaf && not (length lines == 0)) none
+    ∙ and-false (not pass.placing.builder.leaf)
+
+-- the next line may be read
+pub ready_after : (pass : Pass) (to : ℕ) → IsLeftAt pass to → IsReadyAfter pass to
+ready_after pass to is =
+    let view = pass.placing.builder in
+    let none : has_paragraph pass ≡ false = none_held_back pass is.lines in
+    let here : leaf_end pass ≡ to = ap (λ (has : Bool). if has then lines_end pass.lines.items else view.at) none ∙ is.at in
+    record {
+      closable = record {
+        some = λ leaf. (is.leaf leaf).some;
+        other = no_row view.leaf refl;
+        held = λ outside. subst (AreAhead view) (sym is.lines) (record { inside = tt; order = tt; apart = λ e. tt });
+        task = subst (HaveTask view.text pass.task) (sym is.lines) tt;
+        containers = is.containers;
+        low = subst (λ n. n ≤ to) (sym here) (omega arith);
+        boundary = is.boundary;
+        white = λ e at low high. absurd (omega (arith, here, low, high));
+      };
+      low = omega arith;
+      boundary = is.boundary;
+      white = λ at low high. absurd (omega (arith, low, high));
+      blanks = λ leaf. subst (λ (lines : List HeldLine). MayAddBefore view lines to) (sym is.blanks) (record {
+        may = record { inside = is.leaf leaf; are = tt };
+        low = let at = is.at in omega (arith, at);
+      });
+    }
+  where
+    no_row : (leaf : Bool) → pass.placing.builder.leaf ≡ leaf → is_in_row pass.placing.builder.blocks ≡ false
+    no_row true leaf = (is.leaf leaf).plain
+    no_row false leaf = innermost_no_row pass.placing.builder.blocks
+        (subst AreContainers (ap (λ (leaf : Bool). if leaf then outer_of pass.placing.builder.blocks
+        else pass.placing.builder.blocks) leaf) is.containers)
+
+-- so it is where the last block is ended, or is an open leaf
+pub ready_last : (s : Source) (pass : Pass) (frames : List Frame) (inside : Forest Block) (last : Option Block) (to : ℕ)
+    → PlacesLast s pass frames inside last → pass.lines.items ≡ [] → pass.blanks.items ≡ []
+    → pass.placing.builder.at ≡ to → IsCharBoundary pass.placing.builder.text to → IsReadyAfter pass to
+ready_last s pass frames inside None to places lines blanks at boundary = ready_after pass to (record {
+  lines = lines;
+  blanks = blanks;
+  at = at;
+  boundary = boundary;
+  containers = built_containers s pass.placing.builder frames inside places.0.built;
+  leaf = λ leaf. absurd (true≢false (sym leaf ∙ places.0.built.outside));
+})
+ready_last s pass frames inside (Some b) to places lines blanks at boundary = by_held places.0 places.1
+  where
+    by_held : (held : Option (List SourceLine)) → IsUnended s pass frames inside b held → IsReadyAfter pass to
+    by_held None is = ready_after pass to (record {
+      lines = lines;
+      blanks = blanks;
+      at = at;
+      boundary = boundary;
+      containers = leaf_containers s pass.placing.builder frames inside b is.1;
+      leaf = λ leaf. open_in_leaf s pass.placing.builder frames inside b is.0 is.1;
+    })
+    by_held (Some sources) is = absurd (omega (arith, is.some, ap length lines))
