@@ -172,7 +172,7 @@ pub record AreInLine (line : Line) (frames : List Frame) : Type 0 where
   pub earlier : AreOpenedBefore line.next frames
 
 -- the content of a rest that is not blank begins before its end
-content_before : (left : LineLeft) → list_all is_space_or_tab left.bytes ≡ false
+pub content_before : (left : LineLeft) → list_all is_space_or_tab left.bytes ≡ false
     → left_content left < end_of left
 content_before left filled =
     let order = blank_at left ∙ filled in grind (arith, nat_tests, order)

@@ -1,10 +1,14 @@
--- Where an item may be opened that the rest of a line begins: only white space is before it where no block is open.
+-- Where an item may be opened that the rest of a line begins: only white space is before it where no block is open. And
+-- an alert, which takes the whole line, leaves the pass ready for the next one.
 use Rattle.std.proofs.Common.{◌≡◌, ℕ, zero, suc, ◌+◌, ◌-◌, ◌<◌, ◌≤◌, Bool, true, false, List, [], ◌∷◌, length}
-use Rattle.std.proofs.Common.{take, refl, sym, ap, ◌∙◌, subst, arith, true≢false}
+use Rattle.std.proofs.Common.{Some, take, refl, sym, ap, ◌∙◌, subst, arith, true≢false}
 use Rattle.std.specs.Prelude.{if◌then◌else◌}
 use Rattle.std.specs.Str.{IsCharBoundary}
 use Rattle.std.proofs.lemmas.List.{length-append, length-take}
 use Rattle.markdown_base.specs.Forest.{Forest, nil}
+use Rattle.markdown_base.specs.declared.item.ItemBody.TheVariants as body
+use Rattle.markdown_base.specs.declared.tag.BlockQuoteKind.{BlockQuoteKind}
+use Rattle.markdown_builder.specs.BuilderView.{BuilderView}
 use Rattle.markdown_builder.specs.declared.open_block.OpenBlock.{OpenBlock}
 use Rattle.markdown_scan.specs.LineStart.{LineLeft}
 use Rattle.markdown_lines.specs.BlockBeginnings as line
@@ -20,23 +24,30 @@ use Rattle.markdown_block_rules.proofs.BlockBeginningsLemmas.{either}
 use Rattle.markdown_plain.specs.declared.block_pass.LineRest.{LineRest}
 use Rattle.markdown_plain.specs.declared.pass.Pass.{Pass}
 use Rattle.markdown_plain.specs.Beginning as turn
-use Rattle.markdown_plain.specs.Beginning.{IsFirst, IsFound, IsHere, IsInside, Turn}
-use Rattle.markdown_plain.specs.Closable.{IsClosable}
+use Rattle.markdown_plain.specs.Beginning.{IsFirst, IsFound, IsHere, IsInside, IsLeft, Turn}
+use Rattle.markdown_plain.specs.Closable.{IsClosable, IsInText, IsReadyAfter}
 use Rattle.markdown_plain.specs.Fits.{MayStep}
-use Rattle.markdown_plain.specs.Fitting.{AllFitted, IsAhead, IsWhiteOutside}
+use Rattle.markdown_plain.specs.Fitting.{AllFitted, IsAhead, IsWhiteOutside, opened}
 use Rattle.markdown_plain.specs.Frames.{Frame, innermost_is, is_list, room_depth}
+use Rattle.markdown_plain.specs.HeldSources.{AreInParagraph}
 use Rattle.markdown_plain.specs.OpenBlocks as own
 use Rattle.markdown_plain.specs.OpenBlocks.{outer_of, room_in, without_leaf, without_list}
+use Rattle.markdown_plain.specs.Paragraphs.{task_at}
 use Rattle.markdown_plain.specs.ReachedLines.{Before, blocks_in, reached_of}
-use Rattle.markdown_plain.specs.Settled.{AreOpen, IsBodyOf, placed_end}
+use Rattle.markdown_plain.specs.Settled.{AreOpen, IsBodyOf, IsBuilt, placed_end}
+use Rattle.markdown_plain.specs.TextLines.{held_line}
+use Rattle.markdown_plain.proofs.BegunContainersLemmas.{content_before}
+use Rattle.markdown_plain.proofs.BegunTextsLemmas.{end_begins}
 use Rattle.markdown_plain.proofs.ClosableLemmas.{white_both}
 use Rattle.markdown_plain.proofs.ClosedFramesLemmas.{as_many_open}
+use Rattle.markdown_plain.proofs.FittingLemmas.{some_opened}
 use Rattle.markdown_plain.proofs.FoundPlacesLemmas.{left_content}
 use Rattle.markdown_plain.proofs.LeafTreesLemmas.{on_test}
 use Rattle.markdown_plain.proofs.OpenedFramesLemmas.{as_many_containers, list_innermost}
 use Rattle.markdown_plain.proofs.ReachedLemmas.{reached_parts}
-use Rattle.markdown_plain.proofs.ReadyTextsLemmas.{line_white, whole_left}
+use Rattle.markdown_plain.proofs.ReadyTextsLemmas.{first_ready, line_in_text, line_white, opened_containers, whole_left}
 use Rattle.markdown_plain.proofs.RoomForBlocksLemmas.{is_begun, last_open, line_some}
+use Rattle.markdown_plain.proofs.RoomReadyLemmas.{ready_later}
 
 -- ---- room outside all blocks
 
@@ -134,18 +145,9 @@ pub later_may_step : (s : Source) (pass : Pass) (rest : LineRest) (frames : List
 later_may_step s pass rest frames source blocks at state filled place =
     let view = pass.placing.builder in
     let built = state.opened.free.built in
-    let here : rest.position.at ≡ source.left.scanned =
-    ap (λ (left : LineLeft). left.scanned) state.left.is.rest.left in
-    let low = state.ahead in
-    let content = left_content s rest source at state.left filled place in
-    record {
-      ahead = (
-        omega (arith, low, here, place),
-        subst (λ t. IsCharBoundary t at) (sym built.text) content.boundary,
-      );
-      white = λ none. absurd (some frames state.opened.first
-          (sym (as_many_containers s view frames nil built) ∙ ap length none));
-    }
+    let ready = ready_later s view rest source built.text (λ none. some frames state.opened.first
+    (sym (as_many_containers s view frames nil built) ∙ ap length none)) state.ahead state.left filled in
+    subst (MayStep view) (sym place) ready.ready
   where
     some : (fs : List Frame) → placed_end 0 fs nil ≡ rest.line.next → length fs ≡ 0 → ⊥
     some [] first none = let after = line_some s rest source state.left filled in absurd (omega (arith, first, after))
@@ -173,3 +175,47 @@ item_fits s old new rest (turn.later frames) source blocks item at state found o
     let b = line.begins_item item.marker item.indent (left_at rest.reader item.inside) in
     later_fits s old new rest frames source blocks at state
     (is_begun s rest source at (start.Item item) b found refl).0 found.begins opens
+
+-- ---- the paragraph that may follow an alert's marker
+
+-- an alert was opened, and holds back the end of its line
+pub record HoldsEnd (s : Source) (old now : Pass) (rest : LineRest) (at : ℕ) (frames : List Frame) (kind : BlockQuoteKind)
+    : Type 0 where
+  pub opens : now.placing.builder ≡ opened old.placing.builder at (body.BlockQuote (Some kind))
+  pub built : IsBuilt s now.placing.builder frames nil
+  pub lines : now.lines.items ≡ held_line rest.line rest.line.stop ∷ []
+  pub task : now.task ≡ task_at now rest.line rest.line.stop
+
+-- the next line may be read
+pub end_ready : (s : Source) (old now : Pass) (rest : LineRest) (source : SourceLine) (at : ℕ) (frames : List Frame)
+    (kind : BlockQuoteKind) → IsLeft s rest source → is_blank_rest source ≡ false → at ≡ content_of source
+    → HoldsEnd s old now rest at frames kind → IsReadyAfter now rest.line.next
+end_ready s old now rest source at frames kind left filled place holds =
+    let view = now.placing.builder in
+    let text : view.text ≡ s.text = holds.built.text in
+    let here : view.at ≡ at = ap (λ (b : BuilderView). b.at) holds.opens in
+    let before = content_before source.left filled in
+    let stop = left.is.stop in
+    let content = left_content s rest source at left filled place in
+    let held = line_in_text s.text rest.line source at content left.from left.utf8 in
+    first_ready now rest.line rest.line.stop (record {
+      outside = holds.built.outside;
+      containers = opened_containers view.texts view.blocks frames holds.built.blocks;
+      lines = holds.lines;
+      task = holds.task;
+      inside = subst (λ t. AreInParagraph t (held_line rest.line rest.line.stop ∷ [])) (sym text)
+          (end_begins s.text rest.position rest.line source left.is filled).inside;
+      next = record {
+        low = omega (arith, here, place, before, stop);
+        is = subst (λ t. IsInText t (held_line rest.line rest.line.stop)) (sym text) (record {
+          content = omega arith;
+          ending = held.ending;
+          start = held.stop;
+          stop = held.stop;
+          next = held.next;
+        });
+        white = λ none. absurd (some_opened view.blocks old.placing.builder.blocks
+            (record { start = at; body = body.BlockQuote (Some kind) }) (ap (λ (b : BuilderView). b.blocks) holds.opens)
+            none);
+      };
+    })
