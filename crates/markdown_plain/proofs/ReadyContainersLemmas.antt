@@ -65,10 +65,12 @@ list_kind texts other block is list = absurd is
 list_alone : (block : OpenBlock) (blocks : List OpenBlock) → without_list (block ∷ blocks) ≡ []
     → (length blocks ≡ 0) × (own.is_list block.body ≡ true)
 unfolding outer_of
-list_alone block [] none =
-    (refl, on_test (λ (bs : List OpenBlock). bs ≡ [] → own.is_list block.body ≡ true)
-    (own.innermost_is own.is_list (block ∷ [])) [] (block ∷ []) (λ list e. list)
-    (λ other e. absurd (omega (arith, ap length e))) none)
+list_alone block [] none = (
+  refl,
+  on_test (λ (bs : List OpenBlock). bs ≡ [] → own.is_list block.body ≡ true)
+      (own.innermost_is own.is_list (block ∷ [])) [] (block ∷ []) (λ list e. list)
+      (λ other e. absurd (omega (arith, ap length e))) none,
+)
 list_alone block (inner ∷ blocks) none =
     on_test (λ (bs : List OpenBlock). bs ≡ [] → (length (inner ∷ blocks) ≡ 0) × (own.is_list block.body ≡ true))
     (own.innermost_is own.is_list (block ∷ inner ∷ blocks)) (block ∷ outer_of (inner ∷ blocks))
@@ -135,11 +137,11 @@ first_fits s old new rest before l source blocks at state place opens =
     ap (λ (m : SourceLine). m.left.scanned) (state.reached ∙ all)
     ∙ sym (ap (λ (left : LineLeft). left.scanned) state.is.left) in
     white_both old.placing.builder.text old.placed rest.line.start at ready.white
-        (subst (λ t. AllPass is_in_blank_line t rest.line.start at) (sym text)
-        (line_white s.text rest.line source at content state.left.from state.left.utf8 begins)))
+    (subst (λ t. AllPass is_in_blank_line t rest.line.start at) (sym text)
+    (line_white s.text rest.line source at content state.left.from state.left.utf8 begins)))
 
 -- inside containers that the line opened, a step to what begins fits
-pub later_may_step : (s : Source) (pass : Pass) (rest : LineRest) (frames : List Frame) (source : SourceLine)
+later_may_step : (s : Source) (pass : Pass) (rest : LineRest) (frames : List Frame) (source : SourceLine)
     (blocks : Forest Block) (at : ℕ) → IsInside s pass rest frames source blocks → is_blank_rest source ≡ false
     → at ≡ content_of source → MayStep pass.placing.builder at
 later_may_step s pass rest frames source blocks at state filled place =

@@ -30,10 +30,10 @@ record IsAlert (c : goal.In_ok-add_text) (s : Source) (source : SourceLine) (blo
   built : IsBuilt s c.open_quote.new.self.placing.builder
       (with_frame room.frames room.inside (begun_block source (was.alert_container c.args.kind))) nil
   same : (c.add_text.new.self ≡ record c.open_quote.new.self {
-        lines = c.add_text.new.self.lines;
-        task = c.add_text.new.self.task;
-        looseness = c.add_text.new.self.looseness;
-      })
+    lines = c.add_text.new.self.lines;
+    task = c.add_text.new.self.task;
+    looseness = c.add_text.new.self.looseness;
+  })
       × IsLooseBefore c.add_text.new.self.looseness
       (with_frame room.frames room.inside (begun_block source (was.alert_container c.args.kind))) nil
 
