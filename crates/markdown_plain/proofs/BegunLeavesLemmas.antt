@@ -330,7 +330,7 @@ code_left s rest source code left alike few = record {
 -- the code that begins where there is room has the content of the line's rest
 pub code_in_room : (s : Source) (room : Pass) (rest : LineRest) (source : SourceLine) (left : LineLeft)
     (blocks : Forest Block) → HasRoom s room rest source (line.begins_indented left) blocks
-    → AreAlike left source.left × (left.owed ≤ 3)
+    → AreAlike left source.left × (left.owed ≤ 3) × (source.left.scanned ≤ left.scanned)
 code_in_room s room rest source left blocks has =
     subst (HoldsRest source.left) has.is (begins_rest s paragraph.NoParagraph source
     (subst (λ n. n ≤ 3) (ap (λ (l : LineLeft). l.owed) has.left.is.rest.left) has.left.is.rest.few))
