@@ -1,9 +1,9 @@
 -- Leaves that begin with the rest of a line fit where room was made for them.
-use Rattle.std.proofs.Common.{◌≡◌, ℕ, ◌+◌, ◌≤◌, Some, refl, sym, ap, ◌∙◌, subst, arith, length}
+use Rattle.std.proofs.Common.{◌≡◌, ℕ, ◌+◌, ◌≤◌, List, Some, refl, sym, ap, ◌∙◌, subst, arith, length}
 use Rattle.std.specs.List.{prefix_len}
 use Rattle.std.specs.Str.{IsCharBoundary}
 use Rattle.std.proofs.lemmas.List.Sums.{prefix_len-le-length}
-use Rattle.markdown_base.specs.Forest.{Forest}
+use Rattle.markdown_base.specs.Forest.{Forest, nil}
 use Rattle.markdown_builder.specs.BuilderView.{BuilderView}
 use Rattle.markdown_scan.specs.LineStart.{LineLeft}
 use Rattle.markdown_lines.specs.BlockBeginnings as line
@@ -11,18 +11,21 @@ use Rattle.markdown_lines.specs.BlockBeginnings.{Beginning, Source}
 use Rattle.markdown_lines.specs.BlockStarts.{left_at}
 use Rattle.markdown_lines.specs.HeldLines.{IsHeldLine}
 use Rattle.markdown_lines.specs.Lines.{IsNextContent, is_space_or_tab}
-use Rattle.markdown_lines.specs.SourceLines.{SourceLine}
+use Rattle.markdown_lines.specs.SourceLines.{SourceLine, is_blank_rest}
 use Rattle.markdown_lines.specs.declared.atx_heading.AtxHeading.{AtxHeading}
+use Rattle.markdown_lines.specs.declared.block_start.BlockStart.TheVariants as start
 use Rattle.markdown_lines.specs.declared.position.Position.{Position}
 use Rattle.markdown_block_rules.specs.BlockGrowth.{Block, content_of}
 use Rattle.markdown_plain.specs.declared.block_pass.LineRest.{LineRest}
 use Rattle.markdown_plain.specs.declared.pass.Pass.{Pass}
-use Rattle.markdown_plain.specs.Beginning.{HasRoom, IsHeadingIn}
+use Rattle.markdown_plain.specs.Beginning.{HasRoom, IsFound, IsHeadingIn, IsHere, IsInside, Turn, first, later}
 use Rattle.markdown_plain.specs.Fits.{MayAddHeading, MayOpenHtml, MayOpenLeaf, MayStep}
 use Rattle.markdown_plain.specs.Fitting.{IsAhead, stepped}
+use Rattle.markdown_plain.specs.Frames.{Frame}
+use Rattle.markdown_plain.specs.Settled.{placed_end}
 use Rattle.markdown_plain.specs.TextLines.{held_line}
-use Rattle.markdown_plain.proofs.BegunLeavesLemmas.{code_in_room, content_next}
-use Rattle.markdown_plain.proofs.ReadyPlacesLemmas.{next_between}
+use Rattle.markdown_plain.proofs.BegunLeavesLemmas.{code_in_room, content_next, filled_begins}
+use Rattle.markdown_plain.proofs.ReadyPlacesLemmas.{next_between, no_frames}
 use Rattle.markdown_plain.proofs.RoomReadyLemmas.{may_step_in}
 
 module _ (s : Source) (room : Pass) (rest : LineRest) (source : SourceLine) (begun : Beginning) (blocks : Forest Block)
@@ -130,3 +133,37 @@ code_fits s room rest source code blocks has boundary =
     let here : rest.position.at ≡ source.left.scanned = ap (λ (l : LineLeft). l.scanned) has.left.is.rest.left in
     leaf_fits s room rest source (line.begins_indented left) blocks has code.at (omega (arith, here, after))
     (omega (arith, content)) boundary
+
+-- ---- nothing
+
+-- the line is passed over in the container that was opened in it
+nothing_left : (s : Source) (old : Pass) (rest : LineRest) (frames : List Frame) (source : SourceLine)
+    (blocks : Forest Block) → IsInside s old rest frames source blocks → MayStep old.placing.builder rest.line.next
+nothing_left s old rest frames source blocks state =
+    let view = old.placing.builder in
+    let left = state.left in
+    let text : view.text ≡ s.text = ap (λ (r : Source). r.text) state.opened.source in
+    let here : rest.position.at ≡ source.left.scanned = ap (λ (l : LineLeft). l.scanned) left.is.rest.left in
+    let stop = left.is.stop in
+    let ends = left.is.ends in
+    let before = state.ahead in
+    let low : view.at ≤ rest.line.next = omega (arith, before, here, stop, ends) in
+    record {
+      ahead = (
+        low,
+        subst (λ bytes. IsCharBoundary bytes rest.line.next) (sym text)
+            (next_between s.text rest.line.start rest.line left.utf8 left.from),
+      );
+      white = λ none at from less.
+          let alone = no_frames view.texts view.blocks frames state.opened.free.built.blocks none in
+          let over : 0 ≡ rest.line.next = ap (λ (fs : List Frame). placed_end 0 fs nil) (sym alone) ∙ state.opened.first in
+          absurd (omega (arith, over, less));
+    }
+
+pub nothing_fits : (s : Source) (old : Pass) (rest : LineRest) (turn : Turn) (source : SourceLine) (at : ℕ)
+    (blocks : Forest Block) → IsHere s old rest turn source blocks → IsFound s rest source at start.Nothing
+    → MayStep old.placing.builder rest.line.next
+nothing_fits s old rest (first before line) source at blocks here found =
+    absurd (filled_begins s source rest.before (is_blank_rest source) here.filled found.is)
+nothing_fits s old rest (later frames) source at blocks here found =
+    nothing_left s old rest frames source blocks here

@@ -223,7 +223,7 @@ nothing_inside s old now rest frames source at blocks state found same steps =
     }
 
 -- what the open containers left of a line is not blank, so that it begins something
-filled_begins : (s : Source) (source : SourceLine) (before : Before) (blank : Bool) → blank ≡ false
+pub filled_begins : (s : Source) (source : SourceLine) (before : Before) (blank : Bool) → blank ≡ false
     → None ≡ (if blank then None else Some (begins s before source)) → ⊥
 filled_begins s source before true filled is = true≢false filled
 filled_begins s source before false filled is = none-some (begins s before source) is
