@@ -40,11 +40,11 @@ returns-clause-places c = λ s turn source blocks here found stand fitted.
 pub returns-clause-fits : goal.returns-clause-fits
 returns-clause-fits c = λ s turn source blocks here found stand fitted.
     let room = c.make_room_for.new.self in
-    let start = start.Fence c.args.opening in
-    let begins = line.begins_fence c.args.opening in
-    let ready = c.in_ok-make_room_for.ensures.fits s turn source c.args.at start begins blocks here found refl tt fitted
-    in
-    let has = (c.in_ok-make_room_for.ensures.room s turn source c.args.at start begins blocks here found refl tt ready).1
-    in
+    let opening = c.args.opening in
+    let begins = line.begins_fence opening in
+    let ready = c.in_ok-make_room_for.ensures.fits s turn source c.args.at (start.Fence opening) begins blocks here found
+    refl tt fitted in
+    let has = (c.in_ok-make_room_for.ensures.room s turn source c.args.at (start.Fence opening) begins blocks here found
+    refl tt ready).1 in
     c.in_ok-open_fenced.ensures.fits
     (content_fits s room c.args.rest.now source begins blocks has c.args.at found.begins) ready

@@ -46,10 +46,12 @@ pub returns-clause-fits : goal.returns-clause-fits
 returns-clause-fits c = λ s turn source at blocks here found holds fitted.
     let room = c.make_room_for.new.self in
     let rest = c.args.rest.now in
-    let start = start.Html c.args.kind in
-    let begins = line.begins_html c.args.kind in
-    let ready = c.in_ok-make_room_for.ensures.fits s turn source at start begins blocks here found refl tt fitted in
-    let has = (c.in_ok-make_room_for.ensures.room s turn source at start begins blocks here found refl tt ready).1 in
+    let kind = c.args.kind in
+    let begins = line.begins_html kind in
+    let ready = c.in_ok-make_room_for.ensures.fits s turn source at (start.Html kind) begins blocks here found refl tt
+    fitted in
+    let has = (c.in_ok-make_room_for.ensures.room s turn source at (start.Html kind) begins blocks here found refl tt
+    ready).1 in
     c.in_ok-open_html.ensures.fits
     (html_fits s room rest source begins blocks has at found.begins
     (subst (λ bytes. IsHeldLine bytes (held_line rest.line at)) (sym c.in_ok-make_room_for.ensures.text) holds)) ready
