@@ -190,12 +190,12 @@ cut_more bytes kept fewer is more =
       same = λ i less. more.same i less ∙ is.same i (omega (arith, less, other));
       high = omega (arith, one, other);
       ascii = λ less. elim (eqb_tells (length fewer) (length kept)) [
-          | inl all ↦ let e = all.1 in
-              subst (λ n. slice_index bytes n < 128) (sym e) (is.ascii (omega (arith, e, less)))
-          | inr some ↦ let differs = some.1 in
-              let fits : length fewer < length kept = omega (arith, differs, other) in
-              subst (λ b. b < 128) (is.same (length fewer) fits) (more.ascii fits)
-        ];
+        | inl all ↦ let e = all.1 in
+            subst (λ n. slice_index bytes n < 128) (sym e) (is.ascii (omega (arith, e, less)))
+        | inr some ↦ let differs = some.1 in
+            let fits : length fewer < length kept = omega (arith, differs, other) in
+            subst (λ b. b < 128) (is.same (length fewer) fits) (more.ascii fits)
+      ];
     }
 
 cut_taken : (n : ℕ) (bytes : List ℕ) → n < length bytes → slice_index bytes n < 128 → IsCut bytes (take n bytes)

@@ -1,6 +1,6 @@
 -- Readiness where room was made for a block: a step to the content of a line's rest fits, and one to each place before
 -- it in that rest.
-use Rattle.std.proofs.Common.{◌≡◌, ℕ, zero, suc, ◌+◌, ◌-◌, ◌<◌, ◌≤◌, Bool, true, false, List, [], ◌∷◌, Option, Some, None}
+use Rattle.std.proofs.Common.{◌≡◌, ℕ, zero, suc, ◌-◌, ◌≤◌, Bool, true, false, List, [], ◌∷◌, Option, Some, None}
 use Rattle.std.proofs.Common.{length, take, refl, sym, ap, ◌∙◌, subst, arith}
 use Rattle.std.proofs.lemmas.Bool.{true≢false}
 use Rattle.std.proofs.lemmas.Option.{same_Some}
@@ -8,7 +8,6 @@ use Rattle.std.specs.Prelude.{if◌then◌else◌}
 use Rattle.std.specs.Str.{IsCharBoundary}
 use Rattle.markdown_base.specs.Forest.{Forest}
 use Rattle.markdown_builder.specs.BuilderView.{BuilderView}
-use Rattle.markdown_scan.specs.LineStart.{LineLeft}
 use Rattle.markdown_lines.specs.BlockBeginnings.{Source}
 use Rattle.markdown_lines.specs.Lines.{AllPass, is_in_blank_line}
 use Rattle.markdown_lines.specs.SourceLines.{SourceLine, is_blank_rest}
@@ -21,13 +20,11 @@ use Rattle.markdown_plain.specs.Closable.{AreClosable, IsReady, has_quote}
 use Rattle.markdown_plain.specs.Fits.{MayStep}
 use Rattle.markdown_plain.specs.Frames.{Frame, inside_container, innermost_is, is_list, reached, reached_past, rebuilt}
 use Rattle.markdown_plain.specs.Frames.{room_depth}
-use Rattle.markdown_plain.specs.Settled.{AreOpen}
 use Rattle.markdown_plain.specs.TextLines.{held_line}
 use Rattle.markdown_plain.proofs.BegunLeavesLemmas.{content_next}
 use Rattle.markdown_plain.proofs.ClosableLemmas.{white_both}
 use Rattle.markdown_plain.proofs.FittingLemmas.{may_step}
 use Rattle.markdown_plain.proofs.FoundPlacesLemmas.{left_stands}
-use Rattle.markdown_plain.proofs.LeafTreesLemmas.{on_test}
 
 -- ---- the white space before the content of a line's rest
 
