@@ -223,7 +223,7 @@ nothing_inside s old now rest frames source at blocks state found same steps =
     }
 
 -- what the open containers left of a line is not blank, so that it begins something
-filled_begins : (s : Source) (source : SourceLine) (before : Before) (blank : Bool) → blank ≡ false
+pub filled_begins : (s : Source) (source : SourceLine) (before : Before) (blank : Bool) → blank ≡ false
     → None ≡ (if blank then None else Some (begins s before source)) → ⊥
 filled_begins s source before true filled is = true≢false filled
 filled_begins s source before false filled is = none-some (begins s before source) is
@@ -330,7 +330,7 @@ code_left s rest source code left alike few = record {
 -- the code that begins where there is room has the content of the line's rest
 pub code_in_room : (s : Source) (room : Pass) (rest : LineRest) (source : SourceLine) (left : LineLeft)
     (blocks : Forest Block) → HasRoom s room rest source (line.begins_indented left) blocks
-    → AreAlike left source.left × (left.owed ≤ 3)
+    → AreAlike left source.left × (left.owed ≤ 3) × (source.left.scanned ≤ left.scanned)
 code_in_room s room rest source left blocks has =
     subst (HoldsRest source.left) has.is (begins_rest s paragraph.NoParagraph source
     (subst (λ n. n ≤ 3) (ap (λ (l : LineLeft). l.owed) has.left.is.rest.left) has.left.is.rest.few))

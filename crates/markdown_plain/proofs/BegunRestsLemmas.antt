@@ -36,7 +36,7 @@ use Rattle.markdown_lines.specs.ListMarkers.{ordered_marker, ordered_marker_of, 
 use Rattle.markdown_lines.specs.MetadataBlocks.{metadata_opened}
 use Rattle.markdown_lines.specs.SourceLines.{SourceLine}
 use Rattle.markdown_lines.specs.ThematicBreaks.{is_thematic_break, setext_level}
-use Rattle.markdown_block_rules.proofs.BlockBeginningsLemmas.{HoldsLess, begins_less, either}
+use Rattle.markdown_block_rules.proofs.BlockBeginningsLemmas.{HoldsLess, begins_less, either, space_left}
 use Rattle.markdown_plain.proofs.LeafTreesLemmas.{few_owed, on_test}
 use Rattle.markdown_plain.proofs.ReachedFramesLemmas.{AreAlike, blank_at, end_of, space_alike}
 
@@ -49,7 +49,8 @@ abbrev HoldsTo : LineLeft → Beginning → Type 0
 HoldsTo whole (line.begins_quote rest) = EndsAt whole rest
 HoldsTo whole (line.begins_footnote label rest) = EndsAt whole rest
 HoldsTo whole (line.begins_item marker indent rest) = EndsAt whole rest
-HoldsTo whole (line.begins_indented rest) = AreAlike rest whole × (rest.owed ≤ 3)
+HoldsTo whole (line.begins_indented rest) =
+    AreAlike rest whole × (rest.owed ≤ 3) × (whole.scanned ≤ rest.scanned)
 HoldsTo whole other = Unit
 
 abbrev IfHoldsTo : LineLeft → Option Beginning → Type 0
@@ -254,6 +255,10 @@ found_or_ends : (whole : LineLeft) (found : Option Beginning) (other : Beginning
 found_or_ends whole None other ends more = more
 found_or_ends whole (Some b) other ends more = ends
 
+-- space is read forwards
+space_after : (n : ℕ) (whole : LineLeft) → whole.scanned ≤ (leading_space n whole).after.scanned
+space_after n whole = let ends = (space_alike n whole).end in omega (arith, ends, space_left n whole)
+
 begins_to : (s : Source) (before : Before) (l : SourceLine) → l.left.owed ≤ 3 → HoldsTo l.left (begins s before l)
 begins_to s before l few =
     let whole = l.left in
@@ -265,7 +270,7 @@ begins_to s before l few =
     either (HoldsTo whole) (space.columns == 4)
     (if is_paragraph before then line.begins_text else line.begins_indented space.after) (unwrap_or found after)
     (either (HoldsTo whole) (is_paragraph before) line.begins_text (line.begins_indented space.after) tt
-    (space_alike 4 whole, few_owed 4 whole few))
+    (space_alike 4 whole, few_owed 4 whole few, space_after 4 whole))
     (found_or_ends whole found after
     (either (IfHoldsTo whole) l.outermost (option_and_then (metadata_begun before) opened) None
     (opened_ends whole before opened) tt)
@@ -282,7 +287,8 @@ abbrev pub HoldsRest : LineLeft → Beginning → Type 0
 HoldsRest left (line.begins_quote rest) = IsRestOf left rest
 HoldsRest left (line.begins_footnote label rest) = IsRestOf left rest
 HoldsRest left (line.begins_item marker indent rest) = IsRestOf left rest
-HoldsRest left (line.begins_indented rest) = AreAlike rest left × (rest.owed ≤ 3)
+HoldsRest left (line.begins_indented rest) =
+    AreAlike rest left × (rest.owed ≤ 3) × (left.scanned ≤ rest.scanned)
 HoldsRest left other = Unit
 
 rest_of : (left rest : LineLeft) → EndsAt left rest

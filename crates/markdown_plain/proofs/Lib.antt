@@ -75,6 +75,7 @@ pub mod InnerBeginningsLemmas
 pub mod FittingLemmas
 pub mod ReadyPlacesLemmas
 pub mod RoomReadyLemmas
+pub mod BegunFitsLemmas
 pub mod BegunMetadataLemmas
 pub mod UnderlinesLemmas
 pub mod RoomForBlocksLemmas

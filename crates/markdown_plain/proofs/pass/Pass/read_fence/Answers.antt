@@ -10,6 +10,7 @@ use Rattle.markdown_plain.specs.Standing.{IsLeafKind}
 use Rattle.markdown_plain.specs.declared.pass.LeafKind.{LeafKind}
 use Rattle.markdown_plain.proofs.BegunBlocksLemmas.{begun_block, keeps_rest}
 use Rattle.markdown_plain.proofs.BegunLeavesLemmas.{open_in_room, other_alone}
+use Rattle.markdown_plain.proofs.BegunFitsLemmas.{content_fits}
 use Rattle.markdown_plain.proofs.pass.Pass.read_fence.Goals as goal
 
 pub returns-clause-places : goal.returns-clause-places
@@ -35,3 +36,15 @@ returns-clause-places c = λ s turn source blocks here found stand fitted.
           (subst (λ (kind : LeafKind). IsLeafKind kind b.kind) (sym c.in_ok-open_fenced.ensures.kind) refl)
           (keeps.blanks ∙ has.may.blanks) refl,
     )
+
+pub returns-clause-fits : goal.returns-clause-fits
+returns-clause-fits c = λ s turn source blocks here found stand fitted.
+    let room = c.make_room_for.new.self in
+    let start = start.Fence c.args.opening in
+    let begins = line.begins_fence c.args.opening in
+    let ready = c.in_ok-make_room_for.ensures.fits s turn source c.args.at start begins blocks here found refl tt fitted
+    in
+    let has = (c.in_ok-make_room_for.ensures.room s turn source c.args.at start begins blocks here found refl tt ready).1
+    in
+    c.in_ok-open_fenced.ensures.fits
+    (content_fits s room c.args.rest.now source begins blocks has c.args.at found.begins) ready

@@ -8,6 +8,9 @@ use Rattle.markdown_block_rules.specs.BlockGrowth as was
 use Rattle.markdown_plain.specs.Fitting.{BracesStand}
 use Rattle.markdown_plain.proofs.BegunBlocksLemmas.{begun_block, keeps_leaf}
 use Rattle.markdown_plain.proofs.BegunLeavesLemmas.{built_at, ended_in_room}
+use Rattle.markdown_plain.specs.Beginning.{IsHeadingIn}
+use Rattle.markdown_plain.proofs.BegunFitsLemmas.{content_fits, heading_fits}
+use Rattle.markdown_plain.proofs.FittingLemmas.{step_done}
 use Rattle.markdown_plain.proofs.pass.Pass.read_heading.Goals as goal
 
 pub returns-clause-places : goal.returns-clause-places
@@ -33,3 +36,21 @@ returns-clause-places c = λ s turn source blocks here found stand fitted.
           (keeps_leaf room now c.add_heading.ensures.same (c.in_ok-add_heading.ensures.text ∙ c.step_to.ensures.text))
           (record { filled = refl; ends = refl }) refl refl (sym has.left.is.rest.next) leaf.1 refl,
     )
+
+pub returns-clause-fits : goal.returns-clause-fits
+returns-clause-fits c = λ s turn source blocks here found stand in_line fitted.
+    let room = c.make_room_for.new.self in
+    let rest = c.args.rest.now in
+    let heading = c.args.heading in
+    let begins = line.begins_heading heading in
+    let ready = c.in_ok-make_room_for.ensures.fits s turn source c.args.at (start.Heading heading) begins blocks here
+    found refl tt fitted in
+    let has = (c.in_ok-make_room_for.ensures.room s turn source c.args.at (start.Heading heading) begins blocks here
+    found refl tt ready).1 in
+    let leaf = content_fits s room rest source begins blocks has c.args.at found.begins in
+    let step = step_done room.placing c.step_to.new.self c.args.at c.step_to.ensures.steps c.step_to.ensures.fits
+    leaf.begins ready in
+    c.in_ok-add_heading.ensures.fits
+    (heading_fits s room rest source begins blocks has c.step_to.new.self.builder c.args.at heading found.begins step.1
+    (subst (λ text. IsHeadingIn text rest.line c.args.at heading) (sym c.in_ok-make_room_for.ensures.text) in_line))
+    step.0

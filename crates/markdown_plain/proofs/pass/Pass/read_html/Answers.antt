@@ -13,6 +13,7 @@ use Rattle.markdown_plain.specs.OpenLeaves.{IsLineRest}
 use Rattle.markdown_plain.specs.TextLines.{held_line}
 use Rattle.markdown_plain.proofs.BegunBlocksLemmas.{begun_block, keeps_rest}
 use Rattle.markdown_plain.proofs.BegunLeavesLemmas.{content_next, fitted_before, html_places}
+use Rattle.markdown_plain.proofs.BegunFitsLemmas.{html_fits}
 use Rattle.markdown_plain.proofs.pass.Pass.read_html.Goals as goal
 
 pub returns-clause-places : goal.returns-clause-places
@@ -40,3 +41,15 @@ returns-clause-places c = λ s turn source at blocks here found holds fitted.
           (keeps_rest room now c.open_html.ensures.same c.in_ok-open_html.ensures.text) leaf.1
           c.in_ok-open_html.ensures.kind refl,
     )
+
+pub returns-clause-fits : goal.returns-clause-fits
+returns-clause-fits c = λ s turn source at blocks here found holds fitted.
+    let room = c.make_room_for.new.self in
+    let rest = c.args.rest.now in
+    let start = start.Html c.args.kind in
+    let begins = line.begins_html c.args.kind in
+    let ready = c.in_ok-make_room_for.ensures.fits s turn source at start begins blocks here found refl tt fitted in
+    let has = (c.in_ok-make_room_for.ensures.room s turn source at start begins blocks here found refl tt ready).1 in
+    c.in_ok-open_html.ensures.fits
+    (html_fits s room rest source begins blocks has at found.begins
+    (subst (λ bytes. IsHeldLine bytes (held_line rest.line at)) (sym c.in_ok-make_room_for.ensures.text) holds)) ready

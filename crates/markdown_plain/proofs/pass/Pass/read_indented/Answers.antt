@@ -13,6 +13,8 @@ use Rattle.markdown_plain.specs.declared.pass.LeafKind.{LeafKind}
 use Rattle.markdown_plain.proofs.BegunBlocksLemmas.{keeps_rest}
 use Rattle.markdown_plain.proofs.BegunLeavesLemmas.{code_ends, code_holds, code_in_room, code_left, open_in_room, other_alone}
 use Rattle.markdown_plain.proofs.BegunRestsLemmas.{blank_alike}
+use Rattle.std.specs.Str.{IsCharBoundary}
+use Rattle.markdown_plain.proofs.BegunFitsLemmas.{code_fits}
 use Rattle.markdown_plain.proofs.pass.Pass.read_indented.Goals as goal
 
 pub returns-clause-places : goal.returns-clause-places
@@ -43,3 +45,17 @@ returns-clause-places c = λ s turn source at blocks here found fitted.
           (subst (λ (how : LeafKind). IsLeafKind how kind) (sym c.in_ok-open_indented.ensures.kind) tt)
           (code_holds now.blanks.items l filled (keeps.blanks ∙ has.may.blanks)) refl,
     )
+
+pub returns-clause-fits : goal.returns-clause-fits
+returns-clause-fits c = λ s turn source at blocks here found boundary within fitted.
+    let room = c.make_room_for.new.self in
+    let rest = c.args.rest.now in
+    let code = c.args.code in
+    let begins = line.begins_indented (left_at rest.reader code) in
+    let ready = c.in_ok-make_room_for.ensures.fits s turn source at (start.IndentedCode code) begins blocks here found
+    refl tt fitted in
+    let has = (c.in_ok-make_room_for.ensures.room s turn source at (start.IndentedCode code) begins blocks here found
+    refl tt ready).1 in
+    c.in_ok-open_indented.ensures.fits
+    (code_fits s room rest source code blocks has
+    (subst (λ bytes. IsCharBoundary bytes code.at) (sym c.in_ok-make_room_for.ensures.text) boundary)) ready

@@ -9,6 +9,7 @@ use Rattle.markdown_plain.specs.declared.pass.LeafKind.{LeafKind}
 use Rattle.markdown_plain.proofs.BegunBlocksLemmas.{begun_block, keeps_rest}
 use Rattle.markdown_plain.proofs.BegunLeavesLemmas.{open_in_room}
 use Rattle.markdown_plain.proofs.BegunMetadataLemmas.{metadata_alone, metadata_starts}
+use Rattle.markdown_plain.proofs.BegunFitsLemmas.{content_fits}
 use Rattle.markdown_plain.proofs.pass.Pass.read_metadata.Goals as goal
 
 pub returns-clause-places : goal.returns-clause-places
@@ -32,3 +33,17 @@ returns-clause-places c = λ s turn source at blocks here found fitted.
           (subst (λ (how : LeafKind). IsLeafKind how b.kind) (sym c.in_ok-open_metadata.ensures.kind) refl)
           (keeps.blanks ∙ has.may.blanks) refl,
     )
+
+pub returns-clause-fits : goal.returns-clause-fits
+returns-clause-fits c = λ s turn source at blocks here found fitted.
+    let room = c.make_room_for.new.self in
+    let rest = c.args.rest.now in
+    let kind = c.args.kind in
+    let begins = line.begins_metadata kind in
+    let ready = c.in_ok-make_room_for.ensures.fits s turn source at (start.Metadata kind) begins blocks here found refl
+    tt fitted in
+    let has = (c.in_ok-make_room_for.ensures.room s turn source at (start.Metadata kind) begins blocks here found refl
+    tt ready).1 in
+    c.in_ok-open_metadata.ensures.fits
+    (content_fits s room rest source begins blocks has rest.line.start
+    (sym (metadata_starts s room rest source kind blocks has))) ready

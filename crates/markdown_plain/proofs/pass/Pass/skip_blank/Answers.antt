@@ -1,9 +1,11 @@
 -- Nothing begins with the rest of the line.
 use Rattle.std.proofs.Common.{◌∙◌, refl, sym, subst, ap}
 use Rattle.markdown_lines.specs.declared.line.Line.{Line}
+use Rattle.markdown_plain.specs.Fits.{MayStep}
 use Rattle.markdown_plain.specs.Fitting.{stepped}
 use Rattle.markdown_plain.specs.Standing.{PlacesFor}
 use Rattle.markdown_plain.specs.declared.pass.Pass.{Pass}
+use Rattle.markdown_plain.proofs.BegunFitsLemmas.{nothing_fits}
 use Rattle.markdown_plain.proofs.BegunLeavesLemmas.{nothing_places}
 use Rattle.markdown_plain.proofs.pass.Pass.skip_blank.Goals as goal
 
@@ -17,3 +19,10 @@ returns-clause-places c = λ s rest turn source at blocks here same found fitted
           (nothing_places s old now rest turn source at blocks here found refl
           (step.1 ∙ ap (λ (l : Line). stepped old.placing.builder l.next) (sym same))),
     )
+
+pub returns-clause-fits : goal.returns-clause-fits
+returns-clause-fits c = λ s rest turn source at blocks here same found fitted.
+    let old = c.args.self.now in
+    let may = subst (λ (l : Line). MayStep old.placing.builder l.next) same
+    (nothing_fits s old rest turn source at blocks here found) in
+    c.step_to.ensures.fits may.ahead may.white ∙ fitted
