@@ -17,7 +17,9 @@ use Rattle.markdown_plain.specs.Closing.{AreItemsInLists}
 use Rattle.markdown_plain.specs.Fitting.{AllFitted, IfFitted}
 use Rattle.markdown_plain.specs.Paragraphs.{has_paragraph, source_of}
 use Rattle.markdown_plain.specs.Settled.{IsBuilt}
+use Rattle.markdown_plain.proofs.BegunLemmas.{left_from_is_of}
 use Rattle.markdown_plain.proofs.BegunRestsLemmas.{HoldsRest, IsRestOf, begins_rest}
+use Rattle.markdown_plain.proofs.PassedMarkersLemmas.{HoldsPast, begins_past}
 use Rattle.markdown_plain.proofs.FramesLemmas.{rebuilt_more}
 use Rattle.markdown_plain.proofs.OpenedFramesLemmas.{as_many_containers, innermost_of_more}
 use Rattle.markdown_base.specs.Forest.{Forest, nil, node}
@@ -170,7 +172,7 @@ pub record AreInLine (line : Line) (frames : List Frame) : Type 0 where
   pub earlier : AreOpenedBefore line.next frames
 
 -- the content of a rest that is not blank begins before its end
-content_before : (left : LineLeft) → list_all is_space_or_tab left.bytes ≡ false
+pub content_before : (left : LineLeft) → list_all is_space_or_tab left.bytes ≡ false
     → left_content left < end_of left
 content_before left filled =
     let order = blank_at left ∙ filled in grind (arith, nat_tests, order)
@@ -224,12 +226,12 @@ pub container_inside : (s : Source) (now : Pass) (rest next : LineRest) (outer :
       before = paragraph.NoParagraph;
     }
     → IsRestOf source.left (left_at rest.reader inside) → IsCharBoundary s.text inside.at
-    → OpensIn s now outer before (begun_block source kind) → AreInLine rest.line outer
+    → now.placing.builder.at ≤ inside.at → OpensIn s now outer before (begun_block source kind) → AreInLine rest.line outer
     → blocks ≡ rebuilt outer (followed_by before (node (begun_block source kind)
     (begun_in_rest s (rest_inside (left_at rest.reader inside) source)) nil))
     → AreItemsInLists false blocks → ReadsOn s now rest next blocks
-container_inside s now rest next outer before source blocks inside kind left filled goes is boundary opens are whole
-    items =
+container_inside s now rest next outer before source blocks inside kind left filled goes is boundary ahead opens are
+    whole items =
     let b = begun_block source kind in
     let f : Frame = record { before = before; block = b } in
     let more = in_line_more s rest source kind outer before left filled are in
@@ -259,6 +261,7 @@ container_inside s now rest next outer before source blocks inside kind left fil
         whole = whole ∙ sym (rebuilt_more outer f
             (begun_in_rest s (rest_inside (left_at rest.reader inside) source)));
         items = items;
+        ahead = ahead;
       };
       later = inside_later s rest source inside deep left is;
       line = refl;
@@ -274,6 +277,13 @@ rest_in_room s pass rest source b blocks room =
     subst (HoldsRest source.left) room.is (begins_rest s paragraph.NoParagraph source
     (subst (λ n. n ≤ 3) (ap (λ (l : LineLeft). l.owed) room.left.is.rest.left) room.left.is.rest.few))
 
+-- it is after the first byte of its marker
+pub past_in_room : (s : Source) (pass : Pass) (rest : LineRest) (source : SourceLine) (b : Beginning)
+    (blocks : Forest Block) → HasRoom s pass rest source b blocks → HoldsPast source.left b
+past_in_room s pass rest source b blocks room =
+    subst (HoldsPast source.left) room.is (begins_past s paragraph.NoParagraph source
+    (left_from_is_of s.text rest.position rest.line.stop source.left room.left.is.rest.left))
+
 -- its containers go on in the line
 pub line_in_room : (s : Source) (pass : Pass) (rest : LineRest) (source : SourceLine) (b : Beginning)
     (blocks : Forest Block) → (room : HasRoom s pass rest source b blocks) → AreInLine rest.line room.frames
@@ -288,17 +298,17 @@ pub room_inside : (s : Source) (room now : Pass) (rest next : LineRest) (source 
       depth = length now.placing.builder.blocks;
       before = paragraph.NoParagraph;
     }
-    → IsRestOf source.left (left_at rest.reader inside) → IsCharBoundary s.text inside.at
-    → KeepsRest room now
+    → IsRestOf source.left (left_at rest.reader inside) → content_of source ≤ inside.at
+    → now.placing.builder.at ≡ content_of source → IsCharBoundary s.text inside.at → KeepsRest room now
     → IsBuilt s now.placing.builder (with_frame has.frames has.inside (begun_block source kind)) nil
     → HoldsBlocks kind
     → new_blocks (inside_of (begun_by s) source) source begun
     ≡ node (begun_block source kind) (begun_in_rest s (rest_inside (left_at rest.reader inside) source)) nil
     → ReadsOn s now rest next blocks
-room_inside s room now rest next source begun blocks inside kind has goes is boundary keeps built holds new =
+room_inside s room now rest next source begun blocks inside kind has goes is past at boundary keeps built holds new =
     let b = begun_block source kind in
     container_inside s now rest next has.frames has.inside source blocks inside kind has.left has.filled goes is
-    boundary
+    boundary (omega (arith, past, at))
     (opened_in s now rest.line has.frames has.inside b
     (still_may s room now rest.line has.frames has.inside has.may keeps) built holds)
     (line_in_room s room rest source begun blocks has)

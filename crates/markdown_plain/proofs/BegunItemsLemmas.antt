@@ -17,8 +17,8 @@ use Rattle.markdown_lines.specs.declared.block_start.ItemStart.{ItemStart}
 use Rattle.markdown_lines.specs.declared.line.Line.{Line}
 use Rattle.markdown_lines.specs.declared.list_marker.ListMarker.{ListMarker}
 use Rattle.markdown_block_rules.specs.BlockGrowth as was
-use Rattle.markdown_block_rules.specs.BlockGrowth.{Block, Kind, another_item, begun_by, goes_on, inside_of}
-use Rattle.markdown_block_rules.specs.BlockGrowth.{line_block, new_blocks, next_item, with_line}
+use Rattle.markdown_block_rules.specs.BlockGrowth.{Block, Kind, another_item, begun_by, content_of, goes_on}
+use Rattle.markdown_block_rules.specs.BlockGrowth.{inside_of, line_block, new_blocks, next_item, with_line}
 use Rattle.markdown_plain.specs.declared.block_pass.LineRest.{LineRest}
 use Rattle.markdown_plain.specs.declared.pass.Pass.{Pass}
 use Rattle.markdown_plain.specs.Beginning.{HoldsLast, IsFirst, IsFound, IsHere, IsInside, IsLeft, ReadsOn, Turn}
@@ -41,6 +41,7 @@ use Rattle.markdown_plain.proofs.BegunBlocksLemmas.{begun_block, source_kept}
 use Rattle.markdown_plain.proofs.BegunContainersLemmas.{AreInLine, container_inside, in_line_more}
 use Rattle.markdown_plain.proofs.BegunLemmas.{IsLeftOf, begun_once, block_begun, item_begun, left_from_is_of}
 use Rattle.markdown_plain.proofs.BegunRestsLemmas.{HoldsRest, IsRestOf, begins_rest}
+use Rattle.markdown_plain.proofs.PassedMarkersLemmas.{HoldsPast, begins_past}
 use Rattle.markdown_plain.proofs.BlanksKnownLemmas.{same_touched}
 use Rattle.markdown_plain.proofs.FramesLemmas.{innermost_apart, marker_of_list, rebuilt_more}
 use Rattle.markdown_plain.proofs.ItemsInListsLemmas.{line_keeps}
@@ -168,6 +169,7 @@ line_touched to l frames next after earlier = record {
 pub record OpensItem (old new : Pass) (item : ItemStart) (at depth : ℕ) : Type 0 where
   pub text : new.placing.builder.text ≡ old.placing.builder.text
   pub options : new.options ≡ old.options
+  pub here : IfFitted old.placing new.placing (new.placing.builder.at ≡ at)
   pub ended : new.lines.items ≡ []
   pub dropped : old.placing.builder.leaf ≡ true → new.blanks.items ≡ []
   pub unheld : old.blanks.items ≡ [] → new.blanks.items ≡ []
@@ -207,6 +209,7 @@ record BeginsItem (s : Source) (rest : LineRest) (source : SourceLine) (item : I
   begun : begins s paragraph.NoParagraph source
       ≡ line.begins_item item.marker item.indent (left_at rest.reader item.inside)
   is : IsRestOf source.left (left_at rest.reader item.inside)
+  past : content_of source ≤ item.inside.at
 
 item_found : (s : Source) (rest : LineRest) (source : SourceLine) (at : ℕ) (item : ItemStart)
     → IsLeft s rest source → IsFound s rest source at (start.Item item) → BeginsItem s rest source item
@@ -222,6 +225,7 @@ item_found s rest source at item left found =
       begun = alone;
       is = subst (HoldsRest source.left) alone (begins_rest s paragraph.NoParagraph source
           (subst (λ n. n ≤ 3) (ap (λ (l : LineLeft). l.owed) left.is.rest.left) left.is.rest.few));
+      past = subst (HoldsPast source.left) alone (begins_past s paragraph.NoParagraph source own);
     }
 
 -- it is inside some containers in which the line is read on
@@ -233,17 +237,17 @@ item_inside : (s : Source) (now : Pass) (rest next : LineRest) (source : SourceL
       depth = length now.placing.builder.blocks;
       before = paragraph.NoParagraph;
     }
-    → source_of now ≡ s → now.lines.items ≡ [] → now.blanks.items ≡ [] → AreItemsInLists false blocks
-    → AreInLine rest.line outer
+    → source_of now ≡ s → now.lines.items ≡ [] → now.blanks.items ≡ [] → now.placing.builder.at ≡ content_of source
+    → AreItemsInLists false blocks → AreInLine rest.line outer
     → blocks ≡ rebuilt outer (followed_by inner (item_made s item.indent (left_at rest.reader item.inside) source))
     → IsBuilt s now.placing.builder
     (with_frame outer inner (begun_block source (was.item_container item.indent))) nil
     → IsLooseAs now.looseness (with_frame outer inner (begun_block source (was.item_container item.indent))) nil
     → ReadsOn s now rest next blocks
-item_inside s now rest next source blocks item outer inner left begins boundary goes same lines blanks items are whole
-    built loose =
+item_inside s now rest next source blocks item outer inner left begins boundary goes same lines blanks at items are
+    whole built loose =
     container_inside s now rest next outer inner source blocks item.inside (was.item_container item.indent) left
-    begins.filled goes begins.is boundary (record {
+    begins.filled goes begins.is boundary (omega (arith, begins.past, at)) (record {
       source = same;
       built = built;
       lines = lines;
@@ -323,6 +327,7 @@ module _ (s : Source) (old now : Pass) (rest next : LineRest) (before : Before) 
       item_inside s now rest next source blocks item outer inner state.left begins_it boundary goes
       (source_kept s old now opens.text opens.options holds.source) opens.ended
       (none_kept old now item at n opens old.placing.builder.leaf refl holds.unheld)
+      ((opens.here fitted).1 ∙ found.begins)
       (subst (AreItemsInLists false) (sym state.whole) (line_keeps s (rebuilt frames inside) l around.items))
       in_line makes
       (subst (λ gs. IsBuilt s now.placing.builder gs nil) same (built_touched l s now.placing.builder fs nil built))
@@ -386,7 +391,7 @@ item_later s old now rest next frames source blocks item at state found boundary
       built.0,
       item_inside s now rest next source blocks item (with_frame frames nil list) nil state.left begins boundary goes
           (source_kept s old now opens.text opens.options opened.source) opens.ended (opens.unheld opened.blanks)
-          state.items
+          ((opens.here fitted).1 ∙ found.begins) state.items
           (in_line_more s rest source (was.list_container item.marker) frames nil state.left begins.filled
           (record { quotes = opened.quotes; items = opened.items; earlier = opened.earlier }))
           (state.whole ∙ (ap (λ blank. rebuilt frames (if blank then nil else begun_by s source)) begins.filled

@@ -66,6 +66,8 @@ pub mod BegunBlocksLemmas
 pub mod BegunContainersLemmas
 pub mod BegunItemsLemmas
 pub mod BegunRestsLemmas
+pub mod PassedMarkersLemmas
+pub mod ReadyContainersLemmas
 pub mod BegunLeavesLemmas
 pub mod BegunTextsLemmas
 pub mod FirstTurnsLemmas

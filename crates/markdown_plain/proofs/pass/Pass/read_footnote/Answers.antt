@@ -7,8 +7,9 @@ use Rattle.markdown_lines.specs.BlockBeginnings.{Source}
 use Rattle.markdown_lines.specs.BlockStarts.{left_at}
 use Rattle.markdown_lines.specs.declared.block_start.BlockStart.TheVariants as start
 use Rattle.markdown_block_rules.specs.BlockGrowth as was
+use Rattle.markdown_plain.specs.Fits.{MayStep}
 use Rattle.markdown_plain.proofs.BegunBlocksLemmas.{begun_block, keeps_leaf}
-use Rattle.markdown_plain.proofs.BegunContainersLemmas.{rest_in_room, room_inside}
+use Rattle.markdown_plain.proofs.BegunContainersLemmas.{past_in_room, rest_in_room, room_inside}
 use Rattle.markdown_plain.proofs.pass.Pass.read_footnote.Goals as goal
 
 pub returns-clause-reads_on : goal.returns-clause-reads_on
@@ -23,13 +24,26 @@ returns-clause-reads_on c = λ s turn source blocks state found boundary fitted.
     let first = c.in_ok-make_room_for.ensures.room s turn source c.args.at (start.Footnote c.args.label c.args.inside)
     begins blocks state found refl tt there in
     let room = first.1 in
+    let at = (c.in_ok-open_footnote.ensures.here fitted).1 ∙ found.begins in
     let opens = c.in_ok-open_footnote.ensures.frame s room.frames room.inside (begun_block source kind) room.built
     room.free (sym found.begins) refl fitted in
     let text = sym c.in_ok-make_room_for.ensures.text ∙ ap (λ (r : Source). r.text) room.may.source in (
       first.0,
       room_inside s made now rest c.go_inside.new.rest source begins blocks c.args.inside kind room
           c.go_inside.ensures.goes (rest_in_room s made rest source begins blocks room)
+          (past_in_room s made rest source begins blocks room) at
           (subst (λ t. IsCharBoundary t c.args.inside.at) text boundary)
           (keeps_leaf made now c.open_footnote.ensures.same c.in_ok-open_footnote.ensures.text) opens.1
           (record { filled = refl; free = refl; empty = refl }) refl,
     )
+
+pub returns-clause-fits : goal.returns-clause-fits
+returns-clause-fits c = λ s turn source blocks state found boundary fitted.
+    let rest = c.args.rest.now in
+    let begins = line.begins_footnote (text_of c.args.label) (left_at rest.reader c.args.inside) in
+    let note = start.Footnote c.args.label c.args.inside in
+    let made = c.in_ok-make_room_for.ensures in
+    let there = made.fits s turn source c.args.at note begins blocks state found refl tt fitted in
+    let room = (made.room s turn source c.args.at note begins blocks state found refl tt there).1 in
+    let may = subst (MayStep c.make_room_for.new.self.placing.builder) (sym found.begins) room.ready in
+    c.in_ok-open_footnote.ensures.fits may.ahead may.white room.built.outside there

@@ -3,6 +3,7 @@ use Rattle.std.proofs.Common.{ap, subst}
 use Rattle.std.specs.Str.{IsCharBoundary}
 use Rattle.markdown_plain.specs.declared.pass.Pass.{Pass}
 use Rattle.markdown_plain.proofs.BegunItemsLemmas.{item_reads_on, text_here}
+use Rattle.markdown_plain.proofs.ReadyContainersLemmas.{item_fits}
 use Rattle.markdown_plain.proofs.pass.Pass.read_item.Goals as goal
 
 pub returns-clause-reads_on : goal.returns-clause-reads_on
@@ -17,6 +18,7 @@ returns-clause-reads_on c = λ s turn source blocks state found boundary fitted.
     (record {
       text = opens.text;
       options = ap (λ (p : Pass). p.options) c.open_item.ensures.same;
+      here = opens.here;
       ended = opens.ended;
       dropped = opens.dropped;
       unheld = opens.unheld;
@@ -25,3 +27,9 @@ returns-clause-reads_on c = λ s turn source blocks state found boundary fitted.
       begins = opens.begins;
       inside = opens.inside;
     }) fitted
+
+pub returns-clause-fits : goal.returns-clause-fits
+returns-clause-fits c = λ s turn source blocks state found boundary.
+    let opens = c.in_ok-open_item.ensures in
+    item_fits s c.args.self.now c.open_item.new.self c.args.rest.now turn source blocks c.args.item c.args.at state found
+    (record { fits = opens.fits; inside = opens.fits_inside })
