@@ -34,9 +34,10 @@ use Rattle.markdown_plain.proofs.HeldTextLemmas.{begins_block, comes_after, ends
 use Rattle.markdown_plain.proofs.ItemsInListsLemmas.{line_keeps}
 use Rattle.markdown_plain.proofs.LastBlocksLemmas.{open_are_containers}
 use Rattle.markdown_plain.proofs.LooseFramesLemmas.{ends_more}
-use Rattle.markdown_plain.proofs.ReadyTextsLemmas.{BeginsReady, begun_ready, further_ready, none_left, opened_none}
-use Rattle.markdown_plain.proofs.ReadyTextsLemmas.{whole_left}
+use Rattle.markdown_plain.proofs.ReadyPlacesLemmas.{no_frames}
+use Rattle.markdown_plain.proofs.ReadyTextsLemmas.{BeginsReady, begun_ready, further_ready, none_left}
 use Rattle.markdown_plain.proofs.RoomLemmas.{begins_in_room}
+use Rattle.markdown_plain.proofs.RoomReadyLemmas.{nothing_taken}
 use Rattle.markdown_plain.proofs.TouchedFramesLemmas.{earlier_touched, holds_touched, quotes_touched}
 
 -- no blank lines are held back where no leaf is open
@@ -118,7 +119,7 @@ text_added s old new line start frames inside b sources source tables stands may
     (paragraph_line s frames inside b sources source tables containers holds.built.nested may.items kind at.filled goes)
     (further_ready old new line start rest source adds.same adds.lines holds.built.outside holds.some stands.ready is at
     (λ none. none_left s frames blocks source
-    (opened_none old.placing.builder.texts old.placing.builder.blocks frames holds.built.blocks none))
+    (no_frames old.placing.builder.texts old.placing.builder.blocks frames holds.built.blocks none))
     now.lines.inside)
 
 -- ---- a paragraph that begins
@@ -186,6 +187,6 @@ text_begun s old new line start frames inside source of same is are nested items
     (λ marker. text_no_item s r.rest marker own at.filled text)
     ∙ ap (λ made. rebuilt (map (touched source) outer) (followed_by now made)) (text_made s r.rest at.filled text))
     (begun_ready old new line start r.rest source ready is at
-    (λ closed. whole_left s frames inside source
-    (opened_none new.placing.builder.texts new.placing.builder.blocks outer begun.stands.built.blocks closed))
+    (λ closed. nothing_taken s frames inside source
+    (no_frames new.placing.builder.texts new.placing.builder.blocks outer begun.stands.built.blocks closed))
     begins_it.inside)

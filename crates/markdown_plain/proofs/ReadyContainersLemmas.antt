@@ -45,9 +45,10 @@ use Rattle.markdown_plain.proofs.FoundPlacesLemmas.{left_content}
 use Rattle.markdown_plain.proofs.LeafTreesLemmas.{on_test}
 use Rattle.markdown_plain.proofs.OpenedFramesLemmas.{as_many_containers, list_innermost}
 use Rattle.markdown_plain.proofs.ReachedLemmas.{reached_parts}
-use Rattle.markdown_plain.proofs.ReadyTextsLemmas.{first_ready, line_in_text, line_white, opened_containers, whole_left}
+use Rattle.markdown_plain.proofs.ReadyPlacesLemmas.{are_bodies}
+use Rattle.markdown_plain.proofs.ReadyTextsLemmas.{first_ready, line_in_text, line_white}
 use Rattle.markdown_plain.proofs.RoomForBlocksLemmas.{is_begun, last_open, line_some}
-use Rattle.markdown_plain.proofs.RoomReadyLemmas.{ready_later}
+use Rattle.markdown_plain.proofs.RoomReadyLemmas.{nothing_taken, ready_later}
 
 -- ---- room outside all blocks
 
@@ -129,7 +130,7 @@ first_fits s old new rest before l source blocks at state place opens =
     opens.fits ready.closable (omega (arith, low, after, here, place))
     (subst (λ t. IsCharBoundary t at) (sym text) content.boundary)
     (λ none.
-    let all = whole_left s before.frames (blocks_in before) l
+    let all = nothing_taken s before.frames (blocks_in before) l
     (room_outside around.texts (length r.outer) (without_leaf old.placing.builder) before.frames around.are
     (omega (arith, parts, sum))
     (subst (λ n. room_in n (without_leaf old.placing.builder) ≡ []) state.depth none)) in
@@ -202,7 +203,7 @@ end_ready s old now rest source at frames kind left filled place holds =
     let held = line_in_text s.text rest.line source at content left.from left.utf8 in
     first_ready now rest.line rest.line.stop (record {
       outside = holds.built.outside;
-      containers = opened_containers view.texts view.blocks frames holds.built.blocks;
+      containers = are_bodies view.texts view.blocks frames holds.built.blocks;
       lines = holds.lines;
       task = holds.task;
       inside = subst (λ t. AreInParagraph t (held_line rest.line rest.line.stop ∷ [])) (sym text)

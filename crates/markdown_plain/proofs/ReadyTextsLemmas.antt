@@ -1,74 +1,44 @@
 -- Lines of text that are held back: where they are, so that the calls which place them fit.
-use Rattle.std.proofs.Common.{◌≡◌, ℕ, zero, suc, ◌+◌, ◌-◌, ◌<◌, ◌≤◌, Bool, true, false, not, ◌&&◌, ◌==◌, List, [], ◌∷◌, ◌++◌}
-use Rattle.std.proofs.Common.{Option, Some, None, length, take, refl, sym, ap, ◌∙◌, subst, arith, true≢false}
-use Rattle.std.specs.Prelude.{◌||◌, if◌then◌else◌, slice_range, slice_index, get_or}
+use Rattle.std.proofs.Common.{◌≡◌, ℕ, ◌+◌, ◌-◌, ◌<◌, ◌≤◌, Bool, true, false, not, ◌&&◌, ◌==◌, List, [], ◌∷◌, ◌++◌}
+use Rattle.std.proofs.Common.{Option, Some, None, length, refl, sym, ap, ◌∙◌, subst, arith, true≢false}
+use Rattle.std.specs.Prelude.{◌||◌, if◌then◌else◌, slice_range, get_or}
 use Rattle.std.specs.List.{prefix_len}
 use Rattle.std.specs.Option.{option_map_or}
 use Rattle.std.specs.Str.{IsCharBoundary, IsUtf8}
 use Rattle.std.proofs.lemmas.Bool.Decides.{nat_tests}
-use Rattle.std.proofs.lemmas.Option.{same_Some}
 use Rattle.std.proofs.lemmas.List.Sums.{prefix_len-le-length, prefix_len_passes}
 use Rattle.markdown_base.specs.Forest.{Forest}
-use Rattle.markdown_base.specs.declared.item.ItemBody.{ItemBody}
 use Rattle.markdown_base.specs.declared.options.Options.{Options}
 use Rattle.markdown_base.specs.declared.options.TheConstants.Options.{ENABLE_TASKLISTS}
 use Rattle.markdown_builder.specs.BuilderView.{BuilderView, innermost_block}
 use Rattle.markdown_builder.specs.EvenRows.{is_in_row}
-use Rattle.markdown_builder.specs.declared.open_block.OpenBlock.{OpenBlock}
 use Rattle.markdown_scan.specs.LineStart.{LineLeft}
 use Rattle.markdown_lines.specs.BlockBeginnings.{Source}
 use Rattle.markdown_lines.specs.ExtendedOnly.{is_read}
-use Rattle.markdown_lines.specs.Lines.{AllPass, IsLineEnd, IsLineFrom, is_in_blank_line, is_line_ending, is_space_or_tab}
+use Rattle.markdown_lines.specs.Lines.{AllPass, IsLineFrom, is_in_blank_line, is_line_ending, is_space_or_tab}
 use Rattle.markdown_lines.specs.SourceLines.{SourceLine}
 use Rattle.markdown_lines.specs.TaskMarkers.{task_marker, task_read}
 use Rattle.markdown_lines.specs.declared.held_line.HeldLine.{HeldLine}
 use Rattle.markdown_lines.specs.declared.line.Line.{Line}
 use Rattle.markdown_lines.proofs.PositionsLemmas.{in_part}
-use Rattle.markdown_block_rules.specs.BlockGrowth as was
-use Rattle.markdown_block_rules.specs.BlockGrowth.{Block, Kind, is_nil}
+use Rattle.markdown_block_rules.specs.BlockGrowth.{Block}
 use Rattle.markdown_block_rules.proofs.BlockBeginningsLemmas.{either}
 use Rattle.markdown_plain.specs.declared.pass.Pass.{Pass}
 use Rattle.markdown_plain.specs.Closable.{AreAhead, AreApart, AreClosable, AreContainers, AreInText, HasTask, HaveTask}
-use Rattle.markdown_plain.specs.Closable.{IsClosable, IsInText, IsReady, IsReadyAfter, has_quote, leaf_end}
-use Rattle.markdown_plain.specs.Containers.{is_container}
+use Rattle.markdown_plain.specs.Closable.{IsInText, IsReady, IsReadyAfter, has_quote, leaf_end}
 use Rattle.markdown_plain.specs.Fitting.{defining}
-use Rattle.markdown_plain.specs.Frames.{Frame, Reached, innermost_is, inside_container, is_list, reached, reached_past}
-use Rattle.markdown_plain.specs.Frames.{rebuilt, room_depth}
+use Rattle.markdown_plain.specs.Frames.{Frame, reached}
 use Rattle.markdown_plain.specs.HeldSources.{AreInParagraph}
 use Rattle.markdown_plain.specs.OpenBlocks.{outer_of, without_leaf}
 use Rattle.markdown_plain.specs.Paragraphs.{has_paragraph, is_item_in, lines_end, task_at}
-use Rattle.markdown_plain.specs.Settled.{AreOpen, IsBodyOf}
 use Rattle.markdown_plain.specs.Standing.{IsSource}
 use Rattle.markdown_plain.specs.TextLines.{IsContentAt, held_line}
 use Rattle.markdown_plain.proofs.AddedLinesLemmas.{end_after, past, past_is_end}
 use Rattle.markdown_plain.proofs.ClosableLemmas.{innermost_no_row, white_both}
 use Rattle.markdown_plain.proofs.HeldTextLemmas.{starts_after, starts_before}
-use Rattle.markdown_plain.proofs.WholeTextsLemmas.{boundary_after}
+use Rattle.markdown_plain.proofs.ReadyPlacesLemmas.{next_between, stop_between}
 
 -- ---- open blocks
-
--- open containers are containers
-pub opened_containers : (texts : List (List ℕ)) (blocks : List OpenBlock) (frames : List Frame)
-    → AreOpen texts blocks frames → AreContainers blocks
-opened_containers texts [] frames are = tt
-opened_containers texts (block ∷ blocks) [] are = absurd are
-opened_containers texts (block ∷ blocks) (f ∷ frames) are =
-    (of_kind f.block.kind are.0.body, opened_containers texts blocks frames are.1)
-  where
-    of_kind : (kind : Kind) → IsBodyOf texts kind block.body → is_container block.body ≡ true
-    of_kind was.quote_container is = ap is_container is
-    of_kind (was.alert_container kind) is = ap is_container is
-    of_kind (was.list_container marker) is = ap is_container is
-    of_kind (was.item_container indent) is = ap is_container is
-    of_kind (was.footnote_container label) is = ap is_container is.1
-    of_kind other is = absurd is
-
--- where no block is open, no container is
-pub opened_none : (texts : List (List ℕ)) (blocks : List OpenBlock) (frames : List Frame) → AreOpen texts blocks frames
-    → blocks ≡ [] → frames ≡ []
-opened_none texts [] [] are none = refl
-opened_none texts [] (f ∷ frames) are none = absurd are
-opened_none texts (block ∷ blocks) frames are none = absurd (omega (arith, ap length none))
 
 -- no leaf is open, so that the open blocks are those without one
 pub outside_leaf : (view : BuilderView) → view.leaf ≡ false → without_leaf view ≡ view.blocks
@@ -116,14 +86,6 @@ held_ready pass to holds =
       blanks = λ leaf. absurd (true≢false (sym leaf ∙ holds.outside));
     }
 
--- no leaf is open, and no line held back, where a builder is
-pub record HoldsNothing (pass : Pass) (to : ℕ) : Type 0 where
-  pub outside : pass.placing.builder.leaf ≡ false
-  pub none : pass.lines.items ≡ []
-  pub containers : AreContainers pass.placing.builder.blocks
-  pub here : pass.placing.builder.at ≡ to
-  pub boundary : IsCharBoundary pass.placing.builder.text to
-
 -- without lines there are none ahead, and no task marker
 pub none_ahead : (builder : BuilderView) (lines : List HeldLine) → lines ≡ [] → AreAhead builder lines
 none_ahead builder lines none =
@@ -142,27 +104,6 @@ end_here pass none =
     never : (b : Bool) → (if b && false then 0 else pass.placing.builder.at) ≡ pass.placing.builder.at
     never true = refl
     never false = refl
-
-pub nothing_ready : (pass : Pass) (to : ℕ) → HoldsNothing pass to → IsReadyAfter pass to
-nothing_ready pass to holds =
-    let view = pass.placing.builder in
-    let end = end_here pass holds.none ∙ holds.here in
-    record {
-      closable = record {
-        some = λ leaf none. absurd (true≢false (sym leaf ∙ holds.outside));
-        other = innermost_no_row view.blocks holds.containers;
-        held = λ outside. none_ahead view pass.lines.items holds.none;
-        task = no_task view.text pass.task pass.lines.items holds.none;
-        containers = subst AreContainers (sym (outside_leaf view holds.outside)) holds.containers;
-        low = omega (arith, end);
-        boundary = holds.boundary;
-        white = λ none at low high. absurd (omega (arith, end, low, high));
-      };
-      low = omega arith;
-      boundary = holds.boundary;
-      white = λ at low high. absurd (omega (arith, low, high));
-      blanks = λ leaf. absurd (true≢false (sym leaf ∙ holds.outside));
-    }
 
 -- ---- a line more
 
@@ -230,16 +171,6 @@ first_task_held pass line start task is =
 
 -- ---- where the line is
 
--- the content of a line ends between characters
-stop_between : (text : List ℕ) (from stop : ℕ) → IsLineEnd text from stop → IsCharBoundary text stop
-stop_between text from stop ends = (
-  ends.high,
-  λ less high.
-      let ending = ends.stops less in
-      let ascii : slice_index text stop < 128 = grind (arith, nat_tests, ending) in
-      absurd (omega (arith, ascii, high)),
-)
-
 -- only white space is before the content of what is left of a line
 content_white : (text : List ℕ) (line : Line) (rest : SourceLine) (start : ℕ) → IsContentAt text line rest start
     → AllPass is_in_blank_line text rest.left.scanned start
@@ -268,86 +199,21 @@ module _ (text : List ℕ) (line : Line) (rest : SourceLine) (start : ℕ) (at :
         ending = omega (arith, ends);
         start = at.boundary;
         stop = stop_between text line.start line.stop from.content;
-        next = boundary_after text line.start line utf8 from;
+        next = next_between text line.start line utf8 from;
       }
 
   -- where nothing takes a part of the line, only white space is before its content
   pub line_white : rest.left.scanned ≡ line.start → AllPass is_in_blank_line text line.start start
   line_white whole = subst (λ n. AllPass is_in_blank_line text n start) whole (content_white text line rest start at)
 
--- ---- what a line takes outside all blocks
+-- ---- lines of text
 
--- where no container goes on in a line, nothing is taken of it
-nothing_taken : (s : Source) (frames : List Frame) (inside : Forest Block) (l : SourceLine)
-    → (reached s frames inside l).outer ≡ [] → (reached s frames inside l).rest ≡ l
-unfolding reached
-nothing_taken s [] inside l none = refl
-nothing_taken s (f ∷ frames) inside l none =
-    by_rest (inside_container s l (is_nil (rebuilt frames inside)) f.block.kind) none
-  where
-    by_rest : (rest : Option SourceLine) → (reached_past f frames l (reached s frames inside) rest).outer ≡ []
-        → (reached_past f frames l (reached s frames inside) rest).rest ≡ l
-    by_rest None none = refl
-    by_rest (Some m) none = absurd (omega (arith, ap length none))
-
--- nor where no container is open
+-- where no container is open, all of a line is left
 pub none_left : (s : Source) (frames : List Frame) (inside : Forest Block) (l : SourceLine) → frames ≡ []
     → (reached s frames inside l).rest ≡ l
 unfolding reached
 none_left s [] inside l none = refl
 none_left s (f ∷ frames) inside l none = absurd (omega (arith, ap length none))
-
--- room outside all containers is where none goes on, or a list alone
-only_list : (n : ℕ) (f : Frame) (frames : List Frame)
-    → take (room_depth (suc n) (f ∷ frames)) (f ∷ frames) ≡ [] → (n ≡ 0) × (is_list f.block.kind ≡ true)
-only_list n f frames = by_test (innermost_is is_list (take (suc n) (f ∷ frames))) refl
-  where
-    by_count : (n : ℕ) → innermost_is is_list (take (suc n) (f ∷ frames)) ≡ true
-        → take (suc n - 1) (f ∷ frames) ≡ [] → (n ≡ 0) × (is_list f.block.kind ≡ true)
-    by_count zero list none = (refl, list)
-    by_count (suc n) list none =
-        let less : suc (suc n) - 1 ≡ suc n = omega arith in
-        let some : take (suc n) (f ∷ frames) ≡ [] = subst (λ k. take k (f ∷ frames) ≡ []) less none in
-        absurd (omega (arith, ap length some))
-
-    by_test : (list : Bool) → innermost_is is_list (take (suc n) (f ∷ frames)) ≡ list
-        → take (if list then suc n - 1 else suc n) (f ∷ frames) ≡ [] → (n ≡ 0) × (is_list f.block.kind ≡ true)
-    by_test true list none = by_count n list none
-    by_test false list none = absurd (omega (arith, ap length none))
-
--- a list takes nothing
-list_takes_none : (s : Source) (l : SourceLine) (empty : Bool) (kind : Kind) → is_list kind ≡ true
-    → inside_container s l empty kind ≡ Some l
-list_takes_none s l empty (was.list_container marker) list = refl
-list_takes_none s l empty other list = absurd (true≢false (sym list))
-
--- so that all of the line is left where there is room outside all containers
-pub whole_left : (s : Source) (frames : List Frame) (inside : Forest Block) (l : SourceLine)
-    → take (room_depth (length (reached s frames inside l).outer) frames) frames ≡ []
-    → (reached s frames inside l).rest ≡ l
-unfolding reached
-whole_left s [] inside l none = refl
-whole_left s (f ∷ frames) inside l none =
-    by_rest (inside_container s l (is_nil (rebuilt frames inside)) f.block.kind) refl none
-  where
-    none_of : (outer : List Frame) → length outer ≡ 0 → outer ≡ []
-    none_of [] none = refl
-    none_of (g ∷ outer) none = absurd (omega (arith, none))
-
-    by_rest : (rest : Option SourceLine)
-        → inside_container s l (is_nil (rebuilt frames inside)) f.block.kind ≡ rest
-        → take (room_depth (length (reached_past f frames l (reached s frames inside) rest).outer) (f ∷ frames))
-        (f ∷ frames) ≡ []
-        → (reached_past f frames l (reached s frames inside) rest).rest ≡ l
-    by_rest None is none = refl
-    by_rest (Some m) is none =
-        let outer = (reached s frames inside m).outer in
-        let only = only_list (length outer) f frames none in
-        let same : m ≡ l =
-        same_Some m l (sym is ∙ list_takes_none s l (is_nil (rebuilt frames inside)) f.block.kind only.1) in
-        nothing_taken s frames inside m (none_of outer only.0) ∙ same
-
--- ---- lines of text
 
 -- a paragraph whose lines are held back has one line more
 pub further_ready : (old new : Pass) (line : Line) (start : ℕ) (rest source : SourceLine)
@@ -378,9 +244,9 @@ further_ready old new line start rest source same lines outside some ready is at
           let scanned = ap (λ (l : SourceLine). l.left.scanned) (alone none)
           ∙ sym (ap (λ (left : LineLeft). left.scanned) is.left) in
           white_both view.text (past view.at old.lines.items) old.placed start
-              (subst (λ n. AllPass is_in_blank_line view.text n old.placed) end (closable.white quotes))
-              (white_both view.text old.placed line.start start ready.white
-              (line_white view.text line rest start at is.from is.utf8 scanned));
+          (subst (λ n. AllPass is_in_blank_line view.text n old.placed) end (closable.white quotes))
+          (white_both view.text old.placed line.start start ready.white
+          (line_white view.text line rest start at is.from is.utf8 scanned));
     } in
     subst (λ (p : Pass). IsReadyAfter p line.next) (sym same) (held_ready (record old { lines = new.lines }) line.next
     (record {
@@ -392,7 +258,7 @@ further_ready old new line start rest source same lines outside some ready is at
       task = subst (HaveTask view.text old.task) (sym lines)
           (task_after view.text old.task old.lines.items (held ∷ []) some closable.task);
       ends = ap lines_end lines ∙ end_after old.lines.items held;
-      boundary = boundary_after view.text line.start line is.utf8 is.from;
+      boundary = next_between view.text line.start line is.utf8 is.from;
     }))
   where
     some_more : (ls : List HeldLine) → 0 < length (ls ++ held_line line start ∷ [])
@@ -456,9 +322,9 @@ begun_ready old new line start rest source begins is at alone inside =
             let scanned = ap (λ (l : SourceLine). l.left.scanned) (alone none)
             ∙ sym (ap (λ (left : LineLeft). left.scanned) is.left) in
             white_both view.text view.at old.placed start (begins.here.white (ap has_quote none))
-                (subst (λ t. AllPass is_in_blank_line t old.placed start) (sym begins.text)
-                (white_both text old.placed line.start start begins.before.white
-                (line_white text line rest start at is.from is.utf8 scanned)));
+            (subst (λ t. AllPass is_in_blank_line t old.placed start) (sym begins.text)
+            (white_both text old.placed line.start start begins.before.white
+            (line_white text line rest start at is.from is.utf8 scanned)));
       };
     })
 

@@ -30,7 +30,8 @@ use Rattle.markdown_plain.proofs.BegunTextsLemmas.{none_open, text_begins, text_
 use Rattle.markdown_plain.proofs.FoundBlocksLemmas.{found_begins}
 use Rattle.markdown_plain.proofs.FoundPlacesLemmas.{left_content, left_stands}
 use Rattle.markdown_plain.proofs.HeldTextLemmas.{starts_before}
-use Rattle.markdown_plain.proofs.ReadyTextsLemmas.{first_ready, line_in_text, opened_containers, opened_none}
+use Rattle.markdown_plain.proofs.ReadyPlacesLemmas.{are_bodies, no_frames}
+use Rattle.markdown_plain.proofs.ReadyTextsLemmas.{first_ready, line_in_text}
 use Rattle.markdown_plain.proofs.TextStepsLemmas.{AddsText, text_places}
 
 -- what is left of a line is text, whose first byte of content is at a byte offset
@@ -102,7 +103,7 @@ later_ready s old new rest at frames source blocks adds state left =
     subst (λ (p : Pass). IsReadyAfter p rest.line.next) (sym same)
     (first_ready now rest.line at (record {
       outside = opened.free.built.outside;
-      containers = opened_containers view.texts view.blocks frames opened.free.built.blocks;
+      containers = are_bodies view.texts view.blocks frames opened.free.built.blocks;
       lines = adds.lines ∙ ap (λ (has : Bool). (if has then old.lines.items else []) ++ held ∷ []) none;
       task = subst (λ (p : Pass). new.task ≡ task_at p rest.line at) same (adds.task none);
       inside = subst (λ bytes. AreInParagraph bytes (held ∷ [])) (sym text) begun.inside;
@@ -111,7 +112,7 @@ later_ready s old new rest at frames source blocks adds state left =
         is = subst (λ bytes. IsInText bytes held) (sym text)
             (line_in_text s.text rest.line source at content state.left.from state.left.utf8);
         white = λ closed.
-            let outside = opened_none view.texts view.blocks frames opened.free.built.blocks closed in
+            let outside = no_frames view.texts view.blocks frames opened.free.built.blocks closed in
             let over : 0 ≡ rest.line.next = subst (λ (fs : List Frame). placed_end 0 fs nil ≡ rest.line.next) outside
             first in
             absurd (omega (arith, over, started, ends));

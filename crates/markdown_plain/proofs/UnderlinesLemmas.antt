@@ -61,9 +61,9 @@ use Rattle.markdown_plain.proofs.ItemsInListsLemmas.{line_keeps}
 use Rattle.markdown_plain.proofs.LastBlocksLemmas.{leaf_is_over, open_are_containers}
 use Rattle.markdown_plain.proofs.LooseFramesLemmas.{ends_more}
 use Rattle.markdown_plain.proofs.ReachedLemmas.{all_go_on, reached_next}
-use Rattle.markdown_plain.proofs.ReadyTextsLemmas.{again_ready, nothing_ready, opened_containers}
+use Rattle.markdown_plain.proofs.ReadyPlacesLemmas.{next_between, ready_last}
+use Rattle.markdown_plain.proofs.ReadyTextsLemmas.{again_ready}
 use Rattle.markdown_plain.proofs.TouchedFramesLemmas.{earlier_touched, quotes_touched}
-use Rattle.markdown_plain.proofs.WholeTextsLemmas.{boundary_after}
 
 -- ---- the line begins an underline
 
@@ -290,15 +290,12 @@ module _ (s : Source) (old new : Pass) (rest : LineRest) (level : HeadingLevel) 
           earlier = earlier_touched l rest.line.start rest.line.next (next_after old rest.line l here.is) frames
               here.holds.earlier;
           alone = tt;
-          ready = nothing_ready new rest.line.next (record {
-            outside = placed.built.outside;
-            none = ends.emptied;
-            containers = opened_containers new.placing.builder.texts new.placing.builder.blocks frames
-                placed.built.blocks;
-            here = ap (λ (b : BuilderView). b.at) (ends.ends refl fitted).1;
-            boundary = subst (λ text. IsCharBoundary text rest.line.next) (sym ends.text)
-                (boundary_after old.placing.builder.text rest.line.start rest.line here.is.utf8 here.is.from);
-          });
+          ready = ready_last s new frames at_end None rest.line.next
+              (placed, ends.emptied, leaf_is_over s inside h refl) ends.emptied
+              (ap (λ (p : Pass). p.blanks.items) ends.same ∙ here.holds.unheld holds.built.outside)
+              (ap (λ (b : BuilderView). b.at) (ends.ends refl fitted).1)
+              (subst (λ text. IsCharBoundary text rest.line.next) (sym ends.text)
+              (next_between old.placing.builder.text rest.line.start rest.line here.is.utf8 here.is.from));
         };
         whole = whole;
       }
@@ -481,7 +478,7 @@ underline_fits s pass rest (first before l) source at blocks level here found =
       task = here.holds.ready.closable.task;
       ends = (
         omega (arith, low, next),
-        boundary_after pass.placing.builder.text rest.line.start rest.line here.is.utf8 here.is.from,
+        next_between pass.placing.builder.text rest.line.start rest.line here.is.utf8 here.is.from,
       );
     }
 underline_fits s pass rest (later frames) source at blocks level here found =

@@ -8,9 +8,10 @@ use Rattle.std.proofs.lemmas.Result.{IfOk-weaker}
 use Rattle.markdown_lines.specs.BlockBeginnings.{Source}
 use Rattle.markdown_lines.specs.SourceLines.{SourceLine, is_blank_rest}
 use Rattle.markdown_block_rules.specs.BlockGrowth.{with_line}
+use Rattle.markdown_block_rules.specs.TableLines.{reads_tables}
 use Rattle.markdown_plain.specs.declared.block_pass.LineRest.{LineRest}
 use Rattle.markdown_plain.specs.declared.pass.Pass.{Pass}
-use Rattle.markdown_plain.specs.Beginning.{first, reads_metadata}
+use Rattle.markdown_plain.specs.Beginning.{IsFirst, first, reads_metadata}
 use Rattle.markdown_plain.specs.Fitting.{AllFitted, IfFitted}
 use Rattle.markdown_plain.specs.OpenBlocks.{is_list}
 use Rattle.markdown_plain.specs.ReachedLines.{Before, IsReachedBy, blocks_before, reached_of}
@@ -41,6 +42,16 @@ returns-then-branch-clause-stands c = λ s before source tables same stands is f
     (none_inside (reached_of s before source).inner (sym by.reaches.all ∙ c.if-reached.true))
     (subst AllFitted c.see_content.ensures.placing fitted) in
     (placed.0, c.see_content.ensures.stands s _ placed.1)
+
+pub returns-then-branch-clause-fits : goal.returns-then-branch-clause-fits
+returns-then-branch-clause-fits c = λ s before source tables same stands is fitted.
+    let old = c.args.self.now in
+    let by = reached_by s old c.args.line c.reach-reached.result before source stands is
+    (c.reach-reached.ensures.frames s) in
+    subst AllFitted (sym c.see_content.ensures.placing)
+    (c.in_ok-goes_on.ensures.fits c.if-branch.true s before source by
+    (sym c.is_in_leaf.ensures ∙ c.if-is_in_leaf.true)
+    (none_inside (reached_of s before source).inner (sym by.reaches.all ∙ c.if-reached.true)) fitted)
 
 -- the open leaf left off
 left_blank : (c : goal.After-read_blank)
@@ -100,6 +111,20 @@ returns-then-reached-line-clause-stands c =
     (sym by.reaches.blank ∙ end) (off.off s before source by)))
     c.read_blank.ensures.stands
 
+pub returns-then-reached-line-clause-fits : goal.returns-then-reached-line-clause-fits
+returns-then-reached-line-clause-fits c =
+    IfOk-weaker c.read_blank.result _ _ (λ done told s before source tables same stands is fitted.
+    let off = left_blank c in
+    let found = c.reach-reached.result in
+    let by = reached_by s c.args.self.now c.args.line found before source stands is
+    (c.reach-reached.ensures.frames s) in
+    let low = c.if-reached-line.true in
+    let end : nat_le c.args.line.stop found.content ≡ true = grind (arith, nat_tests, low) in
+    told s before source (subst (λ (p : Pass). IsReachedBy s p c.args.line found before source) (sym off.same) by)
+    (sym by.reaches.blank ∙ end) (off.off s before source by)
+    (subst (λ (p : Pass). AllFitted p.placing) (sym off.same) fitted))
+    c.read_blank.ensures.fits
+
 pub returns-then-is_text_from-clause-stands : goal.returns-then-is_text_from-clause-stands
 returns-then-is_text_from-clause-stands c =
     IfOk-weaker c.read_text_line.result _ _ (λ done told s before source tables same stands is.
@@ -116,6 +141,22 @@ returns-then-is_text_from-clause-stands c =
     (text_reached s now c.args.line found before source (subst IsUtf8 c.text.ensures c.text.utf8) by shows
     (off.off s before source (subst (λ (p : Pass). IsReachedBy s p c.args.line found before source) off.same by)))))
     c.read_text_line.ensures.stands
+
+pub returns-then-is_text_from-clause-fits : goal.returns-then-is_text_from-clause-fits
+returns-then-is_text_from-clause-fits c =
+    IfOk-weaker c.read_text_line.result _ _ (λ done told s before source tables same stands is fitted.
+    let off = left_text c in
+    let now = c.else-reached.self in
+    let found = c.reach-reached.result in
+    let by = subst (λ (p : Pass). IsReachedBy s p c.args.line found before source) (sym off.same)
+    (reached_by s c.args.self.now c.args.line found before source stands is (c.reach-reached.ensures.frames s)) in
+    let shows = subst (λ (text : List ℕ). IsTextFrom text found.position c.args.line.stop) c.text.ensures
+    (c.is_text_from.ensures c.if-is_text_from.true) in
+    told s before source tables by.stands by.is
+    (text_reached s now c.args.line found before source (subst IsUtf8 c.text.ensures c.text.utf8) by shows
+    (off.off s before source (subst (λ (p : Pass). IsReachedBy s p c.args.line found before source) off.same by)))
+    (subst (λ (p : Pass). AllFitted p.placing) (sym off.same) fitted))
+    c.read_text_line.ensures.fits
 
 -- no table is open, so that the line is no row
 no_row : (c : goal.After-see_content-2) (s : Source) (before : Before)
@@ -189,8 +230,17 @@ first_read c s same none =
           })
     ]
 
-pub returns-clause-stands : goal.returns-clause-stands
-returns-clause-stands c = λ s before source tables same stands is fitted.
+-- the first turn of the line
+record BeginsTurn (c : goal.After-see_content-2) (s : Source) (before : Before) (source : SourceLine) : Type 0 where
+  read : IsFirstRead c s c.if-is_row.rest
+  turn : IsFirst s c.else-reached.self c.if-is_row.rest before source (reached_of s before source).rest
+      (with_line s (blocks_before before) source)
+
+begins_turn : (c : goal.After-see_content-2) (s : Source) (before : Before) (source : SourceLine)
+    → reads_tables s ≡ false → c.args.ahead.now.text.now ≡ s.text
+    → Stands s c.args.self.now before.frames before.inside before.last c.args.line.start
+    → IsSource c.args.self.now c.args.line source → BeginsTurn c s before source
+begins_turn c s before source tables same stands is =
     let off = left c in
     let now = c.else-reached.self in
     let rest = c.if-is_row.rest in
@@ -201,15 +251,31 @@ returns-clause-stands c = λ s before source tables same stands is fitted.
     let read = first_read c s same none in
     let low = c.if-reached-line.false in
     let end : nat_le c.args.line.stop found.content ≡ false = grind (arith, nat_tests, low) in
-    let turn = first_turn s now found before source rest (is_utf8 c none) tables
-    (subst (λ line. IsReachedBy s now line found before source) (sym read.line) by) read.made
-    (sym by.reaches.blank ∙ end)
-    (off.off s before source (subst (λ (p : Pass). IsReachedBy s p c.args.line found before source) off.same by)) in
+    record {
+      read = read;
+      turn = first_turn s now found before source rest (is_utf8 c none) tables
+          (subst (λ line. IsReachedBy s now line found before source) (sym read.line) by) read.made
+          (sym by.reaches.blank ∙ end)
+          (off.off s before source
+          (subst (λ (p : Pass). IsReachedBy s p c.args.line found before source) off.same by));
+    }
+
+pub returns-clause-stands : goal.returns-clause-stands
+returns-clause-stands c = λ s before source tables same stands is fitted.
+    let begun = begins_turn c s before source tables same stands is in
     let placed = c.in_ok-read_rest.ensures.places s (first before source) (reached_of s before source).rest
-    (with_line s (blocks_before before) source) turn read.row
+    (with_line s (blocks_before before) source) begun.turn begun.read.row
     (subst AllFitted c.see_content-2.ensures.placing fitted) in
     (
-      subst (λ (p : Pass). AllFitted p.placing) off.same placed.0,
+      subst (λ (p : Pass). AllFitted p.placing) (left c).same placed.0,
       c.see_content-2.ensures.stands s _ (subst (λ line. PlacesFor s c.read_rest.new.self line.next
-          (with_line s (blocks_before before) source)) read.line placed.1),
+          (with_line s (blocks_before before) source)) begun.read.line placed.1),
     )
+
+pub returns-clause-fits : goal.returns-clause-fits
+returns-clause-fits c = λ s before source tables same stands is fitted.
+    let begun = begins_turn c s before source tables same stands is in
+    subst AllFitted (sym c.see_content-2.ensures.placing)
+    (c.in_ok-read_rest.ensures.fits s (first before source) (reached_of s before source).rest
+    (with_line s (blocks_before before) source) begun.turn begun.read.row
+    (subst (λ (p : Pass). AllFitted p.placing) (sym (left c).same) fitted))
