@@ -13,6 +13,12 @@ use Rattle.markdown_plain.specs.TakenDefinitions.{TakesDefinitions}
 use Rattle.markdown_plain.proofs.DividedLemmas.{as_many, filled_of, first_read, no_bracket, no_bracket_byte}
 use Rattle.markdown_plain.proofs.DividedLemmas.{no_line, none_there, takes_empty, takes_first}
 use Rattle.markdown_plain.proofs.ParagraphsLemmas.{end_of_last}
+use Rattle.markdown_scan.specs.declared.entity.EntityNames.{EntityNames}
+use Rattle.markdown_lines.specs.declared.held_line.HeldLine.{HeldLine}
+use Rattle.markdown_lines.specs.HeldLines.{AreHeldFrom}
+use Rattle.markdown_plain.specs.HeldSources.{AreTextLines}
+use Rattle.markdown_lines.specs.DefinitionRules.{Defined, definition_in, text_of_lines}
+use Rattle.markdown_plain.proofs.DefinitionEndsLemmas.{EndsAt, IsDefinedIn, MayCut, definition_ends, ends_at}
 use Rattle.markdown_plain.proofs.paragraph.take_definition.Goals as goal
 
 pub returns-in_default-clause-over : goal.returns-in_default-clause-over
@@ -115,3 +121,12 @@ returns-clause-fits c = ?
 
 pub returns-clause-ahead : goal.returns-clause-ahead
 returns-clause-ahead c = ?
+
+test : (names : EntityNames) (bytes : List ℕ) (d : Defined) → definition_in names bytes ≡ Some d
+    → IsDefinedIn bytes d.length
+test names bytes d e = definition_ends names bytes d e
+
+test2 : (text : List ℕ) (from : ℕ) (lines : List HeldLine) (sources : List SourceLine) (n : ℕ)
+    → AreHeldFrom text from lines → MayCut text lines → AreTextLines text lines sources
+    → IsDefinedIn (text_of_lines text sources) n → EndsAt text lines sources n
+test2 = ends_at
