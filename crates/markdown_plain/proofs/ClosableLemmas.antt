@@ -29,13 +29,19 @@ use Rattle.markdown_plain.specs.OpenBlocks.{innermost_is, is_list, is_quote, out
 use Rattle.markdown_plain.specs.declared.placing.Placing.{Placing}
 use Rattle.markdown_base.specs.Forest.{Forest}
 use Rattle.markdown_builder.specs.Shown.{Shown}
+use Rattle.std.specs.Prelude.{not, nat_eq}
+use Rattle.std.specs.Option.{option_eq}
+use Rattle.markdown_lines.proofs.HeldLinesLemmas.{line_of}
+use Rattle.markdown_lines.specs.HeldLines.{AreHeldFrom}
+use Rattle.markdown_plain.proofs.DefinitionEndsLemmas.{IsSpanIn, MayCut}
+use Rattle.markdown_plain.specs.HeldSources.{AreInOrder, AreInParagraph}
 use Rattle.markdown_plain.specs.declared.pass.Pass.{Pass}
 use Rattle.markdown_lines.specs.Lines.{AllPass, is_in_blank_line, is_space_or_tab}
 use Rattle.markdown_lines.specs.TaskMarkers.{is_task_done, is_task_space, task_length, task_marker}
 use Rattle.markdown_lines.specs.declared.held_line.HeldLine.{HeldLine}
 use Rattle.markdown_plain.proofs.ParagraphLinesLemmas.{if_some, marker_within, range_byte, range_length}
 use Rattle.markdown_plain.specs.declared.paragraph.Ends.{Ends}
-use Rattle.markdown_plain.specs.Closable.{AreApart, AreClosable, AreContainers, AreInText, has_quote, HasBraces, HasRoomFor, HasTask, HaveTask, IsInList, IsPlaceable, IsInText, IsLastInText, IsLeafOpen, IsWhiteBefore}
+use Rattle.markdown_plain.specs.Closable.{AreAhead, AreApart, AreClosable, AreContainers, AreInText, has_quote, HasBraces, HasRoomFor, HasTask, HaveTask, IsInList, IsPlaceable, IsInText, IsLastInText, IsLeafOpen, IsWhiteBefore}
 use Rattle.markdown_lines.specs.declared.braces.Braces.{Braces}
 use Rattle.std.specs.Option.{option_map_or}
 use Rattle.markdown_plain.specs.Fitting.{AllFitted, GoesOn, OpensHeading, closed, IsAhead, IsWhiteOutside, stepped}
@@ -570,3 +576,154 @@ pub item_outside : (blocks : List OpenBlock) → innermost_is is_list blocks ≡
 item_outside blocks other =
     on_test (λ bs. bs ≡ [] → blocks ≡ []) (innermost_is is_list blocks) (outer_of blocks) blocks
     (λ list. absurd (true≢false (sym list ∙ other))) (λ same none. none)
+
+-- ---- taking definitions
+
+-- the bytes of a definition begin with a `[`
+pub bracket_there : (found : Option ℕ) → not (option_eq nat_eq found (Some 91)) ≡ false → found ≡ Some 91
+bracket_there None e = absurd (true≢false e)
+bracket_there (Some b) e = ap Some (by b e)
+  where
+    by : (b : ℕ) → not (nat_eq b 91) ≡ false → b ≡ 91
+    by b e = grind (arith, nat_tests)
+
+pub cuts_of : (text : List ℕ) (from : ℕ) (lines : List HeldLine) → AreInText text from lines → MayCut text lines
+cuts_of text from [] are = tt
+cuts_of text from (line ∷ lines) are = (are.1.0.next, cuts_of text line.next lines are.1.1)
+
+-- a line from a byte offset on
+record IsThere (text : List ℕ) (from : ℕ) (lines : List HeldLine) (n : ℕ) (line : HeldLine) : Type 0 where
+  low : from ≤ line.start
+  is : IsInText text line
+  rest : AreInText text line.next (drop (suc n) lines)
+
+line_there : (text : List ℕ) (from : ℕ) (lines : List HeldLine) (n : ℕ) (line : HeldLine) → AreInText text from lines
+    → slice_get lines n ≡ Some line → IsThere text from lines n line
+line_there text from [] n line are there = cc
+line_there text from (first ∷ lines) zero line are there =
+    subst (IsThere text from (first ∷ lines) 0) (same_Some first line there)
+    (record { low = are.0; is = are.1.0; rest = are.1.1 })
+line_there text from (first ∷ lines) (suc n) line are there =
+    let found = line_there text first.next lines n line are.1.1 there in
+    let low = are.0 in
+    let content = are.1.0.content in
+    let ending = are.1.0.ending in
+    let further = found.low in
+    record { low = omega (arith, low, content, ending, further); is = found.is; rest = found.rest }
+
+apart_there : (text : List ℕ) (from : ℕ) (lines : List HeldLine) (n : ℕ) (line : HeldLine) → AreApart text from lines
+    → slice_get lines n ≡ Some line → AreApart text line.next (drop (suc n) lines)
+apart_there text from [] n line are there = cc
+apart_there text from (first ∷ lines) zero line are there =
+    subst (λ (l : HeldLine). AreApart text l.next lines) (same_Some first line there) are.1.1
+apart_there text from (first ∷ lines) (suc n) line are there = apart_there text first.next lines n line are.1.1 there
+
+-- lines with something left of each may be a paragraph
+held_paragraph : (text : List ℕ) (from : ℕ) (lines : List HeldLine) → AreHeldFrom text from lines
+    → AreInParagraph text lines
+held_paragraph text from [] held = tt
+held_paragraph text from (line ∷ lines) held =
+    let some = held.1.0.some in
+    let other : (line.start == line.stop) ≡ false = grind (arith, nat_tests, some) in
+    subst (λ (empty : Bool). AreInOrder empty text line lines) (sym other) (omega arith, held.1)
+
+paragraph_after : (text : List ℕ) (lines : List HeldLine) (n : ℕ) (line : HeldLine) → AreInParagraph text lines
+    → slice_get lines n ≡ Some line → AreInParagraph text (drop (suc n) lines)
+paragraph_after text [] n line is there = cc
+paragraph_after text (first ∷ lines) n line is there = in_order (first.start == first.stop) n is there
+  where
+    in_order : (empty : Bool) (n : ℕ) → AreInOrder empty text first lines → slice_get (first ∷ lines) n ≡ Some line
+        → AreInParagraph text (drop (suc n) (first ∷ lines))
+    in_order true zero is there = held_paragraph text first.next lines is
+    in_order true (suc n) is there =
+        held_paragraph text line.next (drop (suc n) lines) (line_of text first.next lines n line is there).others
+    in_order false n is there =
+        held_paragraph text line.next (drop (suc n) (first ∷ lines))
+        (line_of text 0 (first ∷ lines) n line is there).others
+
+-- the lines after those that were taken are ahead of where the last of these ends
+pub ahead_after : (old new : BuilderView) (lines : List HeldLine) (n : ℕ) (line : HeldLine) → AreAhead old lines
+    → slice_get lines n ≡ Some line → new.text ≡ old.text → new.blocks ≡ old.blocks → new.at ≡ line.next
+    → AreAhead new (drop (suc n) lines)
+ahead_after old new lines n line is there text blocks at =
+    record {
+      inside = subst (λ t. AreInParagraph t (drop (suc n) lines)) (sym text)
+          (paragraph_after old.text lines n line is.inside there);
+      order = subst (λ t. AreInText t new.at (drop (suc n) lines)) (sym text)
+          (subst (λ k. AreInText old.text k (drop (suc n) lines)) (sym at)
+          (line_there old.text old.at lines n line is.order there).rest);
+      apart = λ none. subst (λ t. AreApart t new.at (drop (suc n) lines)) (sym text)
+          (subst (λ k. AreApart old.text k (drop (suc n) lines)) (sym at)
+          (apart_there old.text old.at lines n line (is.apart (sym blocks ∙ none)) there));
+    }
+
+-- the calls that take an empty line
+pub record MayPass (builder : BuilderView) (line : HeldLine) : Type 0 where
+  pub ahead : IsAhead builder line.next
+  pub white : IsWhiteOutside builder line.next
+
+pub may_pass : (builder : BuilderView) (lines : List HeldLine) (line : HeldLine) → AreAhead builder lines
+    → slice_get lines 0 ≡ Some line → line.start ≡ line.stop → MayPass builder line
+may_pass builder [] line is there empty = cc
+may_pass builder (first ∷ lines) line is there empty =
+    subst (MayPass builder) (same_Some first line there) (record {
+      ahead = (
+        (let low = is.order.0 in
+            let content = is.order.1.0.content in
+            let ending = is.order.1.0.ending in
+            omega (arith, low, content, ending)),
+        is.order.1.0.next,
+      );
+      white = λ none.
+          let apart = is.apart none in
+          let same : first.start ≡ first.stop =
+          subst (λ (l : HeldLine). l.start ≡ l.stop) (sym (same_Some first line there)) empty in
+          white_both builder.text builder.at first.start first.next apart.0
+          (subst (λ k. AllPass is_in_blank_line builder.text k first.next) (sym same) apart.1.0);
+    })
+
+-- the calls that take a definition
+pub record MayDefine (builder : BuilderView) (first line : HeldLine) (end : ℕ) : Type 0 where
+  pub ahead : IsAhead builder first.start
+  pub white : IsWhiteOutside builder first.start
+  pub low : first.start ≤ end
+  pub boundary : IsCharBoundary builder.text end
+  pub high : end ≤ line.next
+  pub next : IsCharBoundary builder.text line.next
+  pub left : AllPass is_in_blank_line builder.text end line.next
+
+pub may_define : (builder : BuilderView) (lines : List HeldLine) (first : HeldLine) (end count : ℕ)
+    → AreAhead builder lines → slice_get lines 0 ≡ Some first → (span : IsSpanIn builder.text lines end count)
+    → MayDefine builder first span.line end
+may_define builder [] first end count is there span = cc
+may_define builder (head ∷ lines) first end count is there span =
+    subst (λ (l : HeldLine). MayDefine builder l span.line end) (same_Some head first there) (
+    let line = line_there builder.text head.start (head ∷ lines) span.number span.line (omega arith, is.order.1) span.there in
+    let low = line.low in
+    let from = span.ends.low in
+    record {
+      ahead = (is.order.0, is.order.1.0.start);
+      white = λ none. (is.apart none).0;
+      low = omega (arith, low, from);
+      boundary = span.ends.boundary;
+      high = span.ends.high;
+      next = line.is.next;
+      left = span.ends.white;
+    })
+
+pub last_next : (lines : List HeldLine) (n count : ℕ) (line other : HeldLine) → count ≡ suc n
+    → slice_get lines n ≡ Some line → (get_or lines (count - 1) other).next ≡ line.next
+last_next lines n count line other is there =
+    ap (λ k. (get_or lines k other).next) (omega (arith, is)) ∙ found lines n there
+  where
+    found : (lines : List HeldLine) (n : ℕ) → slice_get lines n ≡ Some line → (get_or lines n other).next ≡ line.next
+    found [] n there = cc
+    found (first ∷ lines) zero there = ap (λ (l : HeldLine). l.next) (same_Some first line there)
+    found (first ∷ lines) (suc n) there = found lines n there
+
+-- only white space is ahead of where a builder is now
+pub white_ahead : (text : List ℕ) (at to : ℕ) (builder : BuilderView) → builder.text ≡ text → builder.at ≡ at
+    → AllPass is_in_blank_line text at to → IsWhiteOutside builder to
+white_ahead text at to builder same here white = λ none.
+    subst (λ t. AllPass is_in_blank_line t builder.at to) (sym same)
+    (subst (λ k. AllPass is_in_blank_line text k to) (sym here) white)

@@ -9,7 +9,7 @@ use Rattle.std.specs.List.{prefix_len}
 use Rattle.std.proofs.lemmas.Bool.{cases_lt, true≢false}
 use Rattle.std.proofs.lemmas.Bool.Decides.{nat_tests}
 use Rattle.std.proofs.lemmas.List.{drop-append-le, drop-drop, get_or-drop, get_or_append_left, length-drop}
-use Rattle.std.proofs.lemmas.Option.{same_Some}
+use Rattle.std.proofs.lemmas.Option.{same_Some, slice_get_within}
 use Rattle.std.proofs.lemmas.Str.{IsCharBoundary-before_ascii}
 use Rattle.std.proofs.Math.Seq.{drop-append-add}
 use Rattle.markdown_scan.specs.Backslash.{is_bare}
@@ -28,6 +28,9 @@ use Rattle.markdown_lines.specs.HeldLines.{AreHeldFrom, IsHeldLine}
 use Rattle.markdown_lines.specs.Lines.{AllPass, is_in_blank_line, is_line_ending, is_space_or_tab}
 use Rattle.markdown_lines.specs.SourceLines.{SourceLine}
 use Rattle.markdown_lines.specs.declared.held_line.HeldLine.{HeldLine}
+use Rattle.markdown_lines.specs.HeldDefinitions.{IsDefinitionOf}
+use Rattle.markdown_lines.specs.declared.definition.Definition.{Definition}
+use Rattle.markdown_plain.proofs.DividedLemmas.{AreFilled, as_many}
 use Rattle.markdown_plain.proofs.LeafTreesLemmas.{on_test}
 use Rattle.markdown_plain.proofs.ParagraphLinesLemmas.{range_byte, range_length}
 use Rattle.markdown_plain.specs.HeldSources.{AreTextLines, IsTextLine}
@@ -408,3 +411,48 @@ ends_at text from (line ∷ lines) (source ∷ sources) n held cuts are is =
               ∙ ap (λ t. (if t then source.left.scanned + (n - 1) else place_of sources (n - 1 - size)) + 1) (sym inside))
               found.ends;
         }
+
+-- ---- the definition that was read
+
+-- the lines of the definition of blocks that held lines are
+abbrev pub sources_of : List ℕ → List HeldLine → List SourceLine
+sources_of text [] = []
+sources_of text (line ∷ lines) = record {
+  left = record { scanned = line.start; owed = 0; column = 0; bytes = slice_range text line.start line.stop };
+  next = line.next;
+  outermost = true;
+  indent = None;
+} ∷ sources_of text lines
+
+pub are_sources : (text : List ℕ) (lines : List HeldLine) → AreTextLines text lines (sources_of text lines)
+are_sources text [] = tt
+are_sources text (line ∷ lines) = (record { start = refl; bytes = refl; next = refl }, are_sources text lines)
+
+-- a definition ends in the last of so many lines
+pub record IsSpanIn (text : List ℕ) (lines : List HeldLine) (end count : ℕ) : Type 0 where
+  pub number : ℕ
+  pub line : HeldLine
+  pub there : slice_get lines number ≡ Some line
+  pub count_is : count ≡ suc number
+  pub ends : IsEndIn text line end
+
+pub definition_span : (names : EntityNames) (text : List ℕ) (lines : List HeldLine) (sources : List SourceLine) (at : ℕ)
+    (found : Definition) → AreFilled text lines sources → MayCut text lines
+    → IsDefinitionOf names text sources at found → IsSpanIn text lines found.end found.lines
+definition_span names text lines sources at found filled cuts is =
+    let defined = definition_ends names (text_of_lines text sources) is.defined is.is in
+    let ends = ends_at text 0 lines sources is.defined.length filled.held cuts filled.are defined in
+    let less = slice_get_within lines ends.number ends.line ends.there in
+    let size = as_many text lines sources filled.are in
+    let behind = ap length (sym is.behind ∙ ends.behind) in
+    let first = length-drop found.lines sources in
+    let second = length-drop (suc ends.number) sources in
+    let some = is.lines.0 in
+    let few = is.lines.1 in
+    record {
+      number = ends.number;
+      line = ends.line;
+      there = ends.there;
+      count_is = omega (arith, less, size, behind, first, second, some, few);
+      ends = subst (IsEndIn text ends.line) (sym is.end) ends.ends;
+    }
