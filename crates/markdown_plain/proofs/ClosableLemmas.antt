@@ -41,7 +41,7 @@ use Rattle.markdown_lines.specs.TaskMarkers.{is_task_done, is_task_space, task_l
 use Rattle.markdown_lines.specs.declared.held_line.HeldLine.{HeldLine}
 use Rattle.markdown_plain.proofs.ParagraphLinesLemmas.{if_some, marker_within, range_byte, range_length}
 use Rattle.markdown_plain.specs.declared.paragraph.Ends.{Ends}
-use Rattle.markdown_plain.specs.Closable.{AreAhead, AreApart, AreClosable, AreContainers, AreInText, has_quote, HasBraces, HasRoomFor, HasTask, HaveTask, IsInList, IsPlaceable, IsInText, IsLastInText, IsLeafOpen, IsWhiteBefore}
+use Rattle.markdown_plain.specs.Closable.{AreAhead, AreApart, AreClosable, AreContainers, AreInText, has_quote, HasBraces, HasRoomFor, HasTask, HaveTask, IsInList, IsPlaceable, IsReady, IsInText, IsLastInText, IsLeafOpen, IsWhiteBefore}
 use Rattle.markdown_lines.specs.declared.braces.Braces.{Braces}
 use Rattle.std.specs.Option.{option_map_or}
 use Rattle.markdown_plain.specs.Fitting.{AllFitted, GoesOn, OpensHeading, closed, IsAhead, IsWhiteOutside, stepped}
@@ -727,3 +727,21 @@ pub white_ahead : (text : List ℕ) (at to : ℕ) (builder : BuilderView) → bu
 white_ahead text at to builder same here white = λ none.
     subst (λ t. AllPass is_in_blank_line t builder.at to) (sym same)
     (subst (λ k. AllPass is_in_blank_line text k to) (sym here) white)
+
+-- ---- the place where the next block begins
+
+-- once blocks were closed, what begins in the next line is ahead
+pub next_ahead : (old : Pass) (new : BuilderView) (from to : ℕ) → IsReady old from → new.text ≡ old.placing.builder.text
+    → AreClosable new old.placed → from ≤ to → IsCharBoundary old.placing.builder.text to → IsAhead new to
+next_ahead old new from to ready text is low boundary =
+    let here = ready.low in
+    item_ahead old.placing.builder new old.placed to text is (omega (arith, here, low)) boundary
+
+-- and where no block is open then, only white space is before it, if there is only white space in its line
+pub next_white : (old : Pass) (new : BuilderView) (from to : ℕ) → IsReady old from → new.text ≡ old.placing.builder.text
+    → AreClosable new old.placed
+    → (new.blocks ≡ [] → AllPass is_in_blank_line old.placing.builder.text from to) → IsWhiteOutside new to
+next_white old new from to ready text is white = λ none.
+    white_both new.text new.at old.placed to (is.white (ap has_quote none))
+    (subst (λ t. AllPass is_in_blank_line t old.placed to) (sym text)
+    (white_both old.placing.builder.text old.placed from to ready.white (white none)))
