@@ -19,7 +19,7 @@ use Rattle.std.specs.Prelude.{MatchOption}
 use Rattle.markdown_base.specs.declared.item.ItemBody.{ItemBody}
 use Rattle.markdown_base.specs.declared.tag.HeadingLevel.{HeadingLevel}
 use Rattle.markdown_builder.specs.Bodies.{is_leaf}
-use Rattle.markdown_builder.specs.BuilderView.{BuilderView, Opens, innermost_block}
+use Rattle.markdown_builder.specs.BuilderView.{BuilderView, Definition, Opens, innermost_block}
 use Rattle.markdown_builder.specs.EvenRows.{is_in_row, is_table_row}
 use Rattle.markdown_builder.specs.declared.open_block.OpenBlock.{OpenBlock}
 use Rattle.markdown_lines.specs.declared.line.Line.{Line}
@@ -35,16 +35,17 @@ use Rattle.markdown_lines.proofs.HeldLinesLemmas.{line_of}
 use Rattle.markdown_lines.specs.HeldLines.{AreHeldFrom}
 use Rattle.markdown_plain.proofs.DefinitionEndsLemmas.{IsSpanIn, MayCut}
 use Rattle.markdown_plain.specs.HeldSources.{AreInOrder, AreInParagraph}
+use Rattle.markdown_plain.specs.Paragraphs.{has_paragraph, lines_end}
 use Rattle.markdown_plain.specs.declared.pass.Pass.{Pass}
 use Rattle.markdown_lines.specs.Lines.{AllPass, is_in_blank_line, is_space_or_tab}
 use Rattle.markdown_lines.specs.TaskMarkers.{is_task_done, is_task_space, task_length, task_marker}
 use Rattle.markdown_lines.specs.declared.held_line.HeldLine.{HeldLine}
 use Rattle.markdown_plain.proofs.ParagraphLinesLemmas.{if_some, marker_within, range_byte, range_length}
 use Rattle.markdown_plain.specs.declared.paragraph.Ends.{Ends}
-use Rattle.markdown_plain.specs.Closable.{AreAhead, AreApart, AreClosable, AreContainers, AreInText, has_quote, HasBraces, HasRoomFor, HasTask, HaveTask, IsInList, IsPlaceable, IsReady, IsInText, IsLastInText, IsLeafOpen, IsWhiteBefore}
+use Rattle.markdown_plain.specs.Closable.{AreAhead, AreApart, AreClosable, AreContainers, AreInText, has_quote, leaf_end, HasBraces, HasRoomFor, HasTask, HaveTask, IsClosable, IsInList, IsPlaceable, IsReady, IsInText, IsLastInText, IsLeafOpen, IsWhiteBefore}
 use Rattle.markdown_lines.specs.declared.braces.Braces.{Braces}
 use Rattle.std.specs.Option.{option_map_or}
-use Rattle.markdown_plain.specs.Fitting.{AllFitted, GoesOn, OpensHeading, closed, IsAhead, IsWhiteOutside, stepped}
+use Rattle.markdown_plain.specs.Fitting.{AllFitted, GoesOn, OpensHeading, closed, defining, IsAhead, IsWhiteOutside, stepped}
 
 -- where a leaf is open, no call is outside blocks
 pub inside_leaf : (builder : BuilderView) (to : ℕ) → IsLeafOpen builder → IsWhiteOutside builder to
@@ -745,3 +746,48 @@ next_white old new from to ready text is white = λ none.
     white_both new.text new.at old.placed to (is.white (ap has_quote none))
     (subst (λ t. AllPass is_in_blank_line t old.placed to) (sym text)
     (white_both old.placing.builder.text old.placed from to ready.white (white none)))
+
+-- ---- a paragraph of definitions alone
+
+no_paragraph : (pass : Pass) → pass.lines.items ≡ [] → has_paragraph pass ≡ false
+no_paragraph pass none =
+    ap (λ (lines : List HeldLine). not pass.placing.builder.leaf && not (length lines == 0)) none
+    ∙ never (not pass.placing.builder.leaf)
+  where
+    never : (b : Bool) → (b && false) ≡ false
+    never true = refl
+    never false = refl
+
+pub ended_definitions : (old new : Pass) (definitions : List Definition) → IsClosable old → has_paragraph old ≡ true
+    → new.lines.items ≡ [] → new.placed ≡ old.placed
+    → new.placing.builder ≡ defining old.placing.builder definitions (lines_end old.lines.items) → IsClosable new
+ended_definitions old new definitions is has none placed e =
+    let was = old.placing.builder in
+    let now = new.placing.builder in
+    let text : now.text ≡ was.text = ap (λ (b : BuilderView). b.text) e in
+    let leaf : now.leaf ≡ was.leaf = ap (λ (b : BuilderView). b.leaf) e in
+    let blocks : now.blocks ≡ was.blocks = ap (λ (b : BuilderView). b.blocks) e in
+    let inner : without_leaf now ≡ without_leaf was = ap without_leaf e in
+    let end : leaf_end new ≡ leaf_end old =
+    ap (λ (t : Bool). if t then lines_end new.lines.items else now.at) (no_paragraph new none)
+    ∙ (ap (λ (b : BuilderView). b.at) e
+    ∙ sym (ap (λ (t : Bool). if t then lines_end old.lines.items else was.at) has)) in
+    record {
+      some = λ inside empty. is.some (sym leaf ∙ inside) (sym blocks ∙ empty);
+      other = ap is_in_row blocks ∙ is.other;
+      held = λ outside. subst (AreAhead now) (sym none) (record { inside = tt; order = tt; apart = λ empty. tt });
+      task = subst (HaveTask now.text new.task) (sym none) tt;
+      containers = subst AreContainers (sym inner) is.containers;
+      low = subst (λ n. n ≤ new.placed) (sym end) (subst (λ n. leaf_end old ≤ n) (sym placed) is.low);
+      boundary = subst (λ t. IsCharBoundary t new.placed) (sym text)
+          (subst (IsCharBoundary was.text) (sym placed) is.boundary);
+      white = λ quotes. subst (λ t. AllPass is_in_blank_line t (leaf_end new) new.placed) (sym text)
+          (subst (λ n. AllPass is_in_blank_line was.text n new.placed) (sym end)
+          (subst (AllPass is_in_blank_line was.text (leaf_end old)) (sym placed)
+          (is.white (ap has_quote (sym inner) ∙ quotes))));
+    }
+
+pub some_held : (pass : Pass) → has_paragraph pass ≡ true → 0 < length pass.lines.items
+some_held pass has =
+    let some = (and_parts (not pass.placing.builder.leaf) (not (length pass.lines.items == 0)) has).1 in
+    grind (arith, nat_tests, some)
