@@ -11,7 +11,7 @@ use Rattle.markdown_lines.specs.LineBreaks.{IsLineBreak}
 use Rattle.markdown_lines.specs.declared.line_break.LineBreak.{LineBreak}
 use Rattle.markdown_plain.proofs.LeafTreesLemmas.{on_test}
 use Rattle.std.proofs.lemmas.Bool.Decides.{nat_tests}
-use Rattle.std.proofs.lemmas.List.{get_or-drop, get_or-reverse, get_or-take}
+use Rattle.std.proofs.lemmas.List.{get_or-drop, get_or-reverse}
 use Rattle.std.proofs.lemmas.List.Sums.{prefix_len_passes}
 use Rattle.std.proofs.lemmas.Option.{same_Some}
 use Rattle.std.proofs.lemmas.Str.{IsCharBoundary-after_ascii, IsCharBoundary-before_ascii}
@@ -45,7 +45,7 @@ use Rattle.markdown_plain.specs.declared.paragraph.Ends.{Ends}
 use Rattle.markdown_plain.specs.Closable.{AreAhead, AreApart, AreClosable, AreContainers, AreInText, has_quote, leaf_end, HasBraces, HasRoomFor, HasTask, HaveTask, IsClosable, IsInList, IsPlaceable, IsReady, IsInText, IsLastInText, IsLeafOpen, IsWhiteBefore}
 use Rattle.markdown_lines.specs.declared.braces.Braces.{Braces}
 use Rattle.std.specs.Option.{option_map_or}
-use Rattle.markdown_plain.specs.Fitting.{AllFitted, GoesOn, OpensHeading, closed, defining, IsAhead, IsWhiteOutside, stepped}
+use Rattle.markdown_plain.specs.Fitting.{AllFitted, GoesOn, OpensHeading, closed, defining, IsAhead, IsWhiteOutside}
 
 -- where a leaf is open, no call is outside blocks
 pub inside_leaf : (builder : BuilderView) (to : ℕ) → IsLeafOpen builder → IsWhiteOutside builder to
@@ -189,6 +189,7 @@ break_in text from stop between boundary ordered is =
         let none : stop - from ≡ 0 = omega (arith, most) in
         absurd (true≢false (sym odd ∙ ap (λ n. n % 2 == 1) none)))
         (cases_lt from stop)
+
     small_slash : (byte : ℕ) → (byte == backslash) ≡ true → byte < 128
     small_slash byte e = grind (arith, nat_tests, e)
 

@@ -4,11 +4,11 @@ use Rattle.std.proofs.Common.{None, length, drop, take, slice_range, length-appe
 use Rattle.std.specs.Prelude.{get_or, slice_get, slice_index, ◌==◌, ◌&&◌, ◌||◌, option_and_then, if◌then◌else◌, codes}
 use Rattle.std.specs.Prelude.{nat_le, nat_lt}
 use Rattle.std.specs.Option.{option_map, option_or}
-use Rattle.std.specs.Str.{IsCharBoundary, IsUtf8}
+use Rattle.std.specs.Str.{IsCharBoundary}
 use Rattle.std.specs.List.{prefix_len}
 use Rattle.std.proofs.lemmas.Bool.{cases_lt, true≢false}
 use Rattle.std.proofs.lemmas.Bool.Decides.{nat_tests}
-use Rattle.std.proofs.lemmas.List.{drop-append-le, drop-drop, get_or-drop, get_or_append_left, length-drop}
+use Rattle.std.proofs.lemmas.List.{drop-drop, get_or-drop, get_or_append_left, length-drop}
 use Rattle.std.proofs.lemmas.Option.{same_Some, slice_get_within}
 use Rattle.std.proofs.lemmas.Str.{IsCharBoundary-before_ascii}
 use Rattle.std.proofs.Math.Seq.{drop-append-add}
@@ -33,7 +33,7 @@ use Rattle.markdown_lines.specs.declared.definition.Definition.{Definition}
 use Rattle.markdown_plain.proofs.DividedLemmas.{AreFilled, as_many}
 use Rattle.markdown_plain.proofs.LeafTreesLemmas.{on_test}
 use Rattle.markdown_plain.proofs.ParagraphLinesLemmas.{range_byte, range_length}
-use Rattle.markdown_plain.specs.HeldSources.{AreTextLines, IsTextLine}
+use Rattle.markdown_plain.specs.HeldSources.{AreTextLines}
 
 -- ---- values that are there
 
@@ -357,18 +357,24 @@ ends_at text from (line ∷ lines) (source ∷ sources) n held cuts are is =
   where
     size : ℕ
     size = source.next - source.left.scanned
+
     rest : List ℕ
     rest = text_of_lines text sources
+
     first : List ℕ
     first = slice_range text source.left.scanned source.next
+
     start : line.start ≡ source.left.scanned
     start = are.0.start
+
     next : line.next ≡ source.next
     next = are.0.next
+
     first_size : length first ≡ size
     first_size =
         let bounds = bounds_of text line held.1.0 in
         range_length text source.left.scanned source.next (omega (arith, bounds.within, next))
+
     here : n ≤ size → EndsAt text (line ∷ lines) (source ∷ sources) n
     here most =
         let some = is.some in
@@ -387,6 +393,7 @@ ends_at text from (line ∷ lines) (source ∷ sources) n held cuts are is =
               (subst (λ k. ends_its_line (drop n (slice_range text source.left.scanned k ++ rest)) ≡ true) (sym next)
               is.over)));
         }
+
     further : (IsDefinedIn rest (n - size) → EndsAt text lines sources (n - size)) → size < n
         → EndsAt text (line ∷ lines) (source ∷ sources) n
     further again less =

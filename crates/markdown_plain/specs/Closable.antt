@@ -1,6 +1,6 @@
 -- What the calls that end a paragraph and close blocks need to fit: where the lines held back are, what is around them,
 -- and which blocks are open.
-use Rattle.std.specs.Prelude.{◌≡◌, ℕ, ◌≤◌, ◌<◌, ◌-◌, ◌==◌, ◌&&◌, ◌||◌, Bool, true, false, not, List, [], ◌∷◌, Option}
+use Rattle.std.specs.Prelude.{◌≡◌, ℕ, ◌≤◌, ◌<◌, ◌-◌, ◌==◌, ◌||◌, Bool, true, false, List, [], ◌∷◌, Option}
 use Rattle.std.specs.Prelude.{Some, None, IfSome, drop, length, slice_get, slice_range, if◌then◌else◌}
 use Rattle.std.specs.Str.{IsCharBoundary}
 use Rattle.markdown_base.specs.declared.tag.HeadingLevel.{HeadingLevel}

@@ -30,7 +30,6 @@ use Rattle.markdown_plain.proofs.pass.Pass.end_paragraph.Goals.{then-left+in_ok-
 use Rattle.std.proofs.lemmas.Bool.{true≢false}
 use Rattle.markdown_plain.proofs.ClosableLemmas.{ended_definitions, some_held}
 use Rattle.markdown_plain.specs.Fitting.{defining}
-use Rattle.markdown_plain.specs.Paragraphs.{lines_end}
 use Rattle.markdown_plain.proofs.pass.Pass.end_paragraph.Goals as goal
 
 pub returns-clause-tree : goal.returns-clause-tree
