@@ -11,7 +11,7 @@ use Rattle.markdown_lines.specs.LineBreaks.{IsLineBreak}
 use Rattle.markdown_lines.specs.declared.line_break.LineBreak.{LineBreak}
 use Rattle.markdown_plain.proofs.LeafTreesLemmas.{on_test}
 use Rattle.std.proofs.lemmas.Bool.Decides.{nat_tests}
-use Rattle.std.proofs.lemmas.List.{get_or-drop, get_or-reverse, get_or-take}
+use Rattle.std.proofs.lemmas.List.{get_or-drop, get_or-reverse}
 use Rattle.std.proofs.lemmas.List.Sums.{prefix_len_passes}
 use Rattle.std.proofs.lemmas.Option.{same_Some}
 use Rattle.std.proofs.lemmas.Str.{IsCharBoundary-after_ascii, IsCharBoundary-before_ascii}
@@ -19,7 +19,7 @@ use Rattle.std.specs.Prelude.{MatchOption}
 use Rattle.markdown_base.specs.declared.item.ItemBody.{ItemBody}
 use Rattle.markdown_base.specs.declared.tag.HeadingLevel.{HeadingLevel}
 use Rattle.markdown_builder.specs.Bodies.{is_leaf}
-use Rattle.markdown_builder.specs.BuilderView.{BuilderView, Opens, innermost_block}
+use Rattle.markdown_builder.specs.BuilderView.{BuilderView, Definition, Opens, innermost_block}
 use Rattle.markdown_builder.specs.EvenRows.{is_in_row, is_table_row}
 use Rattle.markdown_builder.specs.declared.open_block.OpenBlock.{OpenBlock}
 use Rattle.markdown_lines.specs.declared.line.Line.{Line}
@@ -29,16 +29,23 @@ use Rattle.markdown_plain.specs.OpenBlocks.{innermost_is, is_list, is_quote, out
 use Rattle.markdown_plain.specs.declared.placing.Placing.{Placing}
 use Rattle.markdown_base.specs.Forest.{Forest}
 use Rattle.markdown_builder.specs.Shown.{Shown}
+use Rattle.std.specs.Prelude.{not, nat_eq}
+use Rattle.std.specs.Option.{option_eq}
+use Rattle.markdown_lines.proofs.HeldLinesLemmas.{line_of}
+use Rattle.markdown_lines.specs.HeldLines.{AreHeldFrom}
+use Rattle.markdown_plain.proofs.DefinitionEndsLemmas.{IsSpanIn, MayCut}
+use Rattle.markdown_plain.specs.HeldSources.{AreInOrder, AreInParagraph}
+use Rattle.markdown_plain.specs.Paragraphs.{has_paragraph, lines_end}
 use Rattle.markdown_plain.specs.declared.pass.Pass.{Pass}
 use Rattle.markdown_lines.specs.Lines.{AllPass, is_in_blank_line, is_space_or_tab}
 use Rattle.markdown_lines.specs.TaskMarkers.{is_task_done, is_task_space, task_length, task_marker}
 use Rattle.markdown_lines.specs.declared.held_line.HeldLine.{HeldLine}
 use Rattle.markdown_plain.proofs.ParagraphLinesLemmas.{if_some, marker_within, range_byte, range_length}
 use Rattle.markdown_plain.specs.declared.paragraph.Ends.{Ends}
-use Rattle.markdown_plain.specs.Closable.{AreApart, AreClosable, AreContainers, AreInText, has_quote, HasBraces, HasRoomFor, HasTask, HaveTask, IsInList, IsPlaceable, IsInText, IsLastInText, IsLeafOpen, IsWhiteBefore}
+use Rattle.markdown_plain.specs.Closable.{AreAhead, AreApart, AreClosable, AreContainers, AreInText, has_quote, leaf_end, HasBraces, HasRoomFor, HasTask, HaveTask, IsClosable, IsInList, IsPlaceable, IsReady, IsInText, IsLastInText, IsLeafOpen, IsWhiteBefore}
 use Rattle.markdown_lines.specs.declared.braces.Braces.{Braces}
 use Rattle.std.specs.Option.{option_map_or}
-use Rattle.markdown_plain.specs.Fitting.{AllFitted, GoesOn, OpensHeading, closed, IsAhead, IsWhiteOutside, stepped}
+use Rattle.markdown_plain.specs.Fitting.{AllFitted, GoesOn, OpensHeading, closed, defining, IsAhead, IsWhiteOutside}
 
 -- where a leaf is open, no call is outside blocks
 pub inside_leaf : (builder : BuilderView) (to : ℕ) → IsLeafOpen builder → IsWhiteOutside builder to
@@ -182,6 +189,7 @@ break_in text from stop between boundary ordered is =
         let none : stop - from ≡ 0 = omega (arith, most) in
         absurd (true≢false (sym odd ∙ ap (λ n. n % 2 == 1) none)))
         (cases_lt from stop)
+
     small_slash : (byte : ℕ) → (byte == backslash) ≡ true → byte < 128
     small_slash byte e = grind (arith, nat_tests, e)
 
@@ -570,3 +578,217 @@ pub item_outside : (blocks : List OpenBlock) → innermost_is is_list blocks ≡
 item_outside blocks other =
     on_test (λ bs. bs ≡ [] → blocks ≡ []) (innermost_is is_list blocks) (outer_of blocks) blocks
     (λ list. absurd (true≢false (sym list ∙ other))) (λ same none. none)
+
+-- ---- taking definitions
+
+-- the bytes of a definition begin with a `[`
+pub bracket_there : (found : Option ℕ) → not (option_eq nat_eq found (Some 91)) ≡ false → found ≡ Some 91
+bracket_there None e = absurd (true≢false e)
+bracket_there (Some b) e = ap Some (by b e)
+  where
+    by : (b : ℕ) → not (nat_eq b 91) ≡ false → b ≡ 91
+    by b e = grind (arith, nat_tests)
+
+pub cuts_of : (text : List ℕ) (from : ℕ) (lines : List HeldLine) → AreInText text from lines → MayCut text lines
+cuts_of text from [] are = tt
+cuts_of text from (line ∷ lines) are = (are.1.0.next, cuts_of text line.next lines are.1.1)
+
+-- a line from a byte offset on
+record IsThere (text : List ℕ) (from : ℕ) (lines : List HeldLine) (n : ℕ) (line : HeldLine) : Type 0 where
+  low : from ≤ line.start
+  is : IsInText text line
+  rest : AreInText text line.next (drop (suc n) lines)
+
+line_there : (text : List ℕ) (from : ℕ) (lines : List HeldLine) (n : ℕ) (line : HeldLine) → AreInText text from lines
+    → slice_get lines n ≡ Some line → IsThere text from lines n line
+line_there text from [] n line are there = cc
+line_there text from (first ∷ lines) zero line are there =
+    subst (IsThere text from (first ∷ lines) 0) (same_Some first line there)
+    (record { low = are.0; is = are.1.0; rest = are.1.1 })
+line_there text from (first ∷ lines) (suc n) line are there =
+    let found = line_there text first.next lines n line are.1.1 there in
+    let low = are.0 in
+    let content = are.1.0.content in
+    let ending = are.1.0.ending in
+    let further = found.low in
+    record { low = omega (arith, low, content, ending, further); is = found.is; rest = found.rest }
+
+apart_there : (text : List ℕ) (from : ℕ) (lines : List HeldLine) (n : ℕ) (line : HeldLine) → AreApart text from lines
+    → slice_get lines n ≡ Some line → AreApart text line.next (drop (suc n) lines)
+apart_there text from [] n line are there = cc
+apart_there text from (first ∷ lines) zero line are there =
+    subst (λ (l : HeldLine). AreApart text l.next lines) (same_Some first line there) are.1.1
+apart_there text from (first ∷ lines) (suc n) line are there = apart_there text first.next lines n line are.1.1 there
+
+-- lines with something left of each may be a paragraph
+held_paragraph : (text : List ℕ) (from : ℕ) (lines : List HeldLine) → AreHeldFrom text from lines
+    → AreInParagraph text lines
+held_paragraph text from [] held = tt
+held_paragraph text from (line ∷ lines) held =
+    let some = held.1.0.some in
+    let other : (line.start == line.stop) ≡ false = grind (arith, nat_tests, some) in
+    subst (λ (empty : Bool). AreInOrder empty text line lines) (sym other) (omega arith, held.1)
+
+paragraph_after : (text : List ℕ) (lines : List HeldLine) (n : ℕ) (line : HeldLine) → AreInParagraph text lines
+    → slice_get lines n ≡ Some line → AreInParagraph text (drop (suc n) lines)
+paragraph_after text [] n line is there = cc
+paragraph_after text (first ∷ lines) n line is there = in_order (first.start == first.stop) n is there
+  where
+    in_order : (empty : Bool) (n : ℕ) → AreInOrder empty text first lines → slice_get (first ∷ lines) n ≡ Some line
+        → AreInParagraph text (drop (suc n) (first ∷ lines))
+    in_order true zero is there = held_paragraph text first.next lines is
+    in_order true (suc n) is there =
+        held_paragraph text line.next (drop (suc n) lines) (line_of text first.next lines n line is there).others
+    in_order false n is there =
+        held_paragraph text line.next (drop (suc n) (first ∷ lines))
+        (line_of text 0 (first ∷ lines) n line is there).others
+
+-- the lines after those that were taken are ahead of where the last of these ends
+pub ahead_after : (old new : BuilderView) (lines : List HeldLine) (n : ℕ) (line : HeldLine) → AreAhead old lines
+    → slice_get lines n ≡ Some line → new.text ≡ old.text → new.blocks ≡ old.blocks → new.at ≡ line.next
+    → AreAhead new (drop (suc n) lines)
+ahead_after old new lines n line is there text blocks at =
+    record {
+      inside = subst (λ t. AreInParagraph t (drop (suc n) lines)) (sym text)
+          (paragraph_after old.text lines n line is.inside there);
+      order = subst (λ t. AreInText t new.at (drop (suc n) lines)) (sym text)
+          (subst (λ k. AreInText old.text k (drop (suc n) lines)) (sym at)
+          (line_there old.text old.at lines n line is.order there).rest);
+      apart = λ none. subst (λ t. AreApart t new.at (drop (suc n) lines)) (sym text)
+          (subst (λ k. AreApart old.text k (drop (suc n) lines)) (sym at)
+          (apart_there old.text old.at lines n line (is.apart (sym blocks ∙ none)) there));
+    }
+
+-- the calls that take an empty line
+pub record MayPass (builder : BuilderView) (line : HeldLine) : Type 0 where
+  pub ahead : IsAhead builder line.next
+  pub white : IsWhiteOutside builder line.next
+
+pub may_pass : (builder : BuilderView) (lines : List HeldLine) (line : HeldLine) → AreAhead builder lines
+    → slice_get lines 0 ≡ Some line → line.start ≡ line.stop → MayPass builder line
+may_pass builder [] line is there empty = cc
+may_pass builder (first ∷ lines) line is there empty =
+    subst (MayPass builder) (same_Some first line there) (record {
+      ahead = (
+        (let low = is.order.0 in
+            let content = is.order.1.0.content in
+            let ending = is.order.1.0.ending in
+            omega (arith, low, content, ending)),
+        is.order.1.0.next,
+      );
+      white = λ none.
+          let apart = is.apart none in
+          let same : first.start ≡ first.stop =
+          subst (λ (l : HeldLine). l.start ≡ l.stop) (sym (same_Some first line there)) empty in
+          white_both builder.text builder.at first.start first.next apart.0
+          (subst (λ k. AllPass is_in_blank_line builder.text k first.next) (sym same) apart.1.0);
+    })
+
+-- the calls that take a definition
+pub record MayDefine (builder : BuilderView) (first line : HeldLine) (end : ℕ) : Type 0 where
+  pub ahead : IsAhead builder first.start
+  pub white : IsWhiteOutside builder first.start
+  pub low : first.start ≤ end
+  pub boundary : IsCharBoundary builder.text end
+  pub high : end ≤ line.next
+  pub next : IsCharBoundary builder.text line.next
+  pub left : AllPass is_in_blank_line builder.text end line.next
+
+pub may_define : (builder : BuilderView) (lines : List HeldLine) (first : HeldLine) (end count : ℕ)
+    → AreAhead builder lines → slice_get lines 0 ≡ Some first → (span : IsSpanIn builder.text lines end count)
+    → MayDefine builder first span.line end
+may_define builder [] first end count is there span = cc
+may_define builder (head ∷ lines) first end count is there span =
+    subst (λ (l : HeldLine). MayDefine builder l span.line end) (same_Some head first there) (
+    let line = line_there builder.text head.start (head ∷ lines) span.number span.line (omega arith, is.order.1) span.there in
+    let low = line.low in
+    let from = span.ends.low in
+    record {
+      ahead = (is.order.0, is.order.1.0.start);
+      white = λ none. (is.apart none).0;
+      low = omega (arith, low, from);
+      boundary = span.ends.boundary;
+      high = span.ends.high;
+      next = line.is.next;
+      left = span.ends.white;
+    })
+
+pub last_next : (lines : List HeldLine) (n count : ℕ) (line other : HeldLine) → count ≡ suc n
+    → slice_get lines n ≡ Some line → (get_or lines (count - 1) other).next ≡ line.next
+last_next lines n count line other is there =
+    ap (λ k. (get_or lines k other).next) (omega (arith, is)) ∙ found lines n there
+  where
+    found : (lines : List HeldLine) (n : ℕ) → slice_get lines n ≡ Some line → (get_or lines n other).next ≡ line.next
+    found [] n there = cc
+    found (first ∷ lines) zero there = ap (λ (l : HeldLine). l.next) (same_Some first line there)
+    found (first ∷ lines) (suc n) there = found lines n there
+
+-- only white space is ahead of where a builder is now
+pub white_ahead : (text : List ℕ) (at to : ℕ) (builder : BuilderView) → builder.text ≡ text → builder.at ≡ at
+    → AllPass is_in_blank_line text at to → IsWhiteOutside builder to
+white_ahead text at to builder same here white = λ none.
+    subst (λ t. AllPass is_in_blank_line t builder.at to) (sym same)
+    (subst (λ k. AllPass is_in_blank_line text k to) (sym here) white)
+
+-- ---- the place where the next block begins
+
+-- once blocks were closed, what begins in the next line is ahead
+pub next_ahead : (old : Pass) (new : BuilderView) (from to : ℕ) → IsReady old from → new.text ≡ old.placing.builder.text
+    → AreClosable new old.placed → from ≤ to → IsCharBoundary old.placing.builder.text to → IsAhead new to
+next_ahead old new from to ready text is low boundary =
+    let here = ready.low in
+    item_ahead old.placing.builder new old.placed to text is (omega (arith, here, low)) boundary
+
+-- and where no block is open then, only white space is before it, if there is only white space in its line
+pub next_white : (old : Pass) (new : BuilderView) (from to : ℕ) → IsReady old from → new.text ≡ old.placing.builder.text
+    → AreClosable new old.placed
+    → (new.blocks ≡ [] → AllPass is_in_blank_line old.placing.builder.text from to) → IsWhiteOutside new to
+next_white old new from to ready text is white = λ none.
+    white_both new.text new.at old.placed to (is.white (ap has_quote none))
+    (subst (λ t. AllPass is_in_blank_line t old.placed to) (sym text)
+    (white_both old.placing.builder.text old.placed from to ready.white (white none)))
+
+-- ---- a paragraph of definitions alone
+
+no_paragraph : (pass : Pass) → pass.lines.items ≡ [] → has_paragraph pass ≡ false
+no_paragraph pass none =
+    ap (λ (lines : List HeldLine). not pass.placing.builder.leaf && not (length lines == 0)) none
+    ∙ never (not pass.placing.builder.leaf)
+  where
+    never : (b : Bool) → (b && false) ≡ false
+    never true = refl
+    never false = refl
+
+pub ended_definitions : (old new : Pass) (definitions : List Definition) → IsClosable old → has_paragraph old ≡ true
+    → new.lines.items ≡ [] → new.placed ≡ old.placed
+    → new.placing.builder ≡ defining old.placing.builder definitions (lines_end old.lines.items) → IsClosable new
+ended_definitions old new definitions is has none placed e =
+    let was = old.placing.builder in
+    let now = new.placing.builder in
+    let text : now.text ≡ was.text = ap (λ (b : BuilderView). b.text) e in
+    let leaf : now.leaf ≡ was.leaf = ap (λ (b : BuilderView). b.leaf) e in
+    let blocks : now.blocks ≡ was.blocks = ap (λ (b : BuilderView). b.blocks) e in
+    let inner : without_leaf now ≡ without_leaf was = ap without_leaf e in
+    let end : leaf_end new ≡ leaf_end old =
+    ap (λ (t : Bool). if t then lines_end new.lines.items else now.at) (no_paragraph new none)
+    ∙ (ap (λ (b : BuilderView). b.at) e
+    ∙ sym (ap (λ (t : Bool). if t then lines_end old.lines.items else was.at) has)) in
+    record {
+      some = λ inside empty. is.some (sym leaf ∙ inside) (sym blocks ∙ empty);
+      other = ap is_in_row blocks ∙ is.other;
+      held = λ outside. subst (AreAhead now) (sym none) (record { inside = tt; order = tt; apart = λ empty. tt });
+      task = subst (HaveTask now.text new.task) (sym none) tt;
+      containers = subst AreContainers (sym inner) is.containers;
+      low = subst (λ n. n ≤ new.placed) (sym end) (subst (λ n. leaf_end old ≤ n) (sym placed) is.low);
+      boundary = subst (λ t. IsCharBoundary t new.placed) (sym text)
+          (subst (IsCharBoundary was.text) (sym placed) is.boundary);
+      white = λ quotes. subst (λ t. AllPass is_in_blank_line t (leaf_end new) new.placed) (sym text)
+          (subst (λ n. AllPass is_in_blank_line was.text n new.placed) (sym end)
+          (subst (AllPass is_in_blank_line was.text (leaf_end old)) (sym placed)
+          (is.white (ap has_quote (sym inner) ∙ quotes))));
+    }
+
+pub some_held : (pass : Pass) → has_paragraph pass ≡ true → 0 < length pass.lines.items
+some_held pass has =
+    let some = (and_parts (not pass.placing.builder.leaf) (not (length pass.lines.items == 0)) has).1 in
+    grind (arith, nat_tests, some)

@@ -125,6 +125,7 @@ braces_within text line utf8 = of_found (braces_in bytes) refl
   where
     bytes : List ℕ
     bytes = slice_range text line.start line.stop
+
     of_found : (found : Option Braces) → braces_in bytes ≡ found
         → HasBraces text (option_map (braces_from line.start) found) line
     of_found None e = tt

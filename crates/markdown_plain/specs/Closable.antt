@@ -1,6 +1,6 @@
 -- What the calls that end a paragraph and close blocks need to fit: where the lines held back are, what is around them,
 -- and which blocks are open.
-use Rattle.std.specs.Prelude.{◌≡◌, ℕ, ◌≤◌, ◌<◌, ◌-◌, ◌==◌, ◌&&◌, ◌||◌, Bool, true, false, not, List, [], ◌∷◌, Option}
+use Rattle.std.specs.Prelude.{◌≡◌, ℕ, ◌≤◌, ◌<◌, ◌-◌, ◌==◌, ◌||◌, Bool, true, false, List, [], ◌∷◌, Option}
 use Rattle.std.specs.Prelude.{Some, None, IfSome, drop, length, slice_get, slice_range, if◌then◌else◌}
 use Rattle.std.specs.Str.{IsCharBoundary}
 use Rattle.markdown_base.specs.declared.tag.HeadingLevel.{HeadingLevel}
@@ -43,10 +43,12 @@ abbrev pub AreInText : List ℕ → ℕ → List HeldLine → Type 0
 AreInText text from [] = Unit
 AreInText text from (line ∷ lines) = (from ≤ line.start) × (IsInText text line × AreInText text line.next lines)
 
--- there is only white space before each of these lines, from a byte offset on
+-- there is only white space around the content of each of these lines, from a byte offset on
 abbrev pub AreApart : List ℕ → ℕ → List HeldLine → Type 0
 AreApart text from [] = Unit
-AreApart text from (line ∷ lines) = AllPass is_in_blank_line text from line.start × AreApart text line.next lines
+AreApart text from (line ∷ lines) =
+    AllPass is_in_blank_line text from line.start
+    × (AllPass is_in_blank_line text line.stop line.next × AreApart text line.next lines)
 
 -- the lines of a paragraph are ahead of the current byte offset; where no block is open, only white space is around them
 pub record AreAhead (builder : BuilderView) (lines : List HeldLine) : Type 0 where

@@ -592,6 +592,8 @@ impl<'a> Pass<'a> {
             → HaveTask self.old.placing.builder.text self.old.task self.old.lines.items
             → EndsHeading self.old.placing.builder.text self.old.lines.items heading
             → AllFitted self.old.placing → AllFitted self.new.placing) }
+        ensures here { IfOk result (λ left. left ≡ false → IsClosable self.old
+            → has_paragraph self.old ≡ true → AllFitted self.new.placing → IsClosable self.new) }
     {
         let names = entity_names(self.options);
         let taken = take_definitions(self.alloc, &mut self.placing, &self.lines, names)?;

@@ -8,7 +8,7 @@ use Rattle.markdown_items.specs.LineItems.{item_extensions}
 use Rattle.markdown_lines.specs.BlockBeginnings.{Source}
 use Rattle.markdown_plain.proofs.ParagraphLinesLemmas.{empty_line, line_and_break}
 use Rattle.markdown_plain.proofs.LeafTreesLemmas.{no_text, texts_after}
-use Rattle.markdown_plain.proofs.ClosableLemmas.{ahead_of, break_in, cut_in_text, inside_leaf, still_open, trimmed}
+use Rattle.markdown_plain.proofs.ClosableLemmas.{ahead_of, break_in, inside_leaf, still_open}
 use Rattle.markdown_plain.proofs.paragraph.add_broken_line.Goals as goal
 
 pub returns-then-line-clause-items : goal.returns-then-line-clause-items

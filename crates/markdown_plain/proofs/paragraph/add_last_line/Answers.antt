@@ -18,8 +18,10 @@ returns-clause-fits c = λ within low is fitted.
     let to = cut.high in
     let high = is.next.0 in
     let end : c.saturating_add-end.result ≡ line.start + c.trimmed_length.result = search rules in
-    let first = c.in_ok-add_items.ensures.fits within.leaf (omega (arith, low, end, from),
-    subst (IsCharBoundary old.text) (sym end) cut.boundary) ∙ fitted in
+    let first = c.in_ok-add_items.ensures.fits within.leaf (
+      omega (arith, low, end, from),
+      subst (IsCharBoundary old.text) (sym end) cut.boundary,
+    ) ∙ fitted in
     let read = (c.in_ok-add_items.ensures.appends first).1 in
     let begun = still_open old c.add_items.new.self.builder (ap (λ (b : BuilderView). b.leaf) read)
     (ap (λ (b : BuilderView). b.blocks) read) within in

@@ -1,6 +1,5 @@
 -- A line is appended after its task marker, and what is left then are the lines behind it.
-use Rattle.std.specs.Prelude.{slice_get}
-use Rattle.std.proofs.Common.{◌≡◌, ◌-◌, Some, ◌∙◌, ◌∷◌, [], ◌+◌, ◌<◌, List, ap, sym, subst, arith, rules, length, None}
+use Rattle.std.proofs.Common.{◌≡◌, ◌-◌, ◌∙◌, ◌∷◌, [], ◌+◌, ◌<◌, List, ap, sym, subst, arith, rules, length, None}
 use Rattle.std.proofs.lemmas.Bool.Decides.{nat_tests}
 use Rattle.std.proofs.lemmas.Result.{IfOk-weaker}
 use Rattle.markdown_builder.specs.BuilderView.{BuilderView, with_items}

@@ -1,5 +1,5 @@
 -- An empty line; no definition; a definition.
-use Rattle.std.proofs.Common.{◌≡◌, ℕ, List, [], ◌∷◌, ◌++◌, Option, Some, sym, ap, ◌∙◌, arith, subst}
+use Rattle.std.proofs.Common.{◌≡◌, ℕ, drop, List, [], ◌∷◌, ◌++◌, Option, Some, sym, ap, ◌∙◌, arith, subst}
 use Rattle.std.specs.List.{slice_get}
 use Rattle.std.specs.Option.{option_copied, option_map}
 use Rattle.markdown_base.specs.CowText.{text_of}
@@ -7,12 +7,16 @@ use Rattle.markdown_builder.specs.BuilderView.{BuilderView}
 use Rattle.markdown_lines.specs.HeldDefinitions.{IsFirstDefinition}
 use Rattle.markdown_lines.specs.SourceLines.{SourceLine}
 use Rattle.markdown_lines.specs.declared.definition.Definition.{Definition}
-use Rattle.markdown_plain.specs.Fitting.{AllFitted}
+use Rattle.markdown_plain.specs.Fitting.{AllFitted, IsAhead, IsWhiteOutside}
 use Rattle.markdown_plain.specs.HeldSources.{IsParagraph}
 use Rattle.markdown_plain.specs.TakenDefinitions.{TakesDefinitions}
 use Rattle.markdown_plain.proofs.DividedLemmas.{as_many, filled_of, first_read, no_bracket, no_bracket_byte}
 use Rattle.markdown_plain.proofs.DividedLemmas.{no_line, none_there, takes_empty, takes_first}
 use Rattle.markdown_plain.proofs.ParagraphsLemmas.{end_of_last}
+use Rattle.markdown_plain.proofs.ClosableLemmas.{MayDefine, ahead_after, ahead_of, bracket_there, cuts_of, may_define}
+use Rattle.markdown_plain.proofs.ClosableLemmas.{last_next, may_pass, white_ahead}
+use Rattle.markdown_plain.proofs.DefinitionEndsLemmas.{IsSpanIn, are_sources, definition_span, sources_of}
+use Rattle.markdown_plain.specs.Closable.{AreAhead}
 use Rattle.markdown_plain.proofs.paragraph.take_definition.Goals as goal
 
 pub returns-in_default-clause-over : goal.returns-in_default-clause-over
@@ -108,10 +112,87 @@ returns-clause-takes c =
     )
 
 pub returns-then-first-clause-fits : goal.returns-then-first-clause-fits
-returns-then-first-clause-fits c = ?
+returns-then-first-clause-fits c = λ is fitted.
+    let there = sym c.first.ensures.value ∙ ap option_copied c.in-Some.is in
+    let passes = may_pass c.args.placing.now.builder c.args.lines.now c.in-Some.first.now is there c.if-first.true in
+    c.step_to.ensures.fits passes.ahead passes.white ∙ fitted
+
+pub returns-then-first-clause-ahead : goal.returns-then-first-clause-ahead
+returns-then-first-clause-ahead c = λ is fitted.
+    let there = sym c.first.ensures.value ∙ ap option_copied c.in-Some.is in
+    let steps = (c.step_to.ensures.steps fitted).1 in
+    ahead_after c.args.placing.now.builder c.step_to.new.self.builder c.args.lines.now 0 c.in-Some.first.now is there
+    c.step_to.ensures.text (ap (λ (b : BuilderView). b.blocks) steps) (ap (λ (b : BuilderView). b.at) steps)
+
+-- where the definition ends
+span : (c : goal.After-step_to-3) → AreAhead c.args.placing.now.builder c.args.lines.now
+    → IsSpanIn c.args.placing.now.builder.text c.args.lines.now c.in-Some-2.found.end c.min-taken.result
+span c is =
+    let text = c.args.placing.now.builder.text in
+    let lines = c.args.lines.now in
+    let line = c.in-Some.first.now in
+    let found = c.in-Some-2.found in
+    let there = sym c.first.ensures.value ∙ ap option_copied c.in-Some.is in
+    let sources = sources_of text lines in
+    let filled = filled_of text lines sources line there c.if-first.false
+    (record { inside = is.inside; are = are_sources text lines }) in
+    let read = first_read c.args.names text c.text-text.result.now lines sources line c.byte_at.result
+    c.in_ok-found.field-0 there filled c.text-text.ensures c.byte_at.ensures (sym c.ne.ensures ∙ c.if-ne.false)
+    c.in_ok-found.ensures in
+    let is_first = subst (λ (found : Option Definition).
+    IsFirstDefinition c.args.names text sources line.start found) c.in-Some-2.is read in
+    let size = as_many text lines sources filled.are in
+    let taken : found.lines ≡ c.min-taken.result =
+    omega (arith, size, is_first.lines.0, is_first.lines.1, c.max.ensures, c.min-taken.ensures) in
+    subst (IsSpanIn text lines found.end) taken
+    (definition_span c.args.names text lines sources line.start found filled
+    (cuts_of text c.args.placing.now.builder.at lines is.order) is_first)
+
+-- the calls that take it
+defines : (c : goal.After-step_to-3) (is : AreAhead c.args.placing.now.builder c.args.lines.now)
+    → MayDefine c.args.placing.now.builder c.in-Some.first.now (span c is).line c.in-Some-2.found.end
+defines c is =
+    let there = sym c.first.ensures.value ∙ ap option_copied c.in-Some.is in
+    may_define c.args.placing.now.builder c.args.lines.now c.in-Some.first.now c.in-Some-2.found.end c.min-taken.result is
+    there (span c is)
 
 pub returns-clause-fits : goal.returns-clause-fits
-returns-clause-fits c = ?
+returns-clause-fits c = λ is fitted.
+    let old = c.args.placing.now.builder in
+    let line = c.in-Some.first.now in
+    let end = c.in-Some-2.found.end in
+    let s = span c is in
+    let d = defines c is in
+    let first = c.step_to-2.ensures.fits d.ahead d.white ∙ fitted in
+    let stepped = (c.step_to-2.ensures.steps first).1 in
+    let bracket : slice_get old.text line.start ≡ Some 91 =
+    sym (c.byte_at.ensures ∙ ap (λ (t : List ℕ). slice_get t line.start) c.text-text.ensures)
+    ∙ bracket_there c.byte_at.result (sym c.ne.ensures ∙ c.if-ne.false) in
+    let second = c.in_ok-add_definition.ensures.fits
+    (ahead_of old.text line.start end c.step_to-2.new.self.builder c.step_to-2.ensures.text
+    (ap (λ (b : BuilderView). b.at) stepped) d.low d.boundary)
+    (ap (λ (b : BuilderView). slice_get b.text b.at) stepped ∙ bracket) ∙ first in
+    let added = (c.in_ok-add_definition.ensures.adds second).1 in
+    let text = c.in_ok-add_definition.ensures.text ∙ c.step_to-2.ensures.text in
+    let at = ap (λ (b : BuilderView). b.at) added in
+    let now = c.add_definition.new.self.builder in
+    c.step_to-3.ensures.fits
+    (subst (IsAhead now) (sym (last_next c.args.lines.now s.number c.min-taken.result s.line _ s.count_is s.there))
+    (ahead_of old.text end s.line.next now text at d.high d.next))
+    (subst (IsWhiteOutside now) (sym (last_next c.args.lines.now s.number c.min-taken.result s.line _ s.count_is s.there))
+    (white_ahead old.text end s.line.next now text at d.left)) ∙ second
 
 pub returns-clause-ahead : goal.returns-clause-ahead
-returns-clause-ahead c = ?
+returns-clause-ahead c = λ is fitted.
+    let old = c.args.placing.now.builder in
+    let s = span c is in
+    let last = c.step_to-3.ensures.steps fitted in
+    let adds = c.in_ok-add_definition.ensures.adds last.0 in
+    let first = c.step_to-2.ensures.steps adds.0 in
+    subst (λ n. AreAhead c.step_to-3.new.self.builder (drop n c.args.lines.now)) (sym s.count_is)
+    (ahead_after old c.step_to-3.new.self.builder c.args.lines.now s.number s.line is s.there
+    (c.step_to-3.ensures.text ∙ (c.in_ok-add_definition.ensures.text ∙ c.step_to-2.ensures.text))
+    (ap (λ (b : BuilderView). b.blocks) last.1 ∙ (ap (λ (b : BuilderView). b.blocks) adds.1
+    ∙ ap (λ (b : BuilderView). b.blocks) first.1))
+    (ap (λ (b : BuilderView). b.at) last.1
+    ∙ last_next c.args.lines.now s.number c.min-taken.result s.line _ s.count_is s.there))

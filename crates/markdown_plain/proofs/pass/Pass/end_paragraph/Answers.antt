@@ -27,6 +27,9 @@ use Rattle.markdown_plain.specs.Paragraphs.{IsDivided, divided_of, end_of, first
 use Rattle.markdown_plain.specs.Paragraphs.{source_of}
 use Rattle.markdown_plain.specs.declared.pass.Pass.{Pass}
 use Rattle.markdown_plain.proofs.pass.Pass.end_paragraph.Goals.{then-left+in_ok-place_paragraph, else-left}
+use Rattle.std.proofs.lemmas.Bool.{true≢false}
+use Rattle.markdown_plain.proofs.ClosableLemmas.{ended_definitions, some_held}
+use Rattle.markdown_plain.specs.Fitting.{defining}
 use Rattle.markdown_plain.proofs.pass.Pass.end_paragraph.Goals as goal
 
 pub returns-clause-tree : goal.returns-clause-tree
@@ -192,3 +195,23 @@ returns-clause-frame c = λ s frames inside b sources holds options fitted.
           (c.in_ok-taken.ensures.steps (taken_fitted c fitted)).1 divided.1.definitions is.0 tree
           (more_texts c fitted))) holds,
     )
+
+-- where all lines were definitions, the line after them is still to be read
+pub returns-clause-here : goal.returns-clause-here
+returns-clause-here c = λ none is has fitted.
+    let old = c.args.self.now in
+    let lines = old.lines.items in
+    let taken = c.in_ok-taken.taken in
+    let some : 0 < length lines = some_held old has in
+    let self : (c.if-left.self ≡ record old { placing = c.take_definitions.new.placing })
+    × AllFitted c.take_definitions.new.placing = elim c.if-left.branch [
+      | then-left+in_ok-place_paragraph w ↦ absurd (true≢false (search rules))
+      | else-left w ↦ (w.self-is, subst (λ (p : Pass). AllFitted p.placing) w.self-is fitted)
+    ] in
+    let all : taken ≡ length lines = search rules in
+    let first = (c.in_ok-taken.ensures.steps self.1).1 in
+    let at = (c.in_ok-taken.ensures.after (omega (arith, all, some)) self.1).1 in
+    ended_definitions old _ c.take_definitions.new.placing.builder.definitions is has (search rules) (search rules)
+    (ap (λ (p : Pass). p.placing.builder) self.0
+    ∙ (first ∙ ap (defining old.placing.builder c.take_definitions.new.placing.builder.definitions)
+    (at ∙ (ap (λ (ls : List HeldLine). end_of ls taken) c.deref.ensures.value ∙ ap (end_of lines) all))))
