@@ -1,6 +1,6 @@
 -- Readiness between two lines: where a line takes the pass, the calls for the next one fit.
 use Rattle.std.proofs.Common.{◌≡◌, ⊎_elim, ℕ, ◌+◌, ◌-◌, ◌<◌, ◌≤◌, Bool, true, false, not, ◌&&◌, ◌||◌, ◌==◌, List, []}
-use Rattle.std.proofs.Common.{◌∷◌, ◌++◌, Option, Some, None, drop, get_or, get_or-drop, length, length-drop, arith}
+use Rattle.std.proofs.Common.{◌∷◌, Option, Some, None, drop, get_or, get_or-drop, length, length-drop, arith}
 use Rattle.std.proofs.Common.{refl, sym, ap, ◌∙◌, subst, true≢false}
 use Rattle.std.specs.Prelude.{slice_range, if◌then◌else◌}
 use Rattle.std.specs.List.{list_all}
@@ -13,7 +13,6 @@ use Rattle.std.proofs.lemmas.Option.{none-some, same_Some}
 use Rattle.markdown_base.proofs.ByteListLemmas.{part_length}
 use Rattle.markdown_base.specs.EnabledOptions.{old_footnotes_on}
 use Rattle.markdown_base.specs.Forest.{Forest}
-use Rattle.markdown_base.specs.declared.item.ItemBody.{ItemBody}
 use Rattle.markdown_builder.specs.BuilderView.{BuilderView}
 use Rattle.markdown_builder.specs.EvenRows.{is_in_row}
 use Rattle.markdown_builder.specs.declared.open_block.OpenBlock.{OpenBlock}

@@ -5,14 +5,15 @@ use Rattle.std.proofs.Common.{drop, get_or, get_or-drop, length, length-drop, ar
 use Rattle.std.specs.Prelude.{slice_range, if◌then◌else◌}
 use Rattle.std.specs.List.{fold}
 use Rattle.std.specs.Str.{IsCharBoundary, IsUtf8}
-use Rattle.std.proofs.lemmas.Bool.{cases_lt}
+use Rattle.std.proofs.lemmas.Str.{IsCharBoundary-start}
 use Rattle.markdown_base.proofs.ByteListLemmas.{part_length}
 use Rattle.markdown_base.specs.Forest.{Forest, nil}
 use Rattle.markdown_builder.specs.BuilderView.{BuilderView, nothing_made}
 use Rattle.markdown_builder.specs.TreeLevels.{followed_by}
+use Rattle.markdown_builder.specs.declared.open_block.OpenBlock.{OpenBlock}
 use Rattle.markdown_scan.specs.LineStart.{LineLeft}
 use Rattle.markdown_lines.specs.BlockBeginnings.{Source}
-use Rattle.markdown_lines.specs.Lines.{IsLineFrom, ending_length, is_line_ending}
+use Rattle.markdown_lines.specs.Lines.{AllPass, IsLineFrom, is_in_blank_line}
 use Rattle.markdown_lines.specs.MetadataBlocks.{lines_at}
 use Rattle.markdown_lines.specs.SourceLines.{SourceLine, first_line}
 use Rattle.markdown_lines.specs.declared.line.Line.{Line}
@@ -24,15 +25,17 @@ use Rattle.markdown_block_rules.specs.BlockRules.{block_definitions, block_footn
 use Rattle.markdown_block_rules.specs.BlockRules.{footnotes_in, shown_blocks}
 use Rattle.markdown_block_rules.specs.TableLines.{reads_tables}
 use Rattle.markdown_plain.specs.declared.pass.Pass.{Pass}
+use Rattle.markdown_plain.specs.Closable.{AreClosable, AreContainers, IsClosable, IsReady}
 use Rattle.markdown_plain.specs.Closing.{MayClose, MayEnd}
-use Rattle.markdown_plain.specs.Fitting.{AllFitted, FittedBefore, IfFitted}
+use Rattle.markdown_plain.specs.Fitting.{AllFitted, FittedBefore, IfFitted, stepped}
 use Rattle.markdown_plain.specs.Frames.{Frame, rebuilt}
 use Rattle.markdown_plain.specs.OpenLeaves.{leaf_block}
 use Rattle.markdown_plain.specs.Standing.{HasLast, IsSource, Stands, StandsFor, with_last}
 use Rattle.markdown_plain.specs.ReachedLines.{Before, blocks_before}
-use Rattle.markdown_plain.specs.Settled.{IsBuilt}
+use Rattle.markdown_plain.specs.Settled.{AreOpen, IsBuilt}
 use Rattle.markdown_plain.proofs.BegunLeavesLemmas.{none_held}
 use Rattle.markdown_plain.proofs.LastBlocksLemmas.{nothing_is_over}
+use Rattle.markdown_plain.proofs.ReadyLinesLemmas.{read_ready, white_at_end}
 
 -- ---- one line
 
@@ -58,33 +61,6 @@ source_at pass at line is boundary utf8 =
       utf8 = utf8;
     }
 
--- a text may be cut after a line
-pub boundary_after : (text : List ℕ) (at : ℕ) (line : Line) → IsUtf8 text → IsLineFrom text at line
-    → IsCharBoundary text line.next
-boundary_after text at line utf8 is =
-    let rest = drop line.stop text in
-    let within = ends_within rest in
-    let whole = length-drop line.stop text in
-    let ends = is.ends in
-    let high = is.content.high in
-    ⊎_elim (λ (less : line.stop < length text).
-    let some = some_ending rest (rw (get_or-drop line.stop text 0 0, add_zero line.stop) (is.content.stops less)) in
-    let last = line.stop + (ending_length rest - 1) in
-    let here : is_line_ending (get_or text last 0) ≡ true =
-    ap is_line_ending (sym (get_or-drop line.stop text (ending_length rest - 1) 0))
-    ∙ in_ending rest (ending_length rest - 1) (omega (arith, some)) in
-    let place : last + 1 ≡ line.next = omega (arith, some, ends) in
-    subst (IsCharBoundary text) place
-    (past_ascii text last utf8 (omega (arith, some, within, whole, less)) (ending_ascii (get_or text last 0) here)))
-    (λ (over : length text ≤ line.stop). (
-      omega (arith, within, whole, ends, high, over),
-      λ (less : line.next < length text). absurd (omega (arith, less, ends, over)),
-    ))
-    (cases_lt line.stop (length text))
-  where
-    add_zero : (n : ℕ) → n + 0 ≡ n
-    add_zero n = omega arith
-
 -- ---- line by line
 
 -- the pass stands for some blocks, and these with the lines from a byte offset on are the blocks of the text
@@ -107,20 +83,31 @@ ReadsLine s old new line =
     → IsSource old line source → IfFitted old.placing new.placing
     (StandsFor s new line.next (with_line s (blocks_before before) source))
 
+-- before the next line
+abbrev before_at : (s : Source) (pass : Pass) (at : ℕ) → StandsAt s pass at → Before
+before_at s pass at so_far = record {
+  frames = so_far.stands.frames;
+  inside = so_far.stands.inside;
+  last = so_far.stands.last;
+}
+
+own_line : (s : Source) (pass : Pass) (at : ℕ) (line : Line) → pass.placing.builder.text ≡ s.text
+    → IsLineFrom s.text at line → IsCharBoundary s.text at → IsUtf8 s.text
+    → IsSource pass line (first_line at (drop at s.text))
+own_line s pass at line same is boundary utf8 =
+    subst (λ text. IsSource pass line (first_line at (drop at text))) same
+    (source_at pass at line (subst (λ text. IsLineFrom text at line) (sym same) is)
+    (subst (λ text. IsCharBoundary text at) (sym same) boundary) (subst IsUtf8 (sym same) utf8))
+
 -- so it stands after the next line
 pub stands_next : (s : Source) (old new : Pass) (at : ℕ) (line : Line) → reads_tables s ≡ false
     → old.placing.builder.text ≡ s.text → at < length s.text → IsLineFrom s.text at line → IsCharBoundary s.text at
-    → IsUtf8 s.text → StandsAt s old at → ReadsLine s old new line → IfFitted old.placing new.placing (StandsAt s new line.next)
+    → IsUtf8 s.text → StandsAt s old at → ReadsLine s old new line
+    → IfFitted old.placing new.placing (StandsAt s new line.next)
 stands_next s old new at line tables same less is boundary utf8 so_far reads fitted =
-    let before : Before = record {
-      frames = so_far.stands.frames;
-      inside = so_far.stands.inside;
-      last = so_far.stands.last;
-    } in
+    let before = before_at s old at so_far in
     let source = first_line at (drop at s.text) in
-    let own = subst (λ text. IsSource old line (first_line at (drop at text))) same
-    (source_at old at line (subst (λ text. IsLineFrom text at line) (sym same) is)
-    (subst (λ text. IsCharBoundary text at) (sym same) boundary) (subst IsUtf8 (sym same) utf8)) in
+    let own = own_line s old at line same is boundary utf8 in
     let read = reads before source
     (subst (Stands s old before.frames before.inside before.last) (sym is.begins) so_far.stands.stands) own fitted in (
       read.0,
@@ -140,6 +127,22 @@ stands_next s old new at line tables same less is boundary utf8 so_far reads fit
         → with_next_line s blocks l ≡ with_line s blocks l
     untabled s blocks l none =
         ap (λ test. if test then within_limit s l blocks (with_line s blocks l) else with_line s blocks l) none
+
+-- where the pass reads a line, the calls fit
+abbrev pub FitsLine : Source → Pass → Pass → Line → Type 0
+FitsLine s old new line =
+    (before : Before) (source : SourceLine) → Stands s old before.frames before.inside before.last line.start
+    → IsSource old line source → AllFitted old.placing → AllFitted new.placing
+
+-- so they do in the next line
+pub fits_next : (s : Source) (old new : Pass) (at : ℕ) (line : Line) → old.placing.builder.text ≡ s.text
+    → IsLineFrom s.text at line → IsCharBoundary s.text at → IsUtf8 s.text → StandsAt s old at
+    → FitsLine s old new line → AllFitted old.placing → AllFitted new.placing
+fits_next s old new at line same is boundary utf8 so_far fits =
+    let before = before_at s old at so_far in
+    fits before (first_line at (drop at s.text))
+    (subst (Stands s old before.frames before.inside before.last) (sym is.begins) so_far.stands.stands)
+    (own_line s old at line same is boundary utf8)
 
 -- ---- the end
 
@@ -168,6 +171,15 @@ whole_text s old new from end so_far closes fitted =
         let done = closes.finishes s so_far.stands.frames so_far.stands.inside b has.0 has.1 fitted in
         (done.0, subst (IsBuilt s new.placing.builder []) (sym all) done.1.stands.built)
 
+-- only white space is left of it
+pub white_left : (s : Source) (old new : Pass) (from : ℕ) → length new.placing.builder.text ≤ from
+    → StandsAt s old from → (IsClosable old → AreClosable new.placing.builder old.placed)
+    → new.placing.builder.blocks ≡ [] → new.placing.builder.text ≡ old.placing.builder.text
+    → AllPass is_in_blank_line new.placing.builder.text new.placing.builder.at (length new.placing.builder.text)
+white_left s old new from end so_far closes none text =
+    let ready = so_far.stands.stands.ready in
+    white_at_end old new from ready (closes ready.closable) none text end
+
 -- ---- from nothing to the tree
 
 -- nothing was read yet
@@ -177,6 +189,31 @@ pub record HasNothing (s : Source) (pass : Pass) : Type 0 where
   pub lines : pass.lines.items ≡ []
   pub blanks : pass.blanks.items ≡ []
   pub lists : pass.looseness.lists.items ≡ []
+  pub placed : pass.placed ≡ 0
+  pub utf8 : IsUtf8 s.text
+
+-- and every call fits that the pass may make
+nothing_ready : (s : Source) (pass : Pass) → HasNothing s pass → IsReady pass 0
+nothing_ready s pass is =
+    let view = pass.placing.builder in
+    let none : view.blocks ≡ [] = ap (λ (view : BuilderView). view.blocks) is.made in
+    let text : view.text ≡ s.text = ap (λ (view : BuilderView). view.text) is.made in
+    let at : view.at ≡ 0 = ap (λ (view : BuilderView). view.at) is.made in
+    let start = subst (λ t. IsCharBoundary t 0) (sym text) (IsCharBoundary-start s.text is.utf8) in
+    let placed = is.placed in
+    read_ready pass 0 (record {
+      closable = record {
+        outside = ap (λ (view : BuilderView). view.leaf) is.made;
+        containers = subst AreContainers (sym none) tt;
+        low = omega (arith, at);
+        boundary = subst (IsCharBoundary view.text) (sym placed) start;
+        white = λ quotes k low high. absurd (omega (arith, placed, high));
+      };
+      lines = is.lines;
+      low = omega (arith, placed);
+      boundary = start;
+      white = λ k low high. absurd (omega (arith, high));
+    })
 
 nothing_built : (s : Source) → IsBuilt s (nothing_made s.text) [] nil
 unfolding shown_blocks definitions_in footnotes_in
@@ -213,6 +250,7 @@ nothing_stands s pass is = record {
   unheld = λ outside. is.blanks;
   earlier = tt;
   alone = tt;
+  ready = nothing_ready s pass is;
 }
 
 -- the blocks of a text are made, and all closed
@@ -224,3 +262,24 @@ pub record HasBlocks (s : Source) (view : BuilderView) : Type 0 where
 pub all_built : (s : Source) (view : BuilderView) → IsBuilt s view [] (blocks_of s) → HasBlocks s view
 all_built s view built =
     record { levels = built.levels; definitions = built.definitions; footnotes = built.footnotes }
+
+-- that no more blocks are open is known then
+pub none_open : (s : Source) (view : BuilderView) → IsBuilt s view [] (blocks_of s) → view.blocks ≡ []
+none_open s view built = nothing view.blocks built.blocks
+  where
+    nothing : (blocks : List OpenBlock) → AreOpen view.texts blocks [] → blocks ≡ []
+    nothing [] are = refl
+    nothing (block ∷ blocks) are = absurd are
+
+-- and a step to the end changes nothing of it
+pub stepped_built : (s : Source) (old new : BuilderView) → new ≡ stepped old (length old.text)
+    → IsBuilt s old [] (blocks_of s) → IsBuilt s new [] (blocks_of s)
+stepped_built s old new same built = subst (λ view. IsBuilt s view [] (blocks_of s)) (sym same) (record {
+  text = built.text;
+  blocks = built.blocks;
+  nested = built.nested;
+  outside = built.outside;
+  levels = built.levels;
+  definitions = built.definitions;
+  footnotes = built.footnotes;
+})

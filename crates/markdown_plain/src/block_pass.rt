@@ -9,7 +9,7 @@ ghost use Rattle.markdown_base.specs.Forest.{Forest, nil};
 ghost use Rattle.markdown_block_rules.specs.BlockGrowth.{Block, blocks_of, with_line};
 ghost use Rattle.markdown_lines.specs.BlockBeginnings.{Source};
 ghost use Rattle.markdown_lines.specs.SourceLines.{SourceLine, is_blank_rest};
-ghost use Rattle.markdown_lines.specs.Lines.{is_space_or_tab};
+ghost use Rattle.markdown_lines.specs.Lines.{AllPass, is_in_blank_line, is_space_or_tab};
 ghost use Rattle.markdown_plain.specs.Fitting.{AllFitted, BracesStand, FittedBefore, IfFitted};
 ghost use Rattle.markdown_plain.specs.Settled.{IsBuilt};
 ghost use Rattle.markdown_plain.specs.ListLooseness.{blank_from};
@@ -881,6 +881,10 @@ impl<'a> Pass<'a> {
         ensures fits { IfOk result (λ _. (s : Source) → reads_tables s ≡ false
             → Stands s self.old [] nil None 0
             → AllFitted self.old.placing → AllFitted self.new.placing) }
+        ensures left { IfOk result (λ _. (s : Source) → reads_tables s ≡ false
+            → Stands s self.old [] nil None 0 → AllFitted self.new.placing
+            → AllPass is_in_blank_line self.new.placing.builder.text self.new.placing.builder.at
+            (length self.new.placing.builder.text)) }
     {
         let text = self.placing.text();
         let mut ahead = LinesAhead::new(text);
@@ -899,7 +903,7 @@ fn place_all<'a>(alloc: Global, text: &'a str, options: Options) -> Result<Placi
     ensures text { IfOk result (λ made. made.builder.text ≡ text.now) }
     ensures closed { IfOk result (λ made. made.builder.blocks ≡ []) }
     ensures read { IfOk result (λ made. made.builder.at ≡ length text.now) }
-    ensures made { IfOk result (λ made. AllFitted made → (s : Source)
+    ensures made { IfOk result (λ made. (s : Source)
         → s ≡ record { text = text.now; options = options } → reads_tables s ≡ false
         → IsBuilt s made.builder [] (blocks_of s)) }
     ensures fits { IfOk result (λ made. reads_tables (record { text = text.now; options = options })

@@ -6,7 +6,8 @@ use Rattle.std.proofs.lemmas.Str.{IsCharBoundary-start}
 use Rattle.markdown_lines.specs.BlockBeginnings.{Source}
 use Rattle.markdown_lines.specs.Lines.{IsLineFrom}
 use Rattle.markdown_plain.proofs.OpenedFramesLemmas.{both_ok}
-use Rattle.markdown_plain.proofs.WholeTextsLemmas.{boundary_after, stands_first, stands_next, whole_text}
+use Rattle.markdown_plain.proofs.ReadyLinesLemmas.{boundary_after}
+use Rattle.markdown_plain.proofs.WholeTextsLemmas.{fits_next, stands_first, stands_next, white_left, whole_text}
 use Rattle.markdown_plain.proofs.pass.Pass.read_lines.Goals as goal
 
 pub lines-init : goal.lines-init
@@ -17,6 +18,7 @@ lines-init c = record {
   boundary = IsCharBoundary-start c.text-text.result.now c.text-text.utf8;
   fitted = λ fitted. fitted;
   made = λ s tables stands fitted. (fitted, stands_first s c.args.self.now stands);
+  fits = λ s tables stands fitted. fitted;
 }
 
 -- the line that is read is one of the text
@@ -48,6 +50,16 @@ lines-preserved c =
           (subst IsUtf8 text c.text-text.utf8) so_far.1
           (λ before source. c.in_ok-read_line.ensures.stands s before source tables (loop.ahead ∙ text)) fitted in
           (so_far.0, next.1);
+      fits = λ s tables stands fitted.
+          let now = loop.fits s tables stands fitted in
+          let so_far = loop.made s tables stands now in
+          let own = ap (λ (s : Source). s.text) stands.source in
+          let text = c.text-text.ensures ∙ own in
+          fits_next s c.lines.self c.read_line.new.self c.lines.from c.line_from-line.result (loop.same ∙ own)
+          (subst (λ (text : List ℕ). IsLineFrom text c.lines.from c.line_from-line.result) text line.1)
+          (subst (λ (text : List ℕ). IsCharBoundary text c.lines.from) text loop.boundary)
+          (subst IsUtf8 text c.text-text.utf8) so_far.1
+          (λ before source. c.in_ok-read_line.ensures.fits s before source tables (loop.ahead ∙ text)) now;
     }
 
 pub returns-clause-made : goal.returns-clause-made
@@ -64,3 +76,26 @@ returns-clause-made c =
     (both_ok c.close_down.result _ _
     (both_ok c.close_down.result _ _ c.close_down.ensures.forgets c.close_down.ensures.finishes)
     c.close_down.ensures.outside)
+
+pub returns-clause-fits : goal.returns-clause-fits
+returns-clause-fits c =
+    IfOk-weaker c.close_down.result _ _ (λ done told s tables stands fitted.
+    let now = c.lines.invariant.fits s tables stands fitted in
+    let so_far = c.lines.invariant.made s tables stands now in
+    told so_far.1.stands.stands.ready.closable now)
+    c.close_down.ensures.fits
+
+pub returns-clause-left : goal.returns-clause-left
+returns-clause-left c =
+    IfOk-weaker c.close_down.result _ _ (λ done told s tables stands fitted.
+    let text : c.close_down.new.self.placing.builder.text ≡ c.lines.self.placing.builder.text = told.1 in
+    let end : length c.text-text.result.now ≤ c.lines.from = search rules in
+    let whole = text ∙ (c.lines.invariant.same ∙ sym c.text-text.ensures) in
+    let closed = told.0.1 fitted in
+    let so_far = c.lines.invariant.made s tables stands closed.0 in
+    white_left s c.lines.self c.close_down.new.self c.lines.from
+    (subst (λ (text : List ℕ). length text ≤ c.lines.from) (sym whole) end) so_far.1
+    (λ may. told.0.0 may fitted) closed.1 text)
+    (both_ok c.close_down.result _ _
+    (both_ok c.close_down.result _ _ c.close_down.ensures.here c.close_down.ensures.closes)
+    c.close_down.ensures.text)

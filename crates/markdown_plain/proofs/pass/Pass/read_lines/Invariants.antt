@@ -4,7 +4,7 @@ use Rattle.std.specs.Str.{IsCharBoundary}
 use Rattle.markdown_base.specs.Forest.{nil}
 use Rattle.markdown_lines.specs.BlockBeginnings.{Source}
 use Rattle.markdown_block_rules.specs.TableLines.{reads_tables}
-use Rattle.markdown_plain.specs.Fitting.{FittedBefore, IfFitted}
+use Rattle.markdown_plain.specs.Fitting.{AllFitted, FittedBefore, IfFitted}
 use Rattle.markdown_plain.specs.Standing.{Stands}
 use Rattle.markdown_plain.proofs.WholeTextsLemmas.{StandsAt}
 use Rattle.markdown_plain.proofs.pass.Pass.read_lines.Given as goal
@@ -18,6 +18,8 @@ invariant-lines l = record {
   fitted : FittedBefore l.fn.self.placing l.self.placing;
   made : (s : Source) → reads_tables s ≡ false → Stands s l.fn.self [] nil None 0
       → IfFitted l.fn.self.placing l.self.placing (StandsAt s l.self l.from);
+  fits : (s : Source) → reads_tables s ≡ false → Stands s l.fn.self [] nil None 0
+      → AllFitted l.fn.self.placing → AllFitted l.self.placing;
 }
 
 abbrev pub decreases-lines : goal.decreases-lines
