@@ -16,8 +16,6 @@ use Rattle.markdown_plain.specs.Beginning.{IsFirst, IsFound, IsHere, IsInside, T
 use Rattle.markdown_plain.specs.Fitting.{AllFitted, IfFitted}
 use Rattle.markdown_plain.specs.Frames.{Frame, rebuilt}
 use Rattle.markdown_plain.specs.OpenLeaves.{BeginsText}
-use Rattle.markdown_plain.specs.Paragraphs.{has_paragraph}
-use Rattle.markdown_plain.specs.ReachedFrames.{are_none}
 use Rattle.markdown_plain.specs.ReachedLines.{Before, blocks_in, reached_of}
 use Rattle.markdown_plain.specs.Settled.{IsBuilt}
 use Rattle.markdown_plain.specs.Standing.{PlacesFor}

@@ -1,24 +1,22 @@
 -- The turns at the rest of a line: each goes on, and the last of them is over before the range of turns is.
-use Rattle.std.proofs.Common.{◌≡◌, ℕ, ◌+◌, ◌<◌, ◌≤◌, Bool, true, false, length, arith, refl, sym, ap, ◌∙◌, subst}
+use Rattle.std.proofs.Common.{◌≡◌, ℕ, ◌+◌, ◌≤◌, Bool, true, false, arith, refl, sym, ap, ◌∙◌, subst}
 use Rattle.std.proofs.Common.{List, None}
 use Rattle.std.specs.Prelude.{if◌then◌else◌}
 use Rattle.markdown_scan.specs.LineStart.{LineLeft}
 use Rattle.markdown_base.specs.Forest.{Forest}
 use Rattle.markdown_lines.specs.BlockBeginnings.{Source, is_paragraph}
 use Rattle.markdown_lines.specs.Positions.{left_from}
-use Rattle.markdown_lines.specs.SourceLines.{SourceLine, is_blank_rest}
+use Rattle.markdown_lines.specs.SourceLines.{SourceLine}
 use Rattle.markdown_lines.specs.declared.line.Line.{Line}
-use Rattle.markdown_lines.specs.BlockBeginnings as beginning
 use Rattle.markdown_block_rules.specs.BlockGrowth.{Block}
 use Rattle.markdown_plain.specs.declared.block_pass.LineRest.{LineRest}
 use Rattle.markdown_plain.specs.declared.pass.Pass.{Pass}
-use Rattle.markdown_plain.specs.Beginning.{HasBegun, IsHere, IsLeft, ReadsOn, Turn, first, later, turn_place}
+use Rattle.markdown_plain.specs.Beginning.{HasBegun, IsHere, IsLeft, Turn, first, later}
 use Rattle.markdown_plain.specs.Fitting.{AllFitted, FittedBefore, IfFitted}
-use Rattle.markdown_plain.specs.Paragraphs.{source_of}
 use Rattle.markdown_plain.specs.Standing.{PlacesFor}
 use Rattle.markdown_plain.specs.TextLines.{IsTextFrom}
-use Rattle.markdown_plain.specs.Turns.{KeepsReading, StillReads}
-use Rattle.markdown_plain.proofs.TextHereLemmas.{IsTextLeft, text_here}
+use Rattle.markdown_plain.specs.Turns.{KeepsReading}
+use Rattle.markdown_plain.proofs.TextHereLemmas.{text_here}
 use Rattle.markdown_plain.proofs.TextStepsLemmas.{AddsText}
 
 -- at either turn, this is left of the line
@@ -34,15 +32,20 @@ here_text s pass rest (first before line) source blocks here = ap (λ (s : Sourc
 here_text s pass rest (later frames) source blocks here = ap (λ (s : Source). s.text) here.opened.source
 
 -- before the first turn
-pub before_turns : (pass : Pass) (rest : LineRest) → KeepsReading pass pass rest rest 0
-before_turns pass rest s turn source blocks here row fitted = (fitted, record {
-  turn = turn;
-  source = source;
-  here = here;
-  line = refl;
-  row = row;
-  far = omega arith;
-})
+pub before_turns : (pass : Pass) (rest : LineRest) → KeepsReading pass pass rest rest rest.line.start
+before_turns pass rest s turn source blocks here row fitted = (
+  fitted,
+  record {
+    turn = turn;
+    source = source;
+    here = here;
+    line = refl;
+    row = row;
+    far =
+        let after : rest.line.start ≤ rest.position.at = (here_left s pass rest turn source blocks here).after in
+        omega (arith, after);
+  },
+)
 
 -- what becomes of the rest of a line at a turn
 abbrev pub BeginsThere : Pass → Pass → (old new : LineRest) → Bool → Type 0
@@ -56,15 +59,17 @@ pub next_turn : (before now new : Pass) (old rest next : LineRest) (place : ℕ)
     → BeginsThere now new rest next true → KeepsReading before new old next (place + 1)
 next_turn before now new old rest next place keeps back begins s turn source blocks here row fitted =
     let still = keeps s turn source blocks here row (back fitted) in
-    let begun = begins s still.1.turn still.1.source blocks still.1.here still.1.row fitted in
-    (still.0, record {
-      turn = begun.1.turn;
-      source = begun.1.source;
-      here = begun.1.here;
-      line = begun.1.line ∙ still.1.line;
-      row = begun.1.row ∙ still.1.row;
-      far = let far = still.1.far in let more = begun.1.later in omega (arith, far, more);
-    })
+    let begun = begins s still.1.turn still.1.source blocks still.1.here still.1.row fitted in (
+      still.0,
+      record {
+        turn = begun.1.turn;
+        source = begun.1.source;
+        here = begun.1.here;
+        line = begun.1.line ∙ still.1.line;
+        row = begun.1.row ∙ still.1.row;
+        far = let far = still.1.far in let more = begun.1.later in omega (arith, far, more);
+      },
+    )
 
 -- after one that left nothing
 pub last_turn : (before now new : Pass) (old rest next : LineRest) (place : ℕ) → KeepsReading before now old rest place

@@ -1,6 +1,6 @@
 -- The blocks of a whole text, line by line: what the pass stands for after each of its lines, and once all blocks are
 -- closed.
-use Rattle.std.proofs.Common.{◌≡◌, ⊎_elim, ℕ, ◌+◌, ◌-◌, ◌<◌, ◌≤◌, Bool, true, false, List, [], ◌∷◌, Option, Some, None}
+use Rattle.std.proofs.Common.{◌≡◌, ⊎_elim, ℕ, ◌+◌, ◌-◌, ◌<◌, ◌≤◌, true, false, List, [], ◌∷◌, Option, Some, None}
 use Rattle.std.proofs.Common.{drop, get_or, get_or-drop, length, length-drop, arith, refl, sym, ap, ◌∙◌, subst}
 use Rattle.std.specs.Prelude.{slice_range, if◌then◌else◌}
 use Rattle.std.specs.List.{fold}
@@ -10,7 +10,6 @@ use Rattle.markdown_base.proofs.ByteListLemmas.{part_length}
 use Rattle.markdown_base.specs.Forest.{Forest, nil}
 use Rattle.markdown_builder.specs.BuilderView.{BuilderView, nothing_made}
 use Rattle.markdown_builder.specs.TreeLevels.{followed_by}
-use Rattle.markdown_scan.specs.LineStart.{LineLeft}
 use Rattle.markdown_lines.specs.BlockBeginnings.{Source}
 use Rattle.markdown_lines.specs.Lines.{IsLineFrom, ending_length, is_line_ending}
 use Rattle.markdown_lines.specs.MetadataBlocks.{lines_at}
@@ -25,7 +24,7 @@ use Rattle.markdown_block_rules.specs.BlockRules.{footnotes_in, shown_blocks}
 use Rattle.markdown_block_rules.specs.TableLines.{reads_tables}
 use Rattle.markdown_plain.specs.declared.pass.Pass.{Pass}
 use Rattle.markdown_plain.specs.Closing.{MayClose, MayEnd}
-use Rattle.markdown_plain.specs.Fitting.{AllFitted, FittedBefore, IfFitted}
+use Rattle.markdown_plain.specs.Fitting.{AllFitted, IfFitted}
 use Rattle.markdown_plain.specs.Frames.{Frame, rebuilt}
 use Rattle.markdown_plain.specs.OpenLeaves.{leaf_block}
 use Rattle.markdown_plain.specs.Standing.{HasLast, IsSource, Stands, StandsFor, with_last}
@@ -47,7 +46,12 @@ source_at pass at line is boundary =
     let begins = is.begins in
     let size = ap length read.0 ∙ part_length text line.start line.stop is.content.high in
     record {
-      left = ap (λ n. record { scanned = n; owed = 0; column = 0; bytes = slice_range text line.start line.stop }) begins
+      left = ap (λ n. record {
+        scanned = n;
+        owed = 0;
+        column = 0;
+        bytes = slice_range text line.start line.stop;
+      }) begins
           ∙ ap (λ (bytes : List ℕ). record { scanned = at; owed = 0; column = 0; bytes = bytes }) (sym read.0);
       stop = omega (arith, size, low, begins);
       next = sym read.1;

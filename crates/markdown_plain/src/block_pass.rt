@@ -363,9 +363,8 @@ impl<'a> Pass<'a> {
             (PlacesFor s self.new rest.old.line.next blocks)) }
     {
         // each container takes at least one byte of the line; what is left after the last one is read too, and a line
-        // that underlines definitions, or ends a table, is read twice
-        let turns = rest.line.next as u128 + 3;
-        'blocks: for _turn in 0..turns {
+        // that underlines definitions, or ends a table, is read twice; 3 more than the last byte offset need more bits
+        'blocks: for _turn in rest.line.start as u128..rest.line.next as u128 + 3 {
             if !self.read_block(rest)? {
                 break;
             }

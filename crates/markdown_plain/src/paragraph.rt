@@ -4,8 +4,8 @@ ghost use Rattle.std.specs.Prelude.{◌≡◌, ℕ, ◌<◌, ◌≤◌, ◌++◌
 ghost use Rattle.std.specs.Prelude.{MatchOption, ◌+◌, ◌==◌, drop, not, slice_get, take, if◌then◌else◌};
 ghost use Rattle.markdown_base.specs.declared.item.ItemBody.TheVariants as body;
 ghost use Rattle.markdown_builder.specs.BuilderView.{Opens};
-ghost use Rattle.markdown_plain.specs.Fitting.{BracesStand, FittedBefore, IfFitted, GoesOn, OpensHeading, OpensHeadingOf};
-ghost use Rattle.markdown_plain.specs.Fitting.{defining};
+ghost use Rattle.markdown_plain.specs.Fitting.{BracesStand, FittedBefore, IfFitted, GoesOn, OpensHeading};
+ghost use Rattle.markdown_plain.specs.Fitting.{OpensHeadingOf, defining};
 ghost use Rattle.markdown_plain.specs.OpenBlocks.{room_in, without_leaf};
 ghost use Rattle.markdown_plain.specs.Paragraphs.{end_of, has_paragraph, is_item_in, lines_end};
 ghost use Rattle.markdown_plain.specs.Paragraphs.{paragraph_end, divided_of, first_task, shown_ended};

@@ -1,12 +1,11 @@
 -- The line is one that the open leaf takes, a blank one, text, or one whose rest is read from its first turn on.
-use Rattle.std.proofs.Common.{◌≡◌, ◌≤◌, ◌<◌, ◌&&◌, ◌∙◌, List, ℕ, None, ap, arith, false, nat_le, refl, rules, subst}
+use Rattle.std.proofs.Common.{◌≡◌, ◌&&◌, ◌∙◌, List, ℕ, None, ap, arith, false, nat_le, refl, rules, subst}
 use Rattle.std.proofs.Common.{sym, take, true, true≢false}
 use Rattle.std.specs.List.{list_all}
 use Rattle.std.specs.Str.{IsUtf8}
 use Rattle.std.proofs.lemmas.Bool.Decides.{nat_tests}
 use Rattle.std.proofs.lemmas.Result.{IfOk-weaker}
 use Rattle.markdown_lines.specs.BlockBeginnings.{Source}
-use Rattle.markdown_lines.specs.SourceLines.{SourceLine, is_blank_rest}
 use Rattle.markdown_block_rules.specs.BlockGrowth.{with_line}
 use Rattle.markdown_plain.specs.declared.block_pass.LineRest.{LineRest}
 use Rattle.markdown_plain.specs.declared.pass.Pass.{Pass}
@@ -14,7 +13,7 @@ use Rattle.markdown_plain.specs.Beginning.{first, reads_metadata}
 use Rattle.markdown_plain.specs.Fitting.{AllFitted, IfFitted}
 use Rattle.markdown_plain.specs.OpenBlocks.{is_list}
 use Rattle.markdown_plain.specs.ReachedLines.{Before, IsReachedBy, blocks_before, reached_of}
-use Rattle.markdown_plain.specs.Standing.{IsSource, PlacesFor, Stands, StandsFor}
+use Rattle.markdown_plain.specs.Standing.{PlacesFor, Stands, StandsFor}
 use Rattle.markdown_plain.specs.TextLines.{IsTextFrom}
 use Rattle.markdown_plain.proofs.BlankStandingLemmas.{none_inside}
 use Rattle.markdown_plain.proofs.FirstTurnsLemmas.{IsMadeOf, LeavesAll, first_turn, leaf_leaves, outside_leaves}
@@ -207,8 +206,7 @@ returns-clause-stands c = λ s before source tables same stands is fitted.
     (off.off s before source (subst (λ (p : Pass). IsReachedBy s p c.args.line found before source) off.same by)) in
     let placed = c.in_ok-read_rest.ensures.places s (first before source) (reached_of s before source).rest
     (with_line s (blocks_before before) source) turn read.row
-    (subst AllFitted c.see_content-2.ensures.placing fitted) in
-    (
+    (subst AllFitted c.see_content-2.ensures.placing fitted) in (
       subst (λ (p : Pass). AllFitted p.placing) off.same placed.0,
       c.see_content-2.ensures.stands s _ (subst (λ line. PlacesFor s c.read_rest.new.self line.next
           (with_line s (blocks_before before) source)) read.line placed.1),

@@ -1,5 +1,5 @@
 -- At each turn a block begins, of which more is to be read, or not.
-use Rattle.std.proofs.Common.{◌≤◌, ◌+◌, List, ℕ, arith, rules, subst}
+use Rattle.std.proofs.Common.{◌+◌, List, ℕ, arith, rules, subst}
 use Rattle.markdown_plain.specs.TextLines.{IsTextFrom}
 use Rattle.markdown_plain.proofs.TextStepsLemmas.{AddsText}
 use Rattle.markdown_plain.proofs.TurnsLemmas.{BeginsThere, before_turns, last_turn, next_turn, text_turn, turns_end}
