@@ -128,12 +128,14 @@ none_opens options text next None none = refl
 none_opens options text next (Some metadata.YamlStyle) none =
     not_read (is_read ENABLE_YAML_STYLE_METADATA_BLOCKS options)
     (are_of_metadata metadata.YamlStyle (lines_at text next)) metadata.YamlStyle
-    (neither (is_read ENABLE_YAML_STYLE_METADATA_BLOCKS options) (is_read ENABLE_PLUSES_DELIMITED_METADATA_BLOCKS options)
+    (neither (is_read ENABLE_YAML_STYLE_METADATA_BLOCKS options)
+    (is_read ENABLE_PLUSES_DELIMITED_METADATA_BLOCKS options)
     none).0
 none_opens options text next (Some metadata.PlusesStyle) none =
     not_read (is_read ENABLE_PLUSES_DELIMITED_METADATA_BLOCKS options)
     (are_of_metadata metadata.PlusesStyle (lines_at text next)) metadata.PlusesStyle
-    (neither (is_read ENABLE_YAML_STYLE_METADATA_BLOCKS options) (is_read ENABLE_PLUSES_DELIMITED_METADATA_BLOCKS options)
+    (neither (is_read ENABLE_YAML_STYLE_METADATA_BLOCKS options)
+    (is_read ENABLE_PLUSES_DELIMITED_METADATA_BLOCKS options)
     none).1
 
 -- so whether it is directly under the root is not asked

@@ -652,7 +652,8 @@ no_row s old now rest is (later frames) source blocks none off state = none stat
 
 -- what was begun does not depend on what the reader has kept of the line
 pub begun_old : (s : Source) (pass : Pass) (old new : LineRest) (reader : LineReader) (blocks : Forest Block)
-    (more : Bool) → HasBegun s pass (record old { reader = reader }) new blocks more → HasBegun s pass old new blocks more
+    (more : Bool) → HasBegun s pass (record old { reader = reader }) new blocks more
+    → HasBegun s pass old new blocks more
 begun_old s pass old new reader blocks true reads = record {
   turn = reads.turn;
   source = reads.source;

@@ -101,7 +101,8 @@ module _ (text : List ℕ) (from : ℕ) (utf8 : IsUtf8 text) where
       second true other fails = absurd (true≢false fails)
       second false other fails = fails
 
-  pub space_within : (n : ℕ) (left : LineLeft) → IsWithin text from left → IsWithin text from (leading_space n left).after
+  pub space_within : (n : ℕ) (left : LineLeft) → IsWithin text from left → IsWithin text from
+      (leading_space n left).after
   space_within n left is =
       on_test (λ (s : Space). IsWithin text from s.after) (nat_le n left.owed) _ _
       (λ e. record { own = is.own; boundary = is.boundary; low = is.low })

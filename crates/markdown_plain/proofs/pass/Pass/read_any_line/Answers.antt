@@ -20,7 +20,9 @@ use Rattle.markdown_plain.proofs.FirstTurnsLemmas.{IsMadeOf, LeavesAll, first_tu
 use Rattle.markdown_plain.proofs.FirstTurnsLemmas.{unreached_leaves}
 use Rattle.markdown_plain.proofs.LeafLinesLemmas.{no_table_open, reached_by}
 use Rattle.markdown_plain.proofs.TextReachedLemmas.{text_reached}
-use Rattle.markdown_plain.proofs.pass.Pass.read_any_line.Goals.{else-reached-via-then-reached+then-is_in_leaf+in_ok-goes_on+else-branch}
+use Rattle.markdown_plain.proofs.pass.Pass.read_any_line.Goals.{
+  else-reached-via-then-reached+then-is_in_leaf+in_ok-goes_on+else-branch
+}
 use Rattle.markdown_plain.proofs.pass.Pass.read_any_line.Goals.{else-reached-via-then-reached+else-is_in_leaf}
 use Rattle.markdown_plain.proofs.pass.Pass.read_any_line.Goals.{else-reached-via-else-reached}
 use Rattle.markdown_plain.proofs.pass.Pass.read_any_line.Goals.{then-reached-2, else-reached-2}

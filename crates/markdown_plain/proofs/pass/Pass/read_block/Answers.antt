@@ -16,7 +16,8 @@ returns-in-Nothing-clause-begins c =
     let at = c.in_ok-begun.begun.at in
     let found = c.in_ok-begun.ensures in
     let table = c.in_ok-reads_table.ensures in
-    let kept = (no_row s c.args.self.now c.reads_table.new.self rest _ turn source blocks table.none table.off state).1 in
+    let kept = (no_row s c.args.self.now c.reads_table.new.self rest _ turn source blocks table.none table.off
+    state).1 in
     let met = meets s c.args.self.now c.reads_table.new.self rest reader turn source blocks at
     c.in_ok-begun.begun.start start.Nothing kept
     (record { begins = found.begins; place = found.at; same = found.same }) c.in-Nothing.is state in
@@ -32,7 +33,8 @@ returns-in-Text-clause-begins c =
     let at = c.in_ok-begun.begun.at in
     let found = c.in_ok-begun.ensures in
     let table = c.in_ok-reads_table.ensures in
-    let kept = (no_row s c.args.self.now c.reads_table.new.self rest _ turn source blocks table.none table.off state).1 in
+    let kept = (no_row s c.args.self.now c.reads_table.new.self rest _ turn source blocks table.none table.off
+    state).1 in
     let met = meets s c.args.self.now c.reads_table.new.self rest reader turn source blocks at
     c.in_ok-begun.begun.start start.Text kept
     (record { begins = found.begins; place = found.at; same = found.same }) c.in-Text.is state in
@@ -48,7 +50,8 @@ returns-in-IndentedCode-clause-begins c =
     let at = c.in_ok-begun.begun.at in
     let found = c.in_ok-begun.ensures in
     let table = c.in_ok-reads_table.ensures in
-    let kept = (no_row s c.args.self.now c.reads_table.new.self rest _ turn source blocks table.none table.off state).1 in
+    let kept = (no_row s c.args.self.now c.reads_table.new.self rest _ turn source blocks table.none table.off
+    state).1 in
     let met = meets s c.args.self.now c.reads_table.new.self rest reader turn source blocks at
     c.in_ok-begun.begun.start (start.IndentedCode c.in-IndentedCode.code) kept
     (record { begins = found.begins; place = found.at; same = found.same }) c.in-IndentedCode.is state in
@@ -64,7 +67,8 @@ returns-in-Quote-clause-begins c =
     let at = c.in_ok-begun.begun.at in
     let found = c.in_ok-begun.ensures in
     let table = c.in_ok-reads_table.ensures in
-    let kept = (no_row s c.args.self.now c.reads_table.new.self rest _ turn source blocks table.none table.off state).1 in
+    let kept = (no_row s c.args.self.now c.reads_table.new.self rest _ turn source blocks table.none table.off
+    state).1 in
     let met = meets s c.args.self.now c.reads_table.new.self rest reader turn source blocks at
     c.in_ok-begun.begun.start (start.Quote c.in-Quote.inside) kept
     (record { begins = found.begins; place = found.at; same = found.same }) c.in-Quote.is state in
@@ -80,7 +84,8 @@ returns-in-Alert-clause-begins c =
     let at = c.in_ok-begun.begun.at in
     let found = c.in_ok-begun.ensures in
     let table = c.in_ok-reads_table.ensures in
-    let kept = (no_row s c.args.self.now c.reads_table.new.self rest _ turn source blocks table.none table.off state).1 in
+    let kept = (no_row s c.args.self.now c.reads_table.new.self rest _ turn source blocks table.none table.off
+    state).1 in
     let met = meets s c.args.self.now c.reads_table.new.self rest reader turn source blocks at
     c.in_ok-begun.begun.start (start.Alert c.in-Alert.kind) kept
     (record { begins = found.begins; place = found.at; same = found.same }) c.in-Alert.is state in
@@ -96,7 +101,8 @@ returns-in-Heading-clause-begins c =
     let at = c.in_ok-begun.begun.at in
     let found = c.in_ok-begun.ensures in
     let table = c.in_ok-reads_table.ensures in
-    let kept = (no_row s c.args.self.now c.reads_table.new.self rest _ turn source blocks table.none table.off state).1 in
+    let kept = (no_row s c.args.self.now c.reads_table.new.self rest _ turn source blocks table.none table.off
+    state).1 in
     let met = meets s c.args.self.now c.reads_table.new.self rest reader turn source blocks at
     c.in_ok-begun.begun.start (start.Heading c.in-Heading.heading) kept
     (record { begins = found.begins; place = found.at; same = found.same }) c.in-Heading.is state in
@@ -112,7 +118,8 @@ returns-in-Fence-clause-begins c =
     let at = c.in_ok-begun.begun.at in
     let found = c.in_ok-begun.ensures in
     let table = c.in_ok-reads_table.ensures in
-    let kept = (no_row s c.args.self.now c.reads_table.new.self rest _ turn source blocks table.none table.off state).1 in
+    let kept = (no_row s c.args.self.now c.reads_table.new.self rest _ turn source blocks table.none table.off
+    state).1 in
     let met = meets s c.args.self.now c.reads_table.new.self rest reader turn source blocks at
     c.in_ok-begun.begun.start (start.Fence c.in-Fence.opening) kept
     (record { begins = found.begins; place = found.at; same = found.same }) c.in-Fence.is state in
@@ -128,7 +135,8 @@ returns-in-Html-clause-begins c =
     let at = c.in_ok-begun.begun.at in
     let found = c.in_ok-begun.ensures in
     let table = c.in_ok-reads_table.ensures in
-    let kept = (no_row s c.args.self.now c.reads_table.new.self rest _ turn source blocks table.none table.off state).1 in
+    let kept = (no_row s c.args.self.now c.reads_table.new.self rest _ turn source blocks table.none table.off
+    state).1 in
     let met = meets s c.args.self.now c.reads_table.new.self rest reader turn source blocks at
     c.in_ok-begun.begun.start (start.Html c.in-Html.kind) kept
     (record { begins = found.begins; place = found.at; same = found.same }) c.in-Html.is state in
@@ -144,7 +152,8 @@ returns-in-Footnote-clause-begins c =
     let at = c.in_ok-begun.begun.at in
     let found = c.in_ok-begun.ensures in
     let table = c.in_ok-reads_table.ensures in
-    let kept = (no_row s c.args.self.now c.reads_table.new.self rest _ turn source blocks table.none table.off state).1 in
+    let kept = (no_row s c.args.self.now c.reads_table.new.self rest _ turn source blocks table.none table.off
+    state).1 in
     let met = meets s c.args.self.now c.reads_table.new.self rest reader turn source blocks at
     c.in_ok-begun.begun.start (start.Footnote c.in-Footnote.label c.in-Footnote.inside) kept
     (record { begins = found.begins; place = found.at; same = found.same }) c.in-Footnote.is state in
@@ -162,7 +171,8 @@ returns-in-ThematicBreak-clause-begins c =
     let at = c.in_ok-begun.begun.at in
     let found = c.in_ok-begun.ensures in
     let table = c.in_ok-reads_table.ensures in
-    let kept = (no_row s c.args.self.now c.reads_table.new.self rest _ turn source blocks table.none table.off state).1 in
+    let kept = (no_row s c.args.self.now c.reads_table.new.self rest _ turn source blocks table.none table.off
+    state).1 in
     let met = meets s c.args.self.now c.reads_table.new.self rest reader turn source blocks at
     c.in_ok-begun.begun.start start.ThematicBreak kept
     (record { begins = found.begins; place = found.at; same = found.same }) c.in-ThematicBreak.is state in
@@ -178,7 +188,8 @@ returns-in-Item-clause-begins c =
     let at = c.in_ok-begun.begun.at in
     let found = c.in_ok-begun.ensures in
     let table = c.in_ok-reads_table.ensures in
-    let kept = (no_row s c.args.self.now c.reads_table.new.self rest _ turn source blocks table.none table.off state).1 in
+    let kept = (no_row s c.args.self.now c.reads_table.new.self rest _ turn source blocks table.none table.off
+    state).1 in
     let met = meets s c.args.self.now c.reads_table.new.self rest reader turn source blocks at
     c.in_ok-begun.begun.start (start.Item c.in-Item.item) kept
     (record { begins = found.begins; place = found.at; same = found.same }) c.in-Item.is state in
@@ -194,7 +205,8 @@ returns-in-Metadata-clause-begins c =
     let at = c.in_ok-begun.begun.at in
     let found = c.in_ok-begun.ensures in
     let table = c.in_ok-reads_table.ensures in
-    let kept = (no_row s c.args.self.now c.reads_table.new.self rest _ turn source blocks table.none table.off state).1 in
+    let kept = (no_row s c.args.self.now c.reads_table.new.self rest _ turn source blocks table.none table.off
+    state).1 in
     let met = meets s c.args.self.now c.reads_table.new.self rest reader turn source blocks at
     c.in_ok-begun.begun.start (start.Metadata c.in-Metadata.kind) kept
     (record { begins = found.begins; place = found.at; same = found.same }) c.in-Metadata.is state in
@@ -210,7 +222,8 @@ returns-in-Underline-clause-begins c =
     let at = c.in_ok-begun.begun.at in
     let found = c.in_ok-begun.ensures in
     let table = c.in_ok-reads_table.ensures in
-    let kept = (no_row s c.args.self.now c.reads_table.new.self rest _ turn source blocks table.none table.off state).1 in
+    let kept = (no_row s c.args.self.now c.reads_table.new.self rest _ turn source blocks table.none table.off
+    state).1 in
     let met = meets s c.args.self.now c.reads_table.new.self rest reader turn source blocks at
     c.in_ok-begun.begun.start (start.Underline c.in-Underline.level) kept
     (record { begins = found.begins; place = found.at; same = found.same }) c.in-Underline.is state in
