@@ -75,3 +75,4 @@ pub mod TextHereLemmas
 pub mod TurnsLemmas
 -- on a whole text
 pub mod WholeTextsLemmas
+pub mod BlockResultsLemmas

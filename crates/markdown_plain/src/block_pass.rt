@@ -6,6 +6,7 @@ ghost use Rattle.std.specs.List.{list_all};
 ghost use Rattle.std.specs.Str.{IsCharBoundary};
 ghost use Rattle.markdown_base.specs.BlockTree.{tree_of};
 ghost use Rattle.markdown_base.specs.Forest.{Forest, nil};
+ghost use Rattle.markdown_block_rules.specs.BlockResults.{IsBlockResult};
 ghost use Rattle.markdown_block_rules.specs.BlockGrowth.{Block, blocks_of, with_line};
 ghost use Rattle.markdown_lines.specs.BlockBeginnings.{Source};
 ghost use Rattle.markdown_lines.specs.SourceLines.{SourceLine, is_blank_rest};
@@ -784,6 +785,8 @@ fn place_all<'a>(alloc: Global, text: &'a str, options: Options) -> Result<Placi
     ensures made { IfOk result (λ made. AllFitted made → (s : Source)
         → s ≡ record { text = text.now; options = options } → reads_tables s ≡ false
         → IsBuilt s made.builder [] (blocks_of s)) }
+    ensures fits { IfOk result (λ made. reads_tables (record { text = text.now; options = options })
+        ≡ false → AllFitted made) }
 {
     let mut pass = Pass::new(alloc, text, options)?;
     pass.read_lines()?;
@@ -826,13 +829,17 @@ pub fn blocks<'a>(
     ensures tight { IfOk result (λ made. TightInTightLists made.0.nodes) }
     ensures headings { IfOk result (λ made. HeadingsHoldInline (tree_of made.0.nodes)) }
     ensures rows { IfOk result (λ made. HasEvenRows (shown_result made.0.nodes made.1)) }
+    ensures blocks { IfOk result (λ made.
+        reads_tables (record { text = text.now; options = options }) ≡ false
+        → IsBlockResult (record { text = text.now; options = options }) made.0.nodes made.1) }
 {
+    let placing = place_all(alloc, text, options)?;
     let Placing {
         builder,
         misfits: _,
         stretches,
         alloc: _,
-    } = place_all(alloc, text, options)?;
+    } = placing;
     drop(stretches);
     Ok(builder.finish())
 }
