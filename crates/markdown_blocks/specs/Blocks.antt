@@ -30,8 +30,8 @@ abbrev pub block_extended : Blocks → Bool
 block_extended b = b.extended
 
 -- the tree
-abbrev pub block_tree : Blocks → Arena Item
-block_tree b = b.tree
+abbrev pub block_arena : Blocks → Arena Item
+block_arena b = b.tree
 
 -- the parts that its items refer to
 abbrev pub block_parts : Blocks → BlockParts
@@ -52,12 +52,12 @@ pub record IsOfEntry (extended : Bool) (text : List ℕ) (options : Options) (b 
   pub holds_text : text_of_blocks b ≡ text
   pub holds_options : block_options b ≡ options
   pub holds_entry : block_extended b ≡ extended
-  pub well_formed : IsWellFormed (text_of_blocks b) (block_tree b).nodes (block_parts b)
-  pub covers : Covers (text_of_blocks b) (block_tree b).nodes (block_parts b)
-  pub headings_hold_inline : HeadingsHoldInline (tree_of (block_tree b).nodes)
-  pub has_even_rows : HasEvenRows (shown_result (block_tree b).nodes (block_parts b))
+  pub well_formed : IsWellFormed (text_of_blocks b) (block_arena b).nodes (block_parts b)
+  pub covers : Covers (text_of_blocks b) (block_arena b).nodes (block_parts b)
+  pub headings_hold_inline : HeadingsHoldInline (tree_of (block_arena b).nodes)
+  pub has_even_rows : HasEvenRows (shown_result (block_arena b).nodes (block_parts b))
   pub by_rules : tables_are_read extended options ≡ false
-      → IsBlockResult (source_for extended text options) (block_tree b).nodes (block_parts b)
+      → IsBlockResult (source_for extended text options) (block_arena b).nodes (block_parts b)
 
 -- the same of the present entry, and of the extended one
 abbrev pub IsOfText : (text : List ℕ) → Options → Blocks → Type 0
