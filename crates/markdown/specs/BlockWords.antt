@@ -1,7 +1,7 @@
 -- Definitions for clauses on block results, trees and items, re-exported so that a caller names this crate alone.
 
 -- a block result
-pub use Rattle.markdown_blocks.specs.Blocks.{text_of_blocks, block_options, block_extended, block_tree, block_parts}
+pub use Rattle.markdown_blocks.specs.Blocks.{text_of_blocks, block_options, block_extended, block_arena, block_parts}
 pub use Rattle.markdown_blocks.specs.Blocks.{IsOfEntry, IsOfText, IsOfExtended}
 pub use Rattle.markdown_blocks.specs.declared.blocks.Blocks.{Blocks}
 pub use Rattle.markdown_base.specs.WellFormed.{IsWellFormed, KeepsRules, AllKeepRules, PartCounts, counts_of}

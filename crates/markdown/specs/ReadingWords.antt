@@ -2,7 +2,7 @@
 
 -- the reading of a block result
 pub use Rattle.markdown_inline.specs.Elements.{Element, question, event, Placed, events_of, questions_of}
-pub use Rattle.markdown_inline.specs.ParserLeft.{reading_of, expansion_limit, block_definitions, options_read}
+pub use Rattle.markdown_inline.specs.ParserLeft.{reading_of, expansion_limit, findable_definitions, options_read}
 pub use Rattle.markdown_document.specs.Origins.{Origin, sliced, inlined, made, IsSliceWithin}
 pub use Rattle.markdown_document.specs.LinkOrigins.{LinkOrigins, destination_origin, IsLinkFrom, IsTitleFrom}
 pub use Rattle.markdown_document.specs.Places.{follows_pipe, origin_start}

@@ -3,6 +3,7 @@ pub mod TableLines
 pub mod BlockGrowth
 pub mod LineContents
 pub mod BlockRules
+pub mod BlockResults
 -- the definitions of lower crates on which these rest
 pub use Rattle.markdown_lines.specs.SourceLines
 pub use Rattle.markdown_lines.specs.BlockBeginnings

@@ -4,3 +4,4 @@ pub mod NameLemmas
 pub mod NodeLemmas
 pub mod NodeRulesLemmas
 pub mod ReachLemmas
+pub mod EntryLemmas

@@ -30,7 +30,7 @@ pub struct Blocks<'a> {
 }
 
 impl<'a> Blocks<'a> {
-    ghost use Rattle.markdown_blocks.specs.Blocks.{text_of_blocks, block_options, block_extended, block_tree, block_parts};
+    ghost use Rattle.markdown_blocks.specs.Blocks.{text_of_blocks, block_options, block_extended, block_arena, block_parts};
     ghost use Rattle.markdown_blocks.specs.Blocks.{IsOfEntry, IsOfText, IsOfExtended};
 
     /// Returns the block result that is passed in, for the present entry, if it is well formed: if it keeps nine rules.
@@ -65,10 +65,10 @@ impl<'a> Blocks<'a> {
     ) -> Result<Blocks<'a>, Fault>
         ensures holds { IfOk result (λ b.
             (text_of_blocks b ≡ text.now) × (block_options b ≡ options)
-            × (block_tree b ≡ tree) × (block_parts b ≡ parts.entry)) }
+            × (block_arena b ≡ tree) × (block_parts b ≡ parts.entry)) }
         ensures entry { IfOk result (λ b. block_extended b ≡ false) }
         ensures rules { IfOk result (λ b.
-            IsWellFormed (text_of_blocks b) (block_tree b).nodes (block_parts b)) }
+            IsWellFormed (text_of_blocks b) (block_arena b).nodes (block_parts b)) }
 
         ensures refused { IfErr result (λ fault.
             fault ≡ Fault.Blocks → IsWellFormed text.now tree.nodes parts.entry → ⊥) }
@@ -106,10 +106,10 @@ impl<'a> Blocks<'a> {
     ) -> Result<Blocks<'a>, Fault>
         ensures holds { IfOk result (λ b.
             (text_of_blocks b ≡ text.now) × (block_options b ≡ options)
-            × (block_tree b ≡ tree) × (block_parts b ≡ parts.entry)) }
+            × (block_arena b ≡ tree) × (block_parts b ≡ parts.entry)) }
         ensures entry { IfOk result (λ b. block_extended b ≡ true) }
         ensures rules { IfOk result (λ b.
-            IsWellFormed (text_of_blocks b) (block_tree b).nodes (block_parts b)) }
+            IsWellFormed (text_of_blocks b) (block_arena b).nodes (block_parts b)) }
 
         ensures refused { IfErr result (λ fault.
             fault ≡ Fault.Blocks → IsWellFormed text.now tree.nodes parts.entry → ⊥) }
@@ -137,7 +137,7 @@ impl<'a> Blocks<'a> {
     pub fn into_parts(self) -> (&'a str, Options, Tree<Item>, BlockParts<'a>)
         ensures parts { (result.0.now ≡ text_of_blocks self.entry)
             × (result.1 ≡ block_options self.entry)
-            × (result.2 ≡ block_tree self.entry) × (result.3 ≡ block_parts self.entry) }
+            × (result.2 ≡ block_arena self.entry) × (result.3 ≡ block_parts self.entry) }
         ensures rules { IsWellFormed result.0.now result.2.nodes result.3 }
     {
         (self.text, self.options, self.tree, self.parts)

@@ -4,7 +4,7 @@ use Rattle.std.specs.Prelude.{slice_range}
 use Rattle.markdown_base.specs.BlockTree.{Numbered, tree_of}
 use Rattle.markdown_base.specs.Forest.{Forest, nil, node, Each, relabelled}
 use Rattle.markdown_base.specs.WellFormed.{AllKeepRules, PartCounts, counts_of}
-use Rattle.markdown_blocks.specs.Blocks.{block_parts, block_tree, text_of_blocks}
+use Rattle.markdown_blocks.specs.Blocks.{block_parts, block_arena, text_of_blocks}
 use Rattle.markdown_document.specs.Document.{Plain, Shape, backslash_break, document, enclosed, is_unresolved, leaf}
 use Rattle.markdown_document.specs.Document.{no_notes, plain, tree_node_of, unresolved}
 use Rattle.markdown_document.specs.EnclosingBlocks.{EnclosingBlocks, inside_node, no_blocks}
@@ -65,7 +65,7 @@ pub block_slices-law : BlockSlicesLaw
 block_slices-law blocks asks answers =
     let source = text_of_blocks blocks in
     let tables = tables_at_start (block_parts blocks) in
-    let nodes = (block_tree blocks).nodes in
+    let nodes = (block_arena blocks).nodes in
     document_in (setting_of source (rules_of blocks asks)) (no_blocks source) (document source tables nodes)
     (document_in_place source nodes (block_parts blocks) tables (rules_of blocks asks) blocks.well_formed)
     (none_refer source tables (counts_of (block_parts blocks)) (tree_of nodes) blocks.well_formed.rules)

@@ -34,10 +34,10 @@ use Rattle.markdown_base.specs.declared.item.ItemBody.{ItemBody}
 use Rattle.markdown_base.specs.declared.node.Node.{Node}
 use Rattle.markdown_base.proofs.ForestLemmas.{Throughout-weaker, relabelled-Throughout, relabelled-relabelled}
 use Rattle.markdown_base.specs.Questions.{Answers}
-use Rattle.markdown_blocks.specs.Blocks.{text_of_blocks, block_tree, block_parts, IsOfEntry}
+use Rattle.markdown_blocks.specs.Blocks.{text_of_blocks, block_arena, block_parts, IsOfEntry}
 use Rattle.markdown_blocks.specs.declared.blocks.Blocks.{Blocks}
 use Rattle.markdown_inline.specs.ParserLeft.{elements, rules_of, reading_of, expansion_limit, ReadsBlocks, ReadsEntry}
-use Rattle.markdown_inline.specs.ParserLeft.{block_definitions, options_read, parser_definitions}
+use Rattle.markdown_inline.specs.ParserLeft.{findable_definitions, options_read, parser_definitions}
 use Rattle.markdown_inline.specs.Walk.{left_of}
 use Rattle.markdown_document.specs.Places.{tree_node_at, trees_from, origin_start}
 use Rattle.markdown_document.specs.PlacedNodes.{IsPlaced, HasSlices}
@@ -362,7 +362,7 @@ uses_held blocks held h =
 pub starts_left : {F : Type 0} (blocks : Blocks) (p : Parser F) (answers : Answers) → p.resolver.text.now
     ≡ text_of_blocks blocks
     → p.resolver.options ≡ options_read blocks → HoldsParts (block_parts blocks) p.resolver.lookup.tables
-    → (tree : Arena Item) → tree ≡ block_tree blocks → p.tree
+    → (tree : Arena Item) → tree ≡ block_arena blocks → p.tree
     ≡ record tree { spine = []; cursor = child_of tree.nodes 0 }
     → p.resolver.lookup.limit ≡ expansion_limit (text_of_blocks blocks)
     → elements p answers ≡ reading_of blocks (is_some p.resolver.lookup.callback) answers
@@ -378,13 +378,13 @@ starts_left blocks p answers text options held tree same reset limit =
       uses_held blocks p.resolver.lookup.tables held,
       rules_held blocks p.resolver.lookup.tables p.resolver.options (is_some p.resolver.lookup.callback) held options,
       ← document-trees
-          (text_of_blocks blocks) (tables_at_start (block_parts blocks)) (block_tree blocks).nodes,
+          (text_of_blocks blocks) (tables_at_start (block_parts blocks)) (block_arena blocks).nodes,
     ) refl
 
 -- a parser of a block result of a text is one of some block result of the text
 pub of_some_text : {F : Type 0} (extended : Bool) (text : List ℕ) (options : Options) (blocks : Blocks)
     (made : Result (Parser F) Fault) → IsOfEntry extended text options blocks
-    → IfOk made (ReadsBlocks blocks) → IfOk made (λ p. parser_definitions p ≡ block_definitions blocks)
+    → IfOk made (ReadsBlocks blocks) → IfOk made (λ p. parser_definitions p ≡ findable_definitions blocks)
     → IfOk made (ReadsEntry extended text options)
 of_some_text extended text options blocks (Ok p) of left found = record
     { blocks = blocks; of_text = of; left = left; definitions = found }

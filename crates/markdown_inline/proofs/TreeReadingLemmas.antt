@@ -6,7 +6,7 @@ use Rattle.std.specs.declared.ops.Range.{Range}
 use Rattle.markdown_base.specs.Event.{start, end, tag_end, hard_break}
 use Rattle.markdown_base.specs.Forest.{Forest, nil, node}
 use Rattle.markdown_base.specs.Questions.{Answers, Question}
-use Rattle.markdown_blocks.specs.Blocks.{block_parts, text_of_blocks, block_tree}
+use Rattle.markdown_blocks.specs.Blocks.{block_parts, text_of_blocks, block_arena}
 use Rattle.markdown_blocks.specs.declared.blocks.Blocks.{Blocks}
 use Rattle.markdown_delims.specs.Pairing.{NothingOpen}
 use Rattle.markdown_document.specs.EnclosingBlocks.{EnclosingBlocks, inside_node, no_blocks}
@@ -220,7 +220,7 @@ pub blocks_read : (blocks : Blocks) (asks : Bool) (answers : Answers)
 blocks_read blocks asks answers =
     let source : List ℕ = text_of_blocks blocks in
     let r = document_reads (setting_of source (rules_of blocks asks)) (no_blocks source)
-    (document source (tables_at_start (block_parts blocks)) (block_tree blocks).nodes) (state_at_start source answers)
+    (document source (tables_at_start (block_parts blocks)) (block_arena blocks).nodes) (state_at_start source answers)
     in (
       r.events nothing_read ∙ append-nil (events_in (resolved_blocks blocks asks answers).trees),
       r.questions nothing_read ∙ append-nil (resolved_blocks blocks asks answers).questions,

@@ -14,7 +14,7 @@ use Rattle.markdown_base.specs.Questions.{Answers}
 use Rattle.markdown_base.specs.WellFormed.{AllKeepRules, PartCounts, counts_of}
 use Rattle.markdown_base.specs.declared.item.ItemBody.{ItemBody}
 use Rattle.markdown_base.specs.declared.item.ItemBody.TheVariants as body
-use Rattle.markdown_blocks.specs.Blocks.{block_parts, text_of_blocks, block_tree}
+use Rattle.markdown_blocks.specs.Blocks.{block_parts, text_of_blocks, block_arena}
 use Rattle.markdown_blocks.specs.declared.blocks.Blocks.{Blocks}
 use Rattle.markdown_document.specs.EnclosingBlocks.{EnclosingBlocks, inside_node, no_blocks}
 use Rattle.markdown_document.specs.ChainRest.{cut_event, cut_shape, without_first}
@@ -315,10 +315,10 @@ pub whole_such : (blocks : Blocks) (asks : Bool) (answers : Answers)
     (resolved_blocks blocks asks answers)
 whole_such blocks asks answers =
     document_such (setting_of (text_of_blocks blocks) (rules_of blocks asks)) (no_blocks (text_of_blocks blocks))
-    (document (text_of_blocks blocks) (tables_at_start (block_parts blocks)) (block_tree blocks).nodes)
+    (document (text_of_blocks blocks) (tables_at_start (block_parts blocks)) (block_arena blocks).nodes)
     (state_at_start (text_of_blocks blocks) answers)
     (block_shapes (text_of_blocks blocks) (tables_at_start (block_parts blocks)) (counts_of (block_parts blocks))
-    (tree_of (block_tree blocks).nodes) blocks.well_formed.rules)
+    (tree_of (block_arena blocks).nodes) blocks.well_formed.rules)
 
 -- its events
 pub whole_events : (blocks : Blocks) (asks : Bool) (answers : Answers)

@@ -8,7 +8,7 @@ use Rattle.markdown_base.specs.Questions.{Question, Answer, Answers}
 use Rattle.markdown_base.specs.declared.event.Event.{Event}
 use Rattle.markdown_brackets.proofs.BracketLawLemmas.{closed_law}
 use Rattle.markdown_defs.specs.Callback.{Asks}
-use Rattle.markdown_blocks.specs.Blocks.{text_of_blocks, block_tree, block_parts}
+use Rattle.markdown_blocks.specs.Blocks.{text_of_blocks, block_arena, block_parts}
 use Rattle.markdown_blocks.specs.declared.blocks.Blocks.{Blocks}
 use Rattle.markdown_document.specs.EnclosingBlocks.{EnclosingBlocks}
 use Rattle.markdown_document.specs.Document.{document, no_notes}
@@ -56,7 +56,7 @@ asks_once : (blocks : Blocks) (asks : Bool) (answers : Answers)
     → AsksOnce blocks asks (questions_of (reading_of blocks asks answers))
 asks_once blocks asks answers =
     let source = text_of_blocks blocks in
-    let nodes = (block_tree blocks).nodes in
+    let nodes = (block_arena blocks).nodes in
     let tables = tables_at_start (block_parts blocks) in
     let rules = rules_of blocks asks in
     let s = setting_of source rules in

@@ -8,7 +8,7 @@ use Rattle.markdown_base.specs.Questions.{Answers}
 use Rattle.markdown_base.specs.declared.item.Item.{Item}
 use Rattle.markdown_base.specs.declared.options.Options.{Options}
 use Rattle.markdown_base.specs.ExtendedOptions.{with_extended}
-use Rattle.markdown_blocks.specs.Blocks.{text_of_blocks, block_options, block_extended, block_tree, block_parts}
+use Rattle.markdown_blocks.specs.Blocks.{text_of_blocks, block_options, block_extended, block_arena, block_parts}
 use Rattle.markdown_blocks.specs.Blocks.{IsOfEntry}
 use Rattle.markdown_defs.specs.Definitions.{Labelled, firsts}
 use Rattle.markdown_defs.specs.Folding.{is_match}
@@ -35,8 +35,8 @@ abbrev pub state_at_start : List ℕ → Answers → ReferenceState
 state_at_start source answers = record { limit = expansion_limit source; answers = answers; uses = λ name. 0 }
 
 -- the reference definitions of a block result that can be found: of those whose labels match, the first
-abbrev pub block_definitions : Blocks → List Labelled
-block_definitions blocks = firsts (block_parts blocks).definitions.items
+abbrev pub findable_definitions : Blocks → List Labelled
+findable_definitions blocks = firsts (block_parts blocks).definitions.items
 
 -- the options by which a block result is read: those of its caller, for its entry
 abbrev pub options_read : Blocks → Options
@@ -46,7 +46,7 @@ options_read blocks = with_extended (block_extended blocks) (block_options block
 abbrev pub rules_of : Blocks → Bool → Rules
 rules_of blocks asks = record {
   options = options_read blocks;
-  definitions = block_definitions blocks;
+  definitions = findable_definitions blocks;
   is_footnote = λ name. list_any (λ n. is_match (text_of n) name) (block_parts blocks).footnotes.items;
   asks = asks;
 }
@@ -55,7 +55,7 @@ rules_of blocks asks = record {
 abbrev pub reading_of : Blocks → Bool → Answers → List Element
 reading_of blocks asks answers =
     (reading (setting_of (text_of_blocks blocks) (rules_of blocks asks)) no_notes (no_blocks (text_of_blocks blocks))
-    (document (text_of_blocks blocks) (tables_at_start (block_parts blocks)) (block_tree blocks).nodes) nothing_read
+    (document (text_of_blocks blocks) (tables_at_start (block_parts blocks)) (block_arena blocks).nodes) nothing_read
     (state_at_start (text_of_blocks blocks) answers)).elements
 
 -- the text that a parser reads
@@ -119,7 +119,7 @@ pub record ReadsEntry {F : Type 0} (extended : Bool) (text : List ℕ) (options 
   pub blocks : Blocks
   pub of_text : IsOfEntry extended text options blocks
   pub left : ReadsBlocks blocks p
-  pub definitions : parser_definitions p ≡ block_definitions blocks
+  pub definitions : parser_definitions p ≡ findable_definitions blocks
 
 -- the same of the present entry, and of the extended one
 abbrev pub ReadsText : {F : Type 0} → (text : List ℕ) → Options → Parser F → Type 0

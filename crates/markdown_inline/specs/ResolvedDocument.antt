@@ -5,7 +5,7 @@ use Rattle.std.specs.Prelude.{Bool, List, [], ◌++◌}
 use Rattle.markdown_base.specs.Event.{LinkView}
 use Rattle.markdown_base.specs.Forest.{Forest, nil, node}
 use Rattle.markdown_base.specs.Questions.{Question, Answers}
-use Rattle.markdown_blocks.specs.Blocks.{block_parts, text_of_blocks, block_tree}
+use Rattle.markdown_blocks.specs.Blocks.{block_parts, text_of_blocks, block_arena}
 use Rattle.markdown_blocks.specs.declared.blocks.Blocks.{Blocks}
 use Rattle.markdown_brackets.specs.ReadChain.{begun}
 use Rattle.markdown_document.specs.EnclosingBlocks.{EnclosingBlocks, inside_node, no_blocks}
@@ -78,5 +78,5 @@ abbrev pub resolved_blocks : Blocks → (asks : Bool) → Answers → Resolution
 resolved_blocks blocks asks answers =
     resolved_document (setting_of (text_of_blocks blocks) (rules_of blocks asks)) no_notes
     (no_blocks (text_of_blocks blocks))
-    (document (text_of_blocks blocks) (tables_at_start (block_parts blocks)) (block_tree blocks).nodes)
+    (document (text_of_blocks blocks) (tables_at_start (block_parts blocks)) (block_arena blocks).nodes)
     (state_at_start (text_of_blocks blocks) answers)

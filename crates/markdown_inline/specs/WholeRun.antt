@@ -6,7 +6,7 @@ use Rattle.markdown_base.specs.ExtendedOptions.{is_extended}
 use Rattle.markdown_base.specs.Forest.{Forest, roots}
 use Rattle.markdown_base.specs.Questions.{Question, Answer, Answers}
 use Rattle.markdown_base.specs.declared.event.Event.{Event}
-use Rattle.markdown_blocks.specs.Blocks.{text_of_blocks, block_tree, block_parts}
+use Rattle.markdown_blocks.specs.Blocks.{text_of_blocks, block_arena, block_parts}
 use Rattle.markdown_blocks.specs.declared.blocks.Blocks.{Blocks}
 use Rattle.markdown_brackets.specs.BracketLaws.{ClosedLaw}
 use Rattle.markdown_brackets.specs.QuestionsAsked.{AsksAtMost, EndApart, closers_among}
@@ -46,11 +46,11 @@ pub record AsksApartAndOnce (s : Setting) (above : EnclosingBlocks) (state : Ref
 -- this is true of each chain of a block result; each `]` asks at most one question, and none where the limit is 0 when
 -- it is read, whatever was read before it; so in all no more questions are asked than the block result has `]`
 pub record AsksOnce (blocks : Blocks) (asks : Bool) (questions : List Question) : Type 0 where
-  pub at_most : length questions ≤ closers_of (block_tree blocks).nodes
+  pub at_most : length questions ≤ closers_of (block_arena blocks).nodes
   pub when_read : ClosedLaw (Unit {0})
   pub in_chains : EachChain (λ (chain : Forest Plain). (above : EnclosingBlocks) (state : ReferenceState)
       → AsksApartAndOnce (setting_of (text_of_blocks blocks) (rules_of blocks asks)) above state chain)
-      (document (text_of_blocks blocks) (tables_at_start (block_parts blocks)) (block_tree blocks).nodes)
+      (document (text_of_blocks blocks) (tables_at_start (block_parts blocks)) (block_arena blocks).nodes)
 
 -- these events keep the laws of the whole document of a block result, and are those of its reading for the answers of
 -- the callback, which was asked the questions of that reading, and these keep the laws too

@@ -354,7 +354,7 @@ impl<'input, F: BrokenLinkCallback<'input>> Parser<'input, F> {
     ghost use Rattle.markdown_blocks.specs.Blocks.{text_of_blocks};
     ghost use Rattle.markdown_inline.specs.CountsLaw.{CountsLaw, RisesPlainly};
     ghost use Rattle.markdown_inline.specs.ParserLeft.{ReadsText, ReadsExtended, ReadsBlocks, no_work, parser_text};
-    ghost use Rattle.markdown_inline.specs.ParserLeft.{parser_callback, block_definitions, parser_definitions};
+    ghost use Rattle.markdown_inline.specs.ParserLeft.{parser_callback, findable_definitions, parser_definitions};
     ghost use Rattle.markdown_inline.specs.ParserLeft.{parser_work, offset_parser};
 
     /// Returns a parser of a text, which calls `callback`, where there is one, for each link label without a reference
@@ -403,7 +403,7 @@ impl<'input, F: BrokenLinkCallback<'input>> Parser<'input, F> {
         ensures left { IfOk result (ReadsBlocks blocks.entry) }
         ensures text { IfOk result (λ p. parser_text p ≡ text_of_blocks blocks.entry) }
         ensures definitions { IfOk result (λ p. parser_definitions p
-            ≡ block_definitions blocks.entry) }
+            ≡ findable_definitions blocks.entry) }
         ensures callback { IfOk result (λ p. parser_callback p ≡ callback) }
         ensures work { IfOk result (λ p. parser_work p ≡ no_work) }
         ensures refused { IfErr result (λ fault. fault ≡ Fault.Memory) }

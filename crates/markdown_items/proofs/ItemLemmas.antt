@@ -19,7 +19,7 @@ use Rattle.markdown_scan.specs.Entity.{entity}
 use Rattle.markdown_scan.specs.declared.entity.EntityNames.{EntityNames}
 use Rattle.markdown_scan.specs.ScanLaws.{EntityBeginsAndEnds, StandsBetween}
 use Rattle.markdown_items.specs.FoundFits.{IsAtSpecial, FoundFits, LiesFurther, next_after}
-use Rattle.markdown_items.specs.LineItems.{is_special, IsWholeRun, run_end}
+use Rattle.markdown_items.specs.LineItems.{is_special, IsMaximalRun, run_end}
 use Rattle.markdown_items.specs.declared.found.Found.{Found}
 use Rattle.markdown_items.specs.declared.found.Found.TheVariants as found
 use Rattle.markdown_items.specs.declared.found.Line.{Line}
@@ -38,7 +38,7 @@ past_special text line at u here =
 
 -- and after a run of one
 pub past_run : (text : List ℕ) (line : Line) (at stop : ℕ) → IsUtf8 text → IsAtSpecial text line at
-    → IsWholeRun text at line.end stop → IsCharBoundary text stop
+    → IsMaximalRun text at line.end stop → IsCharBoundary text stop
 past_run text line at stop u here whole =
     let run = whole.run in
     let more = run.more in
@@ -130,7 +130,7 @@ other_eq : (a b : ℕ) → a ≢ b → (a == b) ≡ false
 other_eq a b e = grind (arith, nat_tests)
 
 -- a whole run stops where the run of its byte does
-pub run_end_is : (text : List ℕ) (at end stop : ℕ) → end ≤ length text → IsWholeRun text at end stop
+pub run_end_is : (text : List ℕ) (at end stop : ℕ) → end ≤ length text → IsMaximalRun text at end stop
     → stop ≡ run_end text at end
 run_end_is text at end stop le whole =
     let run = whole.run in

@@ -62,7 +62,7 @@ abbrev pub run_end : List ℕ → ℕ → ℕ → ℕ
 run_end text at end = at + prefix_len (λ b. b == slice_index text at) (slice_range text at end)
 
 -- the whole run of the byte at `at` consists of the bytes up to `stop`, in a line's content that ends at `end`
-pub record IsWholeRun (text : List ℕ) (at end stop : ℕ) : Type 0 where
+pub record IsMaximalRun (text : List ℕ) (at end stop : ℕ) : Type 0 where
   pub run : IsRunOf (slice_index text at) text at stop
   pub within : stop ≤ end
   pub whole : stop < end → slice_index text stop ≢ slice_index text at

@@ -1,6 +1,6 @@
 //! Delimiter runs: where they end, and which of them are items (CommonMark 6.2).
 ghost use Rattle.std.specs.Prelude.{◌≡◌, ◌<◌, ◌≤◌, length};
-ghost use Rattle.markdown_items.specs.LineItems.{IsWholeRun, run_end, makes_run, run_flags};
+ghost use Rattle.markdown_items.specs.LineItems.{IsMaximalRun, run_end, makes_run, run_flags};
 
 use crate::extensions::Extensions;
 use crate::flanking::{Flags, flags_of};
@@ -10,7 +10,7 @@ pub fn run_end(text: &str, at: usize, end: usize) -> usize
     requires more { at < end }
     requires within { end ≤ length text.now }
     ensures value { result ≡ run_end text.now at end }
-    ensures whole { IsWholeRun text.now at end result }
+    ensures whole { IsMaximalRun text.now at end result }
 {
     let bytes = text.as_bytes();
     for stop in at + 1..end {

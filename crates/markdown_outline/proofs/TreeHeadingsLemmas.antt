@@ -10,7 +10,7 @@ use Rattle.markdown_base.specs.Questions.{Answers}
 use Rattle.markdown_base.specs.WellFormed.{AllKeepRules, PartCounts, all_inline, counts_of, has_open}
 use Rattle.markdown_base.specs.declared.item.ItemBody.{ItemBody}
 use Rattle.markdown_base.specs.declared.item.ItemBody.TheVariants as body
-use Rattle.markdown_blocks.specs.Blocks.{block_parts, text_of_blocks, block_tree}
+use Rattle.markdown_blocks.specs.Blocks.{block_parts, text_of_blocks, block_arena}
 use Rattle.markdown_blocks.specs.declared.blocks.Blocks.{Blocks}
 use Rattle.markdown_builder.specs.HeadingsHoldInline.{is_heading_block, HeadingsHoldInline}
 use Rattle.markdown_document.specs.EnclosingBlocks.{EnclosingBlocks, inside_node, no_blocks}
@@ -211,9 +211,9 @@ pub blocks_apart : (blocks : Blocks) (asks : Bool) (answers : Answers) → Headi
 blocks_apart blocks asks answers p =
     let source = text_of_blocks blocks in
     let parts = block_parts blocks in
-    let tree = tree_of (block_tree blocks).nodes in
+    let tree = tree_of (block_arena blocks).nodes in
     document_apart (setting_of source (rules_of blocks asks)) (no_blocks source)
-    (document source (tables_at_start parts) (block_tree blocks).nodes)
+    (document source (tables_at_start parts) (block_arena blocks).nodes)
     (kept_apart source (tables_at_start parts) (counts_of parts) tree blocks.well_formed.rules
     (λ o. cc (o, blocks.well_formed.top_is_closed)) p) (state_at_start source answers)
 
@@ -231,4 +231,4 @@ held_apart nil h = tt
 held_apart (node a below after) h = (λ e. inline_nones below (h.0 e), held_apart below h.1, held_apart after h.2)
 
 pub texts_apart : HeadingsOfTextsApart
-texts_apart extended text options blocks o = held_apart (tree_of (block_tree blocks).nodes) o.headings_hold_inline
+texts_apart extended text options blocks o = held_apart (tree_of (block_arena blocks).nodes) o.headings_hold_inline

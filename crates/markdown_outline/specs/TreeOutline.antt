@@ -6,7 +6,7 @@ use Rattle.markdown_base.specs.BlockTree.{tree_of}
 use Rattle.markdown_base.specs.Forest.{Forest, nil, node, Throughout, Each}
 use Rattle.markdown_base.specs.Questions.{Answers}
 use Rattle.markdown_base.specs.declared.options.Options.{Options}
-use Rattle.markdown_blocks.specs.Blocks.{block_tree, IsOfEntry}
+use Rattle.markdown_blocks.specs.Blocks.{block_arena, IsOfEntry}
 use Rattle.markdown_blocks.specs.declared.blocks.Blocks.{Blocks}
 use Rattle.markdown_builder.specs.HeadingsHoldInline.{is_heading_block}
 use Rattle.markdown_document.specs.Document.{Shape, enclosed, TreeNode}
@@ -35,7 +35,7 @@ tree_entries (node a below after) =
 -- no heading of a block result contains another, at any depth
 abbrev pub HeadingsApart : Blocks → Type 0
 HeadingsApart blocks = Throughout (λ a below after. IsTrue (is_heading_block a.item.body)
-    → Each (λ b. is_heading_block b.item.body ≡ false) below) (tree_of (block_tree blocks).nodes)
+    → Each (λ b. is_heading_block b.item.body ≡ false) below) (tree_of (block_arena blocks).nodes)
 
 -- these are the entries of the tree of a block result, with its chains resolved without a callback, so that the tree
 -- does not depend on the answers

@@ -1,5 +1,5 @@
 -- The first turn at the rest of a line: what the open containers left of it is read, where no open leaf goes on in it.
-use Rattle.std.proofs.Common.{◌≡◌, ℕ, zero, suc, ◌+◌, ◌≤◌, Bool, true, false, ◌&&◌, ◌==◌, List, [], ◌∷◌, ◌++◌, Option, Some}
+use Rattle.std.proofs.Common.{◌≡◌, ℕ, zero, suc, ◌≤◌, Bool, true, false, ◌&&◌, ◌==◌, List, [], ◌∷◌, ◌++◌, Option, Some}
 use Rattle.std.proofs.Common.{None, length, length-append, take, arith, refl, sym, ap, ◌∙◌, subst, true≢false}
 use Rattle.std.specs.List.{list_all}
 use Rattle.std.specs.Str.{IsCharBoundary, IsUtf8}
@@ -8,7 +8,6 @@ use Rattle.markdown_base.specs.Forest.{Forest}
 use Rattle.markdown_builder.specs.declared.open_block.OpenBlock.{OpenBlock}
 use Rattle.markdown_scan.specs.LineStart.{LineLeft}
 use Rattle.markdown_lines.specs.BlockBeginnings.{Source}
-use Rattle.markdown_lines.specs.BlockStarts.{source_read}
 use Rattle.markdown_lines.specs.Lines.{IsLineFrom}
 use Rattle.markdown_lines.specs.SourceLines.{SourceLine, is_blank_rest}
 use Rattle.markdown_lines.specs.declared.line.Line.{Line}
@@ -21,15 +20,14 @@ use Rattle.markdown_plain.specs.declared.containers.Reached as code
 use Rattle.markdown_plain.specs.declared.pass.Pass.{Pass}
 use Rattle.markdown_plain.specs.Beginning.{Holds, HoldsLast, IsFirst, IsLeft, reads_metadata}
 use Rattle.markdown_plain.specs.Closing.{MayEnd}
-use Rattle.markdown_plain.specs.Containers.{whole_line}
 use Rattle.markdown_plain.specs.Frames.{Frame, inside_container, is_list, reached, reached_past, rebuilt}
 use Rattle.markdown_plain.specs.HeldSources.{IsRest}
 use Rattle.markdown_plain.specs.OpenBlocks as by_body
-use Rattle.markdown_plain.specs.OpenLeaves.{IsLineRest, is_leaf}
+use Rattle.markdown_plain.specs.OpenLeaves.{is_leaf}
 use Rattle.markdown_plain.specs.ReachedFrames.{are_none}
 use Rattle.markdown_plain.specs.ReachedLines.{Before, IsReachedBy, LeavesOff, blocks_before, blocks_in, reached_of}
 use Rattle.markdown_plain.specs.Settled.{AreOpen, IsBodyOf}
-use Rattle.markdown_plain.specs.Standing.{HasLast, Stands, with_last}
+use Rattle.markdown_plain.specs.Standing.{HasLast, Stands}
 use Rattle.markdown_plain.specs.TextLines.{paragraph_before}
 use Rattle.markdown_plain.proofs.LeafLinesLemmas.{open_parts}
 use Rattle.markdown_plain.proofs.ReachedLemmas.{outer_taken, reached_parts}

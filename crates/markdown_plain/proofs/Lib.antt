@@ -88,6 +88,4 @@ pub mod TurnsLemmas
 pub mod ReadyLinesLemmas
 -- on a whole text
 pub mod WholeTextsLemmas
--- on where blocks end
-pub mod BlockEndsLemmas
-pub mod LastEndsLemmas
+pub mod BlockResultsLemmas

@@ -279,7 +279,8 @@ filled_length : (bytes : List ℕ) → list_all is_space_or_tab bytes ≡ false 
 filled_length [] filled = absurd (true≢false filled)
 filled_length (b ∷ bytes) filled = omega arith
 
-pub line_some : (s : Source) (rest : LineRest) (source : SourceLine) → IsLeft s rest source → is_blank_rest source ≡ false
+pub line_some : (s : Source) (rest : LineRest) (source : SourceLine) → IsLeft s rest source
+    → is_blank_rest source ≡ false
     → rest.line.start < rest.line.next
 line_some s rest source left filled =
     let at : rest.position.at ≡ source.left.scanned = ap (λ (l : LineLeft). l.scanned) left.is.rest.left in
@@ -452,7 +453,8 @@ module _ (s : Source) (old new : Pass) (rest : LineRest) (before : Before) (l so
       → blocks
       ≡ rebuilt (map (touched l) (take (room_depth (length (reached_of s before l).outer) before.frames) before.frames))
       (followed_by
-      (rebuilt (drop (room_depth (length (reached_of s before l).outer) before.frames) before.frames) (blocks_in before))
+      (rebuilt (drop (room_depth (length (reached_of s before l).outer) before.frames) before.frames)
+      (blocks_in before))
       (begun_by s source))
   first_whole are nested =
       let r = reached_of s before l in

@@ -16,7 +16,6 @@ pub mod NewContainers
 pub mod ParagraphItems
 pub mod Closable
 -- the blocks that it stands for
-pub mod BlockEnds
 pub mod Frames
 pub mod Settled
 pub mod ReachedFrames

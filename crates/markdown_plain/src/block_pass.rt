@@ -6,6 +6,7 @@ ghost use Rattle.std.specs.List.{list_all};
 ghost use Rattle.std.specs.Str.{IsCharBoundary};
 ghost use Rattle.markdown_base.specs.BlockTree.{tree_of};
 ghost use Rattle.markdown_base.specs.Forest.{Forest, nil};
+ghost use Rattle.markdown_block_rules.specs.BlockResults.{IsBlockResult};
 ghost use Rattle.markdown_block_rules.specs.BlockGrowth.{Block, blocks_of, with_line};
 ghost use Rattle.markdown_lines.specs.BlockBeginnings.{Source};
 ghost use Rattle.markdown_lines.specs.SourceLines.{SourceLine, is_blank_rest};
@@ -396,9 +397,8 @@ impl<'a> Pass<'a> {
             → AllFitted self.old.placing → AllFitted self.new.placing) }
     {
         // each container takes at least one byte of the line; what is left after the last one is read too, and a line
-        // that underlines definitions, or ends a table, is read twice
-        let turns = rest.line.next as u128 + 3;
-        'blocks: for _turn in 0..turns {
+        // that underlines definitions, or ends a table, is read twice; 3 more than the last byte offset need more bits
+        'blocks: for _turn in rest.line.start as u128..rest.line.next as u128 + 3 {
             if !self.read_block(rest)? {
                 break;
             }
@@ -950,13 +950,17 @@ pub fn blocks<'a>(
     ensures tight { IfOk result (λ made. TightInTightLists made.0.nodes) }
     ensures headings { IfOk result (λ made. HeadingsHoldInline (tree_of made.0.nodes)) }
     ensures rows { IfOk result (λ made. HasEvenRows (shown_result made.0.nodes made.1)) }
+    ensures blocks { IfOk result (λ made.
+        reads_tables (record { text = text.now; options = options }) ≡ false
+        → IsBlockResult (record { text = text.now; options = options }) made.0.nodes made.1) }
 {
+    let placing = place_all(alloc, text, options)?;
     let Placing {
         builder,
         misfits: _,
         stretches,
         alloc: _,
-    } = place_all(alloc, text, options)?;
+    } = placing;
     drop(stretches);
     Ok(builder.finish())
 }

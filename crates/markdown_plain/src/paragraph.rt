@@ -4,10 +4,11 @@ ghost use Rattle.std.specs.Prelude.{◌≡◌, ℕ, ◌<◌, ◌≤◌, ◌++◌
 ghost use Rattle.std.specs.Prelude.{MatchOption, ◌+◌, ◌==◌, drop, not, slice_get, take, if◌then◌else◌};
 ghost use Rattle.markdown_base.specs.declared.item.ItemBody.TheVariants as body;
 ghost use Rattle.markdown_builder.specs.BuilderView.{Opens};
-ghost use Rattle.markdown_plain.specs.Fitting.{BracesStand, FittedBefore, IfFitted, GoesOn, OpensHeading, OpensHeadingOf};
-ghost use Rattle.markdown_plain.specs.Fitting.{AllFitted, defining};
-ghost use Rattle.markdown_plain.specs.Closable.{AreAhead, AreClosable, EndsHeading, HasRoomFor, HasTask, HaveBraces};
-ghost use Rattle.markdown_plain.specs.Closable.{HaveTask, IsClosable, IsInText, IsLastInText, IsLeafOpen, IsPlaceable};
+ghost use Rattle.markdown_plain.specs.Fitting.{AllFitted, BracesStand, FittedBefore, IfFitted, GoesOn};
+ghost use Rattle.markdown_plain.specs.Fitting.{OpensHeading, OpensHeadingOf, defining};
+ghost use Rattle.markdown_plain.specs.Closable.{AreAhead, AreClosable, EndsHeading, HasRoomFor, HasTask};
+ghost use Rattle.markdown_plain.specs.Closable.{HaveBraces, HaveTask, IsClosable, IsInText, IsLastInText};
+ghost use Rattle.markdown_plain.specs.Closable.{IsLeafOpen, IsPlaceable};
 ghost use Rattle.markdown_plain.specs.OpenBlocks.{room_in, without_leaf};
 ghost use Rattle.markdown_plain.specs.Paragraphs.{end_of, has_paragraph, is_item_in, lines_end};
 ghost use Rattle.markdown_plain.specs.Paragraphs.{paragraph_end, divided_of, first_task, shown_ended};

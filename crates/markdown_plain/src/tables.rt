@@ -212,7 +212,8 @@ impl<'a> Pass<'a> {
     /// Makes the last line of the open paragraph the head of a table, if the rest of a line from a place on is the
     /// delimiter row for it, and returns whether it is. The lines before the head end as a paragraph.
     pub fn begin_table(&mut self, line: Line, position: Position) -> Result<bool, AllocError>
-        ensures text { IfOk result (λ _. self.new.placing.builder.text ≡ self.old.placing.builder.text) }
+        ensures text { IfOk result (λ _. self.new.placing.builder.text
+            ≡ self.old.placing.builder.text) }
         ensures fitted { IfOk result (λ _. FittedBefore self.old.placing self.new.placing) }
     {
         let text = self.placing.text();
@@ -299,7 +300,8 @@ impl<'a> Pass<'a> {
 
     /// Opens a table with the last line of the open paragraph as its head; the lines before it end as a paragraph.
     fn open_table(&mut self, head: HeldLine, alignments: Vec<Alignment>) -> Result<(), AllocError>
-        ensures text { IfOk result (λ _. self.new.placing.builder.text ≡ self.old.placing.builder.text) }
+        ensures text { IfOk result (λ _. self.new.placing.builder.text
+            ≡ self.old.placing.builder.text) }
         ensures fitted { IfOk result (λ _. FittedBefore self.old.placing self.new.placing) }
     {
         let _head = self.lines.pop();

@@ -1,0 +1,17 @@
+-- The block result of a text: its tree with what the items refer to, its link reference definitions, and the labels of
+-- its footnotes, as they are stored.
+use Rattle.std.specs.Prelude.{◌≡◌, List, map}
+use Rattle.markdown_base.specs.CowText.{text_of}
+use Rattle.markdown_base.specs.declared.block_parts.BlockParts.{BlockParts}
+use Rattle.markdown_base.specs.declared.item.Item.{Item}
+use Rattle.markdown_base.specs.declared.node.Node.{Node}
+use Rattle.markdown_builder.specs.BuilderView.{stored_definition}
+use Rattle.markdown_builder.specs.Shown.{shown_result}
+use Rattle.markdown_lines.specs.BlockBeginnings.{Source}
+use Rattle.markdown_block_rules.specs.BlockRules.{block_definitions, block_footnotes, block_tree}
+
+-- stored items and parts are the block result of a text
+pub record IsBlockResult (s : Source) (nodes : List (Node Item)) (parts : BlockParts) : Type 0 where
+  pub tree : shown_result nodes parts ≡ block_tree s
+  pub definitions : map stored_definition parts.definitions.items ≡ block_definitions s
+  pub footnotes : map text_of parts.footnotes.items ≡ block_footnotes s
