@@ -40,7 +40,7 @@ pub code_before_blank : (lines : List SourceLine) (l : SourceLine) → is_blank_
 code_before_blank [] l blank = ap (λ t. if t then [] else l ∷ []) blank
 code_before_blank (m ∷ lines) l blank = ap (before_code m) (code_before_blank lines l blank)
 
-end_of_last : (before : ℕ) (lines : List SourceLine) (l : SourceLine) → lines_end before (lines ++ l ∷ []) ≡ l.next
+pub end_of_last : (before : ℕ) (lines : List SourceLine) (l : SourceLine) → lines_end before (lines ++ l ∷ []) ≡ l.next
 end_of_last before [] l = refl
 end_of_last before (m ∷ lines) l = end_of_last m.next lines l
 

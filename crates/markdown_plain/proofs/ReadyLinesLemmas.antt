@@ -27,6 +27,7 @@ use Rattle.markdown_lines.specs.declared.line.Line.{Line}
 use Rattle.markdown_lines.specs.declared.position.Position.{Position}
 use Rattle.markdown_lines.specs.declared.space.Space.{Space}
 use Rattle.markdown_lines.proofs.HeldLinesLemmas.{ends_within}
+use Rattle.markdown_plain.proofs.ReadyPlacesLemmas.{ending_white}
 use Rattle.markdown_lines.proofs.LinesAheadLemmas.{in_ending, some_ending}
 use Rattle.markdown_lines.proofs.LinesLemmas.{AllPass-none, ending_ascii, past_ascii}
 use Rattle.markdown_lines.proofs.PositionsLemmas.{in_part}
@@ -87,7 +88,8 @@ pub white_line : (text : List ℕ) (line : Line) → IsLineFrom text line.start 
     → list_all is_space_or_tab (slice_range text line.start line.stop) ≡ true
     → AllPass is_in_blank_line text line.start line.next
 white_line text line is white = λ k low high.
-    ⊎_elim (λ (less : k < line.stop). content k low less) (λ (more : line.stop ≤ k). ending k more high)
+    ⊎_elim (λ (less : k < line.stop). content k low less)
+    (λ (more : line.stop ≤ k). ending_white text line.start line is k more high)
     (cases_lt k line.stop)
   where
     content : (k : ℕ) → line.start ≤ k → k < line.stop → is_in_blank_line (get_or text k 0) ≡ true
@@ -102,16 +104,6 @@ white_line text line is white = λ k low high.
         ∙ (ap is_space_or_tab (sym there.byte)
         ∙ AllPass-from_list_all is_space_or_tab bytes white (k - line.start) 0 inside) in
         ap (λ t. t || is_line_ending (get_or text k 0)) here
-
-    ending : (k : ℕ) → line.stop ≤ k → k < line.next → is_in_blank_line (get_or text k 0) ≡ true
-    ending k more high =
-        let ends = is.ends in
-        let place : line.stop + (k - line.stop) ≡ k = omega (arith, more) in
-        let here : is_line_ending (get_or text k 0) ≡ true =
-        ap (λ n. is_line_ending (get_or text n 0)) (sym place)
-        ∙ (ap is_line_ending (sym (get_or-drop line.stop text (k - line.stop) 0))
-        ∙ in_ending (drop line.stop text) (k - line.stop) (omega (arith, more, high, ends))) in
-        ap (λ t. is_space_or_tab (get_or text k 0) || t) here ∙ or-true (is_space_or_tab (get_or text k 0))
 
 -- ---- places in a line
 

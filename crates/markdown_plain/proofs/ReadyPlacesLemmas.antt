@@ -1,10 +1,10 @@
 -- What a placed line leaves is ready for the next one: a leaf is open, or none, and nothing is held back.
-use Rattle.std.proofs.Common.{◌≡◌, ℕ, zero, suc, ◌+◌, ◌-◌, ◌<◌, ◌≤◌, Bool, true, false, not, ◌&&◌, List, [], ◌∷◌}
+use Rattle.std.proofs.Common.{◌≡◌, ℕ, zero, suc, ◌+◌, ◌-◌, ◌<◌, ◌≤◌, Bool, true, false, not, ◌&&◌, ◌||◌, List, [], ◌∷◌}
 use Rattle.std.proofs.Common.{Option, Some, None, get_or, length, drop, take, ⊎_elim, refl, sym, ap, ◌∙◌, subst, arith}
 use Rattle.std.specs.Prelude.{◌==◌, if◌then◌else◌, slice_index}
 use Rattle.std.specs.List.{list_all}
 use Rattle.std.specs.Str.{IsCharBoundary, IsUtf8}
-use Rattle.std.proofs.Math.Bool.{and-false}
+use Rattle.std.proofs.Math.Bool.{and-false, or-true}
 use Rattle.std.proofs.lemmas.Bool.{and_parts, cases_lt, true≢false}
 use Rattle.std.proofs.lemmas.Bool.Decides.{nat_tests}
 use Rattle.std.proofs.lemmas.List.{get_or-drop, get_or-take, length-drop, length-take}
@@ -14,11 +14,13 @@ use Rattle.markdown_builder.specs.BuilderView.{BuilderView}
 use Rattle.markdown_builder.specs.EvenRows.{is_in_row}
 use Rattle.markdown_builder.specs.declared.open_block.OpenBlock.{OpenBlock}
 use Rattle.markdown_lines.specs.BlockBeginnings.{Source}
-use Rattle.markdown_lines.specs.Lines.{IsLineEnd, IsLineFrom, ending_length, is_line_ending}
+use Rattle.markdown_lines.specs.Lines.{AllPass, IsLineEnd, IsLineFrom, ending_length, is_in_blank_line}
+use Rattle.markdown_lines.specs.Lines.{is_line_ending, is_space_or_tab}
 use Rattle.markdown_lines.specs.SourceLines.{SourceLine}
 use Rattle.markdown_lines.specs.declared.held_line.HeldLine.{HeldLine}
 use Rattle.markdown_lines.specs.declared.line.Line.{Line}
 use Rattle.markdown_lines.proofs.HeldLinesLemmas.{ends_within, line_left}
+use Rattle.markdown_lines.proofs.LinesAheadLemmas.{in_ending}
 use Rattle.markdown_lines.proofs.LinesLemmas.{ending_ascii}
 use Rattle.markdown_lines.proofs.TitleLemmas.{ending_bytes}
 use Rattle.markdown_block_rules.specs.BlockGrowth as was
@@ -37,6 +39,20 @@ use Rattle.markdown_plain.proofs.ClosableLemmas.{innermost_no_row}
 use Rattle.markdown_plain.proofs.FittingLemmas.{open_in_leaf}
 use Rattle.markdown_plain.proofs.LeafTreesLemmas.{on_test}
 use Rattle.markdown_plain.proofs.OpenBlocksLemmas.{outer_of_these}
+
+-- ---- where a line ends
+
+-- its ending is white space
+pub ending_white : (text : List ℕ) (at : ℕ) (line : Line) → IsLineFrom text at line
+    → AllPass is_in_blank_line text line.stop line.next
+ending_white text at line is = λ k more high.
+    let ends = is.ends in
+    let place : line.stop + (k - line.stop) ≡ k = omega (arith, more) in
+    let here : is_line_ending (get_or text k 0) ≡ true =
+    ap (λ n. is_line_ending (get_or text n 0)) (sym place)
+    ∙ (ap is_line_ending (sym (get_or-drop line.stop text (k - line.stop) 0))
+    ∙ in_ending (drop line.stop text) (k - line.stop) (omega (arith, more, high, ends))) in
+    ap (λ t. is_space_or_tab (get_or text k 0) || t) here ∙ or-true (is_space_or_tab (get_or text k 0))
 
 -- ---- where a line ends
 

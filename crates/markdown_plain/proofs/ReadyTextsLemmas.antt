@@ -36,7 +36,7 @@ use Rattle.markdown_plain.specs.TextLines.{IsContentAt, held_line}
 use Rattle.markdown_plain.proofs.AddedLinesLemmas.{end_after, past, past_is_end}
 use Rattle.markdown_plain.proofs.ClosableLemmas.{innermost_no_row, white_both}
 use Rattle.markdown_plain.proofs.HeldTextLemmas.{starts_after, starts_before}
-use Rattle.markdown_plain.proofs.ReadyPlacesLemmas.{next_between, stop_between}
+use Rattle.markdown_plain.proofs.ReadyPlacesLemmas.{ending_white, next_between, stop_between}
 
 -- ---- open blocks
 
@@ -107,11 +107,12 @@ end_here pass none =
 
 -- ---- a line more
 
--- a line comes after others, from a byte offset on, and only white space is before it where no block is open
+-- a line comes after others, from a byte offset on, and only white space is around it where no block is open
 pub record IsNextLine (builder : BuilderView) (lines : List HeldLine) (line : HeldLine) : Type 0 where
   pub low : past builder.at lines ≤ line.start
   pub is : IsInText builder.text line
   pub white : builder.blocks ≡ [] → AllPass is_in_blank_line builder.text (past builder.at lines) line.start
+      × AllPass is_in_blank_line builder.text line.stop line.next
 
 order_after : (text : List ℕ) (from : ℕ) (lines : List HeldLine) (line : HeldLine) → AreInText text from lines
     → past from lines ≤ line.start → IsInText text line → AreInText text from (lines ++ line ∷ [])
@@ -120,9 +121,11 @@ order_after text from (m ∷ lines) line are low is =
     (are.0, (are.1.0, order_after text m.next lines line are.1.1 low is))
 
 apart_after : (text : List ℕ) (from : ℕ) (lines : List HeldLine) (line : HeldLine) → AreApart text from lines
-    → AllPass is_in_blank_line text (past from lines) line.start → AreApart text from (lines ++ line ∷ [])
-apart_after text from [] line are white = (white, tt)
-apart_after text from (m ∷ lines) line are white = (are.0, apart_after text m.next lines line are.1 white)
+    → AllPass is_in_blank_line text (past from lines) line.start → AllPass is_in_blank_line text line.stop line.next
+    → AreApart text from (lines ++ line ∷ [])
+apart_after text from [] line are white over = (white, (over, tt))
+apart_after text from (m ∷ lines) line are white over =
+    (are.0, (are.1.0, apart_after text m.next lines line are.1.1 white over))
 
 pub ahead_after : (builder : BuilderView) (lines : List HeldLine) (line : HeldLine) → AreAhead builder lines
     → AreInParagraph builder.text (lines ++ line ∷ []) → IsNextLine builder lines line
@@ -130,7 +133,8 @@ pub ahead_after : (builder : BuilderView) (lines : List HeldLine) (line : HeldLi
 ahead_after builder lines line ahead inside next = record {
   inside = inside;
   order = order_after builder.text builder.at lines line ahead.order next.low next.is;
-  apart = λ none. apart_after builder.text builder.at lines line (ahead.apart none) (next.white none);
+  apart = λ none. apart_after builder.text builder.at lines line (ahead.apart none) (next.white none).0
+      (next.white none).1;
 }
 
 -- the task marker is still that of the first line
@@ -243,10 +247,13 @@ further_ready old new line start rest source same lines outside some ready is at
           ap has_quote (outside_leaf view outside ∙ none) in
           let scanned = ap (λ (l : SourceLine). l.left.scanned) (alone none)
           ∙ sym (ap (λ (left : LineLeft). left.scanned) is.left) in
-          white_both view.text (past view.at old.lines.items) old.placed start
-          (subst (λ n. AllPass is_in_blank_line view.text n old.placed) end (closable.white quotes))
-          (white_both view.text old.placed line.start start ready.white
-          (line_white view.text line rest start at is.from is.utf8 scanned));
+          (
+            white_both view.text (past view.at old.lines.items) old.placed start
+                (subst (λ n. AllPass is_in_blank_line view.text n old.placed) end (closable.white quotes))
+                (white_both view.text old.placed line.start start ready.white
+                (line_white view.text line rest start at is.from is.utf8 scanned)),
+            ending_white view.text line.start line is.from,
+          );
     } in
     subst (λ (p : Pass). IsReadyAfter p line.next) (sym same) (held_ready (record old { lines = new.lines }) line.next
     (record {
@@ -321,10 +328,14 @@ begun_ready old new line start rest source begins is at alone inside =
         white = λ none.
             let scanned = ap (λ (l : SourceLine). l.left.scanned) (alone none)
             ∙ sym (ap (λ (left : LineLeft). left.scanned) is.left) in
-            white_both view.text view.at old.placed start (begins.here.white (ap has_quote none))
-            (subst (λ t. AllPass is_in_blank_line t old.placed start) (sym begins.text)
-            (white_both text old.placed line.start start begins.before.white
-            (line_white text line rest start at is.from is.utf8 scanned)));
+            (
+              white_both view.text view.at old.placed start (begins.here.white (ap has_quote none))
+                  (subst (λ t. AllPass is_in_blank_line t old.placed start) (sym begins.text)
+                  (white_both text old.placed line.start start begins.before.white
+                  (line_white text line rest start at is.from is.utf8 scanned))),
+              subst (λ t. AllPass is_in_blank_line t line.stop line.next) (sym begins.text)
+                  (ending_white text line.start line is.from),
+            );
       };
     })
 

@@ -34,7 +34,7 @@ here_text s pass rest (first before line) source blocks here = ap (λ (s : Sourc
 here_text s pass rest (later frames) source blocks here = ap (λ (s : Source). s.text) here.opened.source
 
 -- before the first turn
-pub before_turns : (pass : Pass) (rest : LineRest) → KeepsReading pass pass rest rest 0
+pub before_turns : (pass : Pass) (rest : LineRest) → KeepsReading pass pass rest rest rest.line.start
 before_turns pass rest s turn source blocks here row fitted = (
   fitted,
   record {
@@ -43,7 +43,9 @@ before_turns pass rest s turn source blocks here row fitted = (
     here = here;
     line = refl;
     row = row;
-    far = omega arith;
+    far =
+        let after : rest.line.start ≤ rest.position.at = (here_left s pass rest turn source blocks here).after in
+        omega (arith, after);
   },
 )
 
