@@ -226,7 +226,8 @@ pub container_inside : (s : Source) (now : Pass) (rest next : LineRest) (outer :
       before = paragraph.NoParagraph;
     }
     → IsRestOf source.left (left_at rest.reader inside) → IsCharBoundary s.text inside.at
-    → now.placing.builder.at ≤ inside.at → OpensIn s now outer before (begun_block source kind) → AreInLine rest.line outer
+    → now.placing.builder.at ≤ inside.at → OpensIn s now outer before (begun_block source kind)
+    → AreInLine rest.line outer
     → blocks ≡ rebuilt outer (followed_by before (node (begun_block source kind)
     (begun_in_rest s (rest_inside (left_at rest.reader inside) source)) nil))
     → AreItemsInLists false blocks → ReadsOn s now rest next blocks

@@ -54,7 +54,8 @@ module _ (s : Source) (room : Pass) (rest : LineRest) (source : SourceLine) (beg
       let within = content_within_line in
       record {
         outside = has.built.outside;
-        begins = may_step_in s room.placing.builder rest source at (record { ready = has.ready; low = has.low }) low high
+        begins = may_step_in s room.placing.builder rest source at
+            (record { ready = has.ready; low = has.low }) low high
             boundary;
         ordered = omega (arith, high, within);
         next = room_next;
@@ -155,7 +156,8 @@ nothing_left s old rest frames source blocks state =
       );
       white = λ none at from less.
           let alone = no_frames view.texts view.blocks frames state.opened.free.built.blocks none in
-          let over : 0 ≡ rest.line.next = ap (λ (fs : List Frame). placed_end 0 fs nil) (sym alone) ∙ state.opened.first in
+          let over : 0 ≡ rest.line.next = ap (λ (fs : List Frame). placed_end 0 fs nil) (sym alone)
+          ∙ state.opened.first in
           absurd (omega (arith, over, less));
     }
 

@@ -215,7 +215,8 @@ nothing_inside s old now rest frames source at blocks state found same steps =
         unheld = λ e. blanks;
         earlier = opened.earlier;
         alone = tt;
-        ready = ready_last s now frames nil None rest.line.next placed lines blanks (ap (λ (v : BuilderView). v.at) steps)
+        ready = ready_last s now frames nil None rest.line.next placed lines blanks
+            (ap (λ (v : BuilderView). v.at) steps)
             (subst (λ text. IsCharBoundary text rest.line.next) (sym (ap (λ (r : Source). r.text) source_is))
             (next_between s.text rest.line.start rest.line state.left.utf8 state.left.from));
       };

@@ -1,5 +1,6 @@
 -- Calls that end a paragraph and close blocks fit.
-use Rattle.std.proofs.Common.{◌≡◌, ℕ, zero, suc, ◌+◌, ◌-◌, ◌<◌, ◌≤◌, Bool, true, false, List, [], ◌∷◌, ◌++◌, Option, Some, None}
+use Rattle.std.proofs.Common.{◌≡◌, ℕ, zero, suc, ◌+◌, ◌-◌, ◌<◌, ◌≤◌, Bool, true, false, List, [], ◌∷◌, ◌++◌, Option}
+use Rattle.std.proofs.Common.{Some, None}
 use Rattle.std.proofs.Common.{length, drop, take, slice_range, reverse, ⊎_elim, refl, sym, ap, ◌∙◌, subst, arith}
 use Rattle.std.specs.Prelude.{get_or, slice_get, slice_index, ◌==◌, ◌&&◌, ◌||◌, ◌%◌, if◌then◌else◌, nat_lt}
 use Rattle.std.specs.Str.{IsCharBoundary, IsUtf8}
@@ -25,7 +26,8 @@ use Rattle.markdown_builder.specs.declared.open_block.OpenBlock.{OpenBlock}
 use Rattle.markdown_lines.specs.declared.line.Line.{Line}
 use Rattle.markdown_plain.proofs.OpenBlocksLemmas.{innermost_of_opened, last_apart}
 use Rattle.markdown_plain.specs.Containers.{is_container}
-use Rattle.markdown_plain.specs.OpenBlocks.{innermost_is, is_list, is_quote, outer_of, room_in, without_leaf, without_list}
+use Rattle.markdown_plain.specs.OpenBlocks.{innermost_is, is_list, is_quote, outer_of, room_in, without_leaf}
+use Rattle.markdown_plain.specs.OpenBlocks.{without_list}
 use Rattle.markdown_plain.specs.declared.placing.Placing.{Placing}
 use Rattle.markdown_base.specs.Forest.{Forest}
 use Rattle.markdown_builder.specs.Shown.{Shown}
@@ -42,7 +44,9 @@ use Rattle.markdown_lines.specs.TaskMarkers.{is_task_done, is_task_space, task_l
 use Rattle.markdown_lines.specs.declared.held_line.HeldLine.{HeldLine}
 use Rattle.markdown_plain.proofs.ParagraphLinesLemmas.{if_some, marker_within, range_byte, range_length}
 use Rattle.markdown_plain.specs.declared.paragraph.Ends.{Ends}
-use Rattle.markdown_plain.specs.Closable.{AreAhead, AreApart, AreClosable, AreContainers, AreInText, has_quote, leaf_end, HasBraces, HasRoomFor, HasTask, HaveTask, IsClosable, IsInList, IsPlaceable, IsReady, IsInText, IsLastInText, IsLeafOpen, IsWhiteBefore}
+use Rattle.markdown_plain.specs.Closable.{AreAhead, AreApart, AreClosable, AreContainers, AreInText, has_quote}
+use Rattle.markdown_plain.specs.Closable.{leaf_end, HasBraces, HasRoomFor, HasTask, HaveTask, IsClosable, IsInList}
+use Rattle.markdown_plain.specs.Closable.{IsPlaceable, IsReady, IsInText, IsLastInText, IsLeafOpen, IsWhiteBefore}
 use Rattle.markdown_lines.specs.declared.braces.Braces.{Braces}
 use Rattle.std.specs.Option.{option_map_or}
 use Rattle.markdown_plain.specs.Fitting.{AllFitted, GoesOn, OpensHeading, closed, defining, IsAhead, IsWhiteOutside}
@@ -122,7 +126,8 @@ past_task text line done utf8 is e =
       marker = IsCharBoundary-before_ascii text (line.start + 3) (omega (arith, high, long, size, ordered))
           (byte 3 (omega arith) (omega (arith, some)));
       rest = subst (IsCharBoundary text) last (IsCharBoundary-after_ascii text (line.start + (n - 1)) utf8
-          (omega (arith, high, long, most, some, size, ordered)) (byte (n - 1) (omega (arith, some)) (omega (arith, some))));
+          (omega (arith, high, long, most, some, size, ordered))
+          (byte (n - 1) (omega (arith, some)) (omega (arith, some))));
     }
 
 -- what follows the marker in its line
@@ -455,7 +460,8 @@ closed_here old new placed levels is some e =
     let now : new.blocks ≡ outer = ap (λ (b : BuilderView). b.blocks) e in
     let apart = containers_apart outer p.block (subst AreContainers p.is is.containers) in
     let inner : innermost_is is_quote old.blocks ≡ is_quote p.block.body =
-    ap (innermost_is is_quote) p.is ∙ ap (λ found. option_map_or (λ (block : OpenBlock). is_quote block.body) found false)
+    ap (innermost_is is_quote) p.is ∙ ap
+    (λ found. option_map_or (λ (block : OpenBlock). is_quote block.body) found false)
     (innermost_of_opened outer p.block) in
     let at = ap (λ (b : BuilderView). b.at) e in
     let text = ap (λ (b : BuilderView). b.text) e in
@@ -542,7 +548,8 @@ no_quote_left (first ∷ blocks) none =
     on_test (λ bs. bs ≡ [] → has_quote all ≡ false) (innermost_is is_list all) (outer_of all) all
     (λ list e.
     let last : innermost_is is_quote all ≡ is_quote p.block.body =
-    ap (innermost_is is_quote) p.is ∙ ap (λ found. option_map_or (λ (block : OpenBlock). is_quote block.body) found false)
+    ap (innermost_is is_quote) p.is ∙ ap
+    (λ found. option_map_or (λ (block : OpenBlock). is_quote block.body) found false)
     (innermost_of_opened (outer_of all) p.block) in
     ap has_quote p.is ∙ no_quote_apart (outer_of all) p.block (ap has_quote e)
     (sym last ∙ innermost_no_quote all list))
@@ -700,7 +707,8 @@ pub may_define : (builder : BuilderView) (lines : List HeldLine) (first : HeldLi
 may_define builder [] first end count is there span = cc
 may_define builder (head ∷ lines) first end count is there span =
     subst (λ (l : HeldLine). MayDefine builder l span.line end) (same_Some head first there) (
-    let line = line_there builder.text head.start (head ∷ lines) span.number span.line (omega arith, is.order.1) span.there in
+    let line = line_there builder.text head.start (head ∷ lines) span.number span.line
+    (omega arith, is.order.1) span.there in
     let low = line.low in
     let from = span.ends.low in
     record {

@@ -1,6 +1,8 @@
 -- Where a definition ends in the lines of a paragraph: only white space follows it in its last line.
-use Rattle.std.proofs.Common.{◌≡◌, ℕ, zero, suc, ◌+◌, ◌-◌, ◌<◌, ◌≤◌, Bool, true, false, List, [], ◌∷◌, ◌++◌, Option, Some}
-use Rattle.std.proofs.Common.{None, length, drop, take, slice_range, length-append, ⊎_elim, refl, sym, ap, ◌∙◌, subst, arith}
+use Rattle.std.proofs.Common.{◌≡◌, ℕ, zero, suc, ◌+◌, ◌-◌, ◌<◌, ◌≤◌, Bool, true, false, List, [], ◌∷◌, ◌++◌, Option}
+use Rattle.std.proofs.Common.{Some}
+use Rattle.std.proofs.Common.{None, length, drop, take, slice_range, length-append, ⊎_elim, refl, sym, ap, ◌∙◌, subst}
+use Rattle.std.proofs.Common.{arith}
 use Rattle.std.specs.Prelude.{get_or, slice_get, slice_index, ◌==◌, ◌&&◌, ◌||◌, option_and_then, if◌then◌else◌, codes}
 use Rattle.std.specs.Prelude.{nat_le, nat_lt}
 use Rattle.std.specs.Option.{option_map, option_or}
@@ -21,7 +23,8 @@ use Rattle.markdown_scan.specs.LineStart.{is_line_over}
 use Rattle.markdown_scan.specs.declared.entity.EntityNames.{EntityNames}
 use Rattle.markdown_lines.proofs.HeldBetweenLemmas.{ending_byte}
 use Rattle.markdown_lines.proofs.HeldLinesLemmas.{bounds_of}
-use Rattle.markdown_lines.specs.DefinitionRules.{Defined, Tail, closing_mark, definition_in, ends_its_line, lines_behind}
+use Rattle.markdown_lines.specs.DefinitionRules.{Defined, Tail, closing_mark, definition_in, ends_its_line}
+use Rattle.markdown_lines.specs.DefinitionRules.{lines_behind}
 use Rattle.markdown_lines.specs.DefinitionRules.{no_prefix, place_of, separation, tail_of, text_of_lines, title_length}
 use Rattle.markdown_lines.specs.DefinitionRules.{title_tail, titled, with_destination, with_label, with_tail}
 use Rattle.markdown_lines.specs.HeldLines.{AreHeldFrom, IsHeldLine}
@@ -254,12 +257,14 @@ space_before (b ∷ bytes) k e less none =
     by_space again true is (suc k) less none =
         let one : suc (prefix_len is_space_or_tab bytes) ≡ 1 + prefix_len is_space_or_tab bytes = omega arith in
         let rest : ends_its_line bytes ≡ true = ap (λ n. is_line_over (drop n (b ∷ bytes))) one ∙ (
-        sym (ap (λ (t : Bool). is_line_over (drop (if t then 1 + prefix_len is_space_or_tab bytes else 0) (b ∷ bytes))) is)
+        sym (ap (λ (t : Bool). is_line_over
+        (drop (if t then 1 + prefix_len is_space_or_tab bytes else 0) (b ∷ bytes))) is)
         ∙ e) in
         again k rest (omega (arith, less)) (λ j most. none (suc j) (omega (arith, most)))
     by_space again false is k less none =
         let over : is_line_over (b ∷ bytes) ≡ true =
-        sym (ap (λ (t : Bool). is_line_over (drop (if t then 1 + prefix_len is_space_or_tab bytes else 0) (b ∷ bytes))) is)
+        sym (ap (λ (t : Bool). is_line_over
+        (drop (if t then 1 + prefix_len is_space_or_tab bytes else 0) (b ∷ bytes))) is)
         ∙ e in
         absurd (true≢false (sym over ∙ none 0 (omega arith)))
 
@@ -387,7 +392,8 @@ ends_at text from (line ∷ lines) (source ∷ sources) n held cuts are is =
           there = refl;
           behind = ap (λ t. if t then sources else lines_behind sources (n - size)) before;
           ends = subst (IsEndIn text line) (place
-              ∙ ap (λ t. (if t then source.left.scanned + (n - 1) else place_of sources (n - 1 - size)) + 1) (sym inside))
+              ∙ ap (λ t. (if t then source.left.scanned + (n - 1) else place_of sources (n - 1 - size)) + 1)
+              (sym inside))
               (end_in_line text line rest n held.1.0 cuts.0 (omega (arith, most, start, next))
               (subst (λ k. ends_its_line (drop n (slice_range text k line.next ++ rest)) ≡ true) (sym start)
               (subst (λ k. ends_its_line (drop n (slice_range text source.left.scanned k ++ rest)) ≡ true) (sym next)
@@ -415,7 +421,8 @@ ends_at text from (line ∷ lines) (source ∷ sources) n held cuts are is =
           there = found.there;
           behind = ap (λ t. if t then sources else lines_behind sources (n - size)) before ∙ found.behind;
           ends = subst (IsEndIn text found.line) (ap (λ k. place_of sources k + 1) order
-              ∙ ap (λ t. (if t then source.left.scanned + (n - 1) else place_of sources (n - 1 - size)) + 1) (sym inside))
+              ∙ ap (λ t. (if t then source.left.scanned + (n - 1) else place_of sources (n - 1 - size)) + 1)
+              (sym inside))
               found.ends;
         }
 

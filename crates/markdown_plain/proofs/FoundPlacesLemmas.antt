@@ -300,8 +300,8 @@ standing_ends bytes content (Some marker) interrupts ends =
 
 -- ---- what a line begins
 
--- what a line begins, whose content begins at a byte offset, lies between characters, and a heading and indented code in
--- the line
+-- what a line begins, whose content begins at a byte offset, lies between characters, and a heading and indented code
+-- in the line
 abbrev BeginsWithin : List ℕ → Line → ℕ → Beginning → Type 0
 BeginsWithin text whole at (line.begins_quote rest) = IsCharBoundary text rest.scanned
 BeginsWithin text whole at (line.begins_footnote label rest) = IsCharBoundary text rest.scanned
@@ -389,9 +389,11 @@ module _ (text : List ℕ) (from : ℕ) (utf8 : IsUtf8 text) (whole : Line) (at 
       (λ other. subst (IsCharBoundary text) (omega arith) is.boundary)
 
   -- a quote
-  quote_within : (s : Source) (here : LineLeft) → IsWithin text from here → IfWithin text whole at (quote_in_line s here)
+  quote_within : (s : Source) (here : LineLeft) → IsWithin text from here → IfWithin text whole at
+      (quote_in_line s here)
   quote_within s here is =
-      on_test (IfWithin text whole at) (begins_with (codes ">") here.bytes) (Some (quote_of s.options (past_marker here))) None
+      on_test (IfWithin text whole at) (begins_with (codes ">") here.bytes)
+      (Some (quote_of s.options (past_marker here))) None
       (λ marker. of_alert (past_marker here) (alert_read s.options (past_marker here))
       (marker_within text from utf8 here.scanned here.owed here.column here.bytes marker
       (record { own = is.own; boundary = is.boundary; low = is.low })).boundary) (λ none. tt)
@@ -723,7 +725,8 @@ module _ (text : List ℕ) (from : ℕ) (utf8 : IsUtf8 text) (whole : Line) (at 
           (
             fence_within s columns here same is end,
             (
-              either (IfWithin text whole at) (begins_with (codes "<") here.bytes) (option_map line.begins_html html) None
+              either (IfWithin text whole at) (begins_with (codes "<") here.bytes)
+                  (option_map line.begins_html html) None
                   (mapped_within text whole at line.begins_html html (λ a. tt)) tt,
               (
                 footnote_within s here is,
@@ -747,9 +750,11 @@ module _ (text : List ℕ) (from : ℕ) (utf8 : IsUtf8 text) (whole : Line) (at 
   metadata_within before (Some metadata.YamlStyle) =
       either (IfWithin text whole at) (is_reached before) None (Some (line.begins_metadata metadata.YamlStyle)) tt tt
   metadata_within before (Some metadata.PlusesStyle) =
-      either (IfWithin text whole at) (is_paragraph before) None (Some (line.begins_metadata metadata.PlusesStyle)) tt tt
+      either (IfWithin text whole at) (is_paragraph before) None
+      (Some (line.begins_metadata metadata.PlusesStyle)) tt tt
 
-  found_or_within : (found : Option Beginning) (other : Beginning) → IfWithin text whole at found → BeginsWithin text whole at other
+  found_or_within : (found : Option Beginning) (other : Beginning) → IfWithin text whole at found
+      → BeginsWithin text whole at other
       → BeginsWithin text whole at (unwrap_or found other)
   found_or_within None other one more = more
   found_or_within (Some b) other one more = one

@@ -301,12 +301,12 @@ html_grown s rest kind lines more = record {
   now = was.html_leaf kind (ends_html kind rest) (lines ++ rest ∷ []);
   is = rw more refl;
   grows = record {
-        leaf = refl;
-        over = λ e. e;
-        filled = refl;
-        alone = λ e. absurd (true≢false (sym e));
-        end = λ b e. e;
-      };
+    leaf = refl;
+    over = λ e. e;
+    filled = refl;
+    alone = λ e. absurd (true≢false (sym e));
+    end = λ b e. e;
+  };
   knows = λ e. subst (λ t. IsLeafKind (leaf.Html kind) (was.html_leaf kind t (lines ++ rest ∷ []))) (sym e) refl;
   none = λ held e. e;
 }

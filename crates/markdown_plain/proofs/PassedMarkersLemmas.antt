@@ -1,11 +1,11 @@
--- What is left of a line inside a container that it begins comes after the first byte of the container's marker, which is
--- the first byte of the line's content.
-use Rattle.std.proofs.Common.{◌≡◌, ℕ, ◌+◌, ◌≤◌, Bool, true, false, List, [], ◌∷◌, Option, Some, None, refl, sym, ap, ◌∙◌}
-use Rattle.std.proofs.Common.{subst, arith, length, drop, take, ◌&&◌, ◌||◌, ◌==◌, codes, nat_lt, not, ⊎_elim}
+-- What is left of a line inside a container that it begins comes after the first byte of the container's marker,
+-- which is the first byte of the line's content.
+use Rattle.std.proofs.Common.{◌≡◌, ℕ, ◌+◌, ◌≤◌, Bool, true, false, List, [], ◌∷◌, Option, Some, None, refl, sym, ap}
+use Rattle.std.proofs.Common.{◌∙◌}
+use Rattle.std.proofs.Common.{subst, arith, length, drop, ◌&&◌, ◌||◌, ◌==◌, codes, nat_lt, not, ⊎_elim}
 use Rattle.std.proofs.lemmas.Bool.{true≢false, cases_Bool}
 use Rattle.std.proofs.lemmas.Bool.Decides.{nat_tests}
-use Rattle.std.specs.Prelude.{if◌then◌else◌, slice_index, slice_range, unwrap_or}
-use Rattle.std.specs.Char.{is_ascii_digit}
+use Rattle.std.specs.Prelude.{if◌then◌else◌, slice_index, unwrap_or}
 use Rattle.std.specs.List.{prefix_len}
 use Rattle.std.specs.Option.{option_and_then, option_map}
 use Rattle.markdown_base.specs.EnabledOptions.{footnotes_on}
@@ -27,7 +27,7 @@ use Rattle.markdown_lines.specs.BlockBeginnings.{whole_heading}
 use Rattle.markdown_lines.specs.CodeFences.{opening_fence_at}
 use Rattle.markdown_lines.specs.HtmlBeginnings.{html_kind_of, in_one_line}
 use Rattle.markdown_lines.specs.Lines.{is_space_or_tab}
-use Rattle.markdown_lines.specs.ListMarkers.{if_it_stands, is_bullet, list_marker_at, marker_of, stands_before}
+use Rattle.markdown_lines.specs.ListMarkers.{if_it_stands, list_marker_at, marker_of, stands_before}
 use Rattle.markdown_lines.specs.MetadataBlocks.{metadata_opened}
 use Rattle.markdown_lines.specs.SourceLines.{SourceLine}
 use Rattle.markdown_lines.specs.ThematicBreaks.{is_thematic_break, setext_level}

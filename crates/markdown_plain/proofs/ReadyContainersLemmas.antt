@@ -1,6 +1,6 @@
 -- Where an item may be opened that the rest of a line begins: only white space is before it where no block is open. And
 -- an alert, which takes the whole line, leaves the pass ready for the next one.
-use Rattle.std.proofs.Common.{◌≡◌, ℕ, zero, suc, ◌+◌, ◌-◌, ◌<◌, ◌≤◌, Bool, true, false, List, [], ◌∷◌, length}
+use Rattle.std.proofs.Common.{◌≡◌, ℕ, zero, suc, ◌-◌, ◌≤◌, Bool, true, false, List, [], ◌∷◌, length}
 use Rattle.std.proofs.Common.{Some, take, refl, sym, ap, ◌∙◌, subst, arith, true≢false}
 use Rattle.std.specs.Prelude.{if◌then◌else◌}
 use Rattle.std.specs.Str.{IsCharBoundary}
@@ -182,7 +182,8 @@ item_fits s old new rest (turn.later frames) source blocks item at state found o
 -- ---- the paragraph that may follow an alert's marker
 
 -- an alert was opened, and holds back the end of its line
-pub record HoldsEnd (s : Source) (old now : Pass) (rest : LineRest) (at : ℕ) (frames : List Frame) (kind : BlockQuoteKind)
+pub record HoldsEnd (s : Source) (old now : Pass) (rest : LineRest) (at : ℕ) (frames : List Frame)
+    (kind : BlockQuoteKind)
     : Type 0 where
   pub opens : now.placing.builder ≡ opened old.placing.builder at (body.BlockQuote (Some kind))
   pub built : IsBuilt s now.placing.builder frames nil

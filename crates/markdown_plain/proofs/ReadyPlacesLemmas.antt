@@ -54,8 +54,6 @@ ending_white text at line is = λ k more high.
     ∙ in_ending (drop line.stop text) (k - line.stop) (omega (arith, more, high, ends))) in
     ap (λ t. is_space_or_tab (get_or text k 0) || t) here ∙ or-true (is_space_or_tab (get_or text k 0))
 
--- ---- where a line ends
-
 byte_passes : (test : ℕ → Bool) (bytes : List ℕ) (at : ℕ) → list_all test bytes ≡ true → at < length bytes
     → test (get_or bytes at 0) ≡ true
 byte_passes test [] at all less = absurd (omega (arith, less))
@@ -161,7 +159,8 @@ pub ready_after : (pass : Pass) (to : ℕ) → IsLeftAt pass to → IsReadyAfter
 ready_after pass to is =
     let view = pass.placing.builder in
     let none : has_paragraph pass ≡ false = none_held_back pass is.lines in
-    let here : leaf_end pass ≡ to = ap (λ (has : Bool). if has then lines_end pass.lines.items else view.at) none ∙ is.at in
+    let here : leaf_end pass ≡ to = ap (λ (has : Bool). if has then lines_end pass.lines.items else view.at) none
+    ∙ is.at in
     record {
       closable = record {
         some = λ leaf. (is.leaf leaf).some;

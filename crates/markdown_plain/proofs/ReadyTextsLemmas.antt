@@ -246,8 +246,7 @@ further_ready old new line start rest source same lines outside some ready is at
           let quotes : has_quote (without_leaf view) ≡ false =
           ap has_quote (outside_leaf view outside ∙ none) in
           let scanned = ap (λ (l : SourceLine). l.left.scanned) (alone none)
-          ∙ sym (ap (λ (left : LineLeft). left.scanned) is.left) in
-          (
+          ∙ sym (ap (λ (left : LineLeft). left.scanned) is.left) in (
             white_both view.text (past view.at old.lines.items) old.placed start
                 (subst (λ n. AllPass is_in_blank_line view.text n old.placed) end (closable.white quotes))
                 (white_both view.text old.placed line.start start ready.white
@@ -327,8 +326,7 @@ begun_ready old new line start rest source begins is at alone inside =
             (line_in_text text line rest start at is.from is.utf8);
         white = λ none.
             let scanned = ap (λ (l : SourceLine). l.left.scanned) (alone none)
-            ∙ sym (ap (λ (left : LineLeft). left.scanned) is.left) in
-            (
+            ∙ sym (ap (λ (left : LineLeft). left.scanned) is.left) in (
               white_both view.text view.at old.placed start (begins.here.white (ap has_quote none))
                   (subst (λ t. AllPass is_in_blank_line t old.placed start) (sym begins.text)
                   (white_both text old.placed line.start start begins.before.white

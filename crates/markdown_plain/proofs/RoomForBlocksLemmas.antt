@@ -508,11 +508,13 @@ module _ (s : Source) (old new : Pass) (rest : LineRest) (before : Before) (l so
       let ready = ready_first s old new.placing.builder rest source (ap (λ (r : Source). r.text) holds.source) now
       holds.ready (makes.here holds.ready.closable fitted) state.left state.filled
       (λ none.
-      let alone = no_frames new.placing.builder.texts new.placing.builder.blocks (take n frames) there.1.built.blocks none
+      let alone = no_frames new.placing.builder.texts new.placing.builder.blocks
+      (take n frames) there.1.built.blocks none
       in
       let same : source ≡ l = state.reached ∙ nothing_taken s frames inside l alone in
       ap (λ (left : LineLeft). left.scanned) state.left.is.rest.left
-      ∙ (ap (λ (m : SourceLine). m.left.scanned) same ∙ sym (ap (λ (left : LineLeft). left.scanned) state.is.left))) in (
+      ∙ (ap (λ (m : SourceLine). m.left.scanned) same ∙ sym (ap (λ (left : LineLeft). left.scanned) state.is.left)))
+      in (
         there.0,
         record {
           frames = map (touched l) (take n frames);
@@ -609,7 +611,8 @@ room_for s old new rest (turn.later frames) source at start b blocks makes state
 
 -- and it is made by calls that fit
 pub room_fits : (s : Source) (old new : Pass) (rest : LineRest) (turn : Turn) (source : SourceLine)
-    (blocks : Forest Block) → MakesRoom old new rest.depth → IsHere s old rest turn source blocks → AllFitted old.placing
+    (blocks : Forest Block) → MakesRoom old new rest.depth → IsHere s old rest turn source blocks
+    → AllFitted old.placing
     → AllFitted new.placing
 room_fits s old new rest (turn.first before l) source blocks makes state fitted =
     makes.fits state.holds.ready.closable fitted

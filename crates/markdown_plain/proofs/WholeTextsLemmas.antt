@@ -1,7 +1,7 @@
 -- The blocks of a whole text, line by line: what the pass stands for after each of its lines, and once all blocks are
 -- closed.
-use Rattle.std.proofs.Common.{◌≡◌, ⊎_elim, ℕ, ◌+◌, ◌-◌, ◌<◌, ◌≤◌, Bool, true, false, List, [], ◌∷◌, Option, Some, None}
-use Rattle.std.proofs.Common.{drop, get_or, get_or-drop, length, length-drop, arith, refl, sym, ap, ◌∙◌, subst}
+use Rattle.std.proofs.Common.{◌≡◌, ℕ, ◌<◌, ◌≤◌, false, List, [], ◌∷◌, Option, Some, None}
+use Rattle.std.proofs.Common.{drop, length, arith, refl, sym, ap, ◌∙◌, subst}
 use Rattle.std.specs.Prelude.{slice_range, if◌then◌else◌}
 use Rattle.std.specs.List.{fold}
 use Rattle.std.specs.Str.{IsCharBoundary, IsUtf8}
@@ -11,15 +11,12 @@ use Rattle.markdown_base.specs.Forest.{Forest, nil}
 use Rattle.markdown_builder.specs.BuilderView.{BuilderView, nothing_made}
 use Rattle.markdown_builder.specs.TreeLevels.{followed_by}
 use Rattle.markdown_builder.specs.declared.open_block.OpenBlock.{OpenBlock}
-use Rattle.markdown_scan.specs.LineStart.{LineLeft}
 use Rattle.markdown_lines.specs.BlockBeginnings.{Source}
 use Rattle.markdown_lines.specs.Lines.{AllPass, IsLineFrom, is_in_blank_line}
 use Rattle.markdown_lines.specs.MetadataBlocks.{lines_at}
 use Rattle.markdown_lines.specs.SourceLines.{SourceLine, first_line}
 use Rattle.markdown_lines.specs.declared.line.Line.{Line}
-use Rattle.markdown_lines.proofs.HeldLinesLemmas.{ends_within}
-use Rattle.markdown_lines.proofs.LinesAheadLemmas.{in_ending, line_read, lines_step, no_lines, some_ending}
-use Rattle.markdown_lines.proofs.LinesLemmas.{ending_ascii, past_ascii}
+use Rattle.markdown_lines.proofs.LinesAheadLemmas.{line_read, lines_step, no_lines}
 use Rattle.markdown_block_rules.specs.BlockGrowth.{Block, blocks_of, with_line, with_next_line, within_limit}
 use Rattle.markdown_block_rules.specs.BlockRules.{block_definitions, block_footnotes, block_tree, definitions_in}
 use Rattle.markdown_block_rules.specs.BlockRules.{footnotes_in, shown_blocks}
@@ -27,7 +24,7 @@ use Rattle.markdown_block_rules.specs.TableLines.{reads_tables}
 use Rattle.markdown_plain.specs.declared.pass.Pass.{Pass}
 use Rattle.markdown_plain.specs.Closable.{AreClosable, AreContainers, IsClosable, IsReady}
 use Rattle.markdown_plain.specs.Closing.{MayClose, MayEnd}
-use Rattle.markdown_plain.specs.Fitting.{AllFitted, FittedBefore, IfFitted, stepped}
+use Rattle.markdown_plain.specs.Fitting.{AllFitted, IfFitted, stepped}
 use Rattle.markdown_plain.specs.Frames.{Frame, rebuilt}
 use Rattle.markdown_plain.specs.OpenLeaves.{leaf_block}
 use Rattle.markdown_plain.specs.Standing.{HasLast, IsSource, Stands, StandsFor, with_last}
@@ -50,7 +47,8 @@ source_at pass at line is boundary utf8 =
     let begins = is.begins in
     let size = ap length read.0 ∙ part_length text line.start line.stop is.content.high in
     record {
-      left = ap (λ n. record { scanned = n; owed = 0; column = 0; bytes = slice_range text line.start line.stop }) begins
+      left = ap (λ n. record { scanned = n; owed = 0; column = 0; bytes = slice_range text line.start line.stop })
+          begins
           ∙ ap (λ (bytes : List ℕ). record { scanned = at; owed = 0; column = 0; bytes = bytes }) (sym read.0);
       stop = omega (arith, size, low, begins);
       next = sym read.1;

@@ -50,7 +50,8 @@ AreApart text from (line ∷ lines) =
     AllPass is_in_blank_line text from line.start
     × (AllPass is_in_blank_line text line.stop line.next × AreApart text line.next lines)
 
--- the lines of a paragraph are ahead of the current byte offset; where no block is open, only white space is around them
+-- the lines of a paragraph are ahead of the current byte offset; where no block is open, only white space is around
+-- them
 pub record AreAhead (builder : BuilderView) (lines : List HeldLine) : Type 0 where
   pub inside : AreInParagraph builder.text lines
   pub order : AreInText builder.text builder.at lines
@@ -73,7 +74,8 @@ HasBraces text (Some braces) line = (braces.opening ≤ line.stop) × IsCharBoun
 
 -- they do in the last of some lines
 abbrev pub HaveBraces : List ℕ → Option Braces → List HeldLine → Type 0
-HaveBraces text braces lines = (line : HeldLine) → slice_get lines (length lines - 1) ≡ Some line → HasBraces text braces line
+HaveBraces text braces lines = (line : HeldLine) → slice_get lines (length lines - 1) ≡ Some line
+    → HasBraces text braces line
 
 -- the line of an underline ends after the lines of its heading, and between characters
 abbrev pub EndsHeading : List ℕ → List HeldLine → Option (HeadingLevel × Line) → Type 0
@@ -114,8 +116,8 @@ abbrev pub has_quote : List OpenBlock → Bool
 has_quote [] = false
 has_quote (block ∷ blocks) = is_quote block.body || has_quote blocks
 
--- The open blocks are containers, which may be closed: the current byte offset is not after that at which the block quotes
--- among them end, and there is only white space in between where there is none.
+-- The open blocks are containers, which may be closed: the current byte offset is not after that at which the block
+-- quotes among them end, and there is only white space in between where there is none.
 pub record AreClosable (builder : BuilderView) (placed : ℕ) : Type 0 where
   pub outside : builder.leaf ≡ false
   pub containers : AreContainers builder.blocks
@@ -149,8 +151,8 @@ pub record IsClosable (pass : Pass) : Type 0 where
   pub white : has_quote (without_leaf pass.placing.builder) ≡ false
       → AllPass is_in_blank_line pass.placing.builder.text (leaf_end pass) pass.placed
 
--- Between two lines: all up to a byte offset was read, where a line begins, and every call fits that the pass may make of
--- the lines that it holds back.
+-- Between two lines: all up to a byte offset was read, where a line begins, and every call fits that the pass may
+-- make of the lines that it holds back.
 pub record IsReady (pass : Pass) (from : ℕ) : Type 0 where
   pub closable : IsClosable pass
   pub low : pass.placed ≤ from

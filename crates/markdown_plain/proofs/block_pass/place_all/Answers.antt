@@ -2,7 +2,6 @@
 use Rattle.std.proofs.Common.{◌≡◌, ◌∙◌, [], ap, false, length, refl, subst, sym}
 use Rattle.std.specs.Str.{IsUtf8}
 use Rattle.markdown_builder.specs.BuilderView.{nothing_made}
-use Rattle.markdown_builder.specs.declared.open_block.OpenBlock.{OpenBlock}
 use Rattle.markdown_lines.specs.BlockBeginnings.{Source}
 use Rattle.markdown_lines.specs.Lines.{AllPass, is_in_blank_line}
 use Rattle.markdown_block_rules.specs.BlockGrowth.{blocks_of}
@@ -17,7 +16,8 @@ use Rattle.markdown_plain.proofs.block_pass.place_all.Goals as goal
 pub step_to_end-requires : goal.step_to_end-requires
 step_to_end-requires c = cc
 
-nothing_yet : (c : goal.In_ok-step_to_end) (s : Source) → s ≡ record { text = c.args.text.now; options = c.args.options }
+nothing_yet : (c : goal.In_ok-step_to_end) (s : Source)
+    → s ≡ record { text = c.args.text.now; options = c.args.options }
     → HasNothing s c.in_ok-pass.pass
 nothing_yet c s is = record {
   made = c.in_ok-pass.ensures.made ∙ ap (λ (s : Source). nothing_made s.text) (sym is);

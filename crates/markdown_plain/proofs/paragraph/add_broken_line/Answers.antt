@@ -82,7 +82,8 @@ returns-clause-fits c =
     let begun = still_open old c.add_items.new.self.builder (ap (λ (b : BuilderView). b.leaf) read)
     (ap (λ (b : BuilderView). b.blocks) read) within in
     let second = c.step_to-2.ensures.fits
-    (ahead_of old.text c.line_break-between.result.text_end _ c.add_items.new.self.builder c.in_ok-add_items.ensures.text
+    (ahead_of old.text c.line_break-between.result.text_end _ c.add_items.new.self.builder
+    c.in_ok-add_items.ensures.text
     (ap (λ (b : BuilderView). b.at) read) ordered between.start) (inside_leaf _ _ begun) ∙ first in
     let stepped = (c.step_to-2.ensures.steps second).1 in
     let still = still_open c.add_items.new.self.builder c.step_to-2.new.self.builder

@@ -153,7 +153,8 @@ defines : (c : goal.After-step_to-3) (is : AreAhead c.args.placing.now.builder c
     → MayDefine c.args.placing.now.builder c.in-Some.first.now (span c is).line c.in-Some-2.found.end
 defines c is =
     let there = sym c.first.ensures.value ∙ ap option_copied c.in-Some.is in
-    may_define c.args.placing.now.builder c.args.lines.now c.in-Some.first.now c.in-Some-2.found.end c.min-taken.result is
+    may_define c.args.placing.now.builder c.args.lines.now c.in-Some.first.now c.in-Some-2.found.end
+    c.min-taken.result is
     there (span c is)
 
 pub returns-clause-fits : goal.returns-clause-fits
@@ -179,7 +180,8 @@ returns-clause-fits c = λ is fitted.
     c.step_to-3.ensures.fits
     (subst (IsAhead now) (sym (last_next c.args.lines.now s.number c.min-taken.result s.line _ s.count_is s.there))
     (ahead_of old.text end s.line.next now text at d.high d.next))
-    (subst (IsWhiteOutside now) (sym (last_next c.args.lines.now s.number c.min-taken.result s.line _ s.count_is s.there))
+    (subst (IsWhiteOutside now)
+    (sym (last_next c.args.lines.now s.number c.min-taken.result s.line _ s.count_is s.there))
     (white_ahead old.text end s.line.next now text at d.left)) ∙ second
 
 pub returns-clause-ahead : goal.returns-clause-ahead

@@ -1,5 +1,6 @@
 -- One definition more, and no line left.
-use Rattle.std.proofs.Common.{rules, [], ◌≡◌, ℕ, List, sym, ap, ◌∙◌, arith, subst, ◌+◌, ◌<◌, ◌-◌, drop, length, slice_range}
+use Rattle.std.proofs.Common.{rules, [], ◌≡◌, ℕ, List, sym, ap, ◌∙◌, arith, subst, ◌+◌, ◌<◌, ◌-◌, drop, length}
+use Rattle.std.proofs.Common.{slice_range}
 use Rattle.std.proofs.lemmas.List.{drop-drop, length-drop, take_all}
 use Rattle.markdown_lines.specs.SourceLines.{SourceLine}
 use Rattle.markdown_lines.specs.declared.held_line.HeldLine.{HeldLine}
@@ -52,7 +53,8 @@ definitions-preserved c =
           let all = drop-drop more taken lines in
           let there : taken + more ≡ c.saturating_add-taken.result = omega (arith, count) in
           subst (AreAhead new) (ap (drop more) rest ∙ (all ∙ ap (λ n. drop n lines) there))
-          (c.in_ok-more.ensures.ahead (subst (AreAhead mid) (sym rest) (c.definitions.invariant.ahead is before)) fitted);
+          (c.in_ok-more.ensures.ahead
+          (subst (AreAhead mid) (sym rest) (c.definitions.invariant.ahead is before)) fitted);
       takes = λ (sources : List SourceLine) (is : IsParagraph old.text lines sources)
           (fitted : AllFitted c.take_definition.new.placing).
           let before = c.definitions.invariant.takes sources is (c.in_ok-more.ensures.steps fitted).0 in

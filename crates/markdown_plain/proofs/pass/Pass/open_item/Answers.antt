@@ -156,7 +156,8 @@ returns-clause-fits c =
     let placed : down.placed ≡ old.placed = ap (λ (p : Pass). p.placed) c.in_ok-close_down.ensures.same in
     let text = c.in_ok-close_down.ensures.text in
     let blocks = (c.in_ok-close_down.ensures.closes first).1 in
-    let opened = item_fits c here.outside (item_ahead old.placing.builder down.placing.builder old.placed c.args.at text here low boundary)
+    let opened = item_fits c here.outside
+    (item_ahead old.placing.builder down.placing.builder old.placed c.args.at text here low boundary)
     (item_white old.placing.builder down.placing.builder old.placed c.args.at c.args.depth text blocks here white)
     (λ list. subst (AreClosable down.placing.builder) (sym placed) here) first in
     fits opened.1 ∙ opened.0) c.open_block.ensures.fits
@@ -171,7 +172,8 @@ returns-clause-fits_inside c =
     (subst (λ (p : Pass). IsAhead p.placing.builder c.args.at) (sym kept) ahead)
     (subst (λ (p : Pass). own.without_list p.placing.builder.blocks ≡ [] → IsWhiteBefore p.placing.builder c.args.at)
     (sym kept) (λ left. white (item_outside _ other left)))
-    (λ list. absurd (true≢false (sym list ∙ (ap (λ (p : Pass). own.innermost_is own.is_list p.placing.builder.blocks) kept
+    (λ list. absurd (true≢false
+    (sym list ∙ (ap (λ (p : Pass). own.innermost_is own.is_list p.placing.builder.blocks) kept
     ∙ other))))
     (subst (λ (p : Pass). AllFitted p.placing) (sym kept) fitted) in
     fits opened.1 ∙ opened.0) c.open_block.ensures.fits

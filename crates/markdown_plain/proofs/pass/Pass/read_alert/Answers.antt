@@ -52,7 +52,8 @@ is_alert c s turn source blocks state found fitted before =
     let f : Frame = record { before = room.inside; block = a } in
     let after = still_may s made quote rest.line room.frames room.inside room.may
     (keeps_leaf made quote c.open_quote.ensures.same c.in_ok-open_quote.ensures.text) in
-    let opens = (c.in_ok-open_quote.ensures.frame s room.frames room.inside a room.built room.free (sym found.begins) refl
+    let opens = (c.in_ok-open_quote.ensures.frame s room.frames room.inside a room.built room.free
+    (sym found.begins) refl
     fitted).1 in
     let inner = with_frame room.frames room.inside a in
     record {
@@ -126,4 +127,5 @@ returns-clause-fits c = λ s turn source blocks state found fitted.
     let room = (made.room s turn source c.args.at alert begins blocks state found refl tt there).1 in
     let may = subst (MayStep c.make_room_for.new.self.placing.builder) (sym found.begins) room.ready in
     let opened = c.in_ok-open_quote.ensures.fits may.ahead may.white room.built.outside there in
-    subst (λ (p : Pass). AllFitted p.placing) (sym (is_alert c s turn source blocks state found opened there).same.0) opened
+    subst (λ (p : Pass). AllFitted p.placing)
+    (sym (is_alert c s turn source blocks state found opened there).same.0) opened

@@ -1,12 +1,12 @@
 -- The line is one that the open leaf takes, a blank one, text, or one whose rest is read from its first turn on.
-use Rattle.std.proofs.Common.{◌≡◌, ◌≤◌, ◌<◌, ◌&&◌, ◌∙◌, List, ℕ, None, ap, arith, false, nat_le, refl, rules, subst}
+use Rattle.std.proofs.Common.{◌≡◌, ◌&&◌, ◌∙◌, List, ℕ, None, ap, arith, false, nat_le, refl, rules, subst}
 use Rattle.std.proofs.Common.{sym, take, true, true≢false}
 use Rattle.std.specs.List.{list_all}
 use Rattle.std.specs.Str.{IsUtf8}
 use Rattle.std.proofs.lemmas.Bool.Decides.{nat_tests}
 use Rattle.std.proofs.lemmas.Result.{IfOk-weaker}
 use Rattle.markdown_lines.specs.BlockBeginnings.{Source}
-use Rattle.markdown_lines.specs.SourceLines.{SourceLine, is_blank_rest}
+use Rattle.markdown_lines.specs.SourceLines.{SourceLine}
 use Rattle.markdown_block_rules.specs.BlockGrowth.{with_line}
 use Rattle.markdown_block_rules.specs.TableLines.{reads_tables}
 use Rattle.markdown_plain.specs.declared.block_pass.LineRest.{LineRest}
@@ -22,7 +22,9 @@ use Rattle.markdown_plain.proofs.FirstTurnsLemmas.{IsMadeOf, LeavesAll, first_tu
 use Rattle.markdown_plain.proofs.FirstTurnsLemmas.{unreached_leaves}
 use Rattle.markdown_plain.proofs.LeafLinesLemmas.{no_table_open, reached_by}
 use Rattle.markdown_plain.proofs.TextReachedLemmas.{text_reached}
-use Rattle.markdown_plain.proofs.pass.Pass.read_any_line.Goals.{else-reached-via-then-reached+then-is_in_leaf+in_ok-goes_on+else-branch}
+use Rattle.markdown_plain.proofs.pass.Pass.read_any_line.Goals.{
+  else-reached-via-then-reached+then-is_in_leaf+in_ok-goes_on+else-branch,
+}
 use Rattle.markdown_plain.proofs.pass.Pass.read_any_line.Goals.{else-reached-via-then-reached+else-is_in_leaf}
 use Rattle.markdown_plain.proofs.pass.Pass.read_any_line.Goals.{else-reached-via-else-reached}
 use Rattle.markdown_plain.proofs.pass.Pass.read_any_line.Goals.{then-reached-2, else-reached-2}
@@ -265,8 +267,7 @@ returns-clause-stands c = λ s before source tables same stands is fitted.
     let begun = begins_turn c s before source tables same stands is in
     let placed = c.in_ok-read_rest.ensures.places s (first before source) (reached_of s before source).rest
     (with_line s (blocks_before before) source) begun.turn begun.read.row
-    (subst AllFitted c.see_content-2.ensures.placing fitted) in
-    (
+    (subst AllFitted c.see_content-2.ensures.placing fitted) in (
       subst (λ (p : Pass). AllFitted p.placing) (left c).same placed.0,
       c.see_content-2.ensures.stands s _ (subst (λ line. PlacesFor s c.read_rest.new.self line.next
           (with_line s (blocks_before before) source)) begun.read.line placed.1),

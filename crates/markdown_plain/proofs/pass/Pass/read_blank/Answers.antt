@@ -146,5 +146,5 @@ returns-clause-fits c = λ s before source by blank off fitted.
           subst (λ (p : Pass). AllFitted p.placing) (sym (w.self-is ∙ w.in_ok-hold_blank.ensures.same)) fitted
       | else-in_code+in_ok-close_down w ↦
           subst (λ (p : Pass). AllFitted p.placing) (sym w.self-is)
-              (w.in_ok-close_down.ensures.fits by.stands.ready.closable fitted)
+          (w.in_ok-close_down.ensures.fits by.stands.ready.closable fitted)
     ])

@@ -42,7 +42,8 @@ returns-clause-fits c = λ s turn source blocks here found stand fitted.
     let room = c.make_room_for.new.self in
     let opening = c.args.opening in
     let begins = line.begins_fence opening in
-    let ready = c.in_ok-make_room_for.ensures.fits s turn source c.args.at (start.Fence opening) begins blocks here found
+    let ready = c.in_ok-make_room_for.ensures.fits s turn source c.args.at
+    (start.Fence opening) begins blocks here found
     refl tt fitted in
     let has = (c.in_ok-make_room_for.ensures.room s turn source c.args.at (start.Fence opening) begins blocks here found
     refl tt ready).1 in

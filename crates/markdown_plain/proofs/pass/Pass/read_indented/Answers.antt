@@ -11,7 +11,8 @@ use Rattle.markdown_plain.specs.OpenLeaves.{IsLineRest}
 use Rattle.markdown_plain.specs.Standing.{IsLeafKind}
 use Rattle.markdown_plain.specs.declared.pass.LeafKind.{LeafKind}
 use Rattle.markdown_plain.proofs.BegunBlocksLemmas.{keeps_rest}
-use Rattle.markdown_plain.proofs.BegunLeavesLemmas.{code_ends, code_holds, code_in_room, code_left, open_in_room, other_alone}
+use Rattle.markdown_plain.proofs.BegunLeavesLemmas.{code_ends, code_holds, code_in_room, code_left, open_in_room}
+use Rattle.markdown_plain.proofs.BegunLeavesLemmas.{other_alone}
 use Rattle.markdown_plain.proofs.BegunRestsLemmas.{blank_alike}
 use Rattle.std.specs.Str.{IsCharBoundary}
 use Rattle.markdown_plain.proofs.BegunFitsLemmas.{code_fits}

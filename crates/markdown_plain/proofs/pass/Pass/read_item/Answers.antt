@@ -31,5 +31,6 @@ returns-clause-reads_on c = λ s turn source blocks state found boundary fitted.
 pub returns-clause-fits : goal.returns-clause-fits
 returns-clause-fits c = λ s turn source blocks state found boundary.
     let opens = c.in_ok-open_item.ensures in
-    item_fits s c.args.self.now c.open_item.new.self c.args.rest.now turn source blocks c.args.item c.args.at state found
+    item_fits s c.args.self.now c.open_item.new.self c.args.rest.now turn source blocks c.args.item c.args.at state
+    found
     (record { fits = opens.fits; inside = opens.fits_inside })
