@@ -143,8 +143,8 @@ impl<'a> Blocks<'a> {
         (self.text, self.options, self.tree, self.parts)
     }
 
-    /// Returns the block result of a text, which is well formed, covers the text, has inline items alone in its headings,
-    /// and as many cells in the rows of a table as the table has alignments.
+    /// Returns the block result of a text: the one that the rules of blocks give (CommonMark, chapters 4 and 5, and
+    /// footnotes). It is well formed, covers the text, and has inline items alone in its headings.
     ///
     /// # Errors
     ///
@@ -155,7 +155,9 @@ impl<'a> Blocks<'a> {
         Blocks::of_entry(alloc, text, options, false)
     }
 
-    /// Returns the block result of a text that is read by the extended entry: the same is true of it.
+    /// Returns the block result of a text that is read by the extended entry: the same is true of it, except that where
+    /// tables are read it is not proved to be the one that the rules give. The rows of a table have as many cells as the
+    /// table has alignments.
     ///
     /// # Errors
     ///

@@ -917,7 +917,8 @@ fn place_all<'a>(alloc: Global, text: &'a str, options: Options) -> Result<Placi
     Ok(placing)
 }
 
-/// Returns the tree of a text's blocks, and the parts that its items refer to. Fails where memory is refused.
+/// Returns the tree of a text's blocks, and the parts that its items refer to: where no tables are read, exactly those
+/// that the rules of blocks give (`markdown_block_rules`). Fails where memory is refused.
 ///
 /// The blocks are those of CommonMark 0.31.2, chapters 4 and 5, and, with footnotes enabled, footnote definitions. In a
 /// tight list paragraphs are tight. A block's range extends from its marker or first content byte to the end of its
@@ -965,8 +966,11 @@ pub fn blocks<'a>(
     Ok(builder.finish())
 }
 
-/// Returns the number of builder calls of the block pass that did not fit, so that nothing was made: 0, as tests over
-/// many texts show. Fails where memory is refused.
-pub fn misfits(alloc: Global, text: &str, options: Options) -> Result<usize, AllocError> {
+/// Returns the number of builder calls of the block pass that did not fit, so that nothing was made: 0 where no tables
+/// are read, and otherwise too, as tests over many texts show. Fails where memory is refused.
+pub fn misfits(alloc: Global, text: &str, options: Options) -> Result<usize, AllocError>
+    ensures { IfOk result (λ count.
+        reads_tables (record { text = text.now; options = options }) ≡ false → count ≡ 0) }
+{
     Ok(place_all(alloc, text, options)?.misfits)
 }
