@@ -1,5 +1,6 @@
 mod AddedCellsLemmas
 mod BlockLawsLemmas
+mod ExampleResultsLemmas
 mod IndentedLinesLemmas
 mod InlineItemsLemmas
 mod KeptLemmas

@@ -1,13 +1,17 @@
 -- Examples: a text, the tree of its blocks, and its link reference definitions.
-use Rattle.std.specs.Prelude.{◌≡◌, ℕ, ◌+◌, List, [], ◌∷◌, ◌++◌, Option, Some, None, map}
+use Rattle.std.specs.Prelude.{◌≡◌, ℕ, ◌+◌, List, [], ◌∷◌, ◌++◌, Option, Some, None, map, ⊤}
 use Rattle.markdown_base.specs.EnabledOptions.{no_options}
 use Rattle.markdown_base.specs.Forest.{Forest, nil, node}
+use Rattle.markdown_base.specs.declared.block_parts.BlockParts.{BlockParts}
 use Rattle.markdown_base.specs.declared.index.CowIndex.{CowIndex}
+use Rattle.markdown_base.specs.declared.item.Item.{Item}
 use Rattle.markdown_base.specs.declared.item.ItemBody.{ItemBody}
+use Rattle.markdown_base.specs.declared.node.Node.{Node}
 use Rattle.markdown_lines.specs.BlockBeginnings.{Source}
-use Rattle.markdown_builder.specs.BuilderView.{Definition}
+use Rattle.markdown_builder.specs.BuilderView.{Definition, stored_definition}
+use Rattle.markdown_block_rules.specs.BlockResults.{IsBlockResult}
 use Rattle.markdown_block_rules.specs.BlockRules.{block_definitions, block_tree}
-use Rattle.markdown_builder.specs.Shown.{Shown, plain_item}
+use Rattle.markdown_builder.specs.Shown.{Shown, plain_item, shown_result}
 
 -- a tree is written as its labels in preorder, each with its depth
 pub record Example : Type 0 where
@@ -60,3 +64,22 @@ blocks_as_defined text =
 -- the examples have the blocks that are written with them
 abbrev pub HaveTrees : List Example → Type 0
 HaveTrees examples = map (λ e. blocks_as_defined e.text) examples ≡ examples
+
+-- stored items and parts are the blocks that are written with an example
+pub record AreAsWritten (e : Example) (nodes : List (Node Item)) (parts : BlockParts) : Type 0 where
+  pub tree : with_depths 0 (shown_result nodes parts) ≡ e.tree
+  pub definitions : map stored_definition parts.definitions.items ≡ e.definitions
+
+-- a block result of an example's text, whatever it is, is as written with the example
+abbrev pub HasResult : Example → Type 0
+HasResult e = (nodes : List (Node Item)) (parts : BlockParts)
+    → IsBlockResult (commonmark e.text) nodes parts → AreAsWritten e nodes parts
+
+-- that holds for each of them
+abbrev pub HaveResults : List Example → Type 0
+HaveResults [] = ⊤
+HaveResults (e ∷ examples) = HasResult e × HaveResults examples
+
+-- examples that have their trees have their block results
+abbrev pub ResultsAreWritten : Type 0
+ResultsAreWritten = (examples : List Example) → HaveTrees examples → HaveResults examples

@@ -5,6 +5,7 @@ ghost use Rattle.markdown_block_laws.specs.BlockLaws.{ItemMayBeginWithBlankLine,
 ghost use Rattle.markdown_block_laws.specs.BlockLaws.{MarkedLineGoesIntoQuote};
 ghost use Rattle.markdown_block_laws.specs.BlockLaws.{MarkerBeforeTextMayBeLeftOut, OnlyParagraphsGoOnLazily};
 ghost use Rattle.markdown_block_laws.specs.BlockLaws.{QuotedLinesMakeQuote};
+ghost use Rattle.markdown_block_laws.specs.ExampleTrees.{ResultsAreWritten};
 ghost use Rattle.markdown_block_laws.specs.LeafLaws.{HeadingsAndBreaksEnd, IndentedCodeEndsBeforeText, FencedCodeGoesOn};
 ghost use Rattle.markdown_block_laws.specs.LeafLaws.{ClosedCodeEnds, ClosingFenceClosesCode, HtmlGoesOn, EndConditionEndsHtml};
 ghost use Rattle.markdown_block_laws.specs.LeafLaws.{BlankLineEndsHtml, BlankLineEndsParagraph};
@@ -160,4 +161,9 @@ pub fn task_markers_come_first()
 /// States that metadata is directly under the root, and that what it contains are texts with nothing below them.
 pub fn metadata_is_outermost()
     ensures { MetadataIsOutermost }
+{}
+
+/// States that a block result of an example's text, whatever it is, is the blocks that are written with the example.
+pub fn examples_have_their_results()
+    ensures { ResultsAreWritten }
 {}
