@@ -15,7 +15,7 @@ use Rattle.markdown_base.specs.Forest.{Forest, nil, node}
 use Rattle.markdown_base.specs.declared.item.ItemBody.{ItemBody}
 use Rattle.markdown_base.specs.declared.item.ItemBody.TheVariants as body
 use Rattle.markdown_builder.specs.declared.open_block.OpenBlock.{OpenBlock}
-use Rattle.markdown_builder.specs.BuilderView.{BuilderView, parts_of, with_items}
+use Rattle.markdown_builder.specs.BuilderView.{BuilderView, Opens, parts_of, with_items}
 use Rattle.markdown_builder.specs.EvenRows.{is_table_row}
 use Rattle.markdown_builder.specs.Shown.{Shown, chain_of, plain_item, shown_item, with_block}
 use Rattle.markdown_builder.specs.TreeLevels.{followed_by, with_trees}
@@ -40,10 +40,11 @@ use Rattle.markdown_block_rules.specs.LineContents.{cell_items, pieces_items}
 use Rattle.markdown_plain.specs.declared.placing.Placing.{Placing}
 use Rattle.markdown_plain.specs.Closable.{IsInText, IsLeafOpen}
 use Rattle.markdown_plain.specs.Fitting.{AllFitted, GoesOn, IfFitted, IsAhead, IsWhiteOutside, PutsBlock, stepped}
+use Rattle.markdown_plain.specs.Fits.{MayOpenLeaf}
 use Rattle.markdown_plain.specs.LeafTrees.{HasItems, HasTrees}
-use Rattle.markdown_plain.specs.TableRows.{IsCellIn, IsOnePiece, cells_placed}
+use Rattle.markdown_plain.specs.TableRows.{IsCellIn, IsOnePiece, MayAddCell, cells_placed}
 use Rattle.markdown_plain.proofs.ParagraphLinesLemmas.{range_byte, range_length}
-use Rattle.markdown_plain.proofs.LeafTreesLemmas.{on_test}
+use Rattle.markdown_plain.proofs.LeafTreesLemmas.{on_test, put_opened}
 use Rattle.markdown_plain.proofs.ClosableLemmas.{ahead_of, still_open}
 use Rattle.markdown_plain.proofs.FittingLemmas.{may_step, step_done}
 
@@ -427,3 +428,47 @@ piece_added text first before moved new from to stop next less inside goes may l
         boundary = cut.next_at;
       },
     )
+
+-- ---- a cell
+
+-- a leaf may be opened where a cell may be
+pub may_open_cell : (builder : BuilderView) (at : ℕ) → MayAddCell builder at → MayOpenLeaf builder at at
+may_open_cell builder at may = record {
+  outside = may.outside;
+  begins = may_step builder at may.low may.boundary may.some;
+  ordered = omega arith;
+  next = may.boundary;
+}
+
+-- what was opened after a step is the innermost block
+cell_block : (old first opened : BuilderView) (at : ℕ) → first ≡ stepped old at → Opens first opened body.TableCell
+    → opened.blocks ≡ old.blocks ++ record { start = at; body = body.TableCell } ∷ []
+cell_block old first opened at begun opens =
+    ap (λ (v : BuilderView). v.blocks) opens
+    ∙ ap (λ (v : BuilderView). v.blocks ++ record { start = v.at; body = body.TableCell } ∷ []) begun
+
+-- a cell that was opened, filled and closed is put into the row
+pub cell_shown : (s : Source) (cell : Cell) (old first opened filled moved new : BuilderView)
+    → first ≡ stepped old cell.start → Opens first opened body.TableCell → GoesOn opened filled filled.at
+    → HasItems opened filled (cell_items s.text (item_extensions s.options) cell.from cell.to)
+    → moved ≡ stepped filled cell.end → PutsBlock moved new → HasTrees old new (shown_cells s (cell ∷ []))
+cell_shown s cell old first opened filled moved new begun opens goes items ended put some =
+    let content = cell_items s.text (item_extensions s.options) cell.from cell.to in
+    put_opened old.levels moved new old.blocks (record { start = cell.start; body = body.TableCell }) content _
+    (ap (λ (v : BuilderView). v.blocks) ended
+    ∙ (ap (λ (v : BuilderView). v.blocks) goes ∙ cell_block old first opened cell.start begun opens))
+    (ap (λ (v : BuilderView). v.levels) ended
+    ∙ (items ∙ ap (λ ls. with_items ls content) (ap (λ (v : BuilderView). v.levels) opens
+    ∙ ap (λ (v : BuilderView). v.levels ++ nil ∷ []) begun)))
+    (ap (λ n. plain_item cell.start n body.TableCell) (ap (λ (v : BuilderView). v.at) ended)) refl put some
+
+-- so is one with nothing in it
+pub empty_shown : (at : ℕ) (old first opened new : BuilderView) → first ≡ stepped old at
+    → Opens first opened body.TableCell → PutsBlock opened new → HasTrees old new (empty_cells 1 at)
+empty_shown at old first opened new begun opens put some =
+    put_opened old.levels opened new old.blocks (record { start = at; body = body.TableCell }) [] _
+    (cell_block old first opened at begun opens)
+    (ap (λ (v : BuilderView). v.levels) opens
+    ∙ (ap (λ (v : BuilderView). v.levels ++ nil ∷ []) begun ∙ sym (no_items (old.levels ++ nil ∷ []))))
+    (ap (λ n. plain_item at n body.TableCell) (ap (λ (v : BuilderView). v.at) opens ∙ ap (λ (v : BuilderView). v.at) begun))
+    refl put some
