@@ -1,6 +1,6 @@
 //! Tables: how one begins at its delimiter row, and its rows. Functions that return a `Result` fail only where memory is
 //! refused.
-ghost use Rattle.std.specs.Prelude.{◌≡◌, ◌≤◌, ◌∷◌, [], None, false, true, length, min, IfOk};
+ghost use Rattle.std.specs.Prelude.{◌≡◌, ◌≤◌, ◌+◌, ◌-◌, ◌∷◌, [], None, false, true, length, min, IfOk};
 ghost use Rattle.markdown_builder.specs.Bodies.{is_leaf, is_plain_block};
 ghost use Rattle.markdown_builder.specs.EvenRows.{is_table_row, open_columns};
 ghost use Rattle.markdown_plain.specs.Fitting.{AllFitted, FittedBefore, GoesOn, IfFitted};
@@ -12,7 +12,9 @@ ghost use Rattle.markdown_block_rules.specs.LineContents.{cell_items};
 ghost use Rattle.markdown_plain.specs.Closable.{IsInText, IsLeafOpen};
 ghost use Rattle.markdown_plain.specs.HeldSources.{IsTextLine};
 ghost use Rattle.markdown_plain.specs.LeafTrees.{HasItems, HasTrees};
-ghost use Rattle.markdown_plain.specs.Paragraphs.{IsPlacedTo};
+ghost use Rattle.markdown_plain.specs.Paragraphs.{IsPlacedTo, source_of};
+ghost use Rattle.markdown_plain.specs.TextLines.{held_line};
+ghost use Rattle.markdown_base.specs.declared.item.ItemBody.TheVariants as body;
 ghost use Rattle.markdown_lines.specs.TableRows.{row_cells_at};
 ghost use Rattle.markdown_plain.specs.OpenBlocks.{innermost_is, is_table};
 ghost use Rattle.markdown_plain.specs.TableRows.{IsCellIn, IsOnePiece, MayAddCell, MayAddRow, PutsTree, may_be_row};
@@ -354,6 +356,30 @@ impl<'a> Pass<'a> {
             ≡ self.old.placing.builder.text) }
         ensures fitted { IfOk result (λ _. FittedBefore self.old.placing self.new.placing) }
         ensures value { IfOk result (λ added. added ≡ may_be_row self.old start line.stop) }
+        ensures nothing { IfOk result (λ added. added ≡ false → self.new ≡ self.old) }
+        ensures same { IfOk result (λ _. self.new
+            ≡ record self.old { placing = self.new.placing; tables = self.new.tables }) }
+        ensures counts { IfOk result (λ added. added ≡ true
+            → self.old.tables.columns ≡ open_columns self.old.placing.builder
+            → self.new.tables.added ≡ self.old.tables.added + (self.old.tables.columns
+            - length (row_cells_at self.old.placing.builder.text start line.stop))) }
+        ensures columns { IfOk result (λ _. self.new.tables.columns ≡ self.old.tables.columns) }
+        ensures most { IfOk result (λ _. self.new.tables.most ≡ self.old.tables.most) }
+        ensures tried { IfOk result (λ _. self.new.tables.tried ≡ self.old.tables.tried) }
+        ensures placed { IfOk result (λ added. added ≡ true
+            → IfFitted self.old.placing self.new.placing
+            (IsPlacedTo self.old.placing.builder self.new.placing.builder line.next)) }
+        ensures tree { IfOk result (λ added. added ≡ true
+            → IsInText self.old.placing.builder.text (held_line line start)
+            → (source : SourceLine)
+            → IsTextLine self.old.placing.builder.text (held_line line start) source
+            → IfFitted self.old.placing self.new.placing
+            (HasTrees self.old.placing.builder self.new.placing.builder
+            (shown_row (source_of self.old) (open_columns self.old.placing.builder)
+            body.TableRow source))) }
+        ensures fits { IfOk result (λ _.
+            MayAddRow self.old.placing.builder (held_line line start)
+            → AllFitted self.old.placing → AllFitted self.new.placing) }
     {
         if !self.may_be_row(start, line.stop) {
             return Ok(false);
