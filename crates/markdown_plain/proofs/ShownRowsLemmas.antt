@@ -1,9 +1,9 @@
 -- The rows of a table as they are placed: the pieces of a cell's content, where a row's cells lie, and their trees.
-use Rattle.std.proofs.Common.{◌≡◌, ◌≢◌, ℕ, zero, suc, ◌+◌, ◌-◌, ◌<◌, ◌≤◌, Bool, true, false, List, [], ◌∷◌, ◌++◌, Option}
+use Rattle.std.proofs.Common.{◌≡◌, ◌≢◌, ℕ, zero, suc, ◌+◌, ◌-◌, ◌<◌, ◌≤◌, Bool, true, false, List, [], ◌∷◌, ◌++◌}
 use Rattle.std.proofs.Common.{Some, None, length, drop, take, min, slice_range, ◌⊎◌, inl, inr, ⊎_elim, refl, sym, ap, ◌∙◌}
 use Rattle.std.proofs.Common.{subst, arith, codes, true≢false}
-use Rattle.std.specs.Prelude.{get_or, slice_index, ◌==◌, ◌&&◌, nat_lt, if◌then◌else◌}
-use Rattle.std.specs.List.{list_all, list_any, prefix_len, suffix_len}
+use Rattle.std.specs.Prelude.{get_or, ◌==◌, ◌&&◌, nat_lt, if◌then◌else◌}
+use Rattle.std.specs.List.{list_all, list_any, prefix_len}
 use Rattle.std.specs.Str.{IsCharBoundary, IsUtf8}
 use Rattle.std.proofs.lemmas.Bool.{and_parts, cases_lt}
 use Rattle.std.proofs.lemmas.Bool.Decides.{nat_tests}
@@ -34,10 +34,10 @@ use Rattle.markdown_lines.specs.declared.table_row.Cell.{Cell}
 use Rattle.markdown_lines.specs.BlockBeginnings.{Source}
 use Rattle.markdown_lines.specs.LineBytes.{without_end}
 use Rattle.markdown_lines.specs.SourceLines.{SourceLine}
-use Rattle.markdown_lines.specs.TableRows.{cell_over, cells_from, cells_left, cells_over, content_of_part, is_cut}
+use Rattle.markdown_lines.specs.TableRows.{cell_over, cells_from, cells_left, cells_over, is_cut}
 use Rattle.markdown_lines.specs.TableRows.{is_row_white, onto_first, parts_after, piece_length, row_cells, row_cells_at}
 use Rattle.markdown_lines.proofs.LineBytesLemmas.{trimmed_is}
-use Rattle.markdown_lines.proofs.PositionsLemmas.{in_part, rest_of_part}
+use Rattle.markdown_lines.proofs.PositionsLemmas.{rest_of_part}
 use Rattle.markdown_lines.proofs.TableRowsLemmas.{first_part, no_cell}
 use Rattle.markdown_scan.specs.Beginnings.{begins_with}
 use Rattle.markdown_block_rules.specs.BlockRules.{empty_cells, shown_cells, shown_over, shown_row}
@@ -610,8 +610,13 @@ cells_within (suc n) text stop utf8 last start bytes few is ordered first low un
         subst (AreCellsFrom text low stop) (sym (ap (cells_over start) whole))
         (on_test (AreCellsFrom text low stop) (list_all is_row_white bytes) [] (cell_over start bytes ∷ [])
         (λ e. tt)
-        (λ e. (under, omega (arith, end), cell_in text bytes start utf8 byte_at first
-        (subst (IsCharBoundary text) end last), tt)))
+        (λ e. (
+          under,
+          omega (arith, end),
+          cell_in text bytes start utf8 byte_at first
+              (subst (IsCharBoundary text) end last),
+          tt,
+        )))
     by_cut more (inr cut) =
         let part = cut.part in
         let rest = cut.rest in

@@ -40,11 +40,11 @@ pieces-preserved c =
     let same : view.text ≡ text = c.pieces.invariant.text in
     let within : count ≤ to - from = elim c.if-escapes.branch [
       | then-escapes w ↦ omega (
-          arith,
-          w.length-is,
-          w.piece_length-length.ensures.within,
-          ap length w.bytes_of.ensures ∙ length-take (to - from) (drop from w.text.result.now),
-        )
+        arith,
+        w.length-is,
+        w.piece_length-length.ensures.within,
+        ap length w.bytes_of.ensures ∙ length-take (to - from) (drop from w.text.result.now),
+      )
       | else-escapes w ↦ omega (arith, w.length-is)
     ] in
     let there : stop ≡ from + count = omega (arith, c.saturating_add-end.ensures, within, less) in

@@ -209,16 +209,16 @@ returns-clause-tree c = λ is inside source stands fitted.
     grind (arith, nat_tests, c.cells-test.false, c.cells.auto.count-end) in (
       row.0,
       subst (λ (t : List ℕ). HasTrees c.args.placing.now.builder c.close_row.new.self.builder
-      (shown_row (record { text = t; options = c.args.options }) (open_columns c.args.placing.now.builder) c.args.row
-      source)) c.text-text.ensures
-      (row_placed (record { text = text; options = c.args.options }) c.args.placing.now.builder
-      c.step_to-2.new.self.builder c.close_row.new.self.builder c.args.row c.args.line source c.cells.found
-      c.cells.count (open_columns c.args.placing.now.builder) is
-      (ap (λ (v : BuilderView). v.blocks) moved.1 ∙ ap (λ (v : BuilderView). v.blocks) row.1)
-      (ap (λ (v : BuilderView). v.at) moved.1) (ap (λ (v : BuilderView). v.levels) moved.1 ∙ shown.1)
-      (done ∙ c.columns-columns.ensures)
-      (found_is c.cells.found c.cells.count _ _ c.cells.invariant.few c.cells.invariant.all c.cells.invariant.lacking)
-      (subst (λ (t : List ℕ). IsTextLine t c.args.line source) (sym c.text-text.ensures) stands) put.1),
+          (shown_row (record { text = t; options = c.args.options }) (open_columns c.args.placing.now.builder) c.args.row
+          source)) c.text-text.ensures
+          (row_placed (record { text = text; options = c.args.options }) c.args.placing.now.builder
+          c.step_to-2.new.self.builder c.close_row.new.self.builder c.args.row c.args.line source c.cells.found
+          c.cells.count (open_columns c.args.placing.now.builder) is
+          (ap (λ (v : BuilderView). v.blocks) moved.1 ∙ ap (λ (v : BuilderView). v.blocks) row.1)
+          (ap (λ (v : BuilderView). v.at) moved.1) (ap (λ (v : BuilderView). v.levels) moved.1 ∙ shown.1)
+          (done ∙ c.columns-columns.ensures)
+          (found_is c.cells.found c.cells.count _ _ c.cells.invariant.few c.cells.invariant.all c.cells.invariant.lacking)
+          (subst (λ (t : List ℕ). IsTextLine t c.args.line source) (sym c.text-text.ensures) stands) put.1),
     )
 
 pub returns-clause-fits : goal.returns-clause-fits
