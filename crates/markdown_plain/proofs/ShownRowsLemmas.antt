@@ -19,6 +19,7 @@ use Rattle.markdown_base.specs.declared.item.ItemBody.{ItemBody}
 use Rattle.markdown_base.specs.declared.item.ItemBody.TheVariants as body
 use Rattle.markdown_builder.specs.declared.open_block.OpenBlock.{OpenBlock}
 use Rattle.markdown_builder.specs.BuilderView.{BuilderView, Opens, parts_of, with_items}
+use Rattle.markdown_builder.specs.Bodies.{is_leaf}
 use Rattle.markdown_builder.specs.EvenRows.{is_table_row}
 use Rattle.markdown_builder.specs.Shown.{Shown, chain_of, plain_item, settled_below, shown_item, with_block}
 use Rattle.markdown_builder.specs.TreeLevels.{followed_by, with_trees}
@@ -44,7 +45,7 @@ use Rattle.markdown_block_rules.specs.BlockRules.{empty_cells, shown_cells, show
 use Rattle.markdown_block_rules.specs.LineContents.{cell_items, pieces_items}
 use Rattle.markdown_plain.specs.declared.placing.Placing.{Placing}
 use Rattle.markdown_plain.specs.Closable.{IsInText, IsLeafOpen}
-use Rattle.markdown_plain.specs.Fitting.{AllFitted, GoesOn, IfFitted, IsAhead, IsWhiteOutside, PutsBlock, stepped}
+use Rattle.markdown_plain.specs.Fitting.{AllFitted, GoesOn, IfFitted, IsAhead, IsWhiteOutside, PutsBlock, opened, stepped}
 use Rattle.markdown_plain.specs.Fits.{MayOpenLeaf}
 use Rattle.markdown_plain.specs.HeldSources.{IsTextLine}
 use Rattle.markdown_plain.specs.LeafTrees.{HasItems, HasTrees}
@@ -828,15 +829,49 @@ pub record IsInRow (text : List ℕ) (line : HeldLine) (now : Placing) (cells : 
   pub before : low ≤ line.next
   pub are : AreCellsFrom text low line.stop cells
 
+-- a row is open that begins at a byte offset
+pub record IsOpenRow (old now : BuilderView) (row : ItemBody) (start : ℕ) : Type 0 where
+  pub blocks : now.blocks ≡ old.blocks ++ record { start = start; body = row } ∷ []
+  pub outside : now.leaf ≡ false
+  pub some : now.blocks ≡ [] → ⊥
+  pub same : now.text ≡ old.text
+
+pub row_opened : (old now : BuilderView) (row : ItemBody) (start : ℕ) → is_leaf row ≡ false
+    → now ≡ record (opened old start row) {
+      at = now.at;
+      levels = now.levels;
+      headings = now.headings;
+      texts = now.texts;
+    } → IsOpenRow old now row start
+row_opened old now row start other is =
+    let blocks = ap (λ (v : BuilderView). v.blocks) is in
+    record {
+      blocks = blocks;
+      outside = ap (λ (v : BuilderView). v.leaf) is ∙ other;
+      some = some_opened now.blocks old.blocks (record { start = start; body = row }) blocks;
+      same = ap (λ (v : BuilderView). v.text) is;
+    }
+
+-- it is still open after a step
+pub row_stepped : (old now moved : BuilderView) (row : ItemBody) (start to : ℕ) → moved ≡ stepped now to
+    → IsOpenRow old now row start → IsOpenRow old moved row start
+row_stepped old now moved row start to is in_row =
+    let blocks = ap (λ (v : BuilderView). v.blocks) is ∙ in_row.blocks in
+    record {
+      blocks = blocks;
+      outside = ap (λ (v : BuilderView). v.leaf) is ∙ in_row.outside;
+      some = some_opened moved.blocks old.blocks (record { start = start; body = row }) blocks;
+      same = ap (λ (v : BuilderView). v.text) is ∙ in_row.same;
+    }
+
 -- where a row is open, a cell fits
-pub may_add_cell : (old now : BuilderView) (row : ItemBody) (start at : ℕ)
-    → now.blocks ≡ old.blocks ++ record { start = start; body = row } ∷ [] → now.leaf ≡ false → now.text ≡ old.text
-    → now.at ≤ at → IsCharBoundary old.text at → MayAddCell now at
-may_add_cell old now row start at blocks outside same low boundary = record {
-  outside = outside;
-  some = some_opened now.blocks old.blocks (record { start = start; body = row }) blocks;
+pub may_add_cell : (old now : BuilderView) (row : ItemBody) (start at : ℕ) → IsOpenRow old now row start → now.at ≤ at
+    → IsCharBoundary old.text at → MayAddCell now at
+may_add_cell old now row start at in_row low boundary = record {
+  outside = in_row.outside;
+  some = in_row.some;
   low = low;
-  boundary = subst (λ t. IsCharBoundary t at) (sym same) boundary;
+  boundary = subst (λ t. IsCharBoundary t at) (sym in_row.same) boundary;
 }
 
 -- no cell is left at the end of the line

@@ -13,10 +13,10 @@ use Rattle.markdown_plain.specs.Fitting.{IfFitted}
 use Rattle.markdown_plain.specs.HeldSources.{IsTextLine}
 use Rattle.markdown_plain.specs.LeafTrees.{HasTrees}
 use Rattle.markdown_plain.specs.TableRows.{IsCellIn, IsOnePiece}
-use Rattle.markdown_plain.proofs.FittingLemmas.{may_step, some_opened, step_done}
+use Rattle.markdown_plain.proofs.FittingLemmas.{may_step, step_done}
 use Rattle.markdown_plain.proofs.ShownRowsLemmas.{AreCellsFrom, after_cell, after_empty, cell_added, comes_next, drop_next}
 use Rattle.markdown_plain.proofs.ShownRowsLemmas.{empty_added, may_add_cell, nothing_left, one_piece_in, row_cells_in}
-use Rattle.markdown_plain.proofs.ShownRowsLemmas.{row_placed}
+use Rattle.markdown_plain.proofs.ShownRowsLemmas.{row_opened, row_placed, row_stepped}
 use Rattle.std.proofs.lemmas.Bool.Decides.{nat_tests}
 use Rattle.markdown_builder.specs.BuilderView.{BuilderView}
 use Rattle.markdown_lines.specs.TableRows.{cells_left, row_cells_at}
@@ -168,7 +168,8 @@ cells-preserved c = record {
   ];
   fits = λ may fitted.
       let before = c.cells.invariant.fits may fitted in
-      let opened = (c.cells.invariant.row before).1 in
+      let in_row = row_opened c.args.placing.now.builder c.cells.placing.builder c.args.row c.args.line.start
+      c.requires.outside (c.cells.invariant.row before).1 in
       let is = subst (λ (t : List ℕ). IsInText t c.args.line) (sym c.text-text.ensures) may.inside in
       let row = c.cells.invariant.inside is in
       let here = row.here before in
@@ -182,18 +183,14 @@ cells-preserved c = record {
             ap (λ (p : Placing). p.misfits) w.placing-is
             ∙ w.in_ok-place_cell-in-Some.ensures.fits
             (may_add_cell c.args.placing.now.builder c.cells.placing.builder c.args.row c.args.line.start cell.start
-            (ap (λ (v : BuilderView). v.blocks) opened)
-            (ap (λ (v : BuilderView). v.leaf) opened ∙ c.requires.outside)
-            c.cells.invariant.text (omega (arith, here, after)) inside.start)
+            in_row (omega (arith, here, after)) inside.start)
             (subst (λ (t : List ℕ). IsCellIn t cell) (sym c.cells.invariant.text) inside) before
         | in-None+in_ok-place_empty_cell-in-None w ↦
             let last = row.before in
             ap (λ (p : Placing). p.misfits) w.placing-is
             ∙ w.in_ok-place_empty_cell-in-None.ensures.fits
             (may_add_cell c.args.placing.now.builder c.cells.placing.builder c.args.row c.args.line.start
-            c.args.line.next (ap (λ (v : BuilderView). v.blocks) opened)
-            (ap (λ (v : BuilderView). v.leaf) opened ∙ c.requires.outside)
-            c.cells.invariant.text (omega (arith, here, last)) may.inside.next) before
+            c.args.line.next in_row (omega (arith, here, last)) may.inside.next) before
       ];
 }
 
@@ -203,6 +200,10 @@ returns-clause-tree c = λ is inside source stands fitted.
     let put = c.close_row.ensures.tree fitted in
     let moved = c.step_to-2.ensures.steps put.0 in
     let row = c.cells.invariant.row moved.0 in
+    let in_row = row_stepped c.args.placing.now.builder c.cells.placing.builder c.step_to-2.new.self.builder c.args.row
+    c.args.line.start c.args.line.next moved.1
+    (row_opened c.args.placing.now.builder c.cells.placing.builder c.args.row c.args.line.start c.requires.outside row.1)
+    in
     let shown = c.cells.invariant.shown
     (subst (λ (t : List ℕ). IsInText t c.args.line) (sym c.text-text.ensures) inside) moved.0 in
     let done : c.cells.count ≡ c.columns-columns.result =
@@ -214,7 +215,7 @@ returns-clause-tree c = λ is inside source stands fitted.
           (row_placed (record { text = text; options = c.args.options }) c.args.placing.now.builder
           c.step_to-2.new.self.builder c.close_row.new.self.builder c.args.row c.args.line source c.cells.found
           c.cells.count (open_columns c.args.placing.now.builder) is
-          (ap (λ (v : BuilderView). v.blocks) moved.1 ∙ ap (λ (v : BuilderView). v.blocks) row.1)
+          in_row.blocks
           (ap (λ (v : BuilderView). v.at) moved.1) (ap (λ (v : BuilderView). v.levels) moved.1 ∙ shown.1)
           (done ∙ c.columns-columns.ensures)
           (found_is c.cells.found c.cells.count _ _ c.cells.invariant.few c.cells.invariant.all c.cells.invariant.lacking)
@@ -224,19 +225,20 @@ returns-clause-tree c = λ is inside source stands fitted.
 pub returns-clause-fits : goal.returns-clause-fits
 returns-clause-fits c = λ may fitted.
     let before = c.cells.invariant.fits may fitted in
-    let opened = (c.cells.invariant.row before).1 in
+    let in_row = row_opened c.args.placing.now.builder c.cells.placing.builder c.args.row c.args.line.start
+    c.requires.outside (c.cells.invariant.row before).1 in
     let row = c.cells.invariant.inside
     (subst (λ (t : List ℕ). IsInText t c.args.line) (sym c.text-text.ensures) may.inside) in
     let here = row.here before in
     let last = row.before in
-    let blocks = ap (λ (v : BuilderView). v.blocks) opened in
     let moved = step_done c.cells.placing c.step_to-2.new.self c.args.line.next c.step_to-2.ensures.steps
     c.step_to-2.ensures.fits
     (may_step c.cells.placing.builder c.args.line.next (omega (arith, here, last))
     (subst (λ (t : List ℕ). IsCharBoundary t c.args.line.next) (sym c.cells.invariant.text) may.inside.next)
-    (some_opened c.cells.placing.builder.blocks c.args.placing.now.builder.blocks _ blocks)) before in
-    c.close_row.ensures.fits (some_opened c.step_to-2.new.self.builder.blocks c.args.placing.now.builder.blocks _
-    (ap (λ (v : BuilderView). v.blocks) moved.1 ∙ blocks)) moved.0 ∙ moved.0
+    in_row.some) before in
+    let ended = row_stepped c.args.placing.now.builder c.cells.placing.builder c.step_to-2.new.self.builder c.args.row
+    c.args.line.start c.args.line.next moved.1 in_row in
+    c.close_row.ensures.fits ended.some moved.0 ∙ moved.0
 
 pub close_row-requires : goal.close_row-requires
 close_row-requires c = λ fitted.
