@@ -68,6 +68,7 @@ pub record HasPair (bytes : List ℕ) (at : ℕ) : Type 0 where
 abbrev pub EndsPiece : List ℕ → ℕ → Type 0
 EndsPiece bytes n = (n ≡ length bytes) ⊎ HasPair bytes n
 
+-- it ends one byte later where there is a byte before the bytes
 ends_later : (byte : ℕ) (bytes : List ℕ) (n : ℕ) → EndsPiece bytes n → EndsPiece (byte ∷ bytes) (suc n)
 ends_later byte bytes n (inl all) = inl (ap suc all)
 ends_later byte bytes n (inr pair) =
@@ -79,6 +80,7 @@ ends_later byte bytes n (inr pair) =
       pipe_is = ap (λ k. get_or (byte ∷ bytes) k 0) on ∙ pair.pipe_is;
     })
 
+-- one byte more, the end of a piece, two bytes more, and the last bytes
 plain_step : (byte next : ℕ) (bytes : List ℕ) → (byte == backslash) ≡ false
     → piece_length (byte ∷ next ∷ bytes) ≡ suc (piece_length (next ∷ bytes))
 unfolding piece_length
@@ -112,6 +114,7 @@ begins_piped (byte ∷ bytes) is =
     let here : byte ≡ pipe = grind (arith, nat_tests, same) in
     (omega arith, here)
 
+-- where a piece is counted to end, it does
 pub piece_ends : (bytes : List ℕ) → EndsPiece bytes (piece_length bytes)
 piece_ends [] = inl no_step
 piece_ends (byte ∷ []) = inl (one_step byte ∙ omega arith)
@@ -160,6 +163,7 @@ pub record IsPieceIn (text : List ℕ) (from to stop : ℕ) : Type 0 where
   pub first : stop < to → get_or text stop 0 ≡ backslash
   pub pipe_is : stop < to → get_or text (stop + 2) 0 ≡ pipe
 
+-- the first piece of a part of a text
 pub piece_in : (text : List ℕ) (from to : ℕ) → from ≤ to → to ≤ length text
     → IsPieceIn text from to (from + piece_length (slice_range text from to))
 piece_in text from to ordered within = by_end (piece_ends bytes)
@@ -193,6 +197,7 @@ piece_in text from to ordered within = by_end (piece_ends bytes)
 
 -- ---- the items of the pieces
 
+-- where there is no byte, there is no item
 no_content : (text : List ℕ) (extensions : Extensions) (start : ℕ) → content_items text extensions start start ≡ []
 no_content text extensions start =
     let none : nat_lt start start ≡ false = grind (arith, nat_tests) in
@@ -211,6 +216,7 @@ no_pieces (suc n) text extensions start end low =
     let over : nat_lt start end ≡ false = grind (arith, nat_tests, low) in
     rw (stop, over) (ap (λ items. items ++ []) (no_content text extensions start))
 
+-- the items of the first piece, and of those after it
 one_piece : (n : ℕ) (text : List ℕ) (extensions : Extensions) (start end : ℕ)
     → pieces_items (suc n) text extensions start end
     ≡ content_items text extensions start (start + piece_length (slice_range text start end))
@@ -257,6 +263,7 @@ record HasStep (n : ℕ) : Type 0 where
   before : ℕ
   is : n ≡ suc before
 
+-- a number that is above another has one before it
 has_step : (n k : ℕ) → k < n → HasStep n
 has_step zero k less = absurd (omega (arith, less))
 has_step (suc n) k less = record { before = n; is = refl }
@@ -271,6 +278,7 @@ pub record PlacesPiece (extensions : Extensions) (view new : BuilderView) (from 
   pub after : stop + 3 ≤ to → next ≡ stop + 2
   pub past : to ≤ stop → to ≤ next
 
+-- then the pieces after it make the other items
 pub piece_placed : (extensions : Extensions) (all : List (Forest Shown)) (view new : BuilderView)
     (from to stop next : ℕ) → from < to → to ≤ length view.text → AwaitsPieces extensions to all view from
     → PlacesPiece extensions view new from to stop next → AwaitsPieces extensions to all new next
@@ -335,6 +343,7 @@ piece_placed extensions all view new from to stop next less within awaits places
           special = places.over awaits.special;
         }
 
+-- that is what the calls for a piece do
 pub places_piece : (extensions : Extensions) (view moved new : BuilderView) (from to stop next : ℕ)
     → moved ≡ stepped view from → GoesOn moved new stop
     → (RunIsOver stop moved moved.at
@@ -380,6 +389,7 @@ pub record IsPieceCut (text : List ℕ) (to stop next : ℕ) : Type 0 where
   pub stop_at : IsCharBoundary text stop
   pub next_at : next < to → IsCharBoundary text next
 
+-- both are, since a backslash and a `|` are there where it is not the end
 pub piece_cut : (text : List ℕ) (from to stop next : ℕ) → IsCharBoundary text to → IsPieceIn text from to stop
     → (stop + 3 ≤ to → next ≡ stop + 2) → (to ≤ stop → to ≤ next) → IsPieceCut text to stop next
 piece_cut text from to stop next boundary is after past =
@@ -489,6 +499,7 @@ AreCellsFrom text low stop [] = Unit
 AreCellsFrom text low stop (cell ∷ cells) =
     (low ≤ cell.start) × (cell.end ≤ stop) × IsCellIn text cell × AreCellsFrom text cell.end stop cells
 
+-- white space in rows is ASCII
 small_white : (byte : ℕ) → is_row_white byte ≡ true → byte < 128
 small_white byte e = grind (arith, nat_tests, e)
 
@@ -533,6 +544,7 @@ cell_in text part start utf8 bytes first last =
       end = last;
     }
 
+-- a cut, another byte, and no byte
 part_ends : (before byte : ℕ) (bytes : List ℕ) → is_cut before byte ≡ true
     → parts_after before (byte ∷ bytes) ≡ [] ∷ parts_after byte bytes
 unfolding parts_after
@@ -558,6 +570,7 @@ record HasCut (before : ℕ) (bytes : List ℕ) : Type 0 where
 abbrev MayHaveCut : ℕ → List ℕ → Type 0
 MayHaveCut before bytes = (parts_after before bytes ≡ bytes ∷ []) ⊎ HasCut before bytes
 
+-- each row is one of these
 first_cut : (before : ℕ) (bytes : List ℕ) → MayHaveCut before bytes
 first_cut before [] = inl (no_parts before)
 first_cut before (byte ∷ bytes) = by_cut (first_cut byte bytes) (is_cut before byte) refl
@@ -585,6 +598,7 @@ past_cut : (part rest : List ℕ) (byte : ℕ) → drop (suc (length part)) (par
 past_cut [] rest byte = refl
 past_cut (b ∷ part) rest byte = past_cut part rest byte
 
+-- how many bytes there are in all
 cut_size : (part rest : List ℕ) (byte : ℕ) → length (part ++ byte ∷ rest) ≡ length part + 1 + length rest
 cut_size [] rest byte = omega arith
 cut_size (b ∷ part) rest byte = let h = cut_size part rest byte in omega (arith, h)
@@ -700,6 +714,7 @@ one_piece_in text start stop cell none within low high =
 
 -- ---- the trees of a row
 
+-- the tree of a last cell comes after the others
 cell_last : (s : Source) (cells : List Cell) (cell : Cell)
     → shown_cells s (cells ++ cell ∷ []) ≡ followed_by (shown_cells s cells) (shown_cells s (cell ∷ []))
 cell_last s [] cell = refl
@@ -707,10 +722,12 @@ cell_last s (first ∷ cells) cell =
     ap (node (plain_item first.start first.end body.TableCell)
     (chain_of (cell_items s.text (item_extensions s.options) first.from first.to))) (cell_last s cells cell)
 
+-- so does that of an empty one
 empty_last : (count at : ℕ) → empty_cells (suc count) at ≡ followed_by (empty_cells count at) (empty_cells 1 at)
 empty_last zero at = refl
 empty_last (suc count) at = ap (node (plain_item at at body.TableCell) nil) (empty_last count at)
 
+-- the first cells, and the next one
 take_next : (n : ℕ) (cells rest : List Cell) (cell : Cell) → drop n cells ≡ cell ∷ rest
     → take (suc n) cells ≡ take n cells ++ cell ∷ []
 take_next zero [] rest cell e = cc (e)
@@ -836,6 +853,7 @@ pub record IsOpenRow (old now : BuilderView) (row : ItemBody) (start : ℕ) : Ty
   pub some : now.blocks ≡ [] → ⊥
   pub same : now.text ≡ old.text
 
+-- a row that was opened, and filled with what there is now, is open
 pub row_opened : (old now : BuilderView) (row : ItemBody) (start : ℕ) → is_leaf row ≡ false
     → now ≡ record (opened old start row) {
       at = now.at;
@@ -926,6 +944,7 @@ pub record ComesNext (text : List ℕ) (line : HeldLine) (low : ℕ) (cell : Cel
   pub inside : IsCellIn text cell
   pub are : AreCellsFrom text cell.end line.stop rest
 
+-- the first of the cells that are left is such a cell
 pub comes_next : (text : List ℕ) (line : HeldLine) (now : Placing) (cells rest : List Cell) (cell : Cell)
     → cells ≡ cell ∷ rest → (is : IsInRow text line now cells) → ComesNext text line is.low cell rest
 comes_next text line now cells rest cell e is =
