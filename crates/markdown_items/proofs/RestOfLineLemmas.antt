@@ -20,7 +20,7 @@ use Rattle.markdown_items.specs.FoundFits.{view_after}
 use Rattle.markdown_items.specs.FoundItems.{found_items, text_from, read_on}
 use Rattle.markdown_items.specs.FoundView.{found_view}
 use Rattle.markdown_items.specs.LineItems.{is_special, IsFirstSpecial}
-use Rattle.markdown_items.specs.RestOfLine.{AwaitsRest, RunIsOver}
+use Rattle.markdown_items.specs.RestOfLine.{AwaitsRest, HasSpecialRun, RunIsOver}
 use Rattle.markdown_items.proofs.ContentItemsLemmas.{plain_bytes, special_byte, no_byte}
 use Rattle.markdown_items.proofs.ItemLemmas.{goes_on}
 
@@ -107,14 +107,14 @@ at_end line all view awaits =
     ∙ awaits.rest
 
 -- at the beginning all is left
-pub at_start : (options : Extensions) (view : BuilderView) (end : ℕ) → view.run ≡ None
+pub at_start : (options : Extensions) (view : BuilderView) (end : ℕ) → RunIsOver end view view.at
     → AwaitsRest (record { start = view.at; end = end; extensions = options })
     (with_items view.levels (content_items view.text options view.at end)) view view.at
-at_start options view end none = record {
+at_start options view end over = record {
   steps = suc (end - view.at);
   enough = omega arith;
   rest = refl;
-  over = λ byte some. cc (none, some);
+  over = over;
 }
 
 -- ---- what is found at a special byte
@@ -179,7 +179,7 @@ after_found line all view new at f less special fits value awaits after =
     }
 
 -- no run is appended last
-no_run : (end : ℕ) (view : BuilderView) (at : ℕ) → view.run ≡ None → RunIsOver end view at
+pub no_run : (end : ℕ) (view : BuilderView) (at : ℕ) → view.run ≡ None → RunIsOver end view at
 no_run end view at none byte some here less = cc (none, some)
 
 pub at_found : (line : Line) (all : List (Forest Shown)) (view : BuilderView) (at : ℕ) (f : Found)
@@ -298,6 +298,30 @@ text_after line view at (found.Run stop flags) =
     either false = refl
 text_after line view at other = refl
 
+-- nothing else but the items, their texts and the place is other than before
+abbrev pub IsSame : (old new : BuilderView) → Type 0
+IsSame old new = new ≡ record old { at = new.at; run = new.run; levels = new.levels; texts = new.texts }
+
+pub same_found : (old view : BuilderView) (line : Line) (at : ℕ) (f : Found) → IsSame old view
+    → IsSame old (view_after view line at f)
+same_found old view line at f same = there f ∙ ap (λ (v : BuilderView). record v {
+  at = (view_after view line at f).at;
+  run = (view_after view line at f).run;
+  levels = (view_after view line at f).levels;
+  texts = (view_after view line at f).texts;
+}) same
+  where
+    either : (b : Bool) (stop : ℕ) (run : Option ℕ) (levels : List (Forest Shown))
+        → IsSame view (if b then view else record view { at = stop; run = run; levels = levels })
+    either true stop run levels = refl
+    either false stop run levels = refl
+
+    there : (f : Found) → IsSame view (view_after view line at f)
+    there (found.Run stop flags) =
+        either (follows_run (run_after_text view at) (slice_index view.text at)) stop
+        (Some (slice_index view.text at)) (levels_after view line at (found.Run stop flags))
+    there other = refl
+
 -- ---- that items are appended, whatever run came before
 
 pub adds_none : (view : BuilderView) → AddsItems view view
@@ -351,3 +375,38 @@ texts_found view line at (found.Run stop flags) =
     by_run true is = rw is (no_texts view)
     by_run false is = rw is ([], sym (append-nil view.texts))
 texts_found view line at other = ([], sym (append-nil view.texts))
+
+-- ---- the run that was appended last
+
+-- text may follow it
+pub run_before_text : (extensions : Extensions) (view : BuilderView) (to byte : ℕ) → HasSpecialRun extensions view
+    → run_after_text view to ≡ Some byte → is_special extensions.dashes byte ≡ true
+run_before_text extensions view to byte special = by_place (nat_lt view.at to) refl
+  where
+    by_place : (test : Bool) → nat_lt view.at to ≡ test → run_after_text view to ≡ Some byte
+        → is_special extensions.dashes byte ≡ true
+    by_place true is some = let none : None ≡ Some byte = rw is at some in cc (none)
+    by_place false is some = special byte (rw is at some)
+
+-- what is found leaves one of a special byte, or none
+pub run_found : (view : BuilderView) (line : Line) (at : ℕ) (f : Found)
+    → is_special line.extensions.dashes (slice_index view.text at) ≡ true → HasSpecialRun line.extensions view
+    → HasSpecialRun line.extensions (view_after view line at f)
+run_found view line at (found.Text next) here special = special
+run_found view line at found.Escape here special = λ byte some. run_before_text line.extensions view at byte special some
+run_found view line at (found.Run stop flags) here special =
+    by_run (follows_run (run_after_text view at) (slice_index view.text at)) refl
+  where
+    by_run : (follows : Bool) → follows_run (run_after_text view at) (slice_index view.text at) ≡ follows
+        → HasSpecialRun line.extensions (view_after view line at (found.Run stop flags))
+    by_run true is = rw is special
+    by_run false is =
+        rw is (λ byte some. ap (is_special line.extensions.dashes) (sym (same_Some (slice_index view.text at) byte some))
+        ∙ here)
+run_found view line at (found.Mark body) here special = λ byte some. cc (some)
+run_found view line at found.Image here special = λ byte some. cc (some)
+run_found view line at (found.Backticks stop) here special = λ byte some. cc (some)
+run_found view line at (found.EscapedBackticks stop) here special = λ byte some. cc (some)
+run_found view line at (found.Entity stop characters) here special = λ byte some. cc (some)
+run_found view line at (found.Dashes stop) here special = λ byte some. cc (some)
+run_found view line at found.Ellipsis here special = λ byte some. cc (some)

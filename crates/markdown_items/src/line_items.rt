@@ -7,6 +7,7 @@ ghost use Rattle.markdown_builder.specs.BuilderView.{with_items};
 ghost use Rattle.markdown_builder.specs.Shown.{synthesized_item};
 ghost use Rattle.markdown_items.specs.ContentItems.{AddsItems, AddsTexts, content_items, text_between};
 ghost use Rattle.markdown_items.specs.LineItems.{is_after_backslash, item_extensions};
+ghost use Rattle.markdown_items.specs.RestOfLine.{HasSpecialRun, RunIsOver};
 ghost use Rattle.markdown_items.specs.Found.{found_at};
 ghost use Rattle.markdown_items.specs.FoundView.{found_view};
 ghost use Rattle.markdown_items.specs.FoundFits.{IsAtSpecial, FoundFits, AppendsFound, run_after_text, view_after};
@@ -273,6 +274,11 @@ pub fn items(
     ensures items { IfOk result (λ _. builder.old.run ≡ None → builder.new.levels
         ≡ with_items builder.old.levels
         (content_items builder.old.text (item_extensions options) builder.old.at end)) }
+    ensures further { IfOk result (λ _. RunIsOver end builder.old builder.old.at
+        → builder.new.levels ≡ with_items builder.old.levels
+        (content_items builder.old.text (item_extensions options) builder.old.at end)) }
+    ensures over { IfOk result (λ _. HasSpecialRun (item_extensions options) builder.old
+        → HasSpecialRun (item_extensions options) builder.new) }
     ensures inside { IfOk result (λ _. AddsItems builder.old builder.new) }
     ensures texts { IfOk result (λ _. AddsTexts builder.old builder.new) }
 {

@@ -2,6 +2,7 @@
 pub mod OpenBlocksLemmas
 pub mod LeafTreesLemmas
 pub mod TableRowsLemmas
+pub mod ShownRowsLemmas
 pub mod ContainersLemmas
 pub mod StretchesLemmas
 -- on lines that are taken, and on when lists become loose

@@ -1,15 +1,56 @@
 -- The rows of tables, as the pass places them: one tree of the innermost level for each cell.
-use Rattle.std.specs.Prelude.{◌≡◌, ℕ, ◌+◌, ◌-◌, Bool, ◌&&◌, nat_le, nat_lt, List, [], ◌∷◌, ◌++◌, length}
+use Rattle.std.specs.Prelude.{◌≡◌, ℕ, ◌+◌, ◌-◌, ◌≤◌, Bool, false, ◌&&◌, nat_le, nat_lt, List, [], ◌∷◌, ◌++◌, length}
+use Rattle.std.specs.Prelude.{slice_range, take}
+use Rattle.std.specs.Str.{IsCharBoundary}
 use Rattle.markdown_base.specs.Forest.{Forest, nil, node, roots}
 use Rattle.markdown_builder.specs.BuilderView.{BuilderView}
 use Rattle.markdown_builder.specs.Shown.{Shown}
-use Rattle.markdown_lines.specs.TableRows.{row_cells_at}
+use Rattle.markdown_builder.specs.TreeLevels.{followed_by}
+use Rattle.markdown_lines.specs.declared.held_line.HeldLine.{HeldLine}
+use Rattle.markdown_lines.specs.declared.table_row.Cell.{Cell}
+use Rattle.markdown_lines.specs.BlockBeginnings.{Source}
+use Rattle.markdown_lines.specs.TableRows.{piece_length, row_cells_at}
+use Rattle.markdown_block_rules.specs.BlockRules.{empty_cells, shown_cells}
+use Rattle.markdown_plain.specs.Closable.{IsInText}
+use Rattle.markdown_plain.specs.Fits.{MayStep}
 use Rattle.markdown_plain.specs.LeafTrees.{HasTrees}
 use Rattle.markdown_plain.specs.declared.pass.Pass.{Pass}
 
 -- one tree was put at the end of the innermost level
 abbrev pub PutsTree : BuilderView → BuilderView → Type 0
 PutsTree old new = (a : Shown) × (below : Forest Shown) × HasTrees old new (node a below nil)
+
+-- a cell's content lies in the cell, and where either begins and ends is between characters
+pub record IsCellIn (text : List ℕ) (cell : Cell) : Type 0 where
+  pub after : cell.start ≤ cell.from
+  pub content : cell.from ≤ cell.to
+  pub before : cell.to ≤ cell.end
+  pub start : IsCharBoundary text cell.start
+  pub from : IsCharBoundary text cell.from
+  pub to : IsCharBoundary text cell.to
+  pub end : IsCharBoundary text cell.end
+
+-- no two backslashes in a cell's content are in no item
+abbrev pub IsOnePiece : List ℕ → Cell → Type 0
+IsOnePiece text cell = piece_length (slice_range text cell.from cell.to) ≡ cell.to - cell.from
+
+-- a cell fits that begins at a byte offset: a block that is no leaf is open
+pub record MayAddCell (builder : BuilderView) (at : ℕ) : Type 0 where
+  pub outside : builder.leaf ≡ false
+  pub some : builder.blocks ≡ [] → ⊥
+  pub low : builder.at ≤ at
+  pub boundary : IsCharBoundary builder.text at
+
+-- a line fits as a row
+pub record MayAddRow (builder : BuilderView) (line : HeldLine) : Type 0 where
+  pub outside : builder.leaf ≡ false
+  pub begins : MayStep builder line.start
+  pub inside : IsInText builder.text line
+
+-- this number of cells: the first of these, and empty ones at a byte offset in place of those that they lack
+abbrev pub cells_placed : Source → List Cell → (found count at : ℕ) → Forest Shown
+cells_placed s cells found count at =
+    followed_by (shown_cells s (take found cells)) (empty_cells (count - found) at)
 
 -- a level inside these levels has this number of trees
 abbrev pub HasCells : List (Forest Shown) → ℕ → List (Forest Shown) → Type 0

@@ -49,6 +49,7 @@ impl<'a> Placing<'a> {
     ghost use Rattle.markdown_base.specs.HeadingWords.{words_of};
     ghost use Rattle.markdown_items.specs.ContentItems.{content_items};
     ghost use Rattle.markdown_items.specs.LineItems.{item_extensions};
+    ghost use Rattle.markdown_items.specs.RestOfLine.{HasSpecialRun, RunIsOver};
     ghost use Rattle.markdown_lines.specs.Lines.{AllPass, IsNextContent, is_in_blank_line};
     ghost use Rattle.markdown_plain.specs.Fitting.{AllFitted, IfFitted, IsAhead, IsWhiteOutside};
     ghost use Rattle.markdown_plain.specs.Fitting.{BeginsAtContent, GoesOn, HasBody, PutsBlock, closed, defining, stepped};
@@ -393,6 +394,14 @@ impl<'a> Placing<'a> {
             ≡ with_items self.old.builder.levels
             (content_items self.old.builder.text (item_extensions options)
             self.old.builder.at end))) }
+        ensures further { IfOk result (λ _. IfFitted self.old self.new
+            (RunIsOver end self.old.builder self.old.builder.at → self.new.builder.levels
+            ≡ with_items self.old.builder.levels
+            (content_items self.old.builder.text (item_extensions options)
+            self.old.builder.at end))) }
+        ensures over { IfOk result (λ _. IfFitted self.old self.new
+            (HasSpecialRun (item_extensions options) self.old.builder
+            → HasSpecialRun (item_extensions options) self.new.builder)) }
         ensures inside { IfOk result (λ _. IfFitted self.old self.new
             (AddsItems self.old.builder self.new.builder)) }
         ensures texts { IfOk result (λ _. IfFitted self.old self.new

@@ -43,6 +43,8 @@ impl Tables {
         ensures counts { self.new.added
             ≡ (if result then self.old.added + (self.old.columns - count) else self.old.added) }
         ensures most { self.new.most ≡ self.old.most }
+        ensures columns { self.new.columns ≡ self.old.columns }
+        ensures tried { self.new.tried ≡ self.old.tried }
     {
         if !self.may_add(count) {
             return false;

@@ -1,14 +1,23 @@
 //! Tables: how one begins at its delimiter row, and its rows. Functions that return a `Result` fail only where memory is
 //! refused.
-ghost use Rattle.std.specs.Prelude.{◌≡◌, ◌≤◌, false, true, length, min, IfOk};
+ghost use Rattle.std.specs.Prelude.{◌≡◌, ◌≤◌, ◌+◌, ◌-◌, ◌∷◌, [], None, false, true, length, min, IfOk};
 ghost use Rattle.markdown_builder.specs.Bodies.{is_leaf, is_plain_block};
-ghost use Rattle.markdown_builder.specs.EvenRows.{open_columns};
-ghost use Rattle.markdown_plain.specs.Fitting.{FittedBefore, GoesOn, IfFitted};
+ghost use Rattle.markdown_builder.specs.EvenRows.{is_table_row, open_columns};
+ghost use Rattle.markdown_plain.specs.Fitting.{AllFitted, FittedBefore, GoesOn, IfFitted};
 ghost use Rattle.markdown_items.specs.ContentItems.{AddsItems};
-ghost use Rattle.markdown_plain.specs.Paragraphs.{IsPlacedTo};
+ghost use Rattle.markdown_items.specs.LineItems.{item_extensions};
+ghost use Rattle.markdown_lines.specs.SourceLines.{SourceLine};
+ghost use Rattle.markdown_block_rules.specs.BlockRules.{empty_cells, shown_cells, shown_row};
+ghost use Rattle.markdown_block_rules.specs.LineContents.{cell_items};
+ghost use Rattle.markdown_plain.specs.Closable.{IsInText, IsLeafOpen};
+ghost use Rattle.markdown_plain.specs.HeldSources.{IsTextLine};
+ghost use Rattle.markdown_plain.specs.LeafTrees.{HasItems, HasTrees};
+ghost use Rattle.markdown_plain.specs.Paragraphs.{IsPlacedTo, source_of};
+ghost use Rattle.markdown_plain.specs.TextLines.{held_line};
+ghost use Rattle.markdown_base.specs.declared.item.ItemBody.TheVariants as body;
 ghost use Rattle.markdown_lines.specs.TableRows.{row_cells_at};
 ghost use Rattle.markdown_plain.specs.OpenBlocks.{innermost_is, is_table};
-ghost use Rattle.markdown_plain.specs.TableRows.{PutsTree, may_be_row};
+ghost use Rattle.markdown_plain.specs.TableRows.{IsCellIn, IsOnePiece, MayAddCell, MayAddRow, PutsTree, may_be_row};
 
 use crate::containers::reach;
 use crate::pass::{Pass, innermost};
@@ -44,6 +53,13 @@ fn add_cell_items(
         (GoesOn placing.old.builder placing.new.builder placing.new.builder.at)) }
     ensures inside { IfOk result (λ _. IfFitted placing.old placing.new
         (AddsItems placing.old.builder placing.new.builder)) }
+    ensures items { IfOk result (λ _. (escapes ≡ false → IsOnePiece placing.old.builder.text cell)
+        → IsCellIn placing.old.builder.text cell → placing.old.builder.run ≡ None → IfFitted placing.old placing.new
+        (HasItems placing.old.builder placing.new.builder
+        (cell_items placing.old.builder.text (item_extensions options) cell.from cell.to))) }
+    ensures fits { IfOk result (λ _. IsLeafOpen placing.old.builder
+        → placing.old.builder.at ≤ cell.from → IsCellIn placing.old.builder.text cell
+        → AllFitted placing.old → AllFitted placing.new × (placing.new.builder.at ≤ cell.to)) }
 {
     let mut from = cell.from;
     'pieces: while from < cell.to {
@@ -74,6 +90,12 @@ fn place_cell(
         (IsPlacedTo placing.old.builder placing.new.builder cell.end)) }
     ensures tree { IfOk result (λ _. IfFitted placing.old placing.new
         (PutsTree placing.old.builder placing.new.builder)) }
+    ensures shown { IfOk result (λ _. (escapes ≡ false → IsOnePiece placing.old.builder.text cell)
+        → IsCellIn placing.old.builder.text cell → IfFitted placing.old placing.new (HasTrees placing.old.builder placing.new.builder
+        (shown_cells (record { text = placing.old.builder.text; options = options })
+        (cell ∷ [])))) }
+    ensures fits { IfOk result (λ _. MayAddCell placing.old.builder cell.start
+        → IsCellIn placing.old.builder.text cell → AllFitted placing.old → AllFitted placing.new) }
 {
     placing.step_to(cell.start);
     placing.open_block(ItemBody::TableCell)?;
@@ -91,6 +113,10 @@ fn place_empty_cell(placing: &mut Placing<'_>, at: usize) -> Result<(), AllocErr
         (IsPlacedTo placing.old.builder placing.new.builder at)) }
     ensures tree { IfOk result (λ _. IfFitted placing.old placing.new
         (PutsTree placing.old.builder placing.new.builder)) }
+    ensures shown { IfOk result (λ _. IfFitted placing.old placing.new
+        (HasTrees placing.old.builder placing.new.builder (empty_cells 1 at))) }
+    ensures fits { IfOk result (λ _. MayAddCell placing.old.builder at
+        → AllFitted placing.old → AllFitted placing.new) }
 {
     placing.step_to(at);
     placing.open_block(ItemBody::TableCell)?;
@@ -114,6 +140,14 @@ fn place_row(
         (IsPlacedTo placing.old.builder placing.new.builder line.next)) }
     ensures found { IfOk result (λ found. found ≡ min (open_columns placing.old.builder)
         (length (row_cells_at placing.old.builder.text line.start line.stop))) }
+    ensures tree { IfOk result (λ _. is_table_row row ≡ true
+        → IsInText placing.old.builder.text line → (source : SourceLine)
+        → IsTextLine placing.old.builder.text line source → IfFitted placing.old placing.new
+        (HasTrees placing.old.builder placing.new.builder
+        (shown_row (record { text = placing.old.builder.text; options = options })
+        (open_columns placing.old.builder) row source))) }
+    ensures fits { IfOk result (λ _. MayAddRow placing.old.builder line
+        → AllFitted placing.old → AllFitted placing.new) }
 {
     let text = placing.text();
     let columns = placing.builder.columns();
@@ -322,6 +356,30 @@ impl<'a> Pass<'a> {
             ≡ self.old.placing.builder.text) }
         ensures fitted { IfOk result (λ _. FittedBefore self.old.placing self.new.placing) }
         ensures value { IfOk result (λ added. added ≡ may_be_row self.old start line.stop) }
+        ensures nothing { IfOk result (λ added. added ≡ false → self.new ≡ self.old) }
+        ensures same { IfOk result (λ _. self.new
+            ≡ record self.old { placing = self.new.placing; tables = self.new.tables }) }
+        ensures counts { IfOk result (λ added. added ≡ true
+            → self.old.tables.columns ≡ open_columns self.old.placing.builder
+            → self.new.tables.added ≡ self.old.tables.added + (self.old.tables.columns
+            - length (row_cells_at self.old.placing.builder.text start line.stop))) }
+        ensures columns { IfOk result (λ _. self.new.tables.columns ≡ self.old.tables.columns) }
+        ensures most { IfOk result (λ _. self.new.tables.most ≡ self.old.tables.most) }
+        ensures tried { IfOk result (λ _. self.new.tables.tried ≡ self.old.tables.tried) }
+        ensures placed { IfOk result (λ added. added ≡ true
+            → IfFitted self.old.placing self.new.placing
+            (IsPlacedTo self.old.placing.builder self.new.placing.builder line.next)) }
+        ensures tree { IfOk result (λ added. added ≡ true
+            → IsInText self.old.placing.builder.text (held_line line start)
+            → (source : SourceLine)
+            → IsTextLine self.old.placing.builder.text (held_line line start) source
+            → IfFitted self.old.placing self.new.placing
+            (HasTrees self.old.placing.builder self.new.placing.builder
+            (shown_row (source_of self.old) (open_columns self.old.placing.builder)
+            body.TableRow source))) }
+        ensures fits { IfOk result (λ _.
+            MayAddRow self.old.placing.builder (held_line line start)
+            → AllFitted self.old.placing → AllFitted self.new.placing) }
     {
         if !self.may_be_row(start, line.stop) {
             return Ok(false);

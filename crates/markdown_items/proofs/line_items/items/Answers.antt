@@ -1,18 +1,19 @@
 -- What is made of the line so far, with what is still to be read of it, is all of it.
-use Rattle.std.proofs.Common.{rules, ◌≡◌, ℕ, ◌≤◌, List, [], true, refl, sym, ap, ◌∙◌, subst, append-nil, arith}
+use Rattle.std.proofs.Common.{rules, ◌≡◌, ℕ, ◌≤◌, List, [], Some, true, refl, sym, ap, ◌∙◌, subst, append-nil, arith}
 use Rattle.std.proofs.Common.{slice_index}
 use Rattle.std.proofs.lemmas.Bool.Decides.{nat_tests}
 use Rattle.markdown_base.specs.Forest.{Forest}
 use Rattle.markdown_builder.specs.BuilderView.{BuilderView, with_items}
 use Rattle.markdown_builder.specs.Shown.{Shown}
+use Rattle.markdown_items.specs.declared.extensions.Extensions.{Extensions}
 use Rattle.markdown_items.specs.declared.found.Line.{Line}
 use Rattle.markdown_items.specs.ContentItems.{AddsItems, AddsTexts, content_items}
 use Rattle.markdown_items.specs.FoundFits.{AppendsFound, next_after, view_after}
 use Rattle.markdown_items.specs.LineItems.{is_special, IsFirstSpecial}
-use Rattle.markdown_items.specs.RestOfLine.{AwaitsRest}
+use Rattle.markdown_items.specs.RestOfLine.{AwaitsRest, HasSpecialRun}
 use Rattle.markdown_items.proofs.RestOfLineLemmas.{past_plain, at_start, at_end, at_found, placed_after, begun_after}
-use Rattle.markdown_items.proofs.RestOfLineLemmas.{adds_found, adds_more, adds_none, more_texts, no_texts}
-use Rattle.markdown_items.proofs.RestOfLineLemmas.{text_after, texts_found}
+use Rattle.markdown_items.proofs.RestOfLineLemmas.{adds_found, adds_more, adds_none, more_texts, no_run, no_texts}
+use Rattle.markdown_items.proofs.RestOfLineLemmas.{IsSame, run_before_text, run_found, same_found, text_after, texts_found}
 use Rattle.markdown_items.proofs.line_items.items.Goals as goal
 
 pub line-init : goal.line-init
@@ -33,10 +34,11 @@ line-init c =
       placed = first.low;
       within = first.high;
       special = c.first_special-at.ensures.stops;
-      rest = λ none. rw c.at.ensures.value
+      over = λ special. special;
+      rest = λ over. rw c.at.ensures.value
           (past_plain (record { start = view.at; end = c.args.end; extensions = extensions })
           (with_items view.levels (content_items view.text extensions view.at c.args.end)) view view.at at
-          (omega arith) first (at_start extensions view c.args.end none));
+          (omega arith) first (at_start extensions view c.args.end over));
     }
 
 pub line-preserved : goal.line-preserved
@@ -67,7 +69,7 @@ line-preserved c =
     let further : view.at ≤ new.at =
     subst (λ (v : BuilderView). view.at ≤ v.at) (sym after) (begun_after line view at found placed less fits) in
     record {
-      same = search rules;
+      same = subst (IsSame old) (sym after) (same_found old view line at found c.line.invariant.same);
       inside = subst (λ (v : BuilderView). AddsItems old v) (sym after)
           (adds_more old view (view_after view line at found) c.line.invariant.inside
           (adds_found view line at found));
@@ -78,11 +80,13 @@ line-preserved c =
       placed = search rules;
       within = search rules;
       special = search rules;
-      rest = λ none.
+      over = λ special_before. subst (λ (v : BuilderView). HasSpecialRun line.extensions v) (sym after)
+          (run_found view line at found special (c.line.invariant.over special_before));
+      rest = λ over.
           let awaits : AwaitsRest line all new next =
           subst (λ (v : BuilderView). AwaitsRest line all v next) (sym after)
           (at_found line all view at found placed less special fits appends.value
-          (c.line.invariant.rest none)) in
+          (c.line.invariant.rest over)) in
           let text : c.as_bytes-bytes.result.now ≡ new.text =
           same_bytes ∙ sym (ap (λ (v : BuilderView). v.text) after ∙ text_after line view at found) in
           let first : IsFirstSpecial line.extensions.dashes new.text next line.end then =
@@ -92,8 +96,8 @@ line-preserved c =
           past_plain line all new next then ahead first awaits;
     }
 
-pub returns-clause-items : goal.returns-clause-items
-returns-clause-items c = λ none.
+pub returns-clause-further : goal.returns-clause-further
+returns-clause-further c = λ over.
     let old : BuilderView = c.args.builder.now in
     let view : BuilderView = c.line.builder in
     let line : Line = record { start = c.at.result; end = c.args.end; extensions = c.of.result } in
@@ -101,7 +105,7 @@ returns-clause-items c = λ none.
     with_items old.levels (content_items old.text c.of.result old.at c.args.end) in
     let last : c.line.at ≡ c.args.end = grind (arith, nat_tests, c.line.invariant.within, c.line-test.false) in
     let awaits : AwaitsRest line all view c.args.end =
-    subst (λ n. AwaitsRest line all view n) last (c.line.invariant.rest none) in
+    subst (λ n. AwaitsRest line all view n) last (c.line.invariant.rest over) in
     ap (λ (v : BuilderView). v.levels) c.in_ok-append_text.ensures
     ∙ (at_end line all view awaits
     ∙ ap (λ e. with_items old.levels (content_items old.text e old.at c.args.end)) c.of.ensures)
@@ -115,3 +119,15 @@ pub returns-clause-texts : goal.returns-clause-texts
 returns-clause-texts c =
     more_texts c.args.builder.now c.line.builder c.append_text.new.builder c.line.invariant.texts
     ([], ap (λ (v : BuilderView). v.texts) c.in_ok-append_text.ensures ∙ sym (append-nil c.line.builder.texts))
+
+pub returns-clause-items : goal.returns-clause-items
+returns-clause-items c = λ none.
+    returns-clause-further c (no_run c.args.end c.args.builder.now c.args.builder.now.at none)
+
+pub returns-clause-over : goal.returns-clause-over
+returns-clause-over c = λ special byte some.
+    let kept : (b : ℕ) → c.line.builder.run ≡ Some b → is_special c.of.result.dashes b ≡ true =
+    c.line.invariant.over (subst (λ e. HasSpecialRun e c.args.builder.now) (sym c.of.ensures) special) in
+    subst (λ (e : Extensions). is_special e.dashes byte ≡ true) c.of.ensures
+    (run_before_text c.of.result c.line.builder c.args.end byte kept
+    (sym (ap (λ (v : BuilderView). v.run) c.in_ok-append_text.ensures) ∙ some))

@@ -1,9 +1,9 @@
 -- The items up to here are appended but for a text, and a special byte comes next.
-use Rattle.std.proofs.Common.{◌≡◌, ◌-◌, ◌<◌, ◌≤◌, true, None, slice_index}
+use Rattle.std.proofs.Common.{◌≡◌, ◌-◌, ◌<◌, ◌≤◌, true, slice_index}
 use Rattle.markdown_builder.specs.BuilderView.{with_items}
 use Rattle.markdown_items.specs.ContentItems.{AddsItems, AddsTexts, content_items}
 use Rattle.markdown_items.specs.LineItems.{is_special}
-use Rattle.markdown_items.specs.RestOfLine.{AwaitsRest}
+use Rattle.markdown_items.specs.RestOfLine.{AwaitsRest, HasSpecialRun, RunIsOver}
 use Rattle.markdown_items.proofs.line_items.items.Given as goal
 
 abbrev pub invariant-line : goal.invariant-line
@@ -20,7 +20,8 @@ invariant-line l = record {
   placed : l.builder.at ≤ l.at;
   within : l.at ≤ l.end;
   special : l.at < l.end → is_special l.dashes (slice_index l.bytes l.at) ≡ true;
-  rest : l.fn.builder.run ≡ None
+  over : HasSpecialRun l.line.extensions l.fn.builder → HasSpecialRun l.line.extensions l.builder;
+  rest : RunIsOver l.end l.fn.builder l.fn.builder.at
       → AwaitsRest l.line (with_items l.fn.builder.levels
       (content_items l.fn.builder.text l.line.extensions l.fn.builder.at l.end)) l.builder l.at;
 }

@@ -1,8 +1,15 @@
 -- The items so far are appended to the cell.
-use Rattle.std.proofs.Common.{rules, ap}
+use Rattle.std.proofs.Common.{rules, ◌≡◌, ◌+◌, ◌-◌, ◌<◌, ◌≤◌, ◌∙◌, ℕ, List, length, drop, slice_range, refl, sym, ap, subst}
+use Rattle.std.proofs.Common.{arith, true≢false}
+use Rattle.std.proofs.lemmas.List.{length-take}
 use Rattle.markdown_builder.specs.BuilderView.{BuilderView}
 use Rattle.markdown_items.proofs.RestOfLineLemmas.{adds_none}
 use Rattle.markdown_plain.proofs.TableRowsLemmas.{adds_later}
+use Rattle.markdown_items.specs.LineItems.{item_extensions}
+use Rattle.markdown_lines.specs.TableRows.{piece_length}
+use Rattle.markdown_plain.proofs.ShownRowsLemmas.{IsPieceIn, piece_added, piece_cut, piece_in, piece_placed, pieces_done}
+use Rattle.markdown_plain.proofs.ShownRowsLemmas.{pieces_start, places_piece, whole_piece}
+use Rattle.markdown_plain.proofs.tables.add_cell_items.Goals.{then-escapes, else-escapes}
 use Rattle.markdown_plain.proofs.tables.add_cell_items.Goals as goal
 
 pub pieces-init : goal.pieces-init
@@ -10,19 +17,105 @@ pieces-init c = record {
   text = search rules;
   goes_on = search rules;
   inside = λ fitted. (fitted, adds_none c.args.placing.now.builder);
+  whole = λ once less. refl;
+  items = λ once is none fitted. (
+    fitted,
+    pieces_start (item_extensions c.args.options) c.args.placing.now.builder c.args.cell.from c.args.cell.to none,
+  );
+  fits = λ inside low is fitted.
+      let content = is.content in
+      (fitted, record { low = low; high = omega (arith, low, content); boundary = λ less. is.from });
 }
 
 pub pieces-preserved : goal.pieces-preserved
-pieces-preserved c = record {
-  text = search rules;
-  goes_on = search rules;
-  inside = λ fitted.
-      let added = c.in_ok-add_items.ensures.inside fitted in
-      let moved = c.step_to.ensures.steps added.0 in
-      let before = c.pieces.invariant.inside moved.0 in (
-        before.0,
-        adds_later c.args.placing.now.builder c.pieces.placing.builder c.step_to.new.self.builder
-            c.add_items.new.self.builder before.1
-            (ap (λ (v : BuilderView). v.levels) moved.1) added.1,
-      );
-}
+pieces-preserved c =
+    let text = c.args.placing.now.builder.text in
+    let view = c.pieces.placing.builder in
+    let to = c.args.cell.to in
+    let from = c.pieces.from in
+    let count = c.if-escapes.length in
+    let stop = c.saturating_add-end.result in
+    let next = c.saturating_add-from.result in
+    let less : from < to = c.pieces-test.true in
+    let same : view.text ≡ text = c.pieces.invariant.text in
+    let within : count ≤ to - from = elim c.if-escapes.branch [
+      | then-escapes w ↦ omega (
+        arith,
+        w.length-is,
+        w.piece_length-length.ensures.within,
+        ap length w.bytes_of.ensures ∙ length-take (to - from) (drop from w.text.result.now),
+      )
+      | else-escapes w ↦ omega (arith, w.length-is)
+    ] in
+    let there : stop ≡ from + count = omega (arith, c.saturating_add-end.ensures, within, less) in
+    let after : stop + 3 ≤ to → next ≡ stop + 2 = λ more. omega (arith, c.saturating_add-from.ensures, more) in
+    let past : to ≤ stop → to ≤ next = λ over. omega (arith, c.saturating_add-from.ensures, over) in
+    record {
+      text = search rules;
+      goes_on = search rules;
+      inside = λ fitted.
+          let added = c.in_ok-add_items.ensures.inside fitted in
+          let moved = c.step_to.ensures.steps added.0 in
+          let before = c.pieces.invariant.inside moved.0 in (
+            before.0,
+            adds_later c.args.placing.now.builder c.pieces.placing.builder c.step_to.new.self.builder
+                c.add_items.new.self.builder before.1
+                (ap (λ (v : BuilderView). v.levels) moved.1) added.1,
+          );
+      whole = λ once more. elim c.if-escapes.branch [
+        | then-escapes w ↦ absurd (true≢false (sym w.if-escapes.true ∙ once))
+        | else-escapes w ↦ absurd (omega (arith, w.length-is, there, past, more))
+      ];
+      items = λ once is none fitted.
+          let appended = c.in_ok-add_items.ensures.appends fitted in
+          let further = c.in_ok-add_items.ensures.further fitted in
+          let over = c.in_ok-add_items.ensures.over fitted in
+          let moved = c.step_to.ensures.steps appended.0 in
+          let before = c.pieces.invariant.items once is none moved.0 in
+          let size : count ≡ piece_length (slice_range view.text from to) = elim c.if-escapes.branch [
+            | then-escapes w ↦ w.length-is ∙ (w.piece_length-length.ensures.value
+                ∙ (ap piece_length w.bytes_of.ensures
+                ∙ ap (λ t. piece_length (slice_range t from to)) w.text.ensures))
+            | else-escapes w ↦
+                let first = c.pieces.invariant.whole w.if-escapes.false less in
+                w.length-is ∙ (ap (λ n. to - n) first
+                ∙ (sym (once w.if-escapes.false)
+                ∙ (ap (λ n. piece_length (slice_range text n to)) (sym first)
+                ∙ ap (λ t. piece_length (slice_range t from to)) (sym same))))
+          ] in (
+            before.0,
+            piece_placed (item_extensions c.args.options) _ view c.add_items.new.self.builder from to stop next less
+                (subst (λ (t : List ℕ). to ≤ length t) (sym same) is.to.0) before.1
+                (places_piece (item_extensions c.args.options) view c.step_to.new.self.builder
+                c.add_items.new.self.builder from to stop next moved.1 appended.1 further.1 over.1
+                (there ∙ ap (λ n. from + n) size) after past),
+          );
+      fits = λ inside low is fitted.
+          let before = c.pieces.invariant.fits inside low is fitted in
+          let goes = c.pieces.invariant.goes_on before.0 in
+          let may = before.1 in
+          let piece : IsPieceIn text from to stop = elim c.if-escapes.branch [
+            | then-escapes w ↦ subst (IsPieceIn text from to)
+                (sym (there ∙ ap (λ n. from + n) (w.length-is ∙ (w.piece_length-length.ensures.value
+                ∙ (ap piece_length w.bytes_of.ensures
+                ∙ ap (λ t. piece_length (slice_range t from to)) (w.text.ensures ∙ same))))))
+                (piece_in text from to (omega (arith, less)) is.to.0)
+            | else-escapes w ↦ whole_piece text from to stop (omega (arith, less)) (omega (arith, w.length-is, there, less))
+          ] in
+          let cut = piece_cut text from to stop next is.to piece after past in
+          piece_added text c.args.placing.now c.pieces.placing c.step_to.new.self c.add_items.new.self from to stop
+          next less inside goes.1 may piece.low piece.high cut c.step_to.ensures.steps c.step_to.ensures.fits
+          c.in_ok-add_items.ensures.appends c.in_ok-add_items.ensures.fits refl before.0;
+    }
+
+pub returns-clause-items : goal.returns-clause-items
+returns-clause-items c = λ once is none fitted.
+    let done = c.pieces.invariant.items once is none fitted in (
+      done.0,
+      pieces_done (item_extensions c.args.options) c.args.cell.to _ c.pieces.placing.builder c.pieces.from
+          (search rules) done.1,
+    )
+
+pub returns-clause-fits : goal.returns-clause-fits
+returns-clause-fits c = λ inside low is fitted.
+    let done = c.pieces.invariant.fits inside low is fitted in (done.0, done.1.high)

@@ -1,7 +1,13 @@
--- The text stays, and the cell goes on.
-use Rattle.std.proofs.Common.{◌≡◌, ◌-◌}
+-- The text stays, the cell goes on, and the pieces that are left make its other items.
+use Rattle.std.proofs.Common.{◌≡◌, ◌-◌, ◌<◌, ◌≤◌, None, false}
+use Rattle.markdown_builder.specs.BuilderView.{with_items}
 use Rattle.markdown_items.specs.ContentItems.{AddsItems}
-use Rattle.markdown_plain.specs.Fitting.{IfFitted, GoesOn}
+use Rattle.markdown_items.specs.LineItems.{item_extensions}
+use Rattle.markdown_block_rules.specs.LineContents.{cell_items}
+use Rattle.markdown_plain.specs.Closable.{IsLeafOpen}
+use Rattle.markdown_plain.specs.Fitting.{AllFitted, IfFitted, GoesOn}
+use Rattle.markdown_plain.specs.TableRows.{IsCellIn, IsOnePiece}
+use Rattle.markdown_plain.proofs.ShownRowsLemmas.{AwaitsPieces, MayAddPiece}
 use Rattle.markdown_plain.proofs.tables.add_cell_items.Given as goal
 
 abbrev pub invariant-pieces : goal.invariant-pieces
@@ -9,6 +15,16 @@ invariant-pieces l = record {
   text : l.placing.builder.text ≡ l.fn.placing.builder.text;
   goes_on : IfFitted l.fn.placing l.placing (GoesOn l.fn.placing.builder l.placing.builder l.placing.builder.at);
   inside : IfFitted l.fn.placing l.placing (AddsItems l.fn.placing.builder l.placing.builder);
+  whole : l.escapes ≡ false → l.from < l.cell.to → l.from ≡ l.cell.from;
+  items : (l.escapes ≡ false → IsOnePiece l.fn.placing.builder.text l.cell)
+      → IsCellIn l.fn.placing.builder.text l.cell → l.fn.placing.builder.run ≡ None
+      → IfFitted l.fn.placing l.placing (AwaitsPieces (item_extensions l.options) l.cell.to
+      (with_items l.fn.placing.builder.levels
+      (cell_items l.fn.placing.builder.text (item_extensions l.options) l.cell.from l.cell.to))
+      l.placing.builder l.from);
+  fits : IsLeafOpen l.fn.placing.builder → l.fn.placing.builder.at ≤ l.cell.from
+      → IsCellIn l.fn.placing.builder.text l.cell → AllFitted l.fn.placing
+      → AllFitted l.placing × MayAddPiece l.fn.placing.builder.text l.placing.builder l.from l.cell.to;
 }
 
 abbrev pub decreases-pieces : goal.decreases-pieces

@@ -1,7 +1,14 @@
 -- The cell, closed, is a tree of the row.
-use Rattle.std.proofs.Common.{◌∙◌, ◌++◌, ◌∷◌, [], ap}
+use Rattle.std.proofs.Common.{◌≡◌, ◌∙◌, ◌++◌, ◌∷◌, ℕ, List, [], refl, sym, ap, arith, subst}
+use Rattle.markdown_base.specs.declared.item.ItemBody.TheVariants as body
 use Rattle.markdown_base.specs.Forest.{nil}
 use Rattle.markdown_builder.specs.BuilderView.{BuilderView}
+use Rattle.markdown_items.specs.LineItems.{item_extensions}
+use Rattle.markdown_block_rules.specs.LineContents.{cell_items}
+use Rattle.markdown_plain.specs.LeafTrees.{HasItems}
+use Rattle.markdown_plain.specs.TableRows.{IsCellIn, IsOnePiece}
+use Rattle.markdown_plain.proofs.FittingLemmas.{goes_at, leaf_opened, stepped_at}
+use Rattle.markdown_plain.proofs.ShownRowsLemmas.{cell_shown, may_open_cell}
 use Rattle.markdown_plain.proofs.TableRowsLemmas.{cell_put}
 use Rattle.markdown_plain.proofs.tables.place_cell.Goals as goal
 
@@ -18,3 +25,44 @@ returns-clause-tree c = λ fitted.
           (ap (λ (v : BuilderView). v.levels) opened.1 ∙ ap (λ (v : BuilderView). v.levels ++ nil ∷ []) begun.1)
           (filled.1.0, ap (λ (v : BuilderView). v.levels) moved.1 ∙ filled.1.1) put.1,
     )
+
+pub returns-clause-shown : goal.returns-clause-shown
+returns-clause-shown c = λ once is fitted.
+    let text : List ℕ = c.args.placing.now.builder.text in
+    let same : c.open_block.new.self.builder.text ≡ text = c.in_ok-open_block.ensures.text ∙ c.step_to.ensures.text in
+    let put = c.close.ensures.tree fitted in
+    let moved = c.step_to-2.ensures.steps put.0 in
+    let goes = c.in_ok-add_cell_items.ensures.goes_on moved.0 in
+    let opened = c.in_ok-open_block.ensures.opens goes.0 in
+    let begun = c.step_to.ensures.steps opened.0 in
+    let filled = c.in_ok-add_cell_items.ensures.items
+    (λ whole. subst (λ (t : List ℕ). IsOnePiece t c.args.cell) (sym same) (once whole))
+    (subst (λ (t : List ℕ). IsCellIn t c.args.cell) (sym same) is)
+    (ap (λ (v : BuilderView). v.run) opened.1) moved.0 in
+    let items = subst (λ (t : List ℕ). HasItems c.open_block.new.self.builder c.add_cell_items.new.placing.builder
+    (cell_items t (item_extensions c.args.options) c.args.cell.from c.args.cell.to)) same filled.1 in (
+      begun.0,
+      cell_shown (record { text = text; options = c.args.options }) c.args.cell c.args.placing.now.builder
+          c.step_to.new.self.builder c.open_block.new.self.builder c.add_cell_items.new.placing.builder
+          c.step_to-2.new.self.builder c.close.new.self.builder begun.1 opened.1 goes.1 items moved.1 put.1,
+    )
+
+pub returns-clause-fits : goal.returns-clause-fits
+returns-clause-fits c = λ may is fitted.
+    let text : List ℕ = c.args.placing.now.builder.text in
+    let after = is.after in
+    let before = is.before in
+    let there = leaf_opened c.args.placing.now c.step_to.new.self c.open_block.new.self body.TableCell c.args.cell.start
+    c.args.cell.start refl c.step_to.ensures.steps c.step_to.ensures.fits c.in_ok-open_block.ensures.opens
+    c.in_ok-open_block.ensures.fits (may_open_cell c.args.placing.now.builder c.args.cell.start may) fitted in
+    let here = there.1.here in
+    let filled = c.in_ok-add_cell_items.ensures.fits
+    (record { leaf = there.1.inside.leaf; some = there.1.inside.some }) (omega (arith, here, after))
+    (subst (λ (t : List ℕ). IsCellIn t c.args.cell) (sym there.1.same) is) there.0 in
+    let high = filled.1 in
+    let goes = c.in_ok-add_cell_items.ensures.goes_on filled.0 in
+    let ended = stepped_at text c.add_cell_items.new.placing.builder.at c.args.cell.end c.add_cell_items.new.placing
+    c.step_to-2.new.self c.step_to-2.ensures.steps c.step_to-2.ensures.fits
+    (goes_at text c.args.cell.start c.add_cell_items.new.placing.builder.at c.open_block.new.self.builder
+    c.add_cell_items.new.placing.builder goes.1 there.1) (omega (arith, high, before)) is.end filled.0 in
+    c.close.ensures.fits ended.1.inside.some ended.1.inside.plain ∙ ended.0

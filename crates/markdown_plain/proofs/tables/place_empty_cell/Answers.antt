@@ -1,8 +1,11 @@
 -- The cell, closed, is a tree of the row.
-use Rattle.std.proofs.Common.{◌∙◌, ◌++◌, ◌∷◌, [], ap}
+use Rattle.std.proofs.Common.{◌∙◌, ◌++◌, ◌∷◌, [], refl, ap}
+use Rattle.markdown_base.specs.declared.item.ItemBody.TheVariants as body
 use Rattle.markdown_base.specs.Forest.{nil}
 use Rattle.markdown_builder.specs.BuilderView.{BuilderView}
 use Rattle.markdown_items.proofs.RestOfLineLemmas.{adds_none}
+use Rattle.markdown_plain.proofs.FittingLemmas.{leaf_opened}
+use Rattle.markdown_plain.proofs.ShownRowsLemmas.{empty_shown, may_open_cell}
 use Rattle.markdown_plain.proofs.TableRowsLemmas.{cell_put}
 use Rattle.markdown_plain.proofs.tables.place_empty_cell.Goals as goal
 
@@ -17,3 +20,20 @@ returns-clause-tree c = λ fitted.
           (ap (λ (v : BuilderView). v.levels) opened.1 ∙ ap (λ (v : BuilderView). v.levels ++ nil ∷ []) begun.1)
           (adds_none c.open_block.new.self.builder) put.1,
     )
+
+pub returns-clause-shown : goal.returns-clause-shown
+returns-clause-shown c = λ fitted.
+    let put = c.close.ensures.tree fitted in
+    let opened = c.in_ok-open_block.ensures.opens put.0 in
+    let begun = c.step_to.ensures.steps opened.0 in (
+      begun.0,
+      empty_shown c.args.at c.args.placing.now.builder c.step_to.new.self.builder c.open_block.new.self.builder
+          c.close.new.self.builder begun.1 opened.1 put.1,
+    )
+
+pub returns-clause-fits : goal.returns-clause-fits
+returns-clause-fits c = λ may fitted.
+    let there = leaf_opened c.args.placing.now c.step_to.new.self c.open_block.new.self body.TableCell c.args.at c.args.at
+    refl c.step_to.ensures.steps c.step_to.ensures.fits c.in_ok-open_block.ensures.opens
+    c.in_ok-open_block.ensures.fits (may_open_cell c.args.placing.now.builder c.args.at may) fitted in
+    c.close.ensures.fits there.1.inside.some there.1.inside.plain ∙ there.0

@@ -1,8 +1,10 @@
 -- The text stays, the row is open, and the cells so far and those that are left are all cells.
-use Rattle.std.proofs.Common.{◌≡◌, ◌+◌, ◌<◌, ◌≤◌, length}
+use Rattle.std.proofs.Common.{◌≡◌, ◌+◌, ◌∷◌, ◌++◌, ◌<◌, ◌≤◌, [], drop, length}
 use Rattle.markdown_lines.specs.TableRows.{cells_left, row_cells_at}
-use Rattle.markdown_plain.specs.Fitting.{IfFitted, opened}
-use Rattle.markdown_plain.specs.TableRows.{HasCells}
+use Rattle.markdown_plain.specs.Closable.{IsInText}
+use Rattle.markdown_plain.specs.Fitting.{AllFitted, IfFitted, opened}
+use Rattle.markdown_plain.specs.TableRows.{HasCells, MayAddRow, cells_placed}
+use Rattle.markdown_plain.proofs.ShownRowsLemmas.{IsInRow}
 use Rattle.markdown_plain.proofs.tables.place_row.Given as goal
 
 abbrev pub invariant-cells : goal.invariant-cells
@@ -20,4 +22,13 @@ invariant-cells l = record {
   all : l.found + length (cells_left l.text l.start l.line.stop)
       ≡ length (row_cells_at l.text l.line.start l.line.stop);
   lacking : l.found < l.count → length (cells_left l.text l.start l.line.stop) ≡ 0;
+  left : drop l.found (row_cells_at l.text l.line.start l.line.stop) ≡ cells_left l.text l.start l.line.stop;
+  shown : IsInText l.text l.line → IfFitted l.fn.placing l.placing (l.placing.builder.levels
+      ≡ l.fn.placing.builder.levels
+      ++ cells_placed (record { text = l.text; options = l.options }) (row_cells_at l.text l.line.start l.line.stop)
+      l.found l.count l.line.next
+      ∷ []);
+  inside : IsInText l.text l.line
+      → IsInRow l.text l.line l.placing (cells_left l.text l.start l.line.stop);
+  fits : MayAddRow l.fn.placing.builder l.line → AllFitted l.fn.placing → AllFitted l.placing;
 }

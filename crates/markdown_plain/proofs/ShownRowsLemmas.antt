@@ -1,0 +1,1002 @@
+-- The rows of a table as they are placed: the pieces of a cell's content, where a row's cells lie, and their trees.
+use Rattle.std.proofs.Common.{◌≡◌, ◌≢◌, ℕ, zero, suc, ◌+◌, ◌-◌, ◌<◌, ◌≤◌, Bool, true, false, List, [], ◌∷◌, ◌++◌}
+use Rattle.std.proofs.Common.{Some, None, length, drop, take, min, slice_range, ◌⊎◌, inl, inr, ⊎_elim, refl, sym, ap, ◌∙◌}
+use Rattle.std.proofs.Common.{subst, arith, codes, true≢false}
+use Rattle.std.specs.Prelude.{get_or, ◌==◌, ◌&&◌, nat_lt, if◌then◌else◌}
+use Rattle.std.specs.List.{list_all, list_any, prefix_len}
+use Rattle.std.specs.Str.{IsCharBoundary, IsUtf8}
+use Rattle.std.proofs.lemmas.Bool.{and_parts, cases_lt}
+use Rattle.std.proofs.lemmas.Bool.Decides.{nat_tests}
+use Rattle.std.proofs.lemmas.List.{drop-drop, get_or-drop, length-drop, take_all}
+use Rattle.std.proofs.Math.ListN.{get_or-append}
+use Rattle.std.proofs.Math.Seq.{get_or-append_seam}
+use Rattle.std.proofs.lemmas.List.Folds.{list_any_at}
+use Rattle.std.proofs.lemmas.List.Sums.{prefix_len_passes, prefix_len-le-length}
+use Rattle.std.proofs.lemmas.Str.{IsCharBoundary-after_ascii, IsCharBoundary-before_ascii}
+use Rattle.markdown_base.specs.Bytes.{backslash, pipe}
+use Rattle.markdown_base.specs.Forest.{Forest, nil, node}
+use Rattle.markdown_base.specs.declared.item.ItemBody.{ItemBody}
+use Rattle.markdown_base.specs.declared.item.ItemBody.TheVariants as body
+use Rattle.markdown_builder.specs.declared.open_block.OpenBlock.{OpenBlock}
+use Rattle.markdown_builder.specs.BuilderView.{BuilderView, Opens, parts_of, with_items}
+use Rattle.markdown_builder.specs.Bodies.{is_leaf}
+use Rattle.markdown_builder.specs.EvenRows.{is_table_row}
+use Rattle.markdown_builder.specs.Shown.{Shown, chain_of, plain_item, settled_below, shown_item, with_block}
+use Rattle.markdown_builder.specs.TreeLevels.{followed_by, with_trees}
+use Rattle.markdown_builder.proofs.LaidLemmas.{followed_by-assoc, followed_by-nil}
+use Rattle.markdown_items.specs.declared.extensions.Extensions.{Extensions}
+use Rattle.markdown_items.specs.ContentItems.{content_items}
+use Rattle.markdown_items.specs.LineItems.{is_special, item_extensions}
+use Rattle.markdown_items.specs.RestOfLine.{HasSpecialRun, RunIsOver}
+use Rattle.markdown_items.proofs.ContentItemsLemmas.{no_byte}
+use Rattle.markdown_items.proofs.RestOfLineLemmas.{more_items, no_items}
+use Rattle.markdown_lines.specs.declared.held_line.HeldLine.{HeldLine}
+use Rattle.markdown_lines.specs.declared.table_row.Cell.{Cell}
+use Rattle.markdown_lines.specs.BlockBeginnings.{Source}
+use Rattle.markdown_lines.specs.LineBytes.{without_end}
+use Rattle.markdown_lines.specs.SourceLines.{SourceLine}
+use Rattle.markdown_lines.specs.TableRows.{cell_over, cells_from, cells_left, cells_over, is_cut}
+use Rattle.markdown_lines.specs.TableRows.{is_row_white, onto_first, parts_after, piece_length, row_cells, row_cells_at}
+use Rattle.markdown_lines.proofs.LineBytesLemmas.{trimmed_is}
+use Rattle.markdown_lines.proofs.PositionsLemmas.{rest_of_part}
+use Rattle.markdown_lines.proofs.TableRowsLemmas.{first_part, no_cell}
+use Rattle.markdown_scan.specs.Beginnings.{begins_with}
+use Rattle.markdown_block_rules.specs.BlockRules.{empty_cells, shown_cells, shown_over, shown_row}
+use Rattle.markdown_block_rules.specs.LineContents.{cell_items, pieces_items}
+use Rattle.markdown_plain.specs.declared.placing.Placing.{Placing}
+use Rattle.markdown_plain.specs.Closable.{IsInText, IsLeafOpen}
+use Rattle.markdown_plain.specs.Fitting.{AllFitted, GoesOn, IfFitted, IsAhead, IsWhiteOutside, PutsBlock, opened, stepped}
+use Rattle.markdown_plain.specs.Fits.{MayOpenLeaf}
+use Rattle.markdown_plain.specs.HeldSources.{IsTextLine}
+use Rattle.markdown_plain.specs.LeafTrees.{HasItems, HasTrees}
+use Rattle.markdown_plain.specs.OpenBlocks.{outer_of}
+use Rattle.markdown_plain.specs.TableRows.{IsCellIn, IsOnePiece, MayAddCell, cells_placed}
+use Rattle.markdown_plain.proofs.ParagraphLinesLemmas.{range_byte, range_length}
+use Rattle.markdown_plain.proofs.LeafTreesLemmas.{closed_tree, on_test, put_opened, same_block, trees_last}
+use Rattle.markdown_plain.proofs.ClosableLemmas.{ahead_of, end_passes, still_open}
+use Rattle.markdown_plain.proofs.FittingLemmas.{may_step, some_opened, step_done}
+
+-- ---- where a piece of a cell's content ends
+
+-- two backslashes and a `|` stand at an index
+pub record HasPair (bytes : List ℕ) (at : ℕ) : Type 0 where
+  pub within : at + 3 ≤ length bytes
+  pub first : get_or bytes at 0 ≡ backslash
+  pub pipe_is : get_or bytes (at + 2) 0 ≡ pipe
+
+-- a piece ends where the bytes do, or before two backslashes and a `|`
+abbrev pub EndsPiece : List ℕ → ℕ → Type 0
+EndsPiece bytes n = (n ≡ length bytes) ⊎ HasPair bytes n
+
+-- it ends one byte later where there is a byte before the bytes
+ends_later : (byte : ℕ) (bytes : List ℕ) (n : ℕ) → EndsPiece bytes n → EndsPiece (byte ∷ bytes) (suc n)
+ends_later byte bytes n (inl all) = inl (ap suc all)
+ends_later byte bytes n (inr pair) =
+    let inside = pair.within in
+    let on : suc n + 2 ≡ suc (n + 2) = omega arith in
+    inr (record {
+      within = omega (arith, inside);
+      first = pair.first;
+      pipe_is = ap (λ k. get_or (byte ∷ bytes) k 0) on ∙ pair.pipe_is;
+    })
+
+-- one byte more, the end of a piece, two bytes more, and the last bytes
+plain_step : (byte next : ℕ) (bytes : List ℕ) → (byte == backslash) ≡ false
+    → piece_length (byte ∷ next ∷ bytes) ≡ suc (piece_length (next ∷ bytes))
+unfolding piece_length
+plain_step byte next bytes is = rw is (omega arith)
+
+pair_step : (byte next : ℕ) (bytes : List ℕ) → (byte == backslash) ≡ true
+    → ((next == backslash) && begins_with (codes "|") bytes) ≡ true → piece_length (byte ∷ next ∷ bytes) ≡ 0
+unfolding piece_length
+pair_step byte next bytes is pair = rw (is, pair) refl
+
+two_step : (byte next : ℕ) (bytes : List ℕ) → (byte == backslash) ≡ true
+    → ((next == backslash) && begins_with (codes "|") bytes) ≡ false
+    → piece_length (byte ∷ next ∷ bytes) ≡ suc (suc (piece_length bytes))
+unfolding piece_length
+two_step byte next bytes is none = rw (is, none) (omega arith)
+
+one_step : (byte : ℕ) → piece_length (byte ∷ []) ≡ 1
+unfolding piece_length
+one_step byte = refl
+
+no_step : piece_length [] ≡ 0
+unfolding piece_length
+no_step = refl
+
+-- the first byte is a `|`
+pub begins_piped : (bytes : List ℕ) → begins_with (codes "|") bytes ≡ true
+    → (1 ≤ length bytes) × (get_or bytes 0 0 ≡ pipe)
+begins_piped [] is = absurd (true≢false (sym is))
+begins_piped (byte ∷ bytes) is =
+    let same : (pipe == byte) ≡ true = (and_parts (pipe == byte) (begins_with [] bytes) is).0 in
+    let here : byte ≡ pipe = grind (arith, nat_tests, same) in
+    (omega arith, here)
+
+-- where a piece is counted to end, it does
+pub piece_ends : (bytes : List ℕ) → EndsPiece bytes (piece_length bytes)
+piece_ends [] = inl no_step
+piece_ends (byte ∷ []) = inl (one_step byte ∙ omega arith)
+piece_ends (byte ∷ next ∷ bytes) = by_byte (piece_ends (next ∷ bytes)) (piece_ends bytes) (byte == backslash) refl
+  where
+    by_pair : (byte == backslash) ≡ true → EndsPiece bytes (piece_length bytes)
+        → (pair : Bool) → ((next == backslash) && begins_with (codes "|") bytes) ≡ pair
+        → EndsPiece (byte ∷ next ∷ bytes) (piece_length (byte ∷ next ∷ bytes))
+    by_pair is after true pair =
+        let piped : (1 ≤ length bytes) × (get_or bytes 0 0 ≡ pipe) =
+        begins_piped bytes (and_parts (next == backslash) (begins_with (codes "|") bytes) pair).1 in
+        let some = piped.0 in
+        let here : byte ≡ backslash = grind (arith, nat_tests, is) in
+        subst (EndsPiece (byte ∷ next ∷ bytes)) (sym (pair_step byte next bytes is pair)) (inr (record {
+          within = omega (arith, some);
+          first = here;
+          pipe_is = piped.1;
+        }))
+    by_pair is after false pair =
+        subst (EndsPiece (byte ∷ next ∷ bytes)) (sym (two_step byte next bytes is pair))
+        (ends_later byte (next ∷ bytes) (suc (piece_length bytes)) (ends_later next bytes (piece_length bytes) after))
+
+    by_byte : EndsPiece (next ∷ bytes) (piece_length (next ∷ bytes)) → EndsPiece bytes (piece_length bytes)
+        → (test : Bool) → (byte == backslash) ≡ test
+        → EndsPiece (byte ∷ next ∷ bytes) (piece_length (byte ∷ next ∷ bytes))
+    by_byte one two true is = by_pair is two ((next == backslash) && begins_with (codes "|") bytes) refl
+    by_byte one two false is =
+        subst (EndsPiece (byte ∷ next ∷ bytes)) (sym (plain_step byte next bytes is))
+        (ends_later byte (next ∷ bytes) (piece_length (next ∷ bytes)) one)
+
+-- where no backslash is, all is one piece
+pub no_backslash : (bytes : List ℕ) → ((k : ℕ) → k < length bytes → get_or bytes k 0 ≢ backslash)
+    → piece_length bytes ≡ length bytes
+no_backslash bytes none = by_end (piece_ends bytes)
+  where
+    by_end : EndsPiece bytes (piece_length bytes) → piece_length bytes ≡ length bytes
+    by_end (inl all) = all
+    by_end (inr pair) =
+        let inside = pair.within in absurd (none (piece_length bytes) (omega (arith, inside)) pair.first)
+
+-- the end of a piece in a text, and what follows the two backslashes there
+pub record IsPieceIn (text : List ℕ) (from to stop : ℕ) : Type 0 where
+  pub low : from ≤ stop
+  pub high : stop ≤ to
+  pub further : stop < to → stop + 3 ≤ to
+  pub first : stop < to → get_or text stop 0 ≡ backslash
+  pub pipe_is : stop < to → get_or text (stop + 2) 0 ≡ pipe
+
+-- the first piece of a part of a text
+pub piece_in : (text : List ℕ) (from to : ℕ) → from ≤ to → to ≤ length text
+    → IsPieceIn text from to (from + piece_length (slice_range text from to))
+piece_in text from to ordered within = by_end (piece_ends bytes)
+  where
+    bytes : List ℕ
+    bytes = slice_range text from to
+
+    size : length bytes ≡ to - from
+    size = range_length text from to within
+
+    by_end : EndsPiece bytes (piece_length bytes) → IsPieceIn text from to (from + piece_length bytes)
+    by_end (inl all) = record {
+      low = omega arith;
+      high = omega (arith, all, size, ordered);
+      further = λ less. omega (arith, all, size, ordered, less);
+      first = λ less. absurd (omega (arith, all, size, ordered, less));
+      pipe_is = λ less. absurd (omega (arith, all, size, ordered, less));
+    }
+    by_end (inr pair) =
+        let inside = pair.within in
+        let n = piece_length bytes in
+        let on : from + (n + 2) ≡ from + n + 2 = omega arith in
+        record {
+          low = omega arith;
+          high = omega (arith, inside, size, ordered);
+          further = λ less. omega (arith, inside, size, ordered);
+          first = λ less. sym (range_byte text from to n (omega (arith, inside, size))) ∙ pair.first;
+          pipe_is = λ less. ap (λ k. get_or text k 0) (sym on)
+              ∙ (sym (range_byte text from to (n + 2) (omega (arith, inside, size))) ∙ pair.pipe_is);
+        }
+
+-- ---- the items of the pieces
+
+-- where there is no byte, there is no item
+no_content : (text : List ℕ) (extensions : Extensions) (start : ℕ) → content_items text extensions start start ≡ []
+no_content text extensions start =
+    let none : nat_lt start start ≡ false = grind (arith, nat_tests) in
+    no_byte (start - start) text (record { start = start; end = start; extensions = extensions }) start ∙ rw none refl
+
+-- nothing is read where nothing is left
+pub no_pieces : (n : ℕ) (text : List ℕ) (extensions : Extensions) (start end : ℕ) → end ≤ start
+    → pieces_items n text extensions start end ≡ []
+unfolding pieces_items
+no_pieces zero text extensions start end low = refl
+no_pieces (suc n) text extensions start end low =
+    let none : end - start ≡ 0 = omega (arith, low) in
+    let bytes : slice_range text start end ≡ [] = ap (λ k. take k (drop start text)) none in
+    let stop : start + piece_length (slice_range text start end) ≡ start =
+    ap (λ b. start + piece_length b) bytes ∙ ap (λ k. start + k) no_step ∙ omega arith in
+    let over : nat_lt start end ≡ false = grind (arith, nat_tests, low) in
+    rw (stop, over) (ap (λ items. items ++ []) (no_content text extensions start))
+
+-- the items of the first piece, and of those after it
+one_piece : (n : ℕ) (text : List ℕ) (extensions : Extensions) (start end : ℕ)
+    → pieces_items (suc n) text extensions start end
+    ≡ content_items text extensions start (start + piece_length (slice_range text start end))
+    ++ (if nat_lt (start + piece_length (slice_range text start end)) end
+    then pieces_items n text extensions (start + piece_length (slice_range text start end) + 2) end else [])
+unfolding pieces_items
+one_piece n text extensions start end = refl
+
+-- with the pieces that are read from a byte offset on, all items of a cell's content are made
+pub record AwaitsPieces (extensions : Extensions) (end : ℕ) (all : List (Forest Shown)) (view : BuilderView) (from : ℕ)
+    : Type 0 where
+  pub steps : ℕ
+  pub enough : end - from < steps
+  pub rest : with_items view.levels (pieces_items steps view.text extensions from end) ≡ all
+  pub over : from < end → (byte : ℕ) → view.run ≡ Some byte → get_or view.text from 0 ≢ byte
+  pub special : HasSpecialRun extensions view
+
+-- before the first piece
+pub pieces_start : (extensions : Extensions) (view : BuilderView) (from end : ℕ) → view.run ≡ None
+    → AwaitsPieces extensions end
+    (with_items view.levels (cell_items view.text extensions from end)) view from
+pieces_start extensions view from end none = record {
+  steps = suc (end - from);
+  enough = omega arith;
+  rest = refl;
+  over = λ less byte some. cc (none, some);
+  special = λ byte some. cc (none, some);
+}
+
+-- after the last one
+pub pieces_done : (extensions : Extensions) (end : ℕ) (all : List (Forest Shown)) (view : BuilderView) (from : ℕ)
+    → end ≤ from → AwaitsPieces extensions end all view from → view.levels ≡ all
+pieces_done extensions end all view from low awaits =
+    sym (no_items view.levels)
+    ∙ (ap (with_items view.levels) (sym (no_pieces awaits.steps view.text extensions from end low)) ∙ awaits.rest)
+
+-- a `|` is no delimiter run's byte
+pub pipe_is_plain : (dashes : Bool) → is_special dashes pipe ≡ false
+pipe_is_plain true = refl
+pipe_is_plain false = refl
+
+-- a step more at least
+record HasStep (n : ℕ) : Type 0 where
+  before : ℕ
+  is : n ≡ suc before
+
+-- a number that is above another has one before it
+has_step : (n k : ℕ) → k < n → HasStep n
+has_step zero k less = absurd (omega (arith, less))
+has_step (suc n) k less = record { before = n; is = refl }
+
+-- a piece was placed
+pub record PlacesPiece (extensions : Extensions) (view new : BuilderView) (from to stop next : ℕ) : Type 0 where
+  pub text : new.text ≡ view.text
+  pub further : RunIsOver stop (stepped view from) from
+      → new.levels ≡ with_items view.levels (content_items view.text extensions from stop)
+  pub over : HasSpecialRun extensions view → HasSpecialRun extensions new
+  pub stop_is : stop ≡ from + piece_length (slice_range view.text from to)
+  pub after : stop + 3 ≤ to → next ≡ stop + 2
+  pub past : to ≤ stop → to ≤ next
+
+-- then the pieces after it make the other items
+pub piece_placed : (extensions : Extensions) (all : List (Forest Shown)) (view new : BuilderView)
+    (from to stop next : ℕ) → from < to → to ≤ length view.text → AwaitsPieces extensions to all view from
+    → PlacesPiece extensions view new from to stop next → AwaitsPieces extensions to all new next
+piece_placed extensions all view new from to stop next less within awaits places =
+    by_end (nat_lt stop to) refl
+  where
+    step : HasStep awaits.steps
+    step = has_step awaits.steps (to - from) awaits.enough
+
+    is_piece : IsPieceIn view.text from to stop
+    is_piece = subst (IsPieceIn view.text from to) (sym places.stop_is)
+        (piece_in view.text from to (omega (arith, less)) within)
+
+    items : new.levels ≡ with_items view.levels (content_items view.text extensions from stop)
+    items = places.further (λ byte some same more. awaits.over less byte some)
+
+    left : List Shown
+    left = if nat_lt stop to then pieces_items step.before view.text extensions (stop + 2) to else []
+
+    whole : with_items new.levels left ≡ all
+    whole = ap (λ ls. with_items ls left) items
+        ∙ (more_items view.levels (content_items view.text extensions from stop) left
+        ∙ (ap (with_items view.levels) (sym (ap (λ n. pieces_items n view.text extensions from to) step.is
+        ∙ (one_piece step.before view.text extensions from to
+        ∙ ap (λ n. content_items view.text extensions from n
+        ++ (if nat_lt n to then pieces_items step.before view.text extensions (n + 2) to else [])) (sym places.stop_is))))
+        ∙ awaits.rest))
+
+    by_end : (test : Bool) → nat_lt stop to ≡ test → AwaitsPieces extensions to all new next
+    by_end true is =
+        let more : stop < to = grind (arith, nat_tests, is) in
+        let low = is_piece.low in
+        let further = is_piece.further more in
+        let there = places.after further in
+        let enough = awaits.enough in
+        let one = step.is in
+        let is_left : left ≡ pieces_items step.before view.text extensions (stop + 2) to = rw is refl in
+        record {
+          steps = step.before;
+          enough = omega (arith, enough, one, low, further, there);
+          rest = ap (λ t. with_items new.levels (pieces_items step.before t extensions next to)) places.text
+              ∙ (ap (λ n. with_items new.levels (pieces_items step.before view.text extensions n to)) there
+              ∙ (ap (with_items new.levels) (sym is_left) ∙ whole));
+          over = λ some byte run same.
+              let here : get_or new.text next 0 ≡ pipe =
+              ap (λ t. get_or t next 0) places.text
+              ∙ (ap (λ n. get_or view.text n 0) there ∙ is_piece.pipe_is more) in
+              true≢false (sym (places.over awaits.special byte run) ∙ (ap (is_special extensions.dashes) (sym same ∙ here)
+              ∙ pipe_is_plain extensions.dashes));
+          special = places.over awaits.special;
+        }
+    by_end false is =
+        let no_more : to ≤ stop = grind (arith, nat_tests, is) in
+        let past = places.past no_more in
+        let is_left : left ≡ [] = rw is refl in
+        record {
+          steps = suc (to - next);
+          enough = omega arith;
+          rest = ap (with_items new.levels) (no_pieces (suc (to - next)) new.text extensions next to past ∙ sym is_left)
+              ∙ whole;
+          over = λ some. absurd (omega (arith, some, past));
+          special = places.over awaits.special;
+        }
+
+-- that is what the calls for a piece do
+pub places_piece : (extensions : Extensions) (view moved new : BuilderView) (from to stop next : ℕ)
+    → moved ≡ stepped view from → GoesOn moved new stop
+    → (RunIsOver stop moved moved.at
+    → new.levels ≡ with_items moved.levels (content_items moved.text extensions moved.at stop))
+    → (HasSpecialRun extensions moved → HasSpecialRun extensions new)
+    → stop ≡ from + piece_length (slice_range view.text from to) → (stop + 3 ≤ to → next ≡ stop + 2)
+    → (to ≤ stop → to ≤ next) → PlacesPiece extensions view new from to stop next
+places_piece extensions view moved new from to stop next is goes further over stops after past =
+    subst (λ (m : BuilderView). GoesOn m new stop → (RunIsOver stop m m.at
+    → new.levels ≡ with_items m.levels (content_items m.text extensions m.at stop))
+    → (HasSpecialRun extensions m → HasSpecialRun extensions new)
+    → PlacesPiece extensions view new from to stop next) (sym is)
+    (λ goes further over. record {
+      text = ap (λ (v : BuilderView). v.text) goes;
+      further = further;
+      over = over;
+      stop_is = stops;
+      after = after;
+      past = past;
+    }) goes further over
+
+-- ---- where pieces fit
+
+-- the end of a cell's content is the end of a piece
+pub whole_piece : (text : List ℕ) (from to stop : ℕ) → from ≤ to → stop ≡ to → IsPieceIn text from to stop
+whole_piece text from to stop ordered is = record {
+  low = omega (arith, ordered, is);
+  high = omega (arith, is);
+  further = λ less. absurd (omega (arith, less, is));
+  first = λ less. absurd (omega (arith, less, is));
+  pipe_is = λ less. absurd (omega (arith, less, is));
+}
+
+-- a piece may begin at a byte offset, in a cell's content that ends at another
+pub record MayAddPiece (text : List ℕ) (view : BuilderView) (from to : ℕ) : Type 0 where
+  pub low : view.at ≤ from
+  pub high : view.at ≤ to
+  pub boundary : from < to → IsCharBoundary text from
+
+-- where a piece ends, and the next one begins, is between characters
+pub record IsPieceCut (text : List ℕ) (to stop next : ℕ) : Type 0 where
+  pub low : stop ≤ next
+  pub stop_at : IsCharBoundary text stop
+  pub next_at : next < to → IsCharBoundary text next
+
+-- both are, since a backslash and a `|` are there where it is not the end
+pub piece_cut : (text : List ℕ) (from to stop next : ℕ) → IsCharBoundary text to → IsPieceIn text from to stop
+    → (stop + 3 ≤ to → next ≡ stop + 2) → (to ≤ stop → to ≤ next) → IsPieceCut text to stop next
+piece_cut text from to stop next boundary is after past =
+    let high = is.high in
+    let last = boundary.0 in
+    ⊎_elim (λ (less : stop < to).
+    let further = is.further less in
+    let there = after further in
+    let first = is.first less in
+    let pipe_is = is.pipe_is less in
+    record {
+      low = omega (arith, there);
+      stop_at = IsCharBoundary-before_ascii text stop (omega (arith, less, last)) (omega (arith, first));
+      next_at = λ more. subst (IsCharBoundary text) (sym there)
+          (IsCharBoundary-before_ascii text (stop + 2) (omega (arith, further, last)) (omega (arith, pipe_is)));
+    })
+    (λ (all : to ≤ stop).
+    let over = past all in
+    let same : to ≡ stop = omega (arith, all, high) in
+    record {
+      low = omega (arith, over, same);
+      stop_at = subst (IsCharBoundary text) same boundary;
+      next_at = λ more. absurd (omega (arith, more, over));
+    })
+    (cases_lt stop to)
+
+-- a piece fits, and then the next one
+pub piece_added : (text : List ℕ) (first before moved new : Placing) (from to stop next : ℕ) → from < to
+    → IsLeafOpen first.builder → GoesOn first.builder before.builder before.builder.at
+    → MayAddPiece text before.builder from to → from ≤ stop → stop ≤ to → IsPieceCut text to stop next
+    → IfFitted before moved (moved.builder ≡ stepped before.builder from)
+    → (IsAhead before.builder from → IsWhiteOutside before.builder from → moved.misfits ≡ before.misfits)
+    → IfFitted moved new (GoesOn moved.builder new.builder stop)
+    → (moved.builder.leaf ≡ true → IsAhead moved.builder stop → new.misfits ≡ moved.misfits)
+    → first.builder.text ≡ text → AllFitted before → AllFitted new × MayAddPiece text new.builder next to
+piece_added text first before moved new from to stop next less inside goes may low high cut steps step_fits appends fits
+    same fitted =
+    let open_now = still_open first.builder before.builder (ap (λ (v : BuilderView). v.leaf) goes)
+    (ap (λ (v : BuilderView). v.blocks) goes) inside in
+    let text_now : before.builder.text ≡ text = ap (λ (v : BuilderView). v.text) goes ∙ same in
+    let begins = may.low in
+    let step = step_done before moved from steps step_fits (may_step before.builder from begins
+    (subst (λ t. IsCharBoundary t from) (sym text_now) (may.boundary less)) open_now.some) fitted in
+    let here : moved.builder.at ≡ from = ap (λ (v : BuilderView). v.at) step.1 in
+    let text_then : moved.builder.text ≡ text = ap (λ (v : BuilderView). v.text) step.1 ∙ text_now in
+    let done : AllFitted new = fits (ap (λ (v : BuilderView). v.leaf) step.1 ∙ open_now.leaf)
+    (ahead_of text from stop moved.builder text_then here low cut.stop_at) ∙ step.0 in
+    let there : new.builder.at ≡ stop = ap (λ (v : BuilderView). v.at) (appends done).1 in
+    let further = cut.low in (
+      done,
+      record {
+        low = omega (arith, there, further);
+        high = omega (arith, there, high);
+        boundary = cut.next_at;
+      },
+    )
+
+-- ---- a cell
+
+-- a leaf may be opened where a cell may be
+pub may_open_cell : (builder : BuilderView) (at : ℕ) → MayAddCell builder at → MayOpenLeaf builder at at
+may_open_cell builder at may = record {
+  outside = may.outside;
+  begins = may_step builder at may.low may.boundary may.some;
+  ordered = omega arith;
+  next = may.boundary;
+}
+
+-- what was opened after a step is the innermost block
+cell_block : (old first opened : BuilderView) (at : ℕ) → first ≡ stepped old at → Opens first opened body.TableCell
+    → opened.blocks ≡ old.blocks ++ record { start = at; body = body.TableCell } ∷ []
+cell_block old first opened at begun opens =
+    ap (λ (v : BuilderView). v.blocks) opens
+    ∙ ap (λ (v : BuilderView). v.blocks ++ record { start = v.at; body = body.TableCell } ∷ []) begun
+
+-- a cell that was opened, filled and closed is put into the row
+pub cell_shown : (s : Source) (cell : Cell) (old first opened filled moved new : BuilderView)
+    → first ≡ stepped old cell.start → Opens first opened body.TableCell → GoesOn opened filled filled.at
+    → HasItems opened filled (cell_items s.text (item_extensions s.options) cell.from cell.to)
+    → moved ≡ stepped filled cell.end → PutsBlock moved new → HasTrees old new (shown_cells s (cell ∷ []))
+cell_shown s cell old first opened filled moved new begun opens goes items ended put some =
+    let content = cell_items s.text (item_extensions s.options) cell.from cell.to in
+    put_opened old.levels moved new old.blocks (record { start = cell.start; body = body.TableCell }) content _
+    (ap (λ (v : BuilderView). v.blocks) ended
+    ∙ (ap (λ (v : BuilderView). v.blocks) goes ∙ cell_block old first opened cell.start begun opens))
+    (ap (λ (v : BuilderView). v.levels) ended
+    ∙ (items ∙ ap (λ ls. with_items ls content) (ap (λ (v : BuilderView). v.levels) opens
+    ∙ ap (λ (v : BuilderView). v.levels ++ nil ∷ []) begun)))
+    (ap (λ n. plain_item cell.start n body.TableCell) (ap (λ (v : BuilderView). v.at) ended)) refl put some
+
+-- so is one with nothing in it
+pub empty_shown : (at : ℕ) (old first opened new : BuilderView) → first ≡ stepped old at
+    → Opens first opened body.TableCell → PutsBlock opened new → HasTrees old new (empty_cells 1 at)
+empty_shown at old first opened new begun opens put some =
+    put_opened old.levels opened new old.blocks (record { start = at; body = body.TableCell }) [] _
+    (cell_block old first opened at begun opens)
+    (ap (λ (v : BuilderView). v.levels) opens
+    ∙ (ap (λ (v : BuilderView). v.levels ++ nil ∷ []) begun ∙ sym (no_items (old.levels ++ nil ∷ []))))
+    (ap (λ n. plain_item at n body.TableCell) (ap (λ (v : BuilderView). v.at) opens ∙ ap (λ (v : BuilderView). v.at) begun))
+    refl put some
+
+-- ---- where the cells of a line lie
+
+-- cells in order, from one byte offset on up to another
+abbrev pub AreCellsFrom : List ℕ → (low stop : ℕ) → List Cell → Type 0
+AreCellsFrom text low stop [] = Unit
+AreCellsFrom text low stop (cell ∷ cells) =
+    (low ≤ cell.start) × (cell.end ≤ stop) × IsCellIn text cell × AreCellsFrom text cell.end stop cells
+
+-- white space in rows is ASCII
+small_white : (byte : ℕ) → is_row_white byte ≡ true → byte < 128
+small_white byte e = grind (arith, nat_tests, e)
+
+-- a part of a row that lies between characters makes a cell that does
+cell_in : (text part : List ℕ) (start : ℕ) → IsUtf8 text
+    → ((k : ℕ) → k < length part → get_or part k 0 ≡ get_or text (start + k) 0) → IsCharBoundary text start
+    → IsCharBoundary text (start + length part) → IsCellIn text (cell_over start part)
+cell_in text part start utf8 bytes first last =
+    let white = prefix_len is_row_white part in
+    let inner = drop white part in
+    let count = length (without_end is_row_white inner) in
+    let trimmed = trimmed_is is_row_white inner in
+    let size = length-drop white part in
+    let few = prefix_len-le-length is_row_white part in
+    let high = last.0 in
+    record {
+      after = omega arith;
+      content = omega arith;
+      before = omega (arith, trimmed, size, few);
+      start = first;
+      from = ⊎_elim (λ (some : 0 < white).
+          let place : start + (white - 1) + 1 ≡ start + white = omega (arith, some) in
+          subst (IsCharBoundary text) place (IsCharBoundary-after_ascii text (start + (white - 1)) utf8
+          (omega (arith, some, few, high))
+          (subst (λ b. b < 128) (bytes (white - 1) (omega (arith, some, few)))
+          (small_white (get_or part (white - 1) 0)
+          (prefix_len_passes is_row_white part (white - 1) 0 (omega (arith, some)))))))
+          (λ (none : white ≤ 0). let place : start ≡ start + white = omega (arith, none) in
+          subst (IsCharBoundary text) place first)
+          (cases_lt 0 white);
+      to = ⊎_elim (λ (less : count < length inner).
+          let place : start + (white + count) ≡ start + white + count = omega arith in
+          IsCharBoundary-before_ascii text (start + white + count) (omega (arith, less, size, few, high))
+          (subst (λ b. b < 128) (get_or-drop white part count 0
+          ∙ (bytes (white + count) (omega (arith, less, size, few)) ∙ ap (λ k. get_or text k 0) place))
+          (small_white (get_or inner count 0)
+          (end_passes is_row_white inner count (omega (arith, trimmed)) less))))
+          (λ (all : length inner ≤ count).
+          let place : start + length part ≡ start + white + count = omega (arith, all, trimmed, size, few) in
+          subst (IsCharBoundary text) place last)
+          (cases_lt count (length inner));
+      end = last;
+    }
+
+-- a cut, another byte, and no byte
+part_ends : (before byte : ℕ) (bytes : List ℕ) → is_cut before byte ≡ true
+    → parts_after before (byte ∷ bytes) ≡ [] ∷ parts_after byte bytes
+unfolding parts_after
+part_ends before byte bytes is = rw is refl
+
+part_goes_on : (before byte : ℕ) (bytes : List ℕ) → is_cut before byte ≡ false
+    → parts_after before (byte ∷ bytes) ≡ onto_first byte (parts_after byte bytes)
+unfolding parts_after
+part_goes_on before byte bytes is = rw is refl
+
+no_parts : (before : ℕ) → parts_after before [] ≡ [] ∷ []
+unfolding parts_after
+no_parts before = refl
+
+-- a row's first part, the `|` that cuts it, and the other parts
+record HasCut (before : ℕ) (bytes : List ℕ) : Type 0 where
+  part : List ℕ
+  rest : List ℕ
+  is : bytes ≡ part ++ pipe ∷ rest
+  parts : parts_after before bytes ≡ part ∷ parts_after pipe rest
+
+-- a row is one part, or has a cut
+abbrev MayHaveCut : ℕ → List ℕ → Type 0
+MayHaveCut before bytes = (parts_after before bytes ≡ bytes ∷ []) ⊎ HasCut before bytes
+
+-- each row is one of these
+first_cut : (before : ℕ) (bytes : List ℕ) → MayHaveCut before bytes
+first_cut before [] = inl (no_parts before)
+first_cut before (byte ∷ bytes) = by_cut (first_cut byte bytes) (is_cut before byte) refl
+  where
+    by_cut : MayHaveCut byte bytes → (test : Bool) → is_cut before byte ≡ test → MayHaveCut before (byte ∷ bytes)
+    by_cut after true is =
+        let same : (byte == pipe) ≡ true = (and_parts (byte == pipe) _ is).0 in
+        let here : byte ≡ pipe = grind (arith, nat_tests, same) in
+        inr (record {
+          part = [];
+          rest = bytes;
+          is = ap (λ b. b ∷ bytes) here;
+          parts = part_ends before byte bytes is ∙ ap (λ b. [] ∷ parts_after b bytes) here;
+        })
+    by_cut (inl whole) false is = inl (part_goes_on before byte bytes is ∙ ap (onto_first byte) whole)
+    by_cut (inr cut) false is = inr (record {
+      part = byte ∷ cut.part;
+      rest = cut.rest;
+      is = ap (λ b. byte ∷ b) cut.is;
+      parts = part_goes_on before byte bytes is ∙ ap (onto_first byte) cut.parts;
+    })
+
+-- what follows the first part and the `|` after it
+past_cut : (part rest : List ℕ) (byte : ℕ) → drop (suc (length part)) (part ++ byte ∷ rest) ≡ rest
+past_cut [] rest byte = refl
+past_cut (b ∷ part) rest byte = past_cut part rest byte
+
+-- how many bytes there are in all
+cut_size : (part rest : List ℕ) (byte : ℕ) → length (part ++ byte ∷ rest) ≡ length part + 1 + length rest
+cut_size [] rest byte = omega arith
+cut_size (b ∷ part) rest byte = let h = cut_size part rest byte in omega (arith, h)
+
+-- the cells of a part of a line are in order, where the part lies between characters
+cells_within : (n : ℕ) (text : List ℕ) (stop : ℕ) → IsUtf8 text → IsCharBoundary text stop
+    → (start : ℕ) (bytes : List ℕ) → length bytes < n → bytes ≡ slice_range text start stop → start ≤ stop
+    → IsCharBoundary text start → (low : ℕ) → low ≤ start → AreCellsFrom text low stop (cells_from start bytes)
+cells_within zero text stop utf8 last start bytes few is ordered first low under = absurd (omega (arith, few))
+cells_within (suc n) text stop utf8 last start bytes few is ordered first low under =
+    by_cut (cells_within n text stop utf8 last) (first_cut pipe bytes)
+  where
+    size : length bytes ≡ stop - start
+    size = ap length is ∙ range_length text start stop last.0
+
+    byte_at : (k : ℕ) → k < length bytes → get_or bytes k 0 ≡ get_or text (start + k) 0
+    byte_at k less = ap (λ b. get_or b k 0) is ∙ range_byte text start stop k (omega (arith, less, size))
+
+    by_cut : ((start : ℕ) (bytes : List ℕ) → length bytes < n → bytes ≡ slice_range text start stop → start ≤ stop
+        → IsCharBoundary text start → (low : ℕ) → low ≤ start → AreCellsFrom text low stop (cells_from start bytes))
+        → MayHaveCut pipe bytes → AreCellsFrom text low stop (cells_from start bytes)
+    by_cut more (inl whole) =
+        let end : stop ≡ start + length bytes = omega (arith, size, ordered) in
+        subst (AreCellsFrom text low stop) (sym (ap (cells_over start) whole))
+        (on_test (AreCellsFrom text low stop) (list_all is_row_white bytes) [] (cell_over start bytes ∷ [])
+        (λ e. tt)
+        (λ e. (
+          under,
+          omega (arith, end),
+          cell_in text bytes start utf8 byte_at first
+              (subst (IsCharBoundary text) end last),
+          tt,
+        )))
+    by_cut more (inr cut) =
+        let part = cut.part in
+        let rest = cut.rest in
+        let there = first_part pipe rest in
+        let long : length bytes ≡ length part + 1 + length rest =
+        ap length cut.is ∙ cut_size part rest pipe in
+        let last_in = last.0 in
+        let piped : get_or text (start + length part) 0 ≡ pipe =
+        sym (byte_at (length part) (omega (arith, long))) ∙ (ap (λ b. get_or b (length part) 0) cut.is
+        ∙ get_or-append_seam part pipe rest 0) in
+        let past : suc (length part) ≡ length part + 1 = omega arith in
+        let place : start + (length part + 1) ≡ start + length part + 1 = omega arith in
+        let rest_is : rest ≡ slice_range text (start + length part + 1) stop =
+        sym (past_cut part rest pipe) ∙ (ap (drop (suc (length part))) (sym cut.is)
+        ∙ (ap (λ k. drop k bytes) past ∙ (ap (drop (length part + 1)) is
+        ∙ (rest_of_part text start stop (length part + 1) ∙ ap (λ k. slice_range text k stop) place)))) in
+        let cells : cells_from start bytes ≡ cell_over start part ∷ cells_from (start + length part + 1) rest =
+        ap (cells_over start) (cut.parts ∙ ap (λ ps. part ∷ ps) there.is)
+        ∙ ap (λ ps. cell_over start part ∷ cells_over (start + length part + 1) ps) (sym there.is) in
+        let inside : start + length part < length text = omega (arith, long, size, ordered, last_in) in
+        subst (AreCellsFrom text low stop) (sym cells) (
+          under,
+          omega (arith, long, size, ordered),
+          cell_in text part start utf8
+              (λ k less. sym (get_or-append part (pipe ∷ rest) 0 k less) ∙ (ap (λ b. get_or b k 0) (sym cut.is)
+              ∙ byte_at k (omega (arith, less, long)))) first
+              (IsCharBoundary-before_ascii text (start + length part) inside (omega (arith, piped))),
+          more (start + length part + 1) rest (omega (arith, few, long)) rest_is (omega (arith, long, size, ordered))
+              (IsCharBoundary-after_ascii text (start + length part) utf8 inside (omega (arith, piped)))
+              (start + length part) (omega arith),
+        )
+
+-- the cells of a line are in order
+pub row_cells_in : (text : List ℕ) (line : HeldLine) → IsUtf8 text → IsInText text line
+    → AreCellsFrom text line.start line.stop (row_cells_at text line.start line.stop)
+row_cells_in text line utf8 inside =
+    let bytes = slice_range text line.start line.stop in
+    let content = inside.content in
+    let last = inside.stop.0 in
+    let size = range_length text line.start line.stop last in
+    on_test (AreCellsFrom text line.start line.stop) (begins_with (codes "|") bytes)
+    (cells_from (line.start + 1) (drop 1 bytes)) (cells_from line.start bytes)
+    (λ led.
+    let piped = begins_piped bytes led in
+    let some = piped.0 in
+    let byte = piped.1 in
+    let zero_on : line.start + 0 ≡ line.start = omega arith in
+    let here : get_or text line.start 0 ≡ pipe =
+    ap (λ k. get_or text k 0) (sym zero_on)
+    ∙ (sym (range_byte text line.start line.stop 0 (omega (arith, some, size))) ∙ byte) in
+    cells_within (suc (length (drop 1 bytes))) text line.stop utf8 inside.stop (line.start + 1) (drop 1 bytes)
+    (omega arith) (rest_of_part text line.start line.stop 1) (omega (arith, some, size, content))
+    (IsCharBoundary-after_ascii text line.start utf8 (omega (arith, some, size, content, last)) (omega (arith, here)))
+    line.start (omega arith))
+    (λ bare. cells_within (suc (length bytes)) text line.stop utf8 inside.stop line.start bytes (omega arith) refl content
+    inside.start line.start (omega arith))
+
+-- a cell is one piece, where there is no backslash in its line
+pub one_piece_in : (text : List ℕ) (start stop : ℕ) (cell : Cell)
+    → list_any (λ byte. byte == backslash) (slice_range text start stop) ≡ false → stop ≤ length text
+    → start ≤ cell.from → cell.to ≤ stop → IsOnePiece text cell
+one_piece_in text start stop cell none within low high =
+    no_backslash (slice_range text cell.from cell.to) (λ k less same.
+    let place : start + (cell.from - start + k) ≡ cell.from + k = omega (arith, low) in
+    let byte : get_or (slice_range text start stop) (cell.from - start + k) 0 ≡ backslash =
+    range_byte text start stop (cell.from - start + k) (omega (arith, less, size, low, high))
+    ∙ (ap (λ n. get_or text n 0) place
+    ∙ (sym (range_byte text cell.from cell.to k (omega (arith, less, size))) ∙ same)) in
+    let test : (get_or (slice_range text start stop) (cell.from - start + k) 0 == backslash) ≡ true =
+    grind (arith, nat_tests, byte) in
+    true≢false (sym (list_any_at (λ byte. byte == backslash) (slice_range text start stop) (cell.from - start + k) 0
+    (omega (arith, less, size, whole, low, high)) test) ∙ none))
+    ∙ size
+  where
+    size : length (slice_range text cell.from cell.to) ≡ cell.to - cell.from
+    size = range_length text cell.from cell.to (omega (arith, high, within))
+
+    whole : length (slice_range text start stop) ≡ stop - start
+    whole = range_length text start stop within
+
+-- ---- the trees of a row
+
+-- the tree of a last cell comes after the others
+cell_last : (s : Source) (cells : List Cell) (cell : Cell)
+    → shown_cells s (cells ++ cell ∷ []) ≡ followed_by (shown_cells s cells) (shown_cells s (cell ∷ []))
+cell_last s [] cell = refl
+cell_last s (first ∷ cells) cell =
+    ap (node (plain_item first.start first.end body.TableCell)
+    (chain_of (cell_items s.text (item_extensions s.options) first.from first.to))) (cell_last s cells cell)
+
+-- so does that of an empty one
+empty_last : (count at : ℕ) → empty_cells (suc count) at ≡ followed_by (empty_cells count at) (empty_cells 1 at)
+empty_last zero at = refl
+empty_last (suc count) at = ap (node (plain_item at at body.TableCell) nil) (empty_last count at)
+
+-- the first cells, and the next one
+take_next : (n : ℕ) (cells rest : List Cell) (cell : Cell) → drop n cells ≡ cell ∷ rest
+    → take (suc n) cells ≡ take n cells ++ cell ∷ []
+take_next zero [] rest cell e = cc (e)
+take_next (suc n) [] rest cell e = cc (e)
+take_next zero (first ∷ cells) rest cell e = let same : first ≡ cell = cc (e) in ap (λ c. c ∷ []) same
+take_next (suc n) (first ∷ cells) rest cell e = ap (λ cs. first ∷ cs) (take_next n cells rest cell e)
+
+-- then the others are left
+pub drop_next : (n : ℕ) (cells rest : List Cell) (cell : Cell) → drop n cells ≡ cell ∷ rest
+    → drop (n + 1) cells ≡ rest
+drop_next n cells rest cell e = sym (drop-drop 1 n cells) ∙ ap (drop 1) e
+
+-- one more cell of the line
+pub placed_cell : (s : Source) (cells rest : List Cell) (cell : Cell) (count at : ℕ) → drop count cells ≡ cell ∷ rest
+    → followed_by (cells_placed s cells count count at) (shown_cells s (cell ∷ []))
+    ≡ cells_placed s cells (count + 1) (count + 1) at
+placed_cell s cells rest cell count at is =
+    let one : count + 1 ≡ suc count = omega arith in
+    let none : count - count ≡ 0 = omega arith in
+    let over : (count + 1) - (count + 1) ≡ 0 = omega arith in
+    ap (λ n. followed_by (followed_by (shown_cells s (take count cells)) (empty_cells n at)) (shown_cells s (cell ∷ [])))
+    none
+    ∙ (ap (λ f. followed_by f (shown_cells s (cell ∷ []))) (followed_by-nil (shown_cells s (take count cells)))
+    ∙ (sym (cell_last s (take count cells) cell)
+    ∙ (ap (shown_cells s) (sym (take_next count cells rest cell is) ∙ ap (λ n. take n cells) (sym one))
+    ∙ (sym (followed_by-nil (shown_cells s (take (count + 1) cells)))
+    ∙ ap (λ n. followed_by (shown_cells s (take (count + 1) cells)) (empty_cells n at)) (sym over)))))
+
+-- one more that the line lacks
+pub placed_empty : (s : Source) (cells : List Cell) (found count at : ℕ) → found ≤ count
+    → followed_by (cells_placed s cells found count at) (empty_cells 1 at) ≡ cells_placed s cells found (count + 1) at
+placed_empty s cells found count at few =
+    let more : suc (count - found) ≡ count + 1 - found = omega (arith, few) in
+    followed_by-assoc (shown_cells s (take found cells)) (empty_cells (count - found) at) (empty_cells 1 at)
+    ∙ ap (followed_by (shown_cells s (take found cells))) (sym (empty_last (count - found) at)
+    ∙ ap (λ n. empty_cells n at) more)
+
+-- trees were put into the row
+pub level_more : (outer : List (Forest Shown)) (cells more : Forest Shown) (old new : BuilderView)
+    → old.levels ≡ outer ++ cells ∷ [] → HasTrees old new more → new.levels ≡ outer ++ followed_by cells more ∷ []
+level_more outer cells more old new is puts =
+    puts (λ none. not_empty outer cells (sym is ∙ none))
+    ∙ (ap (λ ls. with_trees ls more) is ∙ trees_last outer cells more)
+  where
+    not_empty : (outer : List (Forest Shown)) (cells : Forest Shown) → outer ++ cells ∷ [] ≡ [] → ⊥
+    not_empty [] cells e = cc (e)
+    not_empty (first ∷ outer) cells e = cc (e)
+
+-- all cells were placed
+pub all_placed : (s : Source) (cells : List Cell) (found count at : ℕ) → found ≡ min count (length cells)
+    → cells_placed s cells found count at
+    ≡ followed_by (shown_cells s (take count cells)) (empty_cells (count - length cells) at)
+all_placed s cells found count at is =
+    let lacking : count - found ≡ count - length cells = omega (arith, is) in
+    ap (λ n. followed_by (shown_cells s (take found cells)) (empty_cells n at)) lacking
+    ∙ ap (λ (taken : List Cell). followed_by (shown_cells s taken) (empty_cells (count - length cells) at)) taken
+  where
+    taken : take found cells ≡ take count cells
+    taken = ⊎_elim (λ (less : count < length cells).
+        let same : found ≡ count = omega (arith, is, less) in ap (λ n. take n cells) same)
+        (λ (all : length cells ≤ count).
+        take_all found cells (omega (arith, is, all)) ∙ sym (take_all count cells all))
+        (cases_lt count (length cells))
+
+-- a row that was opened, filled and closed is put into the table
+pub row_closed : (old now new : BuilderView) (row : ItemBody) (start : ℕ) (cells : Forest Shown)
+    → is_table_row row ≡ true → now.blocks ≡ old.blocks ++ record { start = start; body = row } ∷ []
+    → now.levels ≡ old.levels ++ cells ∷ [] → PutsBlock now new
+    → HasTrees old new (shown_over start now.at row None cells)
+row_closed old now new row start cells is blocks levels put some =
+    let block : OpenBlock = record { start = start; body = row } in
+    let same = same_block now.blocks old.blocks (outer_of now.blocks) block put.block blocks put.was in
+    put.levels
+    ∙ (ap (λ (b : OpenBlock). with_block now.levels
+    (shown_item (parts_of now) (record { start = b.start; end = now.at; body = b.body }))) (sym same)
+    ∙ (ap (with_block now.levels) (row_alone row is)
+    ∙ (ap (λ ls. with_block ls (plain_item start now.at row)) levels
+    ∙ (closed_tree old.levels cells (plain_item start now.at row) some
+    ∙ ap (λ f. with_trees old.levels (node (plain_item start now.at row) f nil)) (row_settled row is)))))
+  where
+    row_alone : (row : ItemBody) → is_table_row row ≡ true
+        → shown_item (parts_of now) (record { start = start; end = now.at; body = row }) ≡ plain_item start now.at row
+    row_alone body.TableHead is = refl
+    row_alone body.TableRow is = refl
+    row_alone other is = absurd (true≢false (sym is))
+
+    row_settled : (row : ItemBody) → is_table_row row ≡ true
+        → settled_below (plain_item start now.at row) cells ≡ cells
+    row_settled body.TableHead is = refl
+    row_settled body.TableRow is = refl
+    row_settled other is = absurd (true≢false (sym is))
+
+-- the row of a line's bytes, where its content begins at one byte offset and the line ends at another
+abbrev pub row_over : Source → (columns : ℕ) → ItemBody → (start : ℕ) → List ℕ → (next : ℕ) → Forest Shown
+row_over s columns row start bytes next =
+    shown_over start next row None (followed_by (shown_cells s (take columns (row_cells start bytes)))
+    (empty_cells (columns - length (row_cells start bytes)) next))
+
+-- it is that of the line
+pub row_shown : (s : Source) (columns : ℕ) (row : ItemBody) (line : HeldLine) (source : SourceLine)
+    → IsTextLine s.text line source
+    → row_over s columns row line.start (slice_range s.text line.start line.stop) line.next
+    ≡ shown_row s columns row source
+row_shown s columns row line source is =
+    ap (λ n. row_over s columns row n (slice_range s.text line.start line.stop) line.next) is.start
+    ∙ (ap (λ bytes. row_over s columns row source.left.scanned bytes line.next) is.bytes
+    ∙ ap (row_over s columns row source.left.scanned source.left.bytes) is.next)
+
+-- ---- where a row fits
+
+-- the cells that are left of a line lie after what was placed of it
+pub record IsInRow (text : List ℕ) (line : HeldLine) (now : Placing) (cells : List Cell) : Type 0 where
+  pub low : ℕ
+  pub here : AllFitted now → now.builder.at ≤ low
+  pub after : line.start ≤ low
+  pub before : low ≤ line.next
+  pub are : AreCellsFrom text low line.stop cells
+
+-- a row is open that begins at a byte offset
+pub record IsOpenRow (old now : BuilderView) (row : ItemBody) (start : ℕ) : Type 0 where
+  pub blocks : now.blocks ≡ old.blocks ++ record { start = start; body = row } ∷ []
+  pub outside : now.leaf ≡ false
+  pub some : now.blocks ≡ [] → ⊥
+  pub same : now.text ≡ old.text
+
+-- a row that was opened, and filled with what there is now, is open
+pub row_opened : (old now : BuilderView) (row : ItemBody) (start : ℕ) → is_leaf row ≡ false
+    → now ≡ record (opened old start row) {
+      at = now.at;
+      levels = now.levels;
+      headings = now.headings;
+      texts = now.texts;
+    } → IsOpenRow old now row start
+row_opened old now row start other is =
+    let blocks = ap (λ (v : BuilderView). v.blocks) is in
+    record {
+      blocks = blocks;
+      outside = ap (λ (v : BuilderView). v.leaf) is ∙ other;
+      some = some_opened now.blocks old.blocks (record { start = start; body = row }) blocks;
+      same = ap (λ (v : BuilderView). v.text) is;
+    }
+
+-- it is still open after a step
+pub row_stepped : (old now moved : BuilderView) (row : ItemBody) (start to : ℕ) → moved ≡ stepped now to
+    → IsOpenRow old now row start → IsOpenRow old moved row start
+row_stepped old now moved row start to is in_row =
+    let blocks = ap (λ (v : BuilderView). v.blocks) is ∙ in_row.blocks in
+    record {
+      blocks = blocks;
+      outside = ap (λ (v : BuilderView). v.leaf) is ∙ in_row.outside;
+      some = some_opened moved.blocks old.blocks (record { start = start; body = row }) blocks;
+      same = ap (λ (v : BuilderView). v.text) is ∙ in_row.same;
+    }
+
+-- where a row is open, a cell fits
+pub may_add_cell : (old now : BuilderView) (row : ItemBody) (start at : ℕ) → IsOpenRow old now row start → now.at ≤ at
+    → IsCharBoundary old.text at → MayAddCell now at
+may_add_cell old now row start at in_row low boundary = record {
+  outside = in_row.outside;
+  some = in_row.some;
+  low = low;
+  boundary = subst (λ t. IsCharBoundary t at) (sym in_row.same) boundary;
+}
+
+-- no cell is left at the end of the line
+pub nothing_left : (text : List ℕ) (stop : ℕ) → cells_left text stop stop ≡ []
+nothing_left text stop =
+    let none : stop - stop ≡ 0 = omega arith in
+    ap (λ n. cells_from stop (take n (drop stop text))) none ∙ no_cell stop [] refl
+
+-- a row has this number of cells so far, of which some are those of a line
+abbrev pub HasPlaced : Source → List (Forest Shown) → List Cell → (found count at : ℕ) → Placing → Type 0
+HasPlaced s outer cells found count at now =
+    now.builder.levels ≡ outer ++ cells_placed s cells found count at ∷ []
+
+-- a cell more of the line was placed
+pub cell_added : (s : Source) (outer : List (Forest Shown)) (cells rest : List Cell) (cell : Cell)
+    (found count next at : ℕ) (first before after now : Placing) → now ≡ after → found ≡ count → next ≡ count + 1
+    → drop found cells ≡ cell ∷ rest → IfFitted first before (HasPlaced s outer cells found count at before)
+    → IfFitted before after (HasTrees before.builder after.builder (shown_cells s (cell ∷ [])))
+    → IfFitted first now (HasPlaced s outer cells next (count + 1) at now)
+cell_added s outer cells rest cell found count next at first before after now is same one left placed puts fitted =
+    let put = puts (ap (λ (p : Placing). p.misfits) (sym is) ∙ fitted) in
+    let has = placed put.0 in (
+      has.0,
+      ap (λ (p : Placing). p.builder.levels) is
+          ∙ (level_more outer (cells_placed s cells count count at) (shown_cells s (cell ∷ [])) before.builder after.builder
+          (has.1 ∙ ap (λ n. outer ++ cells_placed s cells n count at ∷ []) same) put.1
+          ∙ (ap (λ f. outer ++ f ∷ []) (placed_cell s cells rest cell count at (ap (λ n. drop n cells) (sym same) ∙ left))
+          ∙ ap (λ n. outer ++ cells_placed s cells n (count + 1) at ∷ []) (sym one))),
+    )
+
+-- one was placed that the line lacks
+pub empty_added : (s : Source) (outer : List (Forest Shown)) (cells : List Cell) (found count next at : ℕ)
+    (first before after now : Placing) → now ≡ after → next ≡ found → found ≤ count
+    → IfFitted first before (HasPlaced s outer cells found count at before)
+    → IfFitted before after (HasTrees before.builder after.builder (empty_cells 1 at))
+    → IfFitted first now (HasPlaced s outer cells next (count + 1) at now)
+empty_added s outer cells found count next at first before after now is same few placed puts fitted =
+    let put = puts (ap (λ (p : Placing). p.misfits) (sym is) ∙ fitted) in
+    let has = placed put.0 in (
+      has.0,
+      ap (λ (p : Placing). p.builder.levels) is
+          ∙ (level_more outer (cells_placed s cells found count at) (empty_cells 1 at) before.builder after.builder
+          has.1 put.1
+          ∙ (ap (λ f. outer ++ f ∷ []) (placed_empty s cells found count at few)
+          ∙ ap (λ n. outer ++ cells_placed s cells n (count + 1) at ∷ []) (sym same))),
+    )
+
+-- what lies in a cell that comes next in a row
+pub record ComesNext (text : List ℕ) (line : HeldLine) (low : ℕ) (cell : Cell) (rest : List Cell) : Type 0 where
+  pub after : low ≤ cell.start
+  pub before : cell.end ≤ line.stop
+  pub inside : IsCellIn text cell
+  pub are : AreCellsFrom text cell.end line.stop rest
+
+-- the first of the cells that are left is such a cell
+pub comes_next : (text : List ℕ) (line : HeldLine) (now : Placing) (cells rest : List Cell) (cell : Cell)
+    → cells ≡ cell ∷ rest → (is : IsInRow text line now cells) → ComesNext text line is.low cell rest
+comes_next text line now cells rest cell e is =
+    let are = subst (AreCellsFrom text is.low line.stop) e is.are in
+    record { after = are.0; before = are.1; inside = are.2; are = are.3 }
+
+-- it is placed
+pub after_cell : (text : List ℕ) (line : HeldLine) (now : Placing) (cell : Cell) (rest left : List Cell) (low : ℕ)
+    → IsInText text line → line.start ≤ low → ComesNext text line low cell rest → left ≡ rest
+    → (AllFitted now → now.builder.at ≡ cell.end) → IsInRow text line now left
+after_cell text line now cell rest left low inside begins next same here =
+    let after = next.after in
+    let before = next.before in
+    let ending = inside.ending in
+    let one = next.inside.after in
+    let two = next.inside.content in
+    let three = next.inside.before in
+    record {
+      low = cell.end;
+      here = λ fitted. let there = here fitted in omega (arith, there);
+      after = omega (arith, begins, after, one, two, three);
+      before = omega (arith, before, ending);
+      are = subst (AreCellsFrom text cell.end line.stop) (sym same) next.are;
+    }
+
+-- an empty one is placed at the end of the line
+pub after_empty : (text : List ℕ) (line : HeldLine) (now : Placing) (left : List Cell) → IsInText text line → left ≡ []
+    → (AllFitted now → now.builder.at ≡ line.next) → IsInRow text line now left
+after_empty text line now left inside none here =
+    let content = inside.content in
+    let ending = inside.ending in
+    record {
+      low = line.next;
+      here = λ fitted. let there = here fitted in omega (arith, there);
+      after = omega (arith, content, ending);
+      before = omega arith;
+      are = subst (AreCellsFrom text line.next line.stop) (sym none) tt;
+    }
+
+-- a row with all its cells is that of the line
+pub row_placed : (s : Source) (old now new : BuilderView) (row : ItemBody) (line : HeldLine) (source : SourceLine)
+    (found count columns : ℕ) → is_table_row row ≡ true
+    → now.blocks ≡ old.blocks ++ record { start = line.start; body = row } ∷ [] → now.at ≡ line.next
+    → now.levels ≡ old.levels
+    ++ cells_placed s (row_cells_at s.text line.start line.stop) found count line.next ∷ []
+    → count ≡ columns → found ≡ min count (length (row_cells_at s.text line.start line.stop))
+    → IsTextLine s.text line source → PutsBlock now new → HasTrees old new (shown_row s columns row source)
+row_placed s old now new row line source found count columns is blocks here levels all most stands put =
+    let cells = row_cells_at s.text line.start line.stop in
+    subst (HasTrees old new)
+    (ap (λ n. shown_over line.start n row None (cells_placed s cells found count line.next)) here
+    ∙ (ap (shown_over line.start line.next row None) (all_placed s cells found count line.next most)
+    ∙ (ap (λ n. row_over s n row line.start (slice_range s.text line.start line.stop) line.next) all
+    ∙ row_shown s columns row line source stands)))
+    (row_closed old now new row line.start (cells_placed s cells found count line.next) is blocks levels put)
