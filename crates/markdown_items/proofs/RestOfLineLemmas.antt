@@ -393,7 +393,8 @@ pub run_found : (view : BuilderView) (line : Line) (at : ℕ) (f : Found)
     → is_special line.extensions.dashes (slice_index view.text at) ≡ true → HasSpecialRun line.extensions view
     → HasSpecialRun line.extensions (view_after view line at f)
 run_found view line at (found.Text next) here special = special
-run_found view line at found.Escape here special = λ byte some. run_before_text line.extensions view at byte special some
+run_found view line at found.Escape here special
+    = λ byte some. run_before_text line.extensions view at byte special some
 run_found view line at (found.Run stop flags) here special =
     by_run (follows_run (run_after_text view at) (slice_index view.text at)) refl
   where
@@ -401,7 +402,8 @@ run_found view line at (found.Run stop flags) here special =
         → HasSpecialRun line.extensions (view_after view line at (found.Run stop flags))
     by_run true is = rw is special
     by_run false is =
-        rw is (λ byte some. ap (is_special line.extensions.dashes) (sym (same_Some (slice_index view.text at) byte some))
+        rw is (λ byte some. ap (is_special line.extensions.dashes)
+        (sym (same_Some (slice_index view.text at) byte some))
         ∙ here)
 run_found view line at (found.Mark body) here special = λ byte some. cc (some)
 run_found view line at found.Image here special = λ byte some. cc (some)

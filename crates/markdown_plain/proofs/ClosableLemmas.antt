@@ -199,7 +199,8 @@ break_in text from stop between boundary ordered is =
     small_slash byte e = grind (arith, nat_tests, e)
 
 -- the bytes at the end pass the test of the run there
-pub end_passes : (test : ℕ → Bool) (bytes : List ℕ) (k : ℕ) → length bytes - suffix_len test bytes ≤ k → k < length bytes
+pub end_passes : (test : ℕ → Bool) (bytes : List ℕ) (k : ℕ) → length bytes - suffix_len test bytes ≤ k
+    → k < length bytes
     → test (get_or bytes k 0) ≡ true
 end_passes test bytes k low less =
     let back = length bytes - 1 - k in

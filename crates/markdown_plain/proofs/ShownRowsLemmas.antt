@@ -1,6 +1,7 @@
 -- The rows of a table as they are placed: the pieces of a cell's content, where a row's cells lie, and their trees.
 use Rattle.std.proofs.Common.{◌≡◌, ◌≢◌, ℕ, zero, suc, ◌+◌, ◌-◌, ◌<◌, ◌≤◌, Bool, true, false, List, [], ◌∷◌, ◌++◌}
-use Rattle.std.proofs.Common.{Some, None, length, drop, take, min, slice_range, ◌⊎◌, inl, inr, ⊎_elim, refl, sym, ap, ◌∙◌}
+use Rattle.std.proofs.Common.{Some, None, length, drop, take, min, slice_range, ◌⊎◌, inl, inr, ⊎_elim, refl, sym, ap}
+use Rattle.std.proofs.Common.{◌∙◌}
 use Rattle.std.proofs.Common.{subst, arith, codes, true≢false}
 use Rattle.std.specs.Prelude.{get_or, ◌==◌, ◌&&◌, nat_lt, if◌then◌else◌}
 use Rattle.std.specs.List.{list_all, list_any, prefix_len}
@@ -45,7 +46,8 @@ use Rattle.markdown_block_rules.specs.BlockRules.{empty_cells, shown_cells, show
 use Rattle.markdown_block_rules.specs.LineContents.{cell_items, pieces_items}
 use Rattle.markdown_plain.specs.declared.placing.Placing.{Placing}
 use Rattle.markdown_plain.specs.Closable.{IsInText, IsLeafOpen}
-use Rattle.markdown_plain.specs.Fitting.{AllFitted, GoesOn, IfFitted, IsAhead, IsWhiteOutside, PutsBlock, opened, stepped}
+use Rattle.markdown_plain.specs.Fitting.{AllFitted, GoesOn, IfFitted, IsAhead, IsWhiteOutside, PutsBlock, opened}
+use Rattle.markdown_plain.specs.Fitting.{stepped}
 use Rattle.markdown_plain.specs.Fits.{MayOpenLeaf}
 use Rattle.markdown_plain.specs.HeldSources.{IsTextLine}
 use Rattle.markdown_plain.specs.LeafTrees.{HasItems, HasTrees}
@@ -304,7 +306,8 @@ piece_placed extensions all view new from to stop next less within awaits places
         ∙ (ap (with_items view.levels) (sym (ap (λ n. pieces_items n view.text extensions from to) step.is
         ∙ (one_piece step.before view.text extensions from to
         ∙ ap (λ n. content_items view.text extensions from n
-        ++ (if nat_lt n to then pieces_items step.before view.text extensions (n + 2) to else [])) (sym places.stop_is))))
+        ++ (if nat_lt n to then pieces_items step.before view.text extensions (n + 2) to else []))
+        (sym places.stop_is))))
         ∙ awaits.rest))
 
     by_end : (test : Bool) → nat_lt stop to ≡ test → AwaitsPieces extensions to all new next
@@ -326,7 +329,8 @@ piece_placed extensions all view new from to stop next less within awaits places
               let here : get_or new.text next 0 ≡ pipe =
               ap (λ t. get_or t next 0) places.text
               ∙ (ap (λ n. get_or view.text n 0) there ∙ is_piece.pipe_is more) in
-              true≢false (sym (places.over awaits.special byte run) ∙ (ap (is_special extensions.dashes) (sym same ∙ here)
+              true≢false (sym (places.over awaits.special byte run) ∙
+              (ap (is_special extensions.dashes) (sym same ∙ here)
               ∙ pipe_is_plain extensions.dashes));
           special = places.over awaits.special;
         }
@@ -488,7 +492,8 @@ empty_shown at old first opened new begun opens put some =
     (cell_block old first opened at begun opens)
     (ap (λ (v : BuilderView). v.levels) opens
     ∙ (ap (λ (v : BuilderView). v.levels ++ nil ∷ []) begun ∙ sym (no_items (old.levels ++ nil ∷ []))))
-    (ap (λ n. plain_item at n body.TableCell) (ap (λ (v : BuilderView). v.at) opens ∙ ap (λ (v : BuilderView). v.at) begun))
+    (ap (λ n. plain_item at n body.TableCell)
+    (ap (λ (v : BuilderView). v.at) opens ∙ ap (λ (v : BuilderView). v.at) begun))
     refl put some
 
 -- ---- where the cells of a line lie
@@ -686,7 +691,8 @@ row_cells_in text line utf8 inside =
     (omega arith) (rest_of_part text line.start line.stop 1) (omega (arith, some, size, content))
     (IsCharBoundary-after_ascii text line.start utf8 (omega (arith, some, size, content, last)) (omega (arith, here)))
     line.start (omega arith))
-    (λ bare. cells_within (suc (length bytes)) text line.stop utf8 inside.stop line.start bytes (omega arith) refl content
+    (λ bare. cells_within (suc (length bytes)) text line.stop utf8 inside.stop line.start bytes
+    (omega arith) refl content
     inside.start line.start (omega arith))
 
 -- a cell is one piece, where there is no backslash in its line
@@ -748,7 +754,8 @@ placed_cell s cells rest cell count at is =
     let one : count + 1 ≡ suc count = omega arith in
     let none : count - count ≡ 0 = omega arith in
     let over : (count + 1) - (count + 1) ≡ 0 = omega arith in
-    ap (λ n. followed_by (followed_by (shown_cells s (take count cells)) (empty_cells n at)) (shown_cells s (cell ∷ [])))
+    ap (λ n. followed_by (followed_by (shown_cells s (take count cells)) (empty_cells n at))
+    (shown_cells s (cell ∷ [])))
     none
     ∙ (ap (λ f. followed_by f (shown_cells s (cell ∷ []))) (followed_by-nil (shown_cells s (take count cells)))
     ∙ (sym (cell_last s (take count cells) cell)
@@ -914,9 +921,11 @@ cell_added s outer cells rest cell found count next at first before after now is
     let has = placed put.0 in (
       has.0,
       ap (λ (p : Placing). p.builder.levels) is
-          ∙ (level_more outer (cells_placed s cells count count at) (shown_cells s (cell ∷ [])) before.builder after.builder
+          ∙ (level_more outer (cells_placed s cells count count at)
+          (shown_cells s (cell ∷ [])) before.builder after.builder
           (has.1 ∙ ap (λ n. outer ++ cells_placed s cells n count at ∷ []) same) put.1
-          ∙ (ap (λ f. outer ++ f ∷ []) (placed_cell s cells rest cell count at (ap (λ n. drop n cells) (sym same) ∙ left))
+          ∙ (ap (λ f. outer ++ f ∷ [])
+          (placed_cell s cells rest cell count at (ap (λ n. drop n cells) (sym same) ∙ left))
           ∙ ap (λ n. outer ++ cells_placed s cells n (count + 1) at ∷ []) (sym one))),
     )
 

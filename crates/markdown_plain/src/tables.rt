@@ -54,7 +54,8 @@ fn add_cell_items(
     ensures inside { IfOk result (λ _. IfFitted placing.old placing.new
         (AddsItems placing.old.builder placing.new.builder)) }
     ensures items { IfOk result (λ _. (escapes ≡ false → IsOnePiece placing.old.builder.text cell)
-        → IsCellIn placing.old.builder.text cell → placing.old.builder.run ≡ None → IfFitted placing.old placing.new
+        → IsCellIn placing.old.builder.text cell → placing.old.builder.run ≡ None
+        → IfFitted placing.old placing.new
         (HasItems placing.old.builder placing.new.builder
         (cell_items placing.old.builder.text (item_extensions options) cell.from cell.to))) }
     ensures fits { IfOk result (λ _. IsLeafOpen placing.old.builder
@@ -91,7 +92,8 @@ fn place_cell(
     ensures tree { IfOk result (λ _. IfFitted placing.old placing.new
         (PutsTree placing.old.builder placing.new.builder)) }
     ensures shown { IfOk result (λ _. (escapes ≡ false → IsOnePiece placing.old.builder.text cell)
-        → IsCellIn placing.old.builder.text cell → IfFitted placing.old placing.new (HasTrees placing.old.builder placing.new.builder
+        → IsCellIn placing.old.builder.text cell → IfFitted placing.old placing.new
+        (HasTrees placing.old.builder placing.new.builder
         (shown_cells (record { text = placing.old.builder.text; options = options })
         (cell ∷ [])))) }
     ensures fits { IfOk result (λ _. MayAddCell placing.old.builder cell.start

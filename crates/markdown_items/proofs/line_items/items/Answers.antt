@@ -13,7 +13,8 @@ use Rattle.markdown_items.specs.LineItems.{is_special, IsFirstSpecial}
 use Rattle.markdown_items.specs.RestOfLine.{AwaitsRest, HasSpecialRun}
 use Rattle.markdown_items.proofs.RestOfLineLemmas.{past_plain, at_start, at_end, at_found, placed_after, begun_after}
 use Rattle.markdown_items.proofs.RestOfLineLemmas.{adds_found, adds_more, adds_none, more_texts, no_run, no_texts}
-use Rattle.markdown_items.proofs.RestOfLineLemmas.{IsSame, run_before_text, run_found, same_found, text_after, texts_found}
+use Rattle.markdown_items.proofs.RestOfLineLemmas.{IsSame, run_before_text, run_found, same_found, text_after}
+use Rattle.markdown_items.proofs.RestOfLineLemmas.{texts_found}
 use Rattle.markdown_items.proofs.line_items.items.Goals as goal
 
 pub line-init : goal.line-init

@@ -1,5 +1,6 @@
 -- The items so far are appended to the cell.
-use Rattle.std.proofs.Common.{rules, ◌≡◌, ◌+◌, ◌-◌, ◌<◌, ◌≤◌, ◌∙◌, ℕ, List, length, drop, slice_range, refl, sym, ap, subst}
+use Rattle.std.proofs.Common.{rules, ◌≡◌, ◌+◌, ◌-◌, ◌<◌, ◌≤◌, ◌∙◌, ℕ, List, length, drop, slice_range, refl, sym, ap}
+use Rattle.std.proofs.Common.{subst}
 use Rattle.std.proofs.Common.{arith, true≢false}
 use Rattle.std.proofs.lemmas.List.{length-take}
 use Rattle.markdown_builder.specs.BuilderView.{BuilderView}
@@ -7,7 +8,8 @@ use Rattle.markdown_items.proofs.RestOfLineLemmas.{adds_none}
 use Rattle.markdown_plain.proofs.TableRowsLemmas.{adds_later}
 use Rattle.markdown_items.specs.LineItems.{item_extensions}
 use Rattle.markdown_lines.specs.TableRows.{piece_length}
-use Rattle.markdown_plain.proofs.ShownRowsLemmas.{IsPieceIn, piece_added, piece_cut, piece_in, piece_placed, pieces_done}
+use Rattle.markdown_plain.proofs.ShownRowsLemmas.{IsPieceIn, piece_added, piece_cut, piece_in, piece_placed}
+use Rattle.markdown_plain.proofs.ShownRowsLemmas.{pieces_done}
 use Rattle.markdown_plain.proofs.ShownRowsLemmas.{pieces_start, places_piece, whole_piece}
 use Rattle.markdown_plain.proofs.tables.add_cell_items.Goals.{then-escapes, else-escapes}
 use Rattle.markdown_plain.proofs.tables.add_cell_items.Goals as goal
@@ -100,7 +102,8 @@ pieces-preserved c =
                 ∙ (ap piece_length w.bytes_of.ensures
                 ∙ ap (λ t. piece_length (slice_range t from to)) (w.text.ensures ∙ same))))))
                 (piece_in text from to (omega (arith, less)) is.to.0)
-            | else-escapes w ↦ whole_piece text from to stop (omega (arith, less)) (omega (arith, w.length-is, there, less))
+            | else-escapes w ↦ whole_piece text from to stop (omega (arith, less))
+            (omega (arith, w.length-is, there, less))
           ] in
           let cut = piece_cut text from to stop next is.to piece after past in
           piece_added text c.args.placing.now c.pieces.placing c.step_to.new.self c.add_items.new.self from to stop

@@ -14,7 +14,8 @@ use Rattle.markdown_plain.specs.HeldSources.{IsTextLine}
 use Rattle.markdown_plain.specs.LeafTrees.{HasTrees}
 use Rattle.markdown_plain.specs.TableRows.{IsCellIn, IsOnePiece}
 use Rattle.markdown_plain.proofs.FittingLemmas.{may_step, step_done}
-use Rattle.markdown_plain.proofs.ShownRowsLemmas.{AreCellsFrom, after_cell, after_empty, cell_added, comes_next, drop_next}
+use Rattle.markdown_plain.proofs.ShownRowsLemmas.{AreCellsFrom, after_cell, after_empty, cell_added, comes_next}
+use Rattle.markdown_plain.proofs.ShownRowsLemmas.{drop_next}
 use Rattle.markdown_plain.proofs.ShownRowsLemmas.{empty_added, may_add_cell, nothing_left, one_piece_in, row_cells_in}
 use Rattle.markdown_plain.proofs.ShownRowsLemmas.{row_opened, row_placed, row_stepped}
 use Rattle.std.proofs.lemmas.Bool.Decides.{nat_tests}
@@ -202,7 +203,8 @@ returns-clause-tree c = λ is inside source stands fitted.
     let row = c.cells.invariant.row moved.0 in
     let in_row = row_stepped c.args.placing.now.builder c.cells.placing.builder c.step_to-2.new.self.builder c.args.row
     c.args.line.start c.args.line.next moved.1
-    (row_opened c.args.placing.now.builder c.cells.placing.builder c.args.row c.args.line.start c.requires.outside row.1)
+    (row_opened c.args.placing.now.builder c.cells.placing.builder c.args.row c.args.line.start c.requires.outside
+    row.1)
     in
     let shown = c.cells.invariant.shown
     (subst (λ (t : List ℕ). IsInText t c.args.line) (sym c.text-text.ensures) inside) moved.0 in
@@ -210,7 +212,8 @@ returns-clause-tree c = λ is inside source stands fitted.
     grind (arith, nat_tests, c.cells-test.false, c.cells.auto.count-end) in (
       row.0,
       subst (λ (t : List ℕ). HasTrees c.args.placing.now.builder c.close_row.new.self.builder
-          (shown_row (record { text = t; options = c.args.options }) (open_columns c.args.placing.now.builder) c.args.row
+          (shown_row (record { text = t; options = c.args.options })
+          (open_columns c.args.placing.now.builder) c.args.row
           source)) c.text-text.ensures
           (row_placed (record { text = text; options = c.args.options }) c.args.placing.now.builder
           c.step_to-2.new.self.builder c.close_row.new.self.builder c.args.row c.args.line source c.cells.found
@@ -218,7 +221,8 @@ returns-clause-tree c = λ is inside source stands fitted.
           in_row.blocks
           (ap (λ (v : BuilderView). v.at) moved.1) (ap (λ (v : BuilderView). v.levels) moved.1 ∙ shown.1)
           (done ∙ c.columns-columns.ensures)
-          (found_is c.cells.found c.cells.count _ _ c.cells.invariant.few c.cells.invariant.all c.cells.invariant.lacking)
+          (found_is c.cells.found c.cells.count _ _ c.cells.invariant.few c.cells.invariant.all
+          c.cells.invariant.lacking)
           (subst (λ (t : List ℕ). IsTextLine t c.args.line source) (sym c.text-text.ensures) stands) put.1),
     )
 
