@@ -15,7 +15,7 @@ use Rattle.markdown_lines.specs.declared.atx_heading.AtxHeading.{AtxHeading}
 use Rattle.markdown_lines.specs.declared.block_start.BlockStart.TheVariants as start
 use Rattle.markdown_lines.specs.declared.position.Position.{Position}
 use Rattle.markdown_block_rules.specs.BlockGrowth.{Block, content_of}
-use Rattle.markdown_plain.specs.declared.block_pass.LineRest.{LineRest}
+use Rattle.markdown_plain.specs.declared.beginnings.LineRest.{LineRest}
 use Rattle.markdown_plain.specs.declared.pass.Pass.{Pass}
 use Rattle.markdown_plain.specs.Beginning.{HasRoom, IsFound, IsHeadingIn, IsHere, IsInside, Turn, first, later}
 use Rattle.markdown_plain.specs.Fits.{MayAddHeading, MayOpenHtml, MayOpenLeaf, MayStep}

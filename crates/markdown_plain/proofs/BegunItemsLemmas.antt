@@ -19,7 +19,7 @@ use Rattle.markdown_lines.specs.declared.list_marker.ListMarker.{ListMarker}
 use Rattle.markdown_block_rules.specs.BlockGrowth as was
 use Rattle.markdown_block_rules.specs.BlockGrowth.{Block, Kind, another_item, begun_by, content_of, goes_on}
 use Rattle.markdown_block_rules.specs.BlockGrowth.{inside_of, line_block, new_blocks, next_item, with_line}
-use Rattle.markdown_plain.specs.declared.block_pass.LineRest.{LineRest}
+use Rattle.markdown_plain.specs.declared.beginnings.LineRest.{LineRest}
 use Rattle.markdown_plain.specs.declared.pass.Pass.{Pass}
 use Rattle.markdown_plain.specs.Beginning.{HoldsLast, IsFirst, IsFound, IsHere, IsInside, IsLeft, ReadsOn, Turn}
 use Rattle.markdown_plain.specs.Beginning.{begun_in_rest}

@@ -24,7 +24,7 @@ use Rattle.markdown_lines.specs.MetadataBlocks.{metadata_option, opened_before}
 use Rattle.markdown_lines.specs.SourceLines.{SourceLine}
 use Rattle.markdown_lines.specs.declared.block_start.Before.TheVariants as paragraph
 use Rattle.markdown_block_rules.specs.BlockGrowth.{Block, content_of}
-use Rattle.markdown_plain.specs.declared.block_pass.LineRest.{LineRest}
+use Rattle.markdown_plain.specs.declared.beginnings.LineRest.{LineRest}
 use Rattle.markdown_plain.specs.declared.pass.Pass.{Pass}
 use Rattle.markdown_plain.specs.Beginning.{HasRoom, reads_metadata}
 use Rattle.markdown_plain.proofs.InnerBeginningsLemmas.{BeginsInside, after_inside}

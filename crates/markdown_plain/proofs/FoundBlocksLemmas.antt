@@ -30,7 +30,7 @@ use Rattle.markdown_lines.specs.declared.block_start.BlockStart.{BlockStart}
 use Rattle.markdown_lines.specs.declared.block_start.BlockStart.TheVariants as start
 use Rattle.markdown_lines.specs.declared.line_reader.LineReader.{LineReader}
 use Rattle.markdown_block_rules.specs.BlockGrowth.{Block, begun_by, inside_of, new_blocks}
-use Rattle.markdown_plain.specs.declared.block_pass.LineRest.{LineRest}
+use Rattle.markdown_plain.specs.declared.beginnings.LineRest.{LineRest}
 use Rattle.markdown_plain.specs.declared.pass.Pass.{Pass}
 use Rattle.markdown_plain.specs.Beginning.{IsFirst, IsFound, IsHere, IsInside, IsLeft, Turn, first, later}
 use Rattle.markdown_plain.specs.Beginning.{begun_in_rest, reads_metadata}

@@ -61,7 +61,7 @@ use Rattle.markdown_lines.proofs.PositionsLemmas.{in_part, rest_of_part}
 use Rattle.markdown_block_rules.specs.BlockGrowth.{Block, content_of}
 use Rattle.markdown_block_rules.specs.TableLines.{reads_tables}
 use Rattle.markdown_block_rules.proofs.BlockBeginningsLemmas.{either}
-use Rattle.markdown_plain.specs.declared.block_pass.LineRest.{LineRest}
+use Rattle.markdown_plain.specs.declared.beginnings.LineRest.{LineRest}
 use Rattle.markdown_plain.specs.declared.pass.Pass.{Pass}
 use Rattle.markdown_plain.specs.Beginning.{FoundFits, FoundStands, HasBegun, IsFound, IsHeadingIn, IsHere, IsLeft}
 use Rattle.markdown_plain.specs.Beginning.{ReadsOn, StandsAsText, Turn, first, later}

@@ -28,7 +28,7 @@ use Rattle.markdown_lines.specs.BlockBeginnings.{whole_heading}
 use Rattle.markdown_lines.specs.BlockStarts.{begins_unless_blank, beginning_found}
 use Rattle.markdown_lines.specs.SourceLines.{SourceLine, is_blank_rest}
 use Rattle.markdown_block_rules.proofs.BlockBeginningsLemmas.{either}
-use Rattle.markdown_plain.specs.declared.block_pass.LineRest.{LineRest}
+use Rattle.markdown_plain.specs.declared.beginnings.LineRest.{LineRest}
 use Rattle.markdown_plain.specs.Beginning.{IsFound}
 
 -- it begins inside a container

@@ -21,7 +21,7 @@ use Rattle.markdown_lines.specs.declared.block_start.ItemStart.{ItemStart}
 use Rattle.markdown_block_rules.specs.BlockGrowth as was
 use Rattle.markdown_block_rules.specs.BlockGrowth.{Block, Kind, content_of}
 use Rattle.markdown_block_rules.proofs.BlockBeginningsLemmas.{either}
-use Rattle.markdown_plain.specs.declared.block_pass.LineRest.{LineRest}
+use Rattle.markdown_plain.specs.declared.beginnings.LineRest.{LineRest}
 use Rattle.markdown_plain.specs.declared.pass.Pass.{Pass}
 use Rattle.markdown_plain.specs.Beginning as turn
 use Rattle.markdown_plain.specs.Beginning.{IsFirst, IsFound, IsHere, IsInside, IsLeft, Turn}

@@ -11,7 +11,7 @@ use Rattle.markdown_lines.specs.declared.block_start.Before.TheVariants as parag
 use Rattle.markdown_lines.specs.declared.block_start.BlockStart.TheVariants as start
 use Rattle.markdown_block_rules.specs.BlockGrowth as was
 use Rattle.markdown_block_rules.specs.BlockGrowth.{Block, begun_by, content_of, goes_on, inside_of, new_blocks}
-use Rattle.markdown_plain.specs.declared.block_pass.LineRest.{LineRest}
+use Rattle.markdown_plain.specs.declared.beginnings.LineRest.{LineRest}
 use Rattle.markdown_plain.specs.declared.pass.Pass.{Pass}
 use Rattle.markdown_plain.specs.Beginning.{IsFirst, IsFound, IsHere, IsInside, IsLeft, Turn, first, later}
 use Rattle.markdown_plain.specs.Closable.{IsInText, IsReadyAfter}

@@ -31,7 +31,7 @@ use Rattle.markdown_block_rules.specs.BlockGrowth.{Block, goes_on, with_line}
 use Rattle.markdown_block_rules.specs.BlockRules.{is_blank_block}
 use Rattle.markdown_block_rules.specs.TableLines.{reads_tables}
 use Rattle.markdown_block_rules.proofs.BlockBeginningsLemmas.{either}
-use Rattle.markdown_plain.specs.declared.block_pass.LineRest.{LineRest}
+use Rattle.markdown_plain.specs.declared.beginnings.LineRest.{LineRest}
 use Rattle.markdown_plain.specs.declared.looseness.Looseness.{Looseness}
 use Rattle.markdown_plain.specs.declared.pass.Pass.{Pass}
 use Rattle.markdown_plain.specs.Beginning.{HasBegun, IsFirst, IsFound, IsHere, IsLeft, Turn, first, later}
