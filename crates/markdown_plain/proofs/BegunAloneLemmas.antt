@@ -234,14 +234,7 @@ reached_alone s l b own is block = by_columns ((leading_space 4 l.left).columns 
     by_columns false is =
         by_metadata l.outermost (metadata_opened s.options s.text l.left.bytes l.next) refl is
 
--- a line that may go on with a paragraph, but begins a block, begins that where it could only continue one lazily
-pub lazy_alone : (s : Source) (before : Before) (l : SourceLine) (b : Beginning) → IsLeftOf s.text l.left
-    → is_paragraph before ≡ true → begins s before l ≡ b → BeginsBlock b → begins s paragraph.Lazy l ≡ b
-lazy_alone s paragraph.NoParagraph l b own some is block = absurd (true≢false (sym some))
-lazy_alone s paragraph.Lazy l b own some is block = is
-lazy_alone s paragraph.Reached l b own some is block = reached_alone s l b own is block
-
--- which it does where there is none
+-- what begins a block where it could only continue a paragraph lazily, begins that where there is none
 lazily_alone : (s : Source) (l : SourceLine) (b : Beginning) → IsLeftOf s.text l.left → begins s paragraph.Lazy l ≡ b
     → BeginsBlock b → begins s paragraph.NoParagraph l ≡ b
 lazily_alone s l b own is block = begins_same s l own (ap is_text is ∙ is_no_text b block) ∙ is

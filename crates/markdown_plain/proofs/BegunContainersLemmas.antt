@@ -99,7 +99,7 @@ and_false true = refl
 and_false false = refl
 
 -- the rest of a line inside a container that it begins
-pub left_inside : (s : Source) (rest : LineRest) (source : SourceLine) (inside : Position) (depth : ℕ)
+left_inside : (s : Source) (rest : LineRest) (source : SourceLine) (inside : Position) (depth : ℕ)
     (before : Before) → IsLeft s rest source → IsRestOf source.left (left_at rest.reader inside)
     → IsCharBoundary s.text inside.at
     → IsLeft s (record rest { position = inside; depth = depth; before = before })
@@ -132,7 +132,7 @@ left_inside s rest source inside depth before left is boundary =
     }
 
 -- it begins later in the line
-pub inside_later : (s : Source) (rest : LineRest) (source : SourceLine) (inside : Position) (depth : ℕ)
+inside_later : (s : Source) (rest : LineRest) (source : SourceLine) (inside : Position) (depth : ℕ)
     → IsLeft s rest source → IsRestOf source.left (left_at rest.reader inside)
     → turn_place rest
     < turn_place (record rest { position = inside; depth = depth; before = paragraph.NoParagraph })
@@ -205,7 +205,7 @@ in_line_more s rest source kind frames inside left filled are = record {
 }
 
 -- one that is no list, where a block may begin
-pub opened_in : (s : Source) (now : Pass) (line : Line) (frames : List Frame) (inside : Forest Block) (b : Block)
+opened_in : (s : Source) (now : Pass) (line : Line) (frames : List Frame) (inside : Forest Block) (b : Block)
     → MayBegin s now line frames inside → IsBuilt s now.placing.builder (with_frame frames inside b) nil
     → HoldsBlocks b.kind → OpensIn s now frames inside b
 opened_in s now line frames inside b may built holds = record {

@@ -292,7 +292,7 @@ module _ (s : Source) (old now : Pass) (rest next : LineRest) (before : Before) 
       (earlier_front rest.line.start outer more
       (subst (AreOpenedBefore rest.line.start) (sym parts) state.holds.earlier))
 
-  pub item_first : IfFitted old.placing now.placing (ReadsOn s now rest next blocks)
+  item_first : IfFitted old.placing now.placing (ReadsOn s now rest next blocks)
   item_first fitted =
       let frames = before.frames in
       let inside = blocks_in before in

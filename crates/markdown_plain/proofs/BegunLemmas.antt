@@ -251,7 +251,7 @@ begins_same s l own other =
     ⊎_elim (λ same. same) (λ text. absurd (true≢false (ap is_text (sym text.0) ∙ other))) (begins_alike s l own)
 
 -- and the same item
-pub item_same : (s : Source) (l : SourceLine) (marker : ListMarker) → IsLeftOf s.text l.left
+item_same : (s : Source) (l : SourceLine) (marker : ListMarker) → IsLeftOf s.text l.left
     → another_item s l marker (begins s paragraph.Lazy l) ≡ another_item s l marker (begins s paragraph.NoParagraph l)
 item_same s l marker own =
     ⊎_elim (λ same. ap (another_item s l marker) (sym same))

@@ -87,7 +87,7 @@ pub record IsMetadata (s : Source) (l : SourceLine) : Type 0 where
   pub read : reads_metadata s.options ≡ true
   pub solid : prefix_len is_space_or_tab l.left.bytes ≡ 0
 
-pub metadata_begins : (s : Source) (l : SourceLine) (kind : MetadataBlockKind)
+metadata_begins : (s : Source) (l : SourceLine) (kind : MetadataBlockKind)
     → begins s paragraph.NoParagraph l ≡ line.begins_metadata kind → IsMetadata s l
 metadata_begins s l kind is = by_columns (space.columns == 4) is
   where

@@ -169,7 +169,7 @@ pub record HasClosed (s : Source) (old mid : Pass) (outer : List Frame) (inside 
   pub from : mid.looseness.blank_from ≡ old.looseness.blank_from
   pub closable : AreClosable mid.placing.builder old.placed
 
-pub items_of : (s : Source) (pass : Pass) (frames : List Frame) (inside : Forest Block) (last : Option Block)
+items_of : (s : Source) (pass : Pass) (frames : List Frame) (inside : Forest Block) (last : Option Block)
     → HasLast s pass frames inside last → AreItemsInLists false (rebuilt frames (with_last inside last))
 items_of s pass frames inside None has = has.0.stands.items
 items_of s pass frames inside (Some b) has = has.1.items

@@ -246,7 +246,7 @@ trimmed text line n is e =
 
 -- ---- lines cut off at braces
 
-pub last_in_text : (text : List ℕ) (line : HeldLine) → IsInText text line → IsLastInText text line
+last_in_text : (text : List ℕ) (line : HeldLine) → IsInText text line → IsLastInText text line
 last_in_text text line is =
     let content = is.content in
     let ending = is.ending in
@@ -259,12 +259,12 @@ last_in_text text line is =
     }
 
 -- braces are in what follows a task marker
-pub braces_of_rest : (text : List ℕ) (line rest : HeldLine) (braces : Option Braces) → rest.stop ≡ line.stop
+braces_of_rest : (text : List ℕ) (line rest : HeldLine) (braces : Option Braces) → rest.stop ≡ line.stop
     → HasBraces text braces line → HasBraces text braces rest
 braces_of_rest text line rest None same has = tt
 braces_of_rest text line rest (Some braces) same has = let within = has.0 in (omega (arith, within, same), has.1)
 
-pub cut_in_text : (text : List ℕ) (line : HeldLine) (braces : Option Braces) → IsInText text line
+cut_in_text : (text : List ℕ) (line : HeldLine) (braces : Option Braces) → IsInText text line
     → HasBraces text braces line
     → IsLastInText text (record line { stop = option_map_or (λ braces. braces.opening) braces line.stop })
 cut_in_text text line None is has = last_in_text text line is
@@ -338,7 +338,7 @@ room_after old new lines n ends other next less room e goes =
 -- ---- opening a paragraph or a heading
 
 -- blocks inside others are some
-pub never_none : (outer : List OpenBlock) (block : OpenBlock) → outer ++ block ∷ [] ≡ [] → ⊥
+never_none : (outer : List OpenBlock) (block : OpenBlock) → outer ++ block ∷ [] ≡ [] → ⊥
 never_none [] block e = absurd (omega (arith, ap length e))
 never_none (first ∷ outer) block e = absurd (omega (arith, ap length e))
 
@@ -487,7 +487,7 @@ list_no_quote (body.List tight character first) e = refl
 list_no_quote other e = absurd (true≢false (sym e))
 
 -- a list is no block quote
-pub innermost_no_quote : (blocks : List OpenBlock) → innermost_is is_list blocks ≡ true
+innermost_no_quote : (blocks : List OpenBlock) → innermost_is is_list blocks ≡ true
     → innermost_is is_quote blocks ≡ false
 innermost_no_quote blocks e = found (innermost_block blocks) e
   where
@@ -539,7 +539,7 @@ begins_list_after old new placed to list ahead white e fitted =
     }
 
 -- where nothing but a list is open, no block quote is
-pub no_quote_left : (blocks : List OpenBlock) → without_list blocks ≡ [] → has_quote blocks ≡ false
+no_quote_left : (blocks : List OpenBlock) → without_list blocks ≡ [] → has_quote blocks ≡ false
 no_quote_left [] none = refl
 no_quote_left (first ∷ blocks) none =
     let all : List OpenBlock = first ∷ blocks in
@@ -737,24 +737,6 @@ pub white_ahead : (text : List ℕ) (at to : ℕ) (builder : BuilderView) → bu
 white_ahead text at to builder same here white = λ none.
     subst (λ t. AllPass is_in_blank_line t builder.at to) (sym same)
     (subst (λ k. AllPass is_in_blank_line text k to) (sym here) white)
-
--- ---- the place where the next block begins
-
--- once blocks were closed, what begins in the next line is ahead
-pub next_ahead : (old : Pass) (new : BuilderView) (from to : ℕ) → IsReady old from → new.text ≡ old.placing.builder.text
-    → AreClosable new old.placed → from ≤ to → IsCharBoundary old.placing.builder.text to → IsAhead new to
-next_ahead old new from to ready text is low boundary =
-    let here = ready.low in
-    item_ahead old.placing.builder new old.placed to text is (omega (arith, here, low)) boundary
-
--- and where no block is open then, only white space is before it, if there is only white space in its line
-pub next_white : (old : Pass) (new : BuilderView) (from to : ℕ) → IsReady old from → new.text ≡ old.placing.builder.text
-    → AreClosable new old.placed
-    → (new.blocks ≡ [] → AllPass is_in_blank_line old.placing.builder.text from to) → IsWhiteOutside new to
-next_white old new from to ready text is white = λ none.
-    white_both new.text new.at old.placed to (is.white (ap has_quote none))
-    (subst (λ t. AllPass is_in_blank_line t old.placed to) (sym text)
-    (white_both old.placing.builder.text old.placed from to ready.white (white none)))
 
 -- ---- a paragraph of definitions alone
 

@@ -204,7 +204,7 @@ pub record IsOpenInside (texts : List (List ℕ)) (blocks : List OpenBlock) (fra
   pub opened : IsOpen texts block f
   pub outside : AreOpen texts outer frames
 
-pub innermost_open : (texts : List (List ℕ)) (blocks : List OpenBlock) (frames : List Frame) (f : Frame)
+innermost_open : (texts : List (List ℕ)) (blocks : List OpenBlock) (frames : List Frame) (f : Frame)
     → AreOpen texts blocks (frames ++ f ∷ []) → IsOpenInside texts blocks frames f
 innermost_open texts [] [] f are = absurd are
 innermost_open texts (block ∷ []) [] f are =
@@ -304,7 +304,7 @@ closed_item s f inside parts block end opened items ends around loose =
     (container_shown s parts around f.block inside f.block.kind block.body opened.body items loose)
 
 -- it is forgotten that it was open
-pub forget : (s : Source) (old new : Pass) (frames : List Frame) (f : Frame) (inside : Forest Block)
+forget : (s : Source) (old new : Pass) (frames : List Frame) (f : Frame) (inside : Forest Block)
     → MayClose s old (frames ++ f ∷ []) inside
     → (last : IsOpenInside old.placing.builder.texts old.placing.builder.blocks frames f)
     → IsClosed old new f inside last.block → MayClose s new frames (forgotten f inside)

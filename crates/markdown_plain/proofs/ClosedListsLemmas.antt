@@ -57,7 +57,7 @@ open_outer texts (b ∷ c ∷ blocks) (g ∷ frames) f these =
 
 -- ---- blank lines
 
-pub known_outside : (from : Option ℕ) (outside : ℕ) (frames more : List Frame) (inside : Forest Block)
+known_outside : (from : Option ℕ) (outside : ℕ) (frames more : List Frame) (inside : Forest Block)
     → BlanksKnown from outside (frames ++ more) inside → BlanksKnown from outside frames (rebuilt more inside)
 known_outside from outside [] more inside known = tt
 known_outside from outside (f ∷ frames) more inside known = (

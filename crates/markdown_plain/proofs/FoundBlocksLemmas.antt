@@ -180,7 +180,7 @@ same_begins s before one other left next outermost =
     outermost))
 
 -- the line as the reader has it
-pub line_same : (s : Source) (rest : LineRest) (source : SourceLine) (before : Before) → IsLeft s rest source
+line_same : (s : Source) (rest : LineRest) (source : SourceLine) (before : Before) → IsLeft s rest source
     → (left_at rest.reader rest.position ≡ source.left)
     × (begins s before (line_at rest.reader rest.position) ≡ begins s before source)
 line_same s rest source before left =
@@ -238,55 +238,3 @@ pub found_begins : (s : Source) (rest : LineRest) (source : SourceLine) (at : �
     → (is_blank_rest source ≡ false) × (begins s rest.before source ≡ b)
 found_begins s rest source at start b is found =
     some_begun b (begins s rest.before source) (is_blank_rest source) (sym found ∙ is.is)
-
--- ---- what begins then
-
--- a line that begins something is not blank, and what it begins is this
-found_some : (s : Source) (source : SourceLine) (b : Beginning) (blank : Bool)
-    → Some b ≡ (if blank then None else Some (begins s paragraph.NoParagraph source))
-    → (if blank then nil else begun_by s source) ≡ new_blocks (inside_of (begun_by s) source) source b
-found_some s source b true is = absurd (none-some b (sym is))
-found_some s source b false is =
-    begun_once s source ∙ ap (new_blocks (inside_of (begun_by s) source) source) (sym (same b is))
-  where
-    same : (b : Beginning) → Some b ≡ Some (begins s paragraph.NoParagraph source)
-        → b ≡ begins s paragraph.NoParagraph source
-    same b is = ap (λ (o : Option Beginning). unwrap_or o b) is
-
--- the blocks that begin are those of what was found
-pub begun_found : (s : Source) (rest : LineRest) (source : SourceLine) (at : ℕ) (start : BlockStart) (b : Beginning)
-    → rest.before ≡ paragraph.NoParagraph → IsFound s rest source at start
-    → beginning_found rest.reader start ≡ Some b
-    → begun_in_rest s source ≡ new_blocks (inside_of (begun_by s) source) source b
-begun_found s rest source at start b before is found =
-    found_some s source b (is_blank_rest source)
-    (sym found ∙ (is.is ∙ ap (λ p. begins_unless_blank s p source) before))
-
--- the rest inside what was found
-rest_some : (s : Source) (source : SourceLine) (b : Beginning) (blank : Bool) → source.left.owed ≤ 3
-    → Some b ≡ (if blank then None else Some (begins s paragraph.NoParagraph source)) → HoldsRest source.left b
-rest_some s source b true few is = absurd (none-some b (sym is))
-rest_some s source b false few is =
-    subst (HoldsRest source.left) (ap (λ (o : Option Beginning). unwrap_or o b) (sym is))
-    (begins_rest s paragraph.NoParagraph source few)
-
-pub rest_found : (s : Source) (rest : LineRest) (source : SourceLine) (at : ℕ) (start : BlockStart) (b : Beginning)
-    → rest.before ≡ paragraph.NoParagraph → IsLeft s rest source → IsFound s rest source at start
-    → beginning_found rest.reader start ≡ Some b → HoldsRest source.left b
-rest_found s rest source at start b before left is found =
-    rest_some s source b (is_blank_rest source)
-    (subst (λ n. n ≤ 3) (ap (λ (l : LineLeft). l.owed) left.is.rest.left) left.is.rest.few)
-    (sym found ∙ (is.is ∙ ap (λ p. begins_unless_blank s p source) before))
-
--- it is not blank
-filled_some : (s : Source) (source : SourceLine) (b : Beginning) (blank : Bool)
-    → Some b ≡ (if blank then None else Some (begins s paragraph.NoParagraph source)) → blank ≡ false
-filled_some s source b true is = absurd (none-some b (sym is))
-filled_some s source b false is = refl
-
-pub found_filled : (s : Source) (rest : LineRest) (source : SourceLine) (at : ℕ) (start : BlockStart) (b : Beginning)
-    → rest.before ≡ paragraph.NoParagraph → IsFound s rest source at start
-    → beginning_found rest.reader start ≡ Some b → is_blank_rest source ≡ false
-found_filled s rest source at start b before is found =
-    filled_some s source b (is_blank_rest source)
-    (sym found ∙ (is.is ∙ ap (λ p. begins_unless_blank s p source) before))

@@ -79,7 +79,7 @@ use Rattle.markdown_plain.proofs.TextReachedLemmas.{IsWithin, content_within, ma
 -- ---- where the content begins
 
 -- what is left of a line begins between characters
-pub left_within : (s : Source) (rest : LineRest) (source : SourceLine) → IsLeft s rest source
+left_within : (s : Source) (rest : LineRest) (source : SourceLine) → IsLeft s rest source
     → IsWithin s.text rest.line.start source.left
 left_within s rest source left =
     subst (IsWithin s.text rest.line.start) left.is.rest.left (record {
@@ -793,7 +793,7 @@ begun_within s rest source at start b left found is =
     (subst (IsCharBoundary s.text) left.is.stop
     (line_end_within s.text rest.line.start rest.line.stop left.from.content)))
 
-pub found_stands : (s : Source) (rest : LineRest) (source : SourceLine) (at : ℕ) (start : BlockStart)
+found_stands : (s : Source) (rest : LineRest) (source : SourceLine) (at : ℕ) (start : BlockStart)
     → IsLeft s rest source → IsFound s rest source at start → FoundStands s.text rest.line at start
 found_stands s rest source at start.Text left found =
     left_stands s rest source at left

@@ -43,14 +43,6 @@ list_no_quote : (kind : Kind) → is_list kind ≡ true → is_quote kind ≡ fa
 list_no_quote (was.list_container marker) is = refl
 list_no_quote other is = absurd (true≢false (sym is))
 
-pub inner_item_no_list : (frames : List Frame) → innermost_is is_item frames ≡ true
-    → innermost_is is_list frames ≡ false
-inner_item_no_list frames is = excludes is_item is_list item_no_list frames is
-
-pub inner_list_no_item : (frames : List Frame) → innermost_is is_list frames ≡ true
-    → innermost_is is_item frames ≡ false
-inner_list_no_item frames is = excludes is_list is_item list_no_item frames is
-
 pub inner_item_no_quote : (frames : List Frame) → innermost_is is_item frames ≡ true
     → innermost_is is_quote frames ≡ false
 inner_item_no_quote frames is = excludes is_item is_quote item_no_quote frames is

@@ -34,14 +34,6 @@ pub rebuilt_more : (frames : List Frame) (f : Frame) (inside : Forest Block)
     → rebuilt (frames ++ f ∷ []) inside ≡ rebuilt frames (forgotten f inside)
 rebuilt_more frames f inside = rebuilt_in frames (f ∷ []) inside
 
--- all but the outermost `n` are closed
-pub rebuilt_split : (n : ℕ) (frames : List Frame) (inside : Forest Block)
-    → rebuilt frames inside ≡ rebuilt (take n frames) (rebuilt (drop n frames) inside)
-rebuilt_split zero frames inside = refl
-rebuilt_split (suc n) [] inside = refl
-rebuilt_split (suc n) (f ∷ frames) inside =
-    ap (λ (r : Forest Block). followed_by f.before (node f.block r nil)) (rebuilt_split n frames inside)
-
 -- the innermost of some open containers is that of the inner ones
 pub innermost_inner : (test : Kind → Bool) (f g : Frame) (frames : List Frame)
     → innermost_is test (f ∷ g ∷ frames) ≡ innermost_is test (g ∷ frames)
@@ -50,14 +42,6 @@ innermost_inner test f g frames =
     let inner : length frames ≡ suc (length frames) - 1 = omega arith in
     ap (λ n. option_map_or (λ (h : Frame). test h.block.kind) (slice_get (f ∷ g ∷ frames) n) false) all
     ∙ ap (λ n. option_map_or (λ (h : Frame). test h.block.kind) (slice_get (g ∷ frames) n) false) inner
-
--- and the last of them
-pub innermost_last : (test : Kind → Bool) (outer : List Frame) (f : Frame)
-    → innermost_is test (outer ++ f ∷ []) ≡ test f.block.kind
-innermost_last test [] f = refl
-innermost_last test (g ∷ []) f = innermost_inner test g f []
-innermost_last test (g ∷ h ∷ outer) f =
-    innermost_inner test g h (outer ++ f ∷ []) ∙ innermost_last test (h ∷ outer) f
 
 -- open containers of which the innermost passes a test of its kind
 pub record Innermost (test : Kind → Bool) (frames : List Frame) : Type 0 where

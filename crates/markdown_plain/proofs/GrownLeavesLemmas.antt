@@ -82,7 +82,7 @@ pub record AddsTo (s : Source) (old new : Pass) (frames : List Frame) (inside : 
     pub held : new.blanks.items ≡ []
     pub knows : has_ended c.kind ≡ false → IsLeafKind new.leaf c.kind × HoldsBlanks new.blanks.items c.kind
 
-pub grown_places : (s : Source) (old new : Pass) (line : Line) (found : code.Reached) (frames : List Frame)
+grown_places : (s : Source) (old new : Pass) (line : Line) (found : code.Reached) (frames : List Frame)
     (inside : Forest Block) (b : Block) (source : SourceLine) (now : Kind)
     → IsReachedBy s old line found (last_of frames inside b) source
     → (reached_of s (last_of frames inside b) source).inner ≡ []
@@ -204,7 +204,7 @@ last_filled (m ∷ n ∷ lines) l some = last_filled (n ∷ lines) l some
 -- ---- the open leaf, by its kind
 
 -- the last block before a line is a leaf, where one is open
-pub leaf_case : (P : Before → Type 0) (s : Source) (pass : Pass) (before : Before)
+leaf_case : (P : Before → Type 0) (s : Source) (pass : Pass) (before : Before)
     → HasLast s pass before.frames before.inside before.last → pass.placing.builder.leaf ≡ true
     → ((b : Block) → MayEnd s pass before.frames before.inside b None → KnowsLast pass b None
     → P (last_of before.frames before.inside b)) → P before
@@ -223,7 +223,7 @@ leaf_case P s pass before has leaf some = by_last before.last has some
         by_held (Some sources) may knows = absurd (true≢false (sym leaf ∙ may.unended.built.outside))
 
 -- the rest of the line
-pub line_rest : (s : Source) (pass : Pass) (line : Line) (found : code.Reached) (before : Before)
+line_rest : (s : Source) (pass : Pass) (line : Line) (found : code.Reached) (before : Before)
     (source : SourceLine) → IsReachedBy s pass line found before source
     → IsLineRest pass.placing.builder.text found.position line (reached_of s before source).rest
 line_rest s pass line found before source by = record {
@@ -481,7 +481,7 @@ AddsIndented s old new line position =
     (record b { last = source.next; kind = was.indented_leaf ((lines ++ blank) ++ source ∷ []) }) false)
 
 -- the rest of a line after at most four columns of space
-pub rest_cut : (text : List ℕ) (position after : Position) (line : Line) (l : SourceLine)
+rest_cut : (text : List ℕ) (position after : Position) (line : Line) (l : SourceLine)
     → left_from text after line.stop ≡ (leading_space 4 (left_from text position line.stop)).after
     → IsLineRest text position line l → IsLineRest text after line (cut 4 l)
 rest_cut text position after line l read is =

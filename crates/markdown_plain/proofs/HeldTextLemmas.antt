@@ -45,7 +45,7 @@ module _ (text : List ℕ) (line : Line) (rest : SourceLine) (start : ℕ) (at :
       let here = at.here in
       omega (arith, low, here)
 
-  pub is_text_line : IsTextLine text (held_line line start) (text_line rest)
+  is_text_line : IsTextLine text (held_line line start) (text_line rest)
   is_text_line = record {
     start = at.here;
     bytes = ap (λ n. slice_range text n line.stop) at.here

@@ -1,4 +1,4 @@
--- What a line begins inside a container that was opened in it: no underline, and no metadata.
+-- What the bytes of a line after its white space begin where no paragraph is reached: no underline, and no metadata.
 use Rattle.std.proofs.Common.{◌≡◌, ℕ, ◌+◌, Bool, true, false, List, [], ◌∷◌, Option, Some, None, sym, ap, ◌∙◌, subst}
 use Rattle.std.proofs.Common.{◌||◌, ◌==◌, codes, length, refl}
 use Rattle.std.proofs.lemmas.Option.{none-some}
@@ -104,29 +104,3 @@ after_inside s before columns here off =
         ),
       ),
     )
-
-begins_inside : (s : Source) (l : SourceLine) → l.outermost ≡ false
-    → BeginsInside (begins s paragraph.NoParagraph l)
-begins_inside s l inner =
-    let space = leading_space 4 l.left in
-    let after = begins_after s paragraph.NoParagraph space.columns space.after in
-    let opened = option_and_then (metadata_begun paragraph.NoParagraph)
-    (metadata_opened s.options s.text l.left.bytes l.next) in
-    either BeginsInside (space.columns == 4) (line.begins_indented space.after)
-    (unwrap_or (if l.outermost then opened else None) after) tt
-    (subst (λ outermost. BeginsInside (unwrap_or (if outermost then opened else None) after)) (sym inner)
-    (after_inside s paragraph.NoParagraph space.columns space.after refl))
-
--- what was found does
-some_inside : (s : Source) (l : SourceLine) (b : Beginning) (blank : Bool) → l.outermost ≡ false
-    → Some b ≡ (if blank then None else Some (begins s paragraph.NoParagraph l)) → BeginsInside b
-some_inside s l b true inner is = absurd (none-some b (sym is))
-some_inside s l b false inner is =
-    subst BeginsInside (ap (λ (o : Option Beginning). unwrap_or o b) (sym is)) (begins_inside s l inner)
-
-pub found_inside : (s : Source) (rest : LineRest) (source : SourceLine) (at : ℕ) (start : BlockStart) (b : Beginning)
-    → rest.before ≡ paragraph.NoParagraph → source.outermost ≡ false → IsFound s rest source at start
-    → beginning_found rest.reader start ≡ Some b → BeginsInside b
-found_inside s rest source at start b before inner is found =
-    some_inside s source b (is_blank_rest source) inner
-    (sym found ∙ (is.is ∙ ap (λ p. begins_unless_blank s p source) before))

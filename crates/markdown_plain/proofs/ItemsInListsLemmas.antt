@@ -270,31 +270,3 @@ pub line_keeps : (s : Source) (blocks : Forest Block) (l : SourceLine) → AreIt
 line_keeps s blocks l are =
     unwrapped (AreItemsInLists false) (goes_on s blocks l) (followed_by blocks (line_block s l))
     (goes_placed false s l blocks are) (both_placed false blocks (line_block s l) are (line_placed s l))
-
-ended_same : (kind : Kind) → IsPlacedAs kind (table_ended kind)
-ended_same (was.table_leaf ended head alignments rows) = (refl, refl, refl)
-ended_same other = (refl, refl, refl)
-
-ended_placed : (in_list : Bool) (blocks : Forest Block) → AreItemsInLists in_list blocks
-    → AreItemsInLists in_list (with_ended_table blocks)
-ended_placed in_list nil are = tt
-ended_placed in_list (node b below nil) are =
-    let same = ended_same b.kind in (
-      λ e. same.1 ∙ are.0 (sym same.0 ∙ e),
-      subst (λ test. AreItemsInLists test (with_ended_table below)) (sym same.2)
-          (ended_placed (is_list b.kind) below are.1),
-      tt,
-    )
-ended_placed in_list (node b below (node c others after)) are =
-    (are.0, are.1, ended_placed in_list (node c others after) are.2)
-
--- the blocks of a text with one more line of it
-pub items_stay_in_lists : (s : Source) (blocks : Forest Block) (l : SourceLine) → AreItemsInLists false blocks
-    → AreItemsInLists false (with_next_line s blocks l)
-items_stay_in_lists s blocks l are =
-    let grown = with_line s blocks l in
-    let placed = line_keeps s blocks l are in
-    either (AreItemsInLists false) (reads_tables s) (within_limit s l blocks grown) grown
-    (either (AreItemsInLists false) (nat_le (added_in grown) (most_added s.text)) grown
-    (with_line s (with_ended_table blocks) l) placed
-    (line_keeps s (with_ended_table blocks) l (ended_placed false blocks are))) placed

@@ -52,7 +52,7 @@ use Rattle.markdown_plain.proofs.LinedLeavesLemmas.{line_added_to, lined_shown, 
 abbrev pub fenced_body : ItemBody
 fenced_body = body.FencedCodeBlock (record { 0 = 0 })
 
-pub fenced_lined : (s : Source) (opening : OpeningFence) (ended : Bool) (lines : List SourceLine)
+fenced_lined : (s : Source) (opening : OpeningFence) (ended : Bool) (lines : List SourceLine)
     → IsLined s (was.fenced_leaf opening ended lines) fenced_body (Some (info_of s opening)) (body.Text false) lines
 fenced_lined s opening ended lines =
     record { leaf = refl; named = refl; end = λ b. refl; shown = λ around b. refl }
@@ -70,7 +70,7 @@ closes_alike s text position line source fence same is =
     && closes_fence t (leading_space 4 source.left).after.scanned (stop_of source) fence) same)
 
 -- a fenced block with one more line
-pub fenced_with : (s : Source) (source : SourceLine) (b : Block) (kind : Kind) (opening : OpeningFence)
+fenced_with : (s : Source) (source : SourceLine) (b : Block) (kind : Kind) (opening : OpeningFence)
     (lines : List SourceLine) (ends : Bool) → b.kind ≡ was.fenced_leaf opening false lines
     → leaf_with s source b.kind ≡ Some kind → closes s source opening.fence ≡ ends
     → (if ends then was.fenced_leaf opening true lines
@@ -154,7 +154,7 @@ fenced_opened s old new options frames inside b opening at to info built same st
 
 -- ---- metadata
 
-pub metadata_lined : (s : Source) (kind : MetadataBlockKind) (ended : Bool) (lines : List SourceLine)
+metadata_lined : (s : Source) (kind : MetadataBlockKind) (ended : Bool) (lines : List SourceLine)
     → IsLined s (was.metadata_leaf kind ended lines) (body.MetadataBlock kind) None (body.Text false) lines
 metadata_lined s kind ended lines =
     record { leaf = refl; named = refl; end = λ b. refl; shown = λ around b. refl }
@@ -178,7 +178,7 @@ metadata_opened s old new frames inside b kind at to built same start last opens
       end = ends_with_line b kind_of to same refl last;
     })
 
-pub metadata_with : (s : Source) (source : SourceLine) (b : Block) (now : Kind) (kind : MetadataBlockKind)
+metadata_with : (s : Source) (source : SourceLine) (b : Block) (now : Kind) (kind : MetadataBlockKind)
     (lines : List SourceLine) (ends : Bool) → b.kind ≡ was.metadata_leaf kind false lines
     → leaf_with s source b.kind ≡ Some now → closes_metadata kind source.left.bytes ≡ ends
     → (if ends then was.metadata_leaf kind true lines else was.metadata_leaf kind false (lines ++ source ∷ [])) ≡ now

@@ -248,7 +248,7 @@ unfolding goes_on
 one_leaves_off s l b leaf none = rw (no_table s l b b.kind leaf, none, no_container s l b.kind leaf) refl
 
 -- after other blocks
-pub leaf_goes_on : (s : Source) (l : SourceLine) (inside : Forest Block) (b : Block) (now : Kind)
+leaf_goes_on : (s : Source) (l : SourceLine) (inside : Forest Block) (b : Block) (now : Kind)
     → is_leaf b.kind ≡ true → leaf_with s l b.kind ≡ Some now
     → goes_on s (followed_by inside (leaf_block b)) l ≡ Some (followed_by inside (leaf_block (grown_to b l.next now)))
 leaf_goes_on s l inside b now leaf grown =
@@ -280,34 +280,6 @@ leaf_grows s frames inside b l now are nested none leaf grown =
     ∙ leaf_goes_on s r.rest inside b now leaf grown)
     ∙ ap (λ (fs : List Frame). rebuilt (map (touched l) fs) after) all
 
--- where no leaf is open, none goes on
-pub no_leaf_goes_on : (s : Source) (pass : Pass) (frames : List Frame) (inside : Forest Block) (last : Option Block)
-    (rest : SourceLine) → HasLast s pass frames inside last → pass.placing.builder.leaf ≡ false
-    → LeavesOff s rest last
-no_leaf_goes_on s pass frames inside None rest has outside = tt
-no_leaf_goes_on s pass frames inside (Some b) rest has outside = λ is filled. by_held has.0 has.1 is
-  where
-    by_held : (held : Option (List SourceLine)) → MayEnd s pass frames inside b held → is_leaf b.kind ≡ true
-        → leaf_with s rest b.kind ≡ None
-    by_held None may is = absurd (true≢false (sym may.unended.1.leaf ∙ outside))
-    by_held (Some sources) may is = absurd (true≢false (sym is ∙ ap is_leaf may.unended.kind))
-
--- where no paragraph is open, nothing goes on in the rest of a line that is not blank, once the leaf leaves off
-pub nothing_goes_on_in : (s : Source) (pass : Pass) (frames : List Frame) (inside : Forest Block)
-    (last : Option Block) (rest : SourceLine) → HasLast s pass frames inside last → pass.lines.items ≡ []
-    → is_blank_rest rest ≡ false → LeavesOff s rest last → goes_on s (with_last inside last) rest ≡ None
-nothing_goes_on_in s pass frames inside None rest has none filled off = (has.2 rest).0
-nothing_goes_on_in s pass frames inside (Some b) rest has none filled off = by_held has.0 has.1
-  where
-    none_some : (count : ℕ) → 0 < count → count ≡ 0 → ⊥
-    none_some count some none = omega (arith, some, none)
-
-    by_held : (held : Option (List SourceLine)) → MayEnd s pass frames inside b held
-        → goes_on s (followed_by inside (leaf_block b)) rest ≡ None
-    by_held None may = leaf_leaves_off s rest inside b may.unended.0
-        (off may.unended.0 (ap (λ t. t && is_indented b.kind) filled))
-    by_held (Some sources) may = absurd (none_some (length pass.lines.items) may.unended.some (ap length none))
-
 -- ---- which lists are loose, with one leaf instead of another
 
 -- the same lists are loose around other blocks that are as separated
@@ -323,7 +295,7 @@ loose_alike [] one other apart same = same
 loose_alike (f ∷ frames) one other apart same =
     same_last f (rebuilt frames one) (rebuilt frames other) (separated_alike frames one other apart)
 
-pub lists_alike : (frames : List Frame) (one other : Forest Block) → are_separated one ≡ are_separated other
+lists_alike : (frames : List Frame) (one other : Forest Block) → are_separated one ≡ are_separated other
     → is_loose one ≡ is_loose other → are_loose frames one ≡ are_loose frames other
 lists_alike [] one other apart same = refl
 lists_alike (f ∷ frames) one other apart same =
@@ -332,7 +304,7 @@ lists_alike (f ∷ frames) one other apart same =
     ∙ ap (λ flags. if is_list f.block.kind then is_loose (rebuilt frames other) ∷ flags else flags)
     (lists_alike frames one other apart same)
 
-pub empty_alike : (empty : Bool) (frames : List Frame) (one other : Forest Block) → is_nil one ≡ is_nil other
+empty_alike : (empty : Bool) (frames : List Frame) (one other : Forest Block) → is_nil one ≡ is_nil other
     → EmptyKnown empty frames one → EmptyKnown empty frames other
 empty_alike empty [] one other same known = tt
 empty_alike empty (f ∷ []) one other same known = by_kind f.block.kind known

@@ -167,7 +167,7 @@ pub record IsLined (s : Source) (kind : Kind) (body : ItemBody) (text : Option (
 abbrev pub grown_to : Block → ℕ → Kind → Block
 grown_to b to kind = record b { last = to; kind = kind }
 
-pub more_lines_added : (s : Source) (old new : BuilderView) (frames : List Frame) (inside : Forest Block) (b : Block)
+more_lines_added : (s : Source) (old new : BuilderView) (frames : List Frame) (inside : Forest Block) (b : Block)
     (kind now : Kind) (body : ItemBody) (text : Option (List ℕ)) (line : ItemBody) (before lines : List SourceLine)
     → IsLined s kind body text line before → IsLined s now body text line (before ++ lines) → b.kind ≡ kind
     → GoesOn old new new.at → HasMoreTexts old new → HasItems old new (source_lines line lines)

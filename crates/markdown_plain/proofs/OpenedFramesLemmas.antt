@@ -125,7 +125,7 @@ own_label : (b : Block) → footnotes_in (node b nil nil) ≡ label_of b.kind
 unfolding footnotes_in
 own_label b = append-nil (label_of b.kind)
 
-pub opened_is_built : (s : Source) (old new : BuilderView) (frames : List Frame) (inside : Forest Block) (b : Block)
+opened_is_built : (s : Source) (old new : BuilderView) (frames : List Frame) (inside : Forest Block) (b : Block)
     → OpensContainer old new b → innermost_is is_list frames ≡ is_item b.kind → IsBuilt s old frames inside
     → IsBuilt s new (with_frame frames inside b) nil
 opened_is_built s old new frames inside b opens fits built =

@@ -139,10 +139,6 @@ braces_within text line utf8 = of_found (braces_in bytes) refl
 
 -- ---- the last line
 
-line_braces : Options → ℕ → List ℕ → Option Braces
-line_braces options start bytes =
-    if attributes_read options then option_map (braces_from start) (braces_in bytes) else None
-
 last_of : (options : Options) (text : List ℕ) (lines : List HeldLine) (sources : List SourceLine) (from k : ℕ)
     (line : HeldLine) → AreTextLines text lines sources → from < length lines → k + 1 ≡ length lines
     → slice_get lines k ≡ Some line

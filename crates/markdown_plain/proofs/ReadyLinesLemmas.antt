@@ -84,7 +84,7 @@ boundary_after text at line utf8 is =
     add_zero n = omega arith
 
 -- a line is white space, with its ending, where its content is
-pub white_line : (text : List ℕ) (line : Line) → IsLineFrom text line.start line
+white_line : (text : List ℕ) (line : Line) → IsLineFrom text line.start line
     → list_all is_space_or_tab (slice_range text line.start line.stop) ≡ true
     → AllPass is_in_blank_line text line.start line.next
 white_line text line is white = λ k low high.
@@ -241,7 +241,7 @@ pub record IsPlacedHere (pass : Pass) (to : ℕ) : Type 0 where
   pub row : is_in_row pass.placing.builder.blocks ≡ false
   pub leaf : pass.placing.builder.leaf ≡ true → IsInLeaf pass.placing.builder
 
-pub placed_ready : (pass : Pass) (to : ℕ) → IsPlacedHere pass to → IsReadyAfter pass to
+placed_ready : (pass : Pass) (to : ℕ) → IsPlacedHere pass to → IsReadyAfter pass to
 placed_ready pass to is =
     let view = pass.placing.builder in
     let here : leaf_end pass ≡ to = leaf_end_here pass is.lines ∙ is.at in
@@ -268,7 +268,7 @@ placed_ready pass to is =
 -- ---- leaves
 
 -- open blocks that are containers of the definition are containers
-pub containers_open : (texts : List (List ℕ)) (blocks : List OpenBlock) (frames : List Frame)
+containers_open : (texts : List (List ℕ)) (blocks : List OpenBlock) (frames : List Frame)
     → AreOpen texts blocks frames → AreContainers blocks
 containers_open texts [] frames are = tt
 containers_open texts (block ∷ blocks) [] are = absurd are

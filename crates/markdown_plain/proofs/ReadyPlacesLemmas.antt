@@ -121,7 +121,7 @@ no_frames texts [] (f ∷ frames) are none = absurd are
 no_frames texts (block ∷ blocks) frames are none = absurd (omega (arith, ap length none))
 
 -- the blocks around what is built are containers
-pub built_containers : (s : Source) (view : BuilderView) (frames : List Frame) (inside : Forest Block)
+built_containers : (s : Source) (view : BuilderView) (frames : List Frame) (inside : Forest Block)
     → IsBuilt s view frames inside → AreContainers (without_leaf view)
 built_containers s view frames inside built =
     on_test AreContainers view.leaf (outer_of view.blocks) view.blocks
@@ -129,7 +129,7 @@ built_containers s view frames inside built =
     (λ other. are_bodies view.texts view.blocks frames built.blocks)
 
 -- those around an open leaf are
-pub leaf_containers : (s : Source) (view : BuilderView) (frames : List Frame) (inside : Forest Block) (b : Block)
+leaf_containers : (s : Source) (view : BuilderView) (frames : List Frame) (inside : Forest Block) (b : Block)
     → IsOpenIn s view frames inside true b → AreContainers (without_leaf view)
 leaf_containers s view frames inside b is =
     on_test AreContainers view.leaf (outer_of view.blocks) view.blocks
@@ -155,7 +155,7 @@ none_held_back pass none =
     ∙ and-false (not pass.placing.builder.leaf)
 
 -- the next line may be read
-pub ready_after : (pass : Pass) (to : ℕ) → IsLeftAt pass to → IsReadyAfter pass to
+ready_after : (pass : Pass) (to : ℕ) → IsLeftAt pass to → IsReadyAfter pass to
 ready_after pass to is =
     let view = pass.placing.builder in
     let none : has_paragraph pass ≡ false = none_held_back pass is.lines in

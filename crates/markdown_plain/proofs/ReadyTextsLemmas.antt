@@ -41,11 +41,11 @@ use Rattle.markdown_plain.proofs.ReadyPlacesLemmas.{ending_white, next_between, 
 -- ---- open blocks
 
 -- no leaf is open, so that the open blocks are those without one
-pub outside_leaf : (view : BuilderView) → view.leaf ≡ false → without_leaf view ≡ view.blocks
+outside_leaf : (view : BuilderView) → view.leaf ≡ false → without_leaf view ≡ view.blocks
 outside_leaf view outside = ap (λ leaf. if leaf then outer_of view.blocks else view.blocks) outside
 
 -- lines are held back, where no leaf is open
-pub some_held : (pass : Pass) → pass.placing.builder.leaf ≡ false → 0 < length pass.lines.items
+some_held : (pass : Pass) → pass.placing.builder.leaf ≡ false → 0 < length pass.lines.items
     → has_paragraph pass ≡ true
 some_held pass outside some =
     let other : (length pass.lines.items == 0) ≡ false = grind (arith, nat_tests, some) in
@@ -63,7 +63,7 @@ pub record HoldsText (pass : Pass) (to : ℕ) : Type 0 where
   pub ends : lines_end pass.lines.items ≡ to
   pub boundary : IsCharBoundary pass.placing.builder.text to
 
-pub held_ready : (pass : Pass) (to : ℕ) → HoldsText pass to → IsReadyAfter pass to
+held_ready : (pass : Pass) (to : ℕ) → HoldsText pass to → IsReadyAfter pass to
 held_ready pass to holds =
     let view = pass.placing.builder in
     let has = some_held pass holds.outside holds.some in
@@ -87,15 +87,15 @@ held_ready pass to holds =
     }
 
 -- without lines there are none ahead, and no task marker
-pub none_ahead : (builder : BuilderView) (lines : List HeldLine) → lines ≡ [] → AreAhead builder lines
+none_ahead : (builder : BuilderView) (lines : List HeldLine) → lines ≡ [] → AreAhead builder lines
 none_ahead builder lines none =
     subst (AreAhead builder) (sym none) (record { inside = tt; order = tt; apart = λ outside. tt })
 
-pub no_task : (text : List ℕ) (task : Option Bool) (lines : List HeldLine) → lines ≡ [] → HaveTask text task lines
+no_task : (text : List ℕ) (task : Option Bool) (lines : List HeldLine) → lines ≡ [] → HaveTask text task lines
 no_task text task lines none = subst (HaveTask text task) (sym none) tt
 
 -- the open leaf ends where the builder is
-pub end_here : (pass : Pass) → pass.lines.items ≡ [] → leaf_end pass ≡ pass.placing.builder.at
+end_here : (pass : Pass) → pass.lines.items ≡ [] → leaf_end pass ≡ pass.placing.builder.at
 end_here pass none =
     ap {B = ℕ} (λ (lines : List HeldLine). if not pass.placing.builder.leaf && not (length lines == 0)
     then lines_end lines else pass.placing.builder.at) none
@@ -127,7 +127,7 @@ apart_after text from [] line are white over = (white, (over, tt))
 apart_after text from (m ∷ lines) line are white over =
     (are.0, (are.1.0, apart_after text m.next lines line are.1.1 white over))
 
-pub ahead_after : (builder : BuilderView) (lines : List HeldLine) (line : HeldLine) → AreAhead builder lines
+ahead_after : (builder : BuilderView) (lines : List HeldLine) (line : HeldLine) → AreAhead builder lines
     → AreInParagraph builder.text (lines ++ line ∷ []) → IsNextLine builder lines line
     → AreAhead builder (lines ++ line ∷ [])
 ahead_after builder lines line ahead inside next = record {
@@ -164,7 +164,7 @@ read_task options text line = by_test (is_read ENABLE_TASKLISTS options)
     by_test false = tt
 
 -- what begins at a byte offset of a line has the task marker that was read there
-pub first_task_held : (pass : Pass) (line : Line) (start : ℕ) (task : Option Bool) → task ≡ task_at pass line start
+first_task_held : (pass : Pass) (line : Line) (start : ℕ) (task : Option Bool) → task ≡ task_at pass line start
     → HasTask pass.placing.builder.text task (held_line line start)
 first_task_held pass line start task is =
     subst (λ found. HasTask pass.placing.builder.text found (held_line line start)) (sym is)

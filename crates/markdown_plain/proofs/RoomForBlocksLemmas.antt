@@ -142,7 +142,7 @@ no_item : (s : Source) (l : SourceLine) (marker : ListMarker) (b : Beginning) �
 no_item s l marker (beginning.begins_item found indent rest) needs = absurd needs
 no_item s l marker other needs = refl
 
-pub no_next_item : (s : Source) (l : SourceLine) (marker : ListMarker) (b : Beginning) → IsLeftOf s.text l.left
+no_next_item : (s : Source) (l : SourceLine) (marker : ListMarker) (b : Beginning) → IsLeftOf s.text l.left
     → is_blank_rest l ≡ false → begins s paragraph.NoParagraph l ≡ b → NeedsRoom b → next_item s l marker ≡ None
 no_next_item s l marker b own filled is needs =
     item_begun s l marker own filled ∙ (ap (another_item s l marker) is ∙ no_item s l marker b needs)
@@ -237,7 +237,7 @@ room_at_root (f ∷ g ∷ outer) frames lists nested taken =
 -- ---- containers that go on in the line
 
 -- what is remembered of lists is the same
-pub loose_touched : (l : SourceLine) (now : Looseness) (frames : List Frame) (inside : Forest Block)
+loose_touched : (l : SourceLine) (now : Looseness) (frames : List Frame) (inside : Forest Block)
     → IsLooseBefore now frames inside → IsLooseBefore now (map (touched l) frames) inside
 loose_touched l now frames inside loose = record {
   lists = λ new one. loose.lists new one ∙ sym (lists_touched l frames (followed_by inside new));
@@ -245,7 +245,7 @@ loose_touched l now frames inside loose = record {
 }
 
 -- the innermost container is a list as before
-pub free_touched : (l : SourceLine) (frames : List Frame)
+free_touched : (l : SourceLine) (frames : List Frame)
     → innermost_is is_list (map (touched l) frames) ≡ innermost_is is_list frames
 free_touched l [] = refl
 free_touched l (f ∷ []) = refl

@@ -33,7 +33,7 @@ pub record IsWhiteBefore (text : List ℕ) (from to : ℕ) : Type 0 where
   pub boundary : IsCharBoundary text to
   pub white : AllPass is_in_blank_line text from to
 
-pub content_white : (s : Source) (rest : LineRest) (source : SourceLine) → IsLeft s rest source
+content_white : (s : Source) (rest : LineRest) (source : SourceLine) → IsLeft s rest source
     → is_blank_rest source ≡ false → IsWhiteBefore s.text rest.position.at (content_of source)
 content_white s rest source left filled =
     let at = content_of source in

@@ -47,17 +47,6 @@ found_text s rest source at found =
     let is = found_begins s rest source at start.Text beginning.begins_text found refl in
     record { filled = is.0; here = found.begins; text = is.1 }
 
--- so it is where its first byte shows that
-pub shown_text : (s : Source) (rest : LineRest) (source : SourceLine) → IsLeft s rest source
-    → IsTextFrom s.text rest.position rest.line.stop → IsTextLeft s rest source rest.position.at
-shown_text s rest source left shows =
-    let same = sym left.is.rest.left in
-    record {
-      filled = shows.filled source same;
-      here = sym (shows.here source same);
-      text = shows.begins_it s rest.before source refl same;
-    }
-
 -- after the containers that go on in the line
 text_first : (s : Source) (old new : Pass) (rest : LineRest) (at : ℕ) (before : Before) (line source : SourceLine)
     (blocks : Forest Block) → AddsText old new rest.line at rest.depth

@@ -103,23 +103,6 @@ pub quotes_touched : (l : SourceLine) (to : ℕ) → l.next ≡ to → (frames :
 quotes_touched l to ends [] = tt
 quotes_touched l to ends (f ∷ frames) = (λ quote. ends, quotes_touched l to ends frames)
 
-last_placed : (in_list : Bool) (l : SourceLine) (f : Frame) (before below now : Forest Block)
-    → (AreItemsInLists (is_list f.block.kind) below → AreItemsInLists (is_list f.block.kind) now)
-    → AreItemsInLists in_list (followed_by before (node f.block below nil))
-    → AreItemsInLists in_list (followed_by before (node (touched l f).block now nil))
-last_placed in_list l f nil below now inner are = (are.0, inner are.1, tt)
-last_placed in_list l f (node b inside after) below now inner are =
-    (are.0, are.1, last_placed in_list l f after below now inner are.2)
-
--- other blocks in the innermost may be there too
-pub items_touched : (l : SourceLine) (in_list : Bool) (frames : List Frame) (inside now : Forest Block)
-    → ((listed : Bool) → AreItemsInLists listed inside → AreItemsInLists listed now)
-    → AreItemsInLists in_list (rebuilt frames inside) → AreItemsInLists in_list (rebuilt (map (touched l) frames) now)
-items_touched l in_list [] inside now inner are = inner in_list are
-items_touched l in_list (f ∷ frames) inside now inner are =
-    last_placed in_list l f f.before (rebuilt frames inside) (rebuilt (map (touched l) frames) now)
-    (λ these. items_touched l (is_list f.block.kind) frames inside now inner these) are
-
 -- ---- when they were opened
 
 pub earlier_touched : (l : SourceLine) (from to : ℕ) → from ≤ to → (frames : List Frame) → AreOpenedBefore from frames

@@ -22,7 +22,7 @@ use Rattle.markdown_plain.proofs.TextHereLemmas.{text_fits, text_here}
 use Rattle.markdown_plain.proofs.TextStepsLemmas.{AddsText}
 
 -- at either turn, this is left of the line
-pub here_left : (s : Source) (pass : Pass) (rest : LineRest) (turn : Turn) (source : SourceLine) (blocks : Forest Block)
+here_left : (s : Source) (pass : Pass) (rest : LineRest) (turn : Turn) (source : SourceLine) (blocks : Forest Block)
     → IsHere s pass rest turn source blocks → IsLeft s rest source
 here_left s pass rest (first before line) source blocks here = here.left
 here_left s pass rest (later frames) source blocks here = here.left
