@@ -21,7 +21,7 @@ use Rattle.markdown_plain.specs.Frames.{Frame, rebuilt}
 use Rattle.markdown_plain.specs.Settled.{AreOpen, IsAtEnd, IsBodyOf, IsBuilt, around_in, levels_shown, placed_end}
 use Rattle.markdown_plain.specs.declared.pass.Pass.{Pass}
 use Rattle.markdown_plain.specs.OpenedFrames.{around_innermost}
-use Rattle.markdown_plain.proofs.ClosedFramesLemmas.{end_of_both, shown_of_both, some_level}
+use Rattle.markdown_plain.proofs.ClosedFramesLemmas.{end_of_both, shown_of_both}
 
 -- ---- what is shown
 

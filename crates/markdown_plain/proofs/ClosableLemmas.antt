@@ -46,7 +46,7 @@ use Rattle.markdown_plain.proofs.ParagraphLinesLemmas.{if_some, marker_within, r
 use Rattle.markdown_plain.specs.declared.paragraph.Ends.{Ends}
 use Rattle.markdown_plain.specs.Closable.{AreAhead, AreApart, AreClosable, AreContainers, AreInText, has_quote}
 use Rattle.markdown_plain.specs.Closable.{leaf_end, HasBraces, HasRoomFor, HasTask, HaveTask, IsClosable, IsInList}
-use Rattle.markdown_plain.specs.Closable.{IsPlaceable, IsReady, IsInText, IsLastInText, IsLeafOpen, IsWhiteBefore}
+use Rattle.markdown_plain.specs.Closable.{IsPlaceable, IsInText, IsLastInText, IsLeafOpen, IsWhiteBefore}
 use Rattle.markdown_lines.specs.declared.braces.Braces.{Braces}
 use Rattle.std.specs.Option.{option_map_or}
 use Rattle.markdown_plain.specs.Fitting.{AllFitted, GoesOn, OpensHeading, closed, defining, IsAhead, IsWhiteOutside}

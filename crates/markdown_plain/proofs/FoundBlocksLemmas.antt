@@ -1,12 +1,12 @@
 -- What a reader of the rest of a line finds is what the line begins, as the definition says.
 use Rattle.std.proofs.Common.{◌≡◌, ℕ, ◌+◌, ◌&&◌, ◌||◌, ◌==◌, Bool, true, false, List, Option, Some, None, refl}
-use Rattle.std.proofs.Common.{sym, ap, ◌∙◌, ◌≤◌, subst}
+use Rattle.std.proofs.Common.{sym, ap, ◌∙◌, subst}
 use Rattle.std.proofs.lemmas.Option.{none-some}
 use Rattle.std.specs.Prelude.{if◌then◌else◌, unwrap_or}
 use Rattle.std.specs.List.{list_all, prefix_len}
 use Rattle.std.specs.Option.{option_and_then}
 use Rattle.std.proofs.lemmas.Bool.{true≢false}
-use Rattle.markdown_base.specs.Forest.{Forest, nil}
+use Rattle.markdown_base.specs.Forest.{Forest}
 use Rattle.markdown_base.specs.declared.options.Options.{Options}
 use Rattle.markdown_base.specs.declared.options.TheConstants.Options.{ENABLE_YAML_STYLE_METADATA_BLOCKS}
 use Rattle.markdown_base.specs.declared.options.TheConstants.Options.{ENABLE_PLUSES_DELIMITED_METADATA_BLOCKS}
@@ -25,19 +25,16 @@ use Rattle.markdown_lines.specs.MetadataBlocks.{opened_before}
 use Rattle.markdown_lines.specs.Positions.{left_from}
 use Rattle.markdown_lines.specs.SourceLines.{SourceLine, is_blank_rest}
 use Rattle.markdown_lines.specs.declared.block_start.Before.{Before}
-use Rattle.markdown_lines.specs.declared.block_start.Before.TheVariants as paragraph
 use Rattle.markdown_lines.specs.declared.block_start.BlockStart.{BlockStart}
 use Rattle.markdown_lines.specs.declared.block_start.BlockStart.TheVariants as start
 use Rattle.markdown_lines.specs.declared.line_reader.LineReader.{LineReader}
-use Rattle.markdown_block_rules.specs.BlockGrowth.{Block, begun_by, inside_of, new_blocks}
+use Rattle.markdown_block_rules.specs.BlockGrowth.{Block}
 use Rattle.markdown_plain.specs.declared.beginnings.LineRest.{LineRest}
 use Rattle.markdown_plain.specs.declared.pass.Pass.{Pass}
 use Rattle.markdown_plain.specs.Beginning.{IsFirst, IsFound, IsHere, IsInside, IsLeft, Turn, first, later}
-use Rattle.markdown_plain.specs.Beginning.{begun_in_rest, reads_metadata}
+use Rattle.markdown_plain.specs.Beginning.{reads_metadata}
 use Rattle.markdown_plain.specs.Frames.{Frame}
 use Rattle.markdown_plain.specs.ReachedLines.{Before as LineBefore}
-use Rattle.markdown_plain.proofs.BegunLemmas.{begun_once}
-use Rattle.markdown_plain.proofs.BegunRestsLemmas.{HoldsRest, begins_rest}
 
 -- a reader of the same line has found the same
 found_same : (old new : LineReader) (start : BlockStart) → IsSameLine old new

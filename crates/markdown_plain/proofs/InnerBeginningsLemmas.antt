@@ -1,23 +1,19 @@
 -- What the bytes of a line after its white space begin where no paragraph is reached: no underline, and no metadata.
-use Rattle.std.proofs.Common.{◌≡◌, ℕ, ◌+◌, Bool, true, false, List, [], ◌∷◌, Option, Some, None, sym, ap, ◌∙◌, subst}
-use Rattle.std.proofs.Common.{◌||◌, ◌==◌, codes, length, refl}
-use Rattle.std.proofs.lemmas.Option.{none-some}
-use Rattle.std.specs.Prelude.{if◌then◌else◌, slice_index, unwrap_or}
-use Rattle.std.specs.Option.{option_and_then, option_map}
+use Rattle.std.proofs.Common.{◌≡◌, ℕ, ◌+◌, false, List, [], ◌∷◌, Option, Some, None, sym, subst}
+use Rattle.std.proofs.Common.{◌||◌, ◌==◌, codes, length}
+use Rattle.std.specs.Prelude.{if◌then◌else◌, slice_index}
+use Rattle.std.specs.Option.{option_map}
 use Rattle.markdown_base.specs.EnabledOptions.{footnotes_on}
 use Rattle.markdown_base.specs.declared.tag.BlockQuoteKind.{BlockQuoteKind}
 use Rattle.markdown_scan.specs.Beginnings.{begins_with}
-use Rattle.markdown_scan.specs.LineStart.{LineLeft, leading_space, past_marker}
+use Rattle.markdown_scan.specs.LineStart.{LineLeft, past_marker}
 use Rattle.markdown_lines.specs.Alerts.{alert_read}
 use Rattle.markdown_lines.specs.AtxHeadings.{atx_heading_at}
 use Rattle.markdown_lines.specs.CodeFences.{opening_fence_at}
 use Rattle.markdown_lines.specs.HtmlBeginnings.{html_kind_of}
 use Rattle.markdown_lines.specs.ListMarkers.{list_marker_at}
-use Rattle.markdown_lines.specs.MetadataBlocks.{metadata_opened}
 use Rattle.markdown_lines.specs.ThematicBreaks.{is_thematic_break, setext_level}
 use Rattle.markdown_lines.specs.declared.block_start.Before.{Before}
-use Rattle.markdown_lines.specs.declared.block_start.Before.TheVariants as paragraph
-use Rattle.markdown_lines.specs.declared.block_start.BlockStart.{BlockStart}
 use Rattle.markdown_lines.specs.BlockBeginnings as line
 use Rattle.markdown_lines.specs.BlockBeginnings.{Beginning, Source, begins, begins_after, break_in_line, fence_in_line}
 use Rattle.markdown_lines.specs.BlockBeginnings.{first_found, footnote_in_line, footnote_marker, heading_in_line}
@@ -25,11 +21,7 @@ use Rattle.markdown_lines.specs.BlockBeginnings.{html_in_line, is_paragraph, is_
 use Rattle.markdown_lines.specs.BlockBeginnings.{metadata_begun, past_bytes}
 use Rattle.markdown_lines.specs.BlockBeginnings.{quote_in_line, quote_of, quote_or_alert, underline_in_line}
 use Rattle.markdown_lines.specs.BlockBeginnings.{whole_heading}
-use Rattle.markdown_lines.specs.BlockStarts.{begins_unless_blank, beginning_found}
-use Rattle.markdown_lines.specs.SourceLines.{SourceLine, is_blank_rest}
 use Rattle.markdown_block_rules.proofs.BlockBeginningsLemmas.{either}
-use Rattle.markdown_plain.specs.declared.beginnings.LineRest.{LineRest}
-use Rattle.markdown_plain.specs.Beginning.{IsFound}
 
 -- it begins inside a container
 abbrev pub BeginsInside : Beginning → Type 0

@@ -1,6 +1,6 @@
 -- Directly in the lists of a text there are items and blank lines, and items nowhere else: each line keeps that.
 use Rattle.std.proofs.Common.{◌≡◌, ◌∙◌, ℕ, zero, suc, Bool, true, false, not, ◌||◌, ◌&&◌, ◌==◌, List, [], ◌∷◌, ◌++◌}
-use Rattle.std.proofs.Common.{Option, Some, None, IfSome, length, refl, sym, subst, nat_le}
+use Rattle.std.proofs.Common.{Option, Some, None, IfSome, length, refl, sym, subst}
 use Rattle.std.proofs.lemmas.Bool.{true≢false}
 use Rattle.std.specs.Prelude.{unwrap_or, if◌then◌else◌}
 use Rattle.std.specs.Option.{option_map, option_or}
@@ -25,7 +25,7 @@ use Rattle.markdown_block_rules.specs.BlockGrowth.{table_after, table_ended, tab
 use Rattle.markdown_block_rules.specs.BlockGrowth.{with_lazy, with_lazy_text, with_line, with_next_line, with_rest}
 use Rattle.markdown_block_rules.specs.BlockGrowth.{with_ended_table, within_limit}
 use Rattle.markdown_block_rules.specs.BlockRules.{is_blank_block}
-use Rattle.markdown_block_rules.specs.TableLines.{alignments_for, is_row, most_added, reads_tables}
+use Rattle.markdown_block_rules.specs.TableLines.{alignments_for, is_row, reads_tables}
 use Rattle.markdown_block_rules.proofs.BlockBeginningsLemmas.{either}
 use Rattle.markdown_builder.specs.TreeLevels.{followed_by}
 use Rattle.markdown_plain.specs.Closing.{AreItemsInLists, MayBeIn}

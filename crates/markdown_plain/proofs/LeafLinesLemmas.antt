@@ -1,6 +1,6 @@
 -- What is open before a line; and an open leaf that goes on in the line, or leaves off.
 use Rattle.std.proofs.Common.{◌≡◌, ℕ, Bool, true, false, not, ◌&&◌, ◌||◌, List, [], ◌∷◌, ◌++◌, Option, Some, None}
-use Rattle.std.proofs.Common.{suc, ◌-◌, ◌<◌, arith, length, map, refl, sym, ap, ◌∙◌, append-nil, true≢false}
+use Rattle.std.proofs.Common.{suc, ◌-◌, arith, length, map, refl, sym, ap, ◌∙◌, append-nil, true≢false}
 use Rattle.std.proofs.Math.Bool.{and-false, or-false}
 use Rattle.std.specs.Prelude.{slice_get, if◌then◌else◌}
 use Rattle.std.specs.Option.{option_map, option_map_or}
@@ -12,7 +12,7 @@ use Rattle.markdown_builder.specs.Shown.{Shown, unnumbered}
 use Rattle.markdown_builder.specs.TreeLevels.{followed_by}
 use Rattle.markdown_builder.specs.declared.open_block.OpenBlock.{OpenBlock}
 use Rattle.markdown_lines.specs.BlockBeginnings.{Source}
-use Rattle.markdown_lines.specs.SourceLines.{SourceLine, is_blank_rest}
+use Rattle.markdown_lines.specs.SourceLines.{SourceLine}
 use Rattle.markdown_lines.specs.declared.line.Line.{Line}
 use Rattle.markdown_block_rules.specs.BlockGrowth as was
 use Rattle.markdown_block_rules.specs.BlockGrowth.{Block, Kind, container_with, goes_on, is_nil, leaf_with, table_with}
@@ -30,7 +30,7 @@ use Rattle.markdown_plain.specs.OpenBlocks.{innermost_is, is_table, outer_of, wi
 use Rattle.markdown_plain.specs.OpenLeaves.{IsOpenIn, is_leaf, leaf_block}
 use Rattle.markdown_plain.specs.OpenedFrames.{around_innermost}
 use Rattle.markdown_plain.specs.ReachedFrames.{IsAtMostLeaf, IsBefore, IsReached}
-use Rattle.markdown_plain.specs.ReachedLines.{Before, IsReachedBy, LeavesOff, blocks_in, is_indented}
+use Rattle.markdown_plain.specs.ReachedLines.{Before, IsReachedBy, blocks_in}
 use Rattle.markdown_plain.specs.declared.containers.Reached as code
 use Rattle.markdown_plain.specs.Settled.{AreOpen, EmptyKnown, EmptyKnownIn, IsBodyOf, IsLooseAs, are_loose, placed_end}
 use Rattle.markdown_plain.specs.Standing.{HasLast, IsLeafKind, IsSource, KnowsLast, Stands, with_last}

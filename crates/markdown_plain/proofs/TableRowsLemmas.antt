@@ -1,6 +1,6 @@
 -- A cell is one tree of its row, and a row with as many cells as the open table has columns may be closed.
 use Rattle.std.proofs.Common.{◌≡◌, ℕ, ◌+◌, List, [], ◌∷◌, ◌++◌, Option, Some, true, false, length, refl, sym, ap}
-use Rattle.std.proofs.Common.{◌∙◌, subst, arith, ◌≤◌, ◌<◌, ◌-◌, min, take, drop, ⊎_elim}
+use Rattle.std.proofs.Common.{◌∙◌, subst, arith, ◌≤◌, ◌<◌, ◌-◌, take, drop, ⊎_elim}
 use Rattle.std.proofs.lemmas.Bool.{cases_lt}
 use Rattle.std.specs.Option.{option_map_or}
 use Rattle.std.proofs.lemmas.List.{append_assoc, length-append}

@@ -13,7 +13,7 @@ use Rattle.markdown_block_rules.specs.BlockGrowth as was
 use Rattle.markdown_block_rules.specs.BlockGrowth.{Block, begun_by, content_of, goes_on, inside_of, new_blocks}
 use Rattle.markdown_plain.specs.declared.beginnings.LineRest.{LineRest}
 use Rattle.markdown_plain.specs.declared.pass.Pass.{Pass}
-use Rattle.markdown_plain.specs.Beginning.{IsFirst, IsFound, IsHere, IsInside, IsLeft, Turn, first, later}
+use Rattle.markdown_plain.specs.Beginning.{IsFirst, IsFound, IsHere, IsInside, Turn, first, later}
 use Rattle.markdown_plain.specs.Closable.{IsInText, IsReadyAfter}
 use Rattle.markdown_plain.specs.Fitting.{AllFitted, IfFitted}
 use Rattle.markdown_plain.specs.Frames.{Frame, rebuilt}
@@ -23,7 +23,7 @@ use Rattle.markdown_plain.specs.Paragraphs.{task_at}
 use Rattle.markdown_plain.specs.ReachedLines.{Before, blocks_in, reached_of}
 use Rattle.markdown_plain.specs.Settled.{IsBuilt, placed_end}
 use Rattle.markdown_plain.specs.Standing.{PlacesFor}
-use Rattle.markdown_plain.specs.TextLines.{IsContentAt, IsTextFrom, IsTextHere, held_line}
+use Rattle.markdown_plain.specs.TextLines.{IsContentAt, IsTextHere, held_line}
 use Rattle.markdown_plain.proofs.BegunBlocksLemmas.{begun_block, source_kept}
 use Rattle.markdown_plain.proofs.BegunLemmas.{begun_once}
 use Rattle.markdown_plain.proofs.BegunTextsLemmas.{none_open, text_begins, text_inside}

@@ -1,17 +1,15 @@
 -- Open containers that go on in a line are open as before: what is known of the blocks in them stays.
-use Rattle.std.proofs.Common.{◌≡◌, ℕ, ◌≤◌, Bool, List, [], ◌∷◌, ◌++◌, arith, map, refl, sym, ap, ◌∙◌, subst}
-use Rattle.markdown_base.specs.Forest.{Forest, nil, node}
+use Rattle.std.proofs.Common.{◌≡◌, ℕ, ◌≤◌, List, [], ◌∷◌, ◌++◌, arith, map, refl, sym, ap, ◌∙◌, subst}
+use Rattle.markdown_base.specs.Forest.{Forest}
 use Rattle.markdown_builder.specs.declared.open_block.OpenBlock.{OpenBlock}
 use Rattle.markdown_builder.specs.BuilderView.{BuilderView}
-use Rattle.markdown_builder.specs.TreeLevels.{followed_by}
 use Rattle.markdown_lines.specs.BlockBeginnings.{Source}
 use Rattle.markdown_lines.specs.SourceLines.{SourceLine}
 use Rattle.markdown_block_rules.specs.BlockGrowth as was
 use Rattle.markdown_block_rules.specs.BlockGrowth.{Block, Kind}
 use Rattle.markdown_block_rules.specs.BlockRules.{Around, definitions_in, footnotes_in, in_no_item, shown_blocks}
 use Rattle.markdown_plain.specs.declared.pass.Pass.{Pass}
-use Rattle.markdown_plain.specs.Closing.{AreItemsInLists}
-use Rattle.markdown_plain.specs.Frames.{AreNested, Frame, is_list, rebuilt, touched}
+use Rattle.markdown_plain.specs.Frames.{AreNested, Frame, rebuilt, touched}
 use Rattle.markdown_plain.specs.OpenLeaves.{HoldsParagraph}
 use Rattle.markdown_plain.specs.OpenedFrames.{around_innermost}
 use Rattle.markdown_plain.specs.Paragraphs.{EndsFrom, first_task}

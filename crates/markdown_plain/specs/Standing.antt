@@ -1,6 +1,5 @@
 -- What the pass stands for between two lines, where no table is open: the blocks of the lines so far. And what it
--- stands
--- for once a line that is not blank is placed, before that is recorded.
+-- stands for once a line that is not blank is placed, before that is recorded.
 use Rattle.std.specs.Prelude.{◌≡◌, ℕ, ◌<◌, ◌≤◌, Bool, true, false, List, [], ◌∷◌, ◌++◌, Option, Some, None}
 use Rattle.std.specs.Str.{IsCharBoundary, IsUtf8}
 use Rattle.markdown_base.specs.Forest.{Forest}
