@@ -319,11 +319,11 @@ room_inside s room now rest next source begun blocks inside kind has goes is pas
 -- ---- a paragraph inside it
 
 -- where the line of a paragraph fitted, so did what was made before it
-pub fitted_before : (old now : Pass) (P : Type 0)
+pub fitted_before_line : (old now : Pass) (P : Type 0)
     → (has_paragraph old ≡ true → now ≡ record old { lines = now.lines })
     → (has_paragraph old ≡ false → IfFitted old.placing now.placing P) → AllFitted now.placing
     → AllFitted old.placing
-fitted_before old now P goes_on begins fitted = by_paragraph (has_paragraph old) refl
+fitted_before_line old now P goes_on begins fitted = by_paragraph (has_paragraph old) refl
   where
     by_paragraph : (some : Bool) → has_paragraph old ≡ some → AllFitted old.placing
     by_paragraph true is = subst (λ (p : Pass). AllFitted p.placing) (goes_on is) fitted

@@ -49,7 +49,9 @@ use Rattle.markdown_plain.proofs.LastBlocksLemmas.{open_are_containers}
 use Rattle.markdown_plain.proofs.OpenedFramesLemmas.{item_placed}
 use Rattle.markdown_plain.proofs.ReachedLemmas.{block_begins, inner_left, item_begins, list_ends, outer_taken}
 use Rattle.markdown_plain.proofs.ReachedLemmas.{reached_next, reached_parts}
-use Rattle.markdown_plain.proofs.RoomForBlocksLemmas.{is_begun, last_open, line_some, none_goes_on, not_opened}
+use Rattle.markdown_plain.proofs.RoomForBlocksLemmas.{is_begun, line_some, none_goes_on}
+use Rattle.markdown_plain.proofs.RoomLemmas.{last_open}
+use Rattle.markdown_plain.proofs.TouchedFramesLemmas.{not_opened}
 use Rattle.markdown_plain.proofs.TouchedFramesLemmas.{built_touched, earlier_touched, quotes_touched}
 
 -- ---- what a line makes of blocks with an item that it begins

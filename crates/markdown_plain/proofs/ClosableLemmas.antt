@@ -50,6 +50,7 @@ use Rattle.markdown_plain.specs.Closable.{IsPlaceable, IsInText, IsLastInText, I
 use Rattle.markdown_lines.specs.declared.braces.Braces.{Braces}
 use Rattle.std.specs.Option.{option_map_or}
 use Rattle.markdown_plain.specs.Fitting.{AllFitted, GoesOn, OpensHeading, closed, defining, IsAhead, IsWhiteOutside}
+use Rattle.std.proofs.Math.Bool.{and-false}
 
 -- where a leaf is open, no call is outside blocks
 pub inside_leaf : (builder : BuilderView) (to : ℕ) → IsLeafOpen builder → IsWhiteOutside builder to
@@ -738,16 +739,28 @@ white_ahead text at to builder same here white = λ none.
     subst (λ t. AllPass is_in_blank_line t builder.at to) (sym same)
     (subst (λ k. AllPass is_in_blank_line text k to) (sym here) white)
 
--- ---- a paragraph of definitions alone
+-- ---- where no lines are held back
 
-no_paragraph : (pass : Pass) → pass.lines.items ≡ [] → has_paragraph pass ≡ false
+-- no paragraph is
+pub no_paragraph : (pass : Pass) → pass.lines.items ≡ [] → has_paragraph pass ≡ false
 no_paragraph pass none =
     ap (λ (lines : List HeldLine). not pass.placing.builder.leaf && not (length lines == 0)) none
-    ∙ never (not pass.placing.builder.leaf)
-  where
-    never : (b : Bool) → (b && false) ≡ false
-    never true = refl
-    never false = refl
+    ∙ and-false (not pass.placing.builder.leaf)
+
+-- the open leaf ends where the builder is
+pub leaf_end_here : (pass : Pass) → pass.lines.items ≡ [] → leaf_end pass ≡ pass.placing.builder.at
+leaf_end_here pass none =
+    ap (λ (has : Bool). if has then lines_end pass.lines.items else pass.placing.builder.at) (no_paragraph pass none)
+
+-- without lines there are none ahead, and no task marker
+pub none_ahead : (builder : BuilderView) (lines : List HeldLine) → lines ≡ [] → AreAhead builder lines
+none_ahead builder lines none =
+    subst (AreAhead builder) (sym none) (record { inside = tt; order = tt; apart = λ outside. tt })
+
+pub no_task : (text : List ℕ) (task : Option Bool) (lines : List HeldLine) → lines ≡ [] → HaveTask text task lines
+no_task text task lines none = subst (HaveTask text task) (sym none) tt
+
+-- ---- a paragraph of definitions alone
 
 pub ended_definitions : (old new : Pass) (definitions : List Definition) → IsClosable old → has_paragraph old ≡ true
     → new.lines.items ≡ [] → new.placed ≡ old.placed
@@ -760,14 +773,14 @@ ended_definitions old new definitions is has none placed e =
     let blocks : now.blocks ≡ was.blocks = ap (λ (b : BuilderView). b.blocks) e in
     let inner : without_leaf now ≡ without_leaf was = ap without_leaf e in
     let end : leaf_end new ≡ leaf_end old =
-    ap (λ (t : Bool). if t then lines_end new.lines.items else now.at) (no_paragraph new none)
+    leaf_end_here new none
     ∙ (ap (λ (b : BuilderView). b.at) e
     ∙ sym (ap (λ (t : Bool). if t then lines_end old.lines.items else was.at) has)) in
     record {
       some = λ inside empty. is.some (sym leaf ∙ inside) (sym blocks ∙ empty);
       other = ap is_in_row blocks ∙ is.other;
-      held = λ outside. subst (AreAhead now) (sym none) (record { inside = tt; order = tt; apart = λ empty. tt });
-      task = subst (HaveTask now.text new.task) (sym none) tt;
+      held = λ outside. none_ahead now new.lines.items none;
+      task = no_task now.text new.task new.lines.items none;
       containers = subst AreContainers (sym inner) is.containers;
       low = subst (λ n. n ≤ new.placed) (sym end) (subst (λ n. leaf_end old ≤ n) (sym placed) is.low);
       boundary = subst (λ t. IsCharBoundary t new.placed) (sym text)

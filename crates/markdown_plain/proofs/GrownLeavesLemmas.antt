@@ -43,7 +43,8 @@ use Rattle.markdown_plain.specs.Standing.{is_metadata}
 use Rattle.markdown_plain.proofs.BlankStandingLemmas.{all_reached, last_of, next_after}
 use Rattle.markdown_plain.proofs.BlankLinesLemmas.{blank_alike, whole_left}
 use Rattle.markdown_plain.proofs.IndentedLeavesLemmas.{code_to_end, end_of_last}
-use Rattle.markdown_plain.proofs.ReadyLinesLemmas.{boundary_after, leaf_ready}
+use Rattle.markdown_plain.proofs.ReadyLinesLemmas.{leaf_ready}
+use Rattle.markdown_plain.proofs.ReadyPlacesLemmas.{next_between}
 use Rattle.markdown_plain.proofs.LeafTreesLemmas.{few_owed}
 use Rattle.markdown_plain.proofs.ReachedFramesLemmas.{space_alike}
 use Rattle.markdown_plain.proofs.ItemsInListsLemmas.{line_keeps}
@@ -131,7 +132,7 @@ grown_places s old new line found frames inside b source now by none may empty g
         (has_ended now) line.next grows.leaf adds.is (adds.lines ∙ empty) adds.held
         (grows.end (grown_to b (reached_of s (last_of frames inside b) source).rest.next now) refl ∙ sym next)
         (subst (λ t. IsCharBoundary t line.next) (sym text)
-        (boundary_after old.placing.builder.text line.start line by.is.utf8 by.is.from))
+        (next_between old.placing.builder.text line.start line by.is.utf8 by.is.from))
 
     by_end : (ended : Bool) → has_ended now ≡ ended
         → IsLeafIn s new.placing.builder frames inside

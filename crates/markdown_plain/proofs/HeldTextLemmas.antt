@@ -105,18 +105,3 @@ module _ (text : List ℕ) (line : Line) (rest : SourceLine) (start : ℕ) (at :
           kind = refl;
           last = refl;
         }
-
-    -- the items that were opened before the line were not opened in it
-    pub none_opened : (frames : List Frame) → AreOpenedBefore line.start frames → AreItemsOpenedIn line frames
-    none_opened [] earlier = tt
-    none_opened (f ∷ frames) earlier = (
-      λ item.
-          let before = earlier.0 item in
-          let start = before.start in
-          let first = before.first in
-          let after = ends_after in
-          let not_at : nat_le line.start f.block.start ≡ false = grind (arith, nat_tests, start) in
-          let not_there : (line.next == f.block.first) ≡ false = grind (arith, nat_tests, first, after) in
-          record { same = not_at ∙ sym not_there; before = omega (arith, first, after) },
-      none_opened frames earlier.1,
-    )

@@ -39,7 +39,7 @@ use Rattle.markdown_plain.proofs.FramesLemmas.{goes_on_last}
 use Rattle.markdown_plain.proofs.LeavesInPlaceLemmas.{shown_alone, shown_leaf}
 use Rattle.markdown_plain.proofs.LinedLeavesLemmas.{grown_to}
 use Rattle.markdown_plain.proofs.LooseFramesLemmas.{closed_separated, loose_by_last, same_last}
-use Rattle.markdown_plain.proofs.OpenBlocksLemmas.{innermost_of_opened, outer_of_these}
+use Rattle.markdown_plain.proofs.OpenBlocksLemmas.{around_leaf, innermost_of_opened, outer_of_these, outside_leaf}
 use Rattle.markdown_plain.proofs.ReachedFramesLemmas.{some_follow}
 use Rattle.markdown_plain.proofs.ReachedLemmas.{last_goes_on, reached_parts}
 use Rattle.markdown_plain.proofs.TouchedFramesLemmas.{around_touched, built_touched}
@@ -107,9 +107,6 @@ pub record OpenParts (pass : Pass) (frames : List Frame) (now : Forest Block) : 
   pub nested : AreNested frames
   pub empty : EmptyKnown (is_innermost leaf && pass.looseness.item_is_empty) frames now
 
-outside_leaf : (view : BuilderView) → view.leaf ≡ false → without_leaf view ≡ view.blocks
-outside_leaf view outside = ap (λ t. if t then outer_of view.blocks else view.blocks) outside
-
 pub open_parts : (s : Source) (pass : Pass) (frames : List Frame) (inside : Forest Block) (last : Option Block)
     → HasLast s pass frames inside last → IsLooseAs pass.looseness frames (with_last inside last)
     → OpenParts pass frames (with_last inside last)
@@ -134,8 +131,7 @@ open_parts s pass frames inside (Some b) has loose = by_held has.0 has.1 has.2
           containers = is.outer;
           leaf = is.block ∷ [];
           blocks = is.blocks;
-          without = ap (λ t. if t then outer_of view.blocks else view.blocks) is.leaf
-              ∙ outer_of_these view.blocks is.outer is.block is.blocks;
+          without = around_leaf view is.outer is.block is.leaf is.blocks;
           alone = (leaf_alone s view frames inside b pass.leaf knows.0 is).0;
           are = is.around.blocks;
           nested = is.around.nested;

@@ -47,7 +47,8 @@ use Rattle.markdown_plain.proofs.OpenedFramesLemmas.{as_many_containers, list_in
 use Rattle.markdown_plain.proofs.ReachedLemmas.{reached_parts}
 use Rattle.markdown_plain.proofs.ReadyPlacesLemmas.{are_bodies}
 use Rattle.markdown_plain.proofs.ReadyTextsLemmas.{first_ready, line_in_text, line_white}
-use Rattle.markdown_plain.proofs.RoomForBlocksLemmas.{is_begun, last_open, line_some}
+use Rattle.markdown_plain.proofs.RoomForBlocksLemmas.{is_begun, line_some}
+use Rattle.markdown_plain.proofs.RoomLemmas.{last_open}
 use Rattle.markdown_plain.proofs.RoomReadyLemmas.{nothing_taken, ready_later}
 
 -- ---- room outside all blocks

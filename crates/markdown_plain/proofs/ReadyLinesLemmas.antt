@@ -27,7 +27,6 @@ use Rattle.markdown_lines.specs.declared.line.Line.{Line}
 use Rattle.markdown_lines.specs.declared.position.Position.{Position}
 use Rattle.markdown_lines.specs.declared.space.Space.{Space}
 use Rattle.markdown_lines.proofs.HeldLinesLemmas.{ends_within}
-use Rattle.markdown_plain.proofs.ReadyPlacesLemmas.{ending_white}
 use Rattle.markdown_lines.proofs.LinesAheadLemmas.{in_ending, some_ending}
 use Rattle.markdown_lines.proofs.LinesLemmas.{AllPass-none, ending_ascii, past_ascii}
 use Rattle.markdown_lines.proofs.PositionsLemmas.{in_part}
@@ -48,40 +47,14 @@ use Rattle.markdown_plain.specs.Paragraphs.{has_paragraph, lines_end}
 use Rattle.markdown_plain.specs.ReachedLines.{Before, IsReachedBy, blocks_in, reached_of}
 use Rattle.markdown_plain.specs.Settled.{AreOpen, IsBodyOf}
 use Rattle.markdown_plain.proofs.BlankLinesLemmas.{indented_alike}
-use Rattle.markdown_plain.proofs.ClosableLemmas.{innermost_no_row, white_both}
+use Rattle.markdown_plain.proofs.ClosableLemmas.{innermost_no_row, leaf_end_here, no_task, none_ahead, white_both}
 use Rattle.markdown_plain.proofs.FittingLemmas.{open_in_leaf, space_ahead, space_stops}
 use Rattle.markdown_plain.proofs.LeavesInPlaceLemmas.{leaf_end as placed_leaf_end}
-use Rattle.markdown_plain.proofs.OpenBlocksLemmas.{outer_of_opened}
+use Rattle.markdown_plain.proofs.OpenBlocksLemmas.{around_leaf, outside_leaf}
+use Rattle.markdown_plain.proofs.ReadyPlacesLemmas.{are_bodies, ending_white, next_between, ready_after}
 use Rattle.markdown_plain.proofs.TextReachedLemmas.{reached_within, whole_within}
 
 -- ---- a line
-
--- a text may be cut after a line
-pub boundary_after : (text : List ℕ) (at : ℕ) (line : Line) → IsUtf8 text → IsLineFrom text at line
-    → IsCharBoundary text line.next
-boundary_after text at line utf8 is =
-    let rest = drop line.stop text in
-    let within = ends_within rest in
-    let whole = length-drop line.stop text in
-    let ends = is.ends in
-    let high = is.content.high in
-    ⊎_elim (λ (less : line.stop < length text).
-    let some = some_ending rest (rw (get_or-drop line.stop text 0 0, add_zero line.stop) (is.content.stops less)) in
-    let last = line.stop + (ending_length rest - 1) in
-    let here : is_line_ending (get_or text last 0) ≡ true =
-    ap is_line_ending (sym (get_or-drop line.stop text (ending_length rest - 1) 0))
-    ∙ in_ending rest (ending_length rest - 1) (omega (arith, some)) in
-    let place : last + 1 ≡ line.next = omega (arith, some, ends) in
-    subst (IsCharBoundary text) place
-    (past_ascii text last utf8 (omega (arith, some, within, whole, less)) (ending_ascii (get_or text last 0) here)))
-    (λ (over : length text ≤ line.stop). (
-      omega (arith, within, whole, ends, high, over),
-      λ (less : line.next < length text). absurd (omega (arith, less, ends, over)),
-    ))
-    (cases_lt line.stop (length text))
-  where
-    add_zero : (n : ℕ) → n + 0 ≡ n
-    add_zero n = omega arith
 
 -- a line is white space, with its ending, where its content is
 white_line : (text : List ℕ) (line : Line) → IsLineFrom text line.start line
@@ -133,7 +106,7 @@ place_reached s old line found before source by =
       high = omega (arith, same, stop);
       boundary = subst (IsCharBoundary text) (sym same) within.boundary;
       ends = omega (arith, ends);
-      next = boundary_after text line.start line by.is.utf8 by.is.from;
+      next = next_between text line.start line by.is.utf8 by.is.from;
     }
 
 -- so is its beginning
@@ -210,78 +183,7 @@ line_fits_after pass line at ready leaf place =
       next = place.next;
     }
 
--- ---- where nothing is held back
-
-no_paragraph : (pass : Pass) → pass.lines.items ≡ [] → has_paragraph pass ≡ false
-no_paragraph pass none =
-    ap (λ (lines : List HeldLine). not pass.placing.builder.leaf && not (length lines == 0)) none
-    ∙ and-false (not pass.placing.builder.leaf)
-
-leaf_end_here : (pass : Pass) → pass.lines.items ≡ [] → leaf_end pass ≡ pass.placing.builder.at
-leaf_end_here pass none =
-    ap (λ test. if test then lines_end pass.lines.items else pass.placing.builder.at) (no_paragraph pass none)
-
-none_ahead : (builder : BuilderView) (lines : List HeldLine) → lines ≡ [] → AreAhead builder lines
-none_ahead builder lines none =
-    subst (AreAhead builder) (sym none) (record { inside = tt; order = tt; apart = λ e. tt })
-
-none_marked : (text : List ℕ) (task : Option Bool) (lines : List HeldLine) → lines ≡ [] → HaveTask text task lines
-none_marked text task lines none = subst (HaveTask text task) (sym none) tt
-
-outside_blocks : (view : BuilderView) → view.leaf ≡ false → without_leaf view ≡ view.blocks
-outside_blocks view outside = ap (λ t. if t then outer_of view.blocks else view.blocks) outside
-
--- all is placed up to a byte offset, in containers or in a leaf in them
-pub record IsPlacedHere (pass : Pass) (to : ℕ) : Type 0 where
-  pub at : pass.placing.builder.at ≡ to
-  pub boundary : IsCharBoundary pass.placing.builder.text to
-  pub lines : pass.lines.items ≡ []
-  pub blanks : pass.blanks.items ≡ []
-  pub containers : AreContainers (without_leaf pass.placing.builder)
-  pub row : is_in_row pass.placing.builder.blocks ≡ false
-  pub leaf : pass.placing.builder.leaf ≡ true → IsInLeaf pass.placing.builder
-
-placed_ready : (pass : Pass) (to : ℕ) → IsPlacedHere pass to → IsReadyAfter pass to
-placed_ready pass to is =
-    let view = pass.placing.builder in
-    let here : leaf_end pass ≡ to = leaf_end_here pass is.lines ∙ is.at in
-    let at = is.at in
-    record {
-      closable = record {
-        some = λ leaf. (is.leaf leaf).some;
-        other = is.row;
-        held = λ outside. none_ahead view pass.lines.items is.lines;
-        task = none_marked view.text pass.task pass.lines.items is.lines;
-        containers = is.containers;
-        low = subst (λ n. n ≤ to) (sym here) (omega arith);
-        boundary = is.boundary;
-        white = λ none. subst (λ n. AllPass is_in_blank_line view.text n to) (sym here)
-            (AllPass-none is_in_blank_line view.text to);
-      };
-      low = omega arith;
-      boundary = is.boundary;
-      white = AllPass-none is_in_blank_line view.text to;
-      blanks = λ leaf. subst (λ lines. MayAddBefore view lines to) (sym is.blanks)
-          (record { may = record { inside = is.leaf leaf; are = tt }; low = omega (arith, at) });
-    }
-
 -- ---- leaves
-
--- open blocks that are containers of the definition are containers
-containers_open : (texts : List (List ℕ)) (blocks : List OpenBlock) (frames : List Frame)
-    → AreOpen texts blocks frames → AreContainers blocks
-containers_open texts [] frames are = tt
-containers_open texts (block ∷ blocks) [] are = absurd are
-containers_open texts (block ∷ blocks) (f ∷ frames) are =
-    (one f.block.kind are.0.body, containers_open texts blocks frames are.1)
-  where
-    one : (kind : Kind) → IsBodyOf texts kind block.body → is_container block.body ≡ true
-    one was.quote_container body = ap is_container body
-    one (was.alert_container kind) body = ap is_container body
-    one (was.list_container marker) body = ap is_container body
-    one (was.item_container indent) body = ap is_container body
-    one (was.footnote_container label) body = ap is_container body.1
-    one other body = absurd body
 
 -- after the last line of a leaf, or after one with which it has not ended
 pub leaf_ready : (s : Source) (pass : Pass) (frames : List Frame) (inside : Forest Block) (b : Block) (ended : Bool)
@@ -290,29 +192,25 @@ pub leaf_ready : (s : Source) (pass : Pass) (frames : List Frame) (inside : Fore
     → IsCharBoundary pass.placing.builder.text to → IsReadyAfter pass to
 leaf_ready s pass frames inside b true to leaf is lines blanks end boundary =
     let view = pass.placing.builder in
-    let are = containers_open view.texts view.blocks frames is.built.blocks in
-    placed_ready pass to (record {
+    let are = are_bodies view.texts view.blocks frames is.built.blocks in
+    ready_after pass to (record {
       at = is.at ∙ (placed_leaf_end frames inside b leaf ∙ end);
       boundary = boundary;
       lines = lines;
       blanks = blanks;
-      containers = subst AreContainers (sym (outside_blocks view is.built.outside)) are;
-      row = innermost_no_row view.blocks are;
+      containers = subst AreContainers (sym (outside_leaf view is.built.outside)) are;
       leaf = λ there. absurd (true≢false (sym there ∙ is.built.outside));
     })
 leaf_ready s pass frames inside b false to leaf is lines blanks end boundary =
     let view = pass.placing.builder in
     let in_it = open_in_leaf s view frames inside b leaf is in
-    let without : without_leaf view ≡ is.outer =
-    ap (λ t. if t then outer_of view.blocks else view.blocks) is.leaf
-    ∙ (ap outer_of is.blocks ∙ outer_of_opened is.outer is.block) in
-    placed_ready pass to (record {
+    let without = around_leaf view is.outer is.block is.leaf is.blocks in
+    ready_after pass to (record {
       at = is.end ∙ (placed_leaf_end frames inside b leaf ∙ end);
       boundary = boundary;
       lines = lines;
       blanks = blanks;
-      containers = subst AreContainers (sym without) (containers_open view.texts is.outer frames is.around.blocks);
-      row = in_it.plain;
+      containers = subst AreContainers (sym without) (are_bodies view.texts is.outer frames is.around.blocks);
       leaf = λ there. in_it;
     })
 
@@ -424,7 +322,7 @@ blank_moves s old line found before source placed texts blocks by blank sees are
     text = old.placing.builder.text
 
     next : IsCharBoundary text line.next
-    next = boundary_after text line.start line by.is.utf8 by.is.from
+    next = next_between text line.start line by.is.utf8 by.is.from
 
     by_white : (white : Bool) → is_blank_rest source ≡ white
         → MovesOver old.placing.builder.text blocks old.placed placed line.next
@@ -470,14 +368,14 @@ pub record IsRead (pass : Pass) (to : ℕ) : Type 0 where
 pub read_ready : (pass : Pass) (to : ℕ) → IsRead pass to → IsReady pass to
 read_ready pass to is =
     let view = pass.placing.builder in
-    let without = outside_blocks view is.closable.outside in
+    let without = outside_leaf view is.closable.outside in
     let here = leaf_end_here pass is.lines in
     record {
       closable = record {
         some = λ leaf. absurd (true≢false (sym leaf ∙ is.closable.outside));
         other = innermost_no_row view.blocks is.closable.containers;
         held = λ outside. none_ahead view pass.lines.items is.lines;
-        task = none_marked view.text pass.task pass.lines.items is.lines;
+        task = no_task view.text pass.task pass.lines.items is.lines;
         containers = subst AreContainers (sym without) is.closable.containers;
         low = subst (λ n. n ≤ pass.placed) (sym here) is.closable.low;
         boundary = is.closable.boundary;

@@ -35,7 +35,7 @@ use Rattle.markdown_plain.specs.OpenLeaves.{IsOpenIn, IsUnended}
 use Rattle.markdown_plain.specs.Paragraphs.{has_paragraph, lines_end}
 use Rattle.markdown_plain.specs.Settled.{AreOpen, IsBodyOf, IsBuilt}
 use Rattle.markdown_plain.specs.Standing.{PlacesLast}
-use Rattle.markdown_plain.proofs.ClosableLemmas.{innermost_no_row}
+use Rattle.markdown_plain.proofs.ClosableLemmas.{innermost_no_row, leaf_end_here, no_task, none_ahead}
 use Rattle.markdown_plain.proofs.FittingLemmas.{open_in_leaf}
 use Rattle.markdown_plain.proofs.LeafTreesLemmas.{on_test}
 use Rattle.markdown_plain.proofs.OpenBlocksLemmas.{outer_of_these}
@@ -148,25 +148,17 @@ pub record IsLeftAt (pass : Pass) (to : ℕ) : Type 0 where
   pub containers : AreContainers (without_leaf pass.placing.builder)
   pub leaf : pass.placing.builder.leaf ≡ true → IsInLeaf pass.placing.builder
 
--- no paragraph is held back where no line is
-none_held_back : (pass : Pass) → pass.lines.items ≡ [] → has_paragraph pass ≡ false
-none_held_back pass none =
-    ap (λ (lines : List HeldLine). not pass.placing.builder.leaf && not (length lines == 0)) none
-    ∙ and-false (not pass.placing.builder.leaf)
-
 -- the next line may be read
-ready_after : (pass : Pass) (to : ℕ) → IsLeftAt pass to → IsReadyAfter pass to
+pub ready_after : (pass : Pass) (to : ℕ) → IsLeftAt pass to → IsReadyAfter pass to
 ready_after pass to is =
     let view = pass.placing.builder in
-    let none : has_paragraph pass ≡ false = none_held_back pass is.lines in
-    let here : leaf_end pass ≡ to = ap (λ (has : Bool). if has then lines_end pass.lines.items else view.at) none
-    ∙ is.at in
+    let here : leaf_end pass ≡ to = leaf_end_here pass is.lines ∙ is.at in
     record {
       closable = record {
         some = λ leaf. (is.leaf leaf).some;
         other = no_row view.leaf refl;
-        held = λ outside. subst (AreAhead view) (sym is.lines) (record { inside = tt; order = tt; apart = λ e. tt });
-        task = subst (HaveTask view.text pass.task) (sym is.lines) tt;
+        held = λ outside. none_ahead view pass.lines.items is.lines;
+        task = no_task view.text pass.task pass.lines.items is.lines;
         containers = is.containers;
         low = subst (λ n. n ≤ to) (sym here) (omega arith);
         boundary = is.boundary;

@@ -34,15 +34,12 @@ use Rattle.markdown_plain.specs.Paragraphs.{has_paragraph, is_item_in, lines_end
 use Rattle.markdown_plain.specs.Standing.{IsSource}
 use Rattle.markdown_plain.specs.TextLines.{IsContentAt, held_line}
 use Rattle.markdown_plain.proofs.AddedLinesLemmas.{end_after, past, past_is_end}
-use Rattle.markdown_plain.proofs.ClosableLemmas.{innermost_no_row, white_both}
+use Rattle.markdown_plain.proofs.ClosableLemmas.{innermost_no_row, leaf_end_here, no_task, none_ahead, white_both}
 use Rattle.markdown_plain.proofs.HeldTextLemmas.{starts_after, starts_before}
 use Rattle.markdown_plain.proofs.ReadyPlacesLemmas.{ending_white, next_between, stop_between}
+use Rattle.markdown_plain.proofs.OpenBlocksLemmas.{outside_leaf}
 
--- ---- open blocks
-
--- no leaf is open, so that the open blocks are those without one
-outside_leaf : (view : BuilderView) → view.leaf ≡ false → without_leaf view ≡ view.blocks
-outside_leaf view outside = ap (λ leaf. if leaf then outer_of view.blocks else view.blocks) outside
+-- ---- lines
 
 -- lines are held back, where no leaf is open
 some_held : (pass : Pass) → pass.placing.builder.leaf ≡ false → 0 < length pass.lines.items
@@ -85,25 +82,6 @@ held_ready pass to holds =
       white = λ at low high. absurd (omega (arith, low, high));
       blanks = λ leaf. absurd (true≢false (sym leaf ∙ holds.outside));
     }
-
--- without lines there are none ahead, and no task marker
-none_ahead : (builder : BuilderView) (lines : List HeldLine) → lines ≡ [] → AreAhead builder lines
-none_ahead builder lines none =
-    subst (AreAhead builder) (sym none) (record { inside = tt; order = tt; apart = λ outside. tt })
-
-no_task : (text : List ℕ) (task : Option Bool) (lines : List HeldLine) → lines ≡ [] → HaveTask text task lines
-no_task text task lines none = subst (HaveTask text task) (sym none) tt
-
--- the open leaf ends where the builder is
-end_here : (pass : Pass) → pass.lines.items ≡ [] → leaf_end pass ≡ pass.placing.builder.at
-end_here pass none =
-    ap {B = ℕ} (λ (lines : List HeldLine). if not pass.placing.builder.leaf && not (length lines == 0)
-    then lines_end lines else pass.placing.builder.at) none
-    ∙ never (not pass.placing.builder.leaf)
-  where
-    never : (b : Bool) → (if b && false then 0 else pass.placing.builder.at) ≡ pass.placing.builder.at
-    never true = refl
-    never false = refl
 
 -- ---- a line more
 
@@ -358,7 +336,7 @@ again_ready old new from ends ready =
     let blocks : view.blocks ≡ was.blocks = ap (λ (b : BuilderView). b.blocks) ends.defines in
     let outer : without_leaf view ≡ without_leaf was = ap without_leaf ends.defines in
     let here : leaf_end new ≡ leaf_end old =
-    end_here new ends.emptied ∙ (ends.after
+    leaf_end_here new ends.emptied ∙ (ends.after
     ∙ sym (ap {B = ℕ} (λ has. if has then lines_end old.lines.items else was.at) ends.held)) in
     let low = closable.low in
     let placed = ends.placed in

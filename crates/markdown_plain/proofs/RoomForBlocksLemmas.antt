@@ -67,6 +67,9 @@ use Rattle.markdown_plain.proofs.ReadyPlacesLemmas.{no_frames}
 use Rattle.markdown_plain.proofs.RoomLemmas.{begins_in_room}
 use Rattle.markdown_plain.proofs.RoomReadyLemmas.{IsReadyIn, nothing_taken, ready_first, ready_later}
 use Rattle.markdown_plain.proofs.TouchedFramesLemmas.{built_touched, earlier_touched, quotes_touched}
+use Rattle.markdown_plain.proofs.TouchedFramesLemmas.{earlier_taken, not_opened}
+use Rattle.markdown_plain.proofs.ClosableLemmas.{no_paragraph}
+use Rattle.markdown_plain.proofs.RoomLemmas.{last_open}
 
 -- ---- a line that goes on with no paragraph
 
@@ -253,27 +256,6 @@ free_touched l (f ∷ g ∷ frames) =
     innermost_inner is_list (touched l f) (touched l g) (map (touched l) frames)
     ∙ (free_touched l (g ∷ frames) ∙ sym (innermost_inner is_list f g frames))
 
--- those that are left were opened as early
-earlier_taken : (from n : ℕ) (frames : List Frame) → AreOpenedBefore from frames → AreOpenedBefore from (take n frames)
-earlier_taken from zero frames earlier = tt
-earlier_taken from (suc n) [] earlier = tt
-earlier_taken from (suc n) (f ∷ frames) earlier = (earlier.0, earlier_taken from n frames earlier.1)
-
--- items that were opened before a line were not opened in it
-pub not_opened : (line : Line) (frames : List Frame) → line.start < line.next → AreOpenedBefore line.start frames
-    → AreItemsOpenedIn line frames
-not_opened line [] after earlier = tt
-not_opened line (f ∷ frames) after earlier = (
-  λ item.
-      let before = earlier.0 item in
-      let start = before.start in
-      let first = before.first in
-      let not_at : nat_le line.start f.block.start ≡ false = grind (arith, nat_tests, start) in
-      let not_there : (line.next == f.block.first) ≡ false = grind (arith, nat_tests, first, after) in
-      record { same = not_at ∙ sym not_there; before = omega (arith, first, after) },
-  not_opened line frames after earlier.1,
-)
-
 -- a line that is not blank has a byte
 filled_length : (bytes : List ℕ) → list_all is_space_or_tab bytes ≡ false → 0 < length bytes
 filled_length [] filled = absurd (true≢false filled)
@@ -286,59 +268,6 @@ line_some s rest source left filled =
     let at : rest.position.at ≡ source.left.scanned = ap (λ (l : LineLeft). l.scanned) left.is.rest.left in
     let some = filled_length source.left.bytes filled in
     omega (arith, at, some, left.after, left.is.stop, left.is.ends)
-
--- ---- what is open before the line
-
--- open containers, whether a paragraph is held back in them or not
-pub record HasOpen (s : Source) (pass : Pass) (frames : List Frame) (blocks : Forest Block) : Type 0 where
-  pub texts : List (List ℕ)
-  pub are : AreOpen texts (without_leaf pass.placing.builder) frames
-  pub nested : AreNested frames
-  pub items : AreItemsInLists false (rebuilt frames blocks)
-
-built_open : (s : Source) (pass : Pass) (frames : List Frame) (inside blocks : Forest Block)
-    → IsBuilt s pass.placing.builder frames inside → AreItemsInLists false (rebuilt frames blocks)
-    → HasOpen s pass frames blocks
-built_open s pass frames inside blocks built items =
-    let view = pass.placing.builder in
-    record {
-      texts = view.texts;
-      are = subst (λ blocks. AreOpen view.texts blocks frames) (sym (no_leaf view built.outside)) built.blocks;
-      nested = built.nested;
-      items = items;
-    }
-  where
-    no_leaf : (view : BuilderView) → view.leaf ≡ false → without_leaf view ≡ view.blocks
-    no_leaf view outside = rw outside refl
-
-leaf_open : (s : Source) (pass : Pass) (frames : List Frame) (inside : Forest Block) (b : Block)
-    → MayEnd s pass frames inside b None → HasOpen s pass frames (followed_by inside (leaf_block b))
-leaf_open s pass frames inside b may =
-    let is = may.unended.1 in
-    let view = pass.placing.builder in
-    record {
-      texts = view.texts;
-      are = subst (λ blocks. AreOpen view.texts blocks frames)
-          (sym (in_leaf view is.outer is.block is.leaf is.blocks)) is.around.blocks;
-      nested = is.around.nested;
-      items = may.items;
-    }
-  where
-    in_leaf : (view : BuilderView) (outer : List OpenBlock) (block : OpenBlock) → view.leaf ≡ true
-        → view.blocks ≡ outer ++ block ∷ [] → without_leaf view ≡ outer
-    in_leaf view outer block leaf is = rw leaf (outer_of_these view.blocks outer block is)
-
-pub last_open : (s : Source) (pass : Pass) (frames : List Frame) (inside : Forest Block) (last : Option Block)
-    → HoldsLast s pass frames inside last → HasOpen s pass frames (with_last inside last)
-last_open s pass frames inside None holds =
-    built_open s pass frames inside inside holds.0.stands.built holds.0.stands.items
-last_open s pass frames inside (Some b) holds = by_held holds.0 holds.1
-  where
-    by_held : (held : Option (List SourceLine)) → MayEnd s pass frames inside b held
-        → HasOpen s pass frames (followed_by inside (leaf_block b))
-    by_held None may = leaf_open s pass frames inside b may
-    by_held (Some sources) may =
-        built_open s pass frames inside (followed_by inside (leaf_block b)) may.unended.built may.items
 
 -- none of the blocks that a line does not reach goes on in it, if a block begins and they do not go on where no
 -- paragraph is held back
@@ -354,8 +283,7 @@ pub none_goes_on : (s : Source) (pass : Pass) (frames : List Frame) (inside : Fo
     → goes_on s (rebuilt (reached s frames (with_last inside last) l).inner (with_last inside last))
     (reached s frames (with_last inside last) l).rest ≡ None
 none_goes_on s pass frames inside None l begun tables are holds filled is block over =
-    over (ap (λ n. not pass.placing.builder.leaf && not (n == 0)) (ap length holds.1)
-    ∙ and-false (not pass.placing.builder.leaf))
+    over (no_paragraph pass holds.1)
 none_goes_on s pass frames inside (Some b) l begun tables are holds filled is block over = by_held holds.0 holds.1
   where
     blocks : Forest Block

@@ -17,6 +17,11 @@ use Rattle.markdown_plain.specs.Settled.{AreOpen, IsBuilt, QuotesEnd, around_in,
 use Rattle.markdown_plain.specs.Standing.{AreOpenedBefore}
 use Rattle.markdown_plain.proofs.AppendedBlocksLemmas.{IsGathered, definitions_gathered, footnotes_gathered}
 use Rattle.markdown_plain.proofs.AppendedBlocksLemmas.{gathered_around}
+use Rattle.std.proofs.Common.{◌<◌, zero, suc, true, false, take}
+use Rattle.std.specs.Prelude.{◌==◌, nat_le}
+use Rattle.std.proofs.lemmas.Bool.Decides.{nat_tests}
+use Rattle.markdown_lines.specs.declared.line.Line.{Line}
+use Rattle.markdown_plain.specs.OpenLeaves.{AreItemsOpenedIn}
 
 -- ---- what is built
 
@@ -111,4 +116,25 @@ earlier_touched l from to less (f ∷ frames) earlier = (
       let before = earlier.0 item in
       record { start = omega (arith, before.start, less); first = omega (arith, before.first, less) },
   earlier_touched l from to less frames earlier.1,
+)
+
+-- the outermost of some containers were opened as early
+pub earlier_taken : (from n : ℕ) (frames : List Frame) → AreOpenedBefore from frames → AreOpenedBefore from (take n frames)
+earlier_taken from zero frames earlier = tt
+earlier_taken from (suc n) [] earlier = tt
+earlier_taken from (suc n) (f ∷ frames) earlier = (earlier.0, earlier_taken from n frames earlier.1)
+
+-- items that were opened before a line were not opened in it
+pub not_opened : (line : Line) (frames : List Frame) → line.start < line.next → AreOpenedBefore line.start frames
+    → AreItemsOpenedIn line frames
+not_opened line [] after earlier = tt
+not_opened line (f ∷ frames) after earlier = (
+  λ item.
+      let before = earlier.0 item in
+      let start = before.start in
+      let first = before.first in
+      let not_at : nat_le line.start f.block.start ≡ false = grind (arith, nat_tests, start) in
+      let not_there : (line.next == f.block.first) ≡ false = grind (arith, nat_tests, first, after) in
+      record { same = not_at ∙ sym not_there; before = omega (arith, first, after) },
+  not_opened line frames after earlier.1,
 )

@@ -16,7 +16,7 @@ use Rattle.markdown_plain.specs.OpenedFrames.{with_frame}
 use Rattle.markdown_plain.specs.Settled.{IsBuilt, IsLooseBefore}
 use Rattle.markdown_plain.specs.declared.pass.Pass.{Pass}
 use Rattle.markdown_plain.proofs.BegunBlocksLemmas.{begun_block, begun_in_room, keeps_leaf, source_kept, still_may}
-use Rattle.markdown_plain.proofs.BegunContainersLemmas.{fitted_before, in_line_more, line_in_room, loose_inside}
+use Rattle.markdown_plain.proofs.BegunContainersLemmas.{fitted_before_line, in_line_more, line_in_room, loose_inside}
 use Rattle.markdown_plain.proofs.BegunTextsLemmas.{end_begins, end_block, held_from, none_open, text_inside}
 use Rattle.markdown_plain.proofs.FramesLemmas.{rebuilt_more}
 use Rattle.markdown_plain.proofs.OpenedFramesLemmas.{as_many_containers, innermost_of_more}
@@ -78,7 +78,7 @@ returns-clause-places c = λ s turn source blocks state found fitted.
     let b = end_block source in
     let held = held_from rest.line rest.line.stop in
     let begins = line.begins_alert c.args.kind in
-    let there = fitted_before quote now _ c.add_text.ensures.goes_on c.in_ok-add_text.ensures.begins fitted in
+    let there = fitted_before_line quote now _ c.add_text.ensures.goes_on c.in_ok-add_text.ensures.begins fitted in
     let opens = c.in_ok-open_quote.ensures.opens there in
     let first = c.in_ok-make_room_for.ensures.room s turn source c.args.at (start.Alert c.args.kind) begins blocks
     state found refl tt opens.0 in
