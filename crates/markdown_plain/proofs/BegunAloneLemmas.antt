@@ -21,7 +21,7 @@ use Rattle.markdown_lines.specs.declared.list_marker.ListMarker.{ListMarker}
 use Rattle.markdown_lines.specs.BlockBeginnings as line
 use Rattle.markdown_lines.specs.BlockBeginnings.{Beginning, Source, begins, begins_after, break_in_line, fence_in_line}
 use Rattle.markdown_lines.specs.BlockBeginnings.{first_found, footnote_in_line, heading_in_line, html_in_line}
-use Rattle.markdown_lines.specs.BlockBeginnings.{is_paragraph, item_in_line, item_of, metadata_begun, metadata_in_line}
+use Rattle.markdown_lines.specs.BlockBeginnings.{item_in_line, item_of, metadata_begun, metadata_in_line}
 use Rattle.markdown_lines.specs.BlockBeginnings.{quote_in_line, underline_in_line}
 use Rattle.markdown_lines.specs.LineBytes.{is_parted}
 use Rattle.markdown_lines.specs.Lines.{is_space_or_tab}

@@ -21,7 +21,7 @@ use Rattle.markdown_plain.proofs.BegunLemmas.{left_from_is_of}
 use Rattle.markdown_plain.proofs.BegunRestsLemmas.{HoldsRest, IsRestOf, begins_rest}
 use Rattle.markdown_plain.proofs.PassedMarkersLemmas.{HoldsPast, begins_past}
 use Rattle.markdown_plain.proofs.FramesLemmas.{rebuilt_more}
-use Rattle.markdown_plain.proofs.OpenedFramesLemmas.{as_many_containers, innermost_of_more}
+use Rattle.markdown_plain.proofs.OpenedFramesLemmas.{as_many_containers}
 use Rattle.markdown_base.specs.Forest.{Forest, nil, node}
 use Rattle.markdown_builder.specs.TreeLevels.{followed_by}
 use Rattle.markdown_lines.specs.BlockBeginnings.{Beginning, Source, is_paragraph}
@@ -42,6 +42,7 @@ use Rattle.markdown_plain.specs.Settled.{EmptyKnown, EmptyKnownIn, IsLooseAs, Is
 use Rattle.markdown_plain.specs.Settled.{placed_end}
 use Rattle.markdown_plain.proofs.LooseFramesLemmas.{loose_more}
 use Rattle.markdown_plain.proofs.BegunBlocksLemmas.{KeepsRest, begun_block, begun_in_room, still_may}
+use Rattle.markdown_plain.proofs.FramesInsideLemmas.{inner_last}
 
 -- ---- one more container
 
@@ -246,7 +247,7 @@ container_inside s now rest next outer before source blocks inside kind left fil
           free = record {
             built = opens.built;
             lines = opens.lines;
-            free = innermost_of_more is_list outer f ∙ opens.free;
+            free = inner_last is_list outer f ∙ opens.free;
           };
           blanks = opens.blanks;
           loose = opens.loose;

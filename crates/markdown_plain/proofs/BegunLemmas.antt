@@ -24,9 +24,9 @@ use Rattle.markdown_lines.specs.declared.html_kind.HtmlKind.TheVariants as html
 use Rattle.markdown_lines.specs.declared.list_marker.ListMarker.{ListMarker}
 use Rattle.markdown_lines.specs.declared.position.Position.{Position}
 use Rattle.markdown_lines.specs.BlockBeginnings as line
-use Rattle.markdown_lines.specs.BlockBeginnings.{Beginning, Source, begins, begins_after, break_in_line, first_found}
-use Rattle.markdown_lines.specs.BlockBeginnings.{html_in_line, is_paragraph, item_in_line, item_of, metadata_begun}
-use Rattle.markdown_lines.specs.BlockBeginnings.{metadata_in_line, underline_in_line}
+use Rattle.markdown_lines.specs.BlockBeginnings.{Beginning, Source, begins, begins_after, first_found}
+use Rattle.markdown_lines.specs.BlockBeginnings.{item_in_line, item_of, metadata_begun}
+use Rattle.markdown_lines.specs.BlockBeginnings.{metadata_in_line}
 use Rattle.markdown_lines.specs.HtmlBeginnings.{is_lone_tag, known_kind}
 use Rattle.markdown_lines.specs.Lines.{is_space_or_tab}
 use Rattle.markdown_lines.specs.ListMarkers.{if_it_stands, marker_of}

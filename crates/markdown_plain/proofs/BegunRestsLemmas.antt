@@ -26,7 +26,7 @@ use Rattle.markdown_lines.specs.BlockBeginnings as line
 use Rattle.markdown_lines.specs.BlockBeginnings.{Beginning, Source, begins, begins_after, break_in_line, fence_in_line}
 use Rattle.markdown_lines.specs.BlockBeginnings.{first_found, footnote_in_line, footnote_marker, heading_in_line}
 use Rattle.markdown_lines.specs.BlockBeginnings.{html_in_line, is_paragraph, is_reached, item_in_line, item_of}
-use Rattle.markdown_lines.specs.BlockBeginnings.{item_space, label_before_colon, metadata_begun, metadata_in_line}
+use Rattle.markdown_lines.specs.BlockBeginnings.{label_before_colon, metadata_begun, metadata_in_line}
 use Rattle.markdown_lines.specs.BlockBeginnings.{past_bytes, quote_in_line, quote_of, quote_or_alert}
 use Rattle.markdown_lines.specs.BlockBeginnings.{underline_in_line, whole_heading}
 use Rattle.markdown_lines.specs.HtmlBeginnings.{html_kind_of, in_one_line}
@@ -256,7 +256,7 @@ found_or_ends whole None other ends more = more
 found_or_ends whole (Some b) other ends more = ends
 
 -- space is read forwards
-space_after : (n : ℕ) (whole : LineLeft) → whole.scanned ≤ (leading_space n whole).after.scanned
+pub space_after : (n : ℕ) (whole : LineLeft) → whole.scanned ≤ (leading_space n whole).after.scanned
 space_after n whole = let ends = (space_alike n whole).end in omega (arith, ends, space_left n whole)
 
 begins_to : (s : Source) (before : Before) (l : SourceLine) → l.left.owed ≤ 3 → HoldsTo l.left (begins s before l)

@@ -16,14 +16,15 @@ use Rattle.markdown_lines.specs.BlockBeginnings.{Source}
 use Rattle.markdown_lines.specs.Lines.{is_space_or_tab}
 use Rattle.markdown_lines.specs.SourceLines.{SourceLine, is_blank_rest, rest_inside}
 use Rattle.markdown_block_rules.specs.BlockGrowth as was
-use Rattle.markdown_block_rules.specs.BlockGrowth.{Block, Kind, is_nil, past_footnote, past_indentation, past_quote}
+use Rattle.markdown_block_rules.specs.BlockGrowth.{Block, Kind, is_nil, past_indentation, past_quote}
 use Rattle.markdown_plain.specs.Containers.{content_of}
 use Rattle.markdown_plain.specs.Frames.{Frame, inside_container, is_item, is_quote, reached, reached_past, rebuilt}
 use Rattle.markdown_plain.specs.Frames.{touched}
 use Rattle.markdown_plain.specs.OpenLeaves.{leaf_block}
 use Rattle.markdown_plain.specs.Settled.{EmptyKnown, EmptyKnownIn, QuotesEnd}
-use Rattle.markdown_plain.proofs.ReachedFramesLemmas.{blank_at, end_of, some_follow, space_alike}
+use Rattle.markdown_plain.proofs.ReachedFramesLemmas.{blank_at, end_of, space_alike}
 use Rattle.markdown_plain.proofs.ReachedLemmas.{reached_same}
+use Rattle.markdown_plain.proofs.FramesLemmas.{ends_in_block}
 
 -- ---- what is left of a blank line
 
@@ -205,7 +206,7 @@ empty_blank empty (f ∷ []) inside b some known = by_kind f.block.kind some kno
   where
     by_kind : (kind : Kind) → (is_item kind ≡ true → is_nil inside ≡ false) → EmptyKnownIn empty inside kind
         → EmptyKnownIn empty (followed_by inside (leaf_block b)) kind
-    by_kind (was.item_container indent) some known = known ∙ (some refl ∙ sym (some_follow inside b nil))
+    by_kind (was.item_container indent) some known = known ∙ (some refl ∙ sym (ends_in_block inside b nil))
     by_kind (was.list_container marker) some known = tt
     by_kind other some known = known
 empty_blank empty (f ∷ g ∷ frames) inside b some known = empty_blank empty (g ∷ frames) inside b some known

@@ -55,7 +55,7 @@ use Rattle.markdown_plain.proofs.IndentedLeavesLemmas.{blank_cut, blank_held, co
 use Rattle.markdown_plain.proofs.ReadyLinesLemmas.{SeesBlank, blank_moves, closed_ready, held_ready}
 use Rattle.markdown_plain.proofs.ReachedLemmas.{block_begins, inner_goes_lazily, inner_left, item_begins}
 use Rattle.markdown_plain.proofs.ReachedLemmas.{outer_taken, reached_parts}
-use Rattle.markdown_plain.proofs.TouchedFramesLemmas.{built_touched, earlier_touched, quotes_touched}
+use Rattle.markdown_plain.proofs.TouchedFramesLemmas.{built_touched, earlier_outer, earlier_touched, quotes_touched}
 
 -- ---- what goes on in a blank line
 
@@ -173,11 +173,6 @@ items_of : (s : Source) (pass : Pass) (frames : List Frame) (inside : Forest Blo
     → HasLast s pass frames inside last → AreItemsInLists false (rebuilt frames (with_last inside last))
 items_of s pass frames inside None has = has.0.stands.items
 items_of s pass frames inside (Some b) has = has.1.items
-
-earlier_outer : (from : ℕ) (outer inner : List Frame) → AreOpenedBefore from (outer ++ inner)
-    → AreOpenedBefore from outer
-earlier_outer from [] inner earlier = tt
-earlier_outer from (f ∷ outer) inner earlier = (earlier.0, earlier_outer from outer inner earlier.1)
 
 -- a line begins before the next one, or where that does
 pub next_after : (pass : Pass) (line : Line) (source : SourceLine) → IsSource pass line source

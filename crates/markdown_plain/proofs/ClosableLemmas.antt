@@ -31,8 +31,7 @@ use Rattle.markdown_plain.specs.OpenBlocks.{without_list}
 use Rattle.markdown_plain.specs.declared.placing.Placing.{Placing}
 use Rattle.markdown_base.specs.Forest.{Forest}
 use Rattle.markdown_builder.specs.Shown.{Shown}
-use Rattle.std.specs.Prelude.{not, nat_eq}
-use Rattle.std.specs.Option.{option_eq}
+use Rattle.std.specs.Prelude.{not}
 use Rattle.markdown_lines.proofs.HeldLinesLemmas.{line_of}
 use Rattle.markdown_lines.specs.HeldLines.{AreHeldFrom}
 use Rattle.markdown_plain.proofs.DefinitionEndsLemmas.{IsSpanIn, MayCut}
@@ -588,14 +587,6 @@ item_outside blocks other =
     (λ list. absurd (true≢false (sym list ∙ other))) (λ same none. none)
 
 -- ---- taking definitions
-
--- the bytes of a definition begin with a `[`
-pub bracket_there : (found : Option ℕ) → not (option_eq nat_eq found (Some 91)) ≡ false → found ≡ Some 91
-bracket_there None e = absurd (true≢false e)
-bracket_there (Some b) e = ap Some (by b e)
-  where
-    by : (b : ℕ) → not (nat_eq b 91) ≡ false → b ≡ 91
-    by b e = grind (arith, nat_tests)
 
 pub cuts_of : (text : List ℕ) (from : ℕ) (lines : List HeldLine) → AreInText text from lines → MayCut text lines
 cuts_of text from [] are = tt

@@ -6,7 +6,7 @@ use Rattle.std.proofs.Common.{drop-cons}
 use Rattle.std.proofs.lemmas.Bool.Decides.{nat_tests}
 use Rattle.std.proofs.lemmas.List.{drop_all}
 use Rattle.markdown_scan.specs.Beginnings.{begins_with}
-use Rattle.markdown_scan.specs.LineStart.{LineLeft, next_column, past_one_byte, past_marker, leading_space}
+use Rattle.markdown_scan.specs.LineStart.{LineLeft, past_one_byte, past_marker, leading_space}
 use Rattle.markdown_scan.specs.LineStart as scan
 use Rattle.markdown_lines.specs.declared.position.Position.{Position}
 use Rattle.markdown_lines.specs.declared.space.Space.{Space}

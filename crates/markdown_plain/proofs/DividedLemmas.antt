@@ -240,7 +240,7 @@ no_bracket_byte (Some b) e same = by b e (inside b same)
     inside b same = cc
 
 -- or it is one
-bracket_byte : (found : Option ℕ) → not (option_eq nat_eq found (Some 91)) ≡ false → found ≡ Some 91
+pub bracket_byte : (found : Option ℕ) → not (option_eq nat_eq found (Some 91)) ≡ false → found ≡ Some 91
 bracket_byte None e = absurd (true≢false e)
 bracket_byte (Some b) e = ap Some (by b e)
   where

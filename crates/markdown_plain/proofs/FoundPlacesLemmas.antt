@@ -39,7 +39,7 @@ use Rattle.markdown_lines.specs.HeadingAttributes.{attributed, attributed_by, at
 use Rattle.markdown_lines.specs.HeadingAttributes.{braces_to, is_enclosed}
 use Rattle.markdown_lines.specs.HtmlBeginnings.{html_kind_of, in_one_line}
 use Rattle.markdown_lines.specs.LineBytes.{is_parted, without_end}
-use Rattle.markdown_lines.specs.Lines.{IsLineEnd, is_space_or_tab}
+use Rattle.markdown_lines.specs.Lines.{is_space_or_tab}
 use Rattle.markdown_lines.specs.ListMarkers.{decimal, ends_number, if_it_stands, is_bullet, list_marker_at, marker_of}
 use Rattle.markdown_lines.specs.ListMarkers.{ordered_marker, ordered_marker_of, stands_before}
 use Rattle.markdown_lines.specs.MetadataBlocks.{metadata_opened}
@@ -75,6 +75,7 @@ use Rattle.markdown_plain.proofs.HeldTextLemmas.{is_held_line}
 use Rattle.markdown_plain.proofs.LeafTreesLemmas.{on_test}
 use Rattle.markdown_plain.proofs.ReachedFramesLemmas.{space_alike}
 use Rattle.markdown_plain.proofs.TextReachedLemmas.{IsWithin, content_within, marker_within, next_within, space_within}
+use Rattle.markdown_plain.proofs.ReadyPlacesLemmas.{stop_between}
 
 -- ---- where the content begins
 
@@ -331,16 +332,6 @@ mapped_within : {A : Type 0} (text : List ℕ) (whole : Line) (at : ℕ) (f : A 
     → ((a : A) → BeginsWithin text whole at (f a)) → IfWithin text whole at (option_map f found)
 mapped_within text whole at f None within = tt
 mapped_within text whole at f (Some a) within = within a
-
--- a line ends between characters
-line_end_within : (text : List ℕ) (from stop : ℕ) → IsLineEnd text from stop → IsCharBoundary text stop
-line_end_within text from stop ends = (
-  ends.high,
-  λ less high.
-      let ending = ends.stops less in
-      let ascii : slice_index text stop < 128 = grind (arith, nat_tests, ending) in
-      absurd (omega (arith, ascii, high)),
-)
 
 module _ (text : List ℕ) (from : ℕ) (utf8 : IsUtf8 text) (whole : Line) (at : ℕ) where
   -- the place before an ASCII byte of a line, and that after one
@@ -791,7 +782,7 @@ begun_within s rest source at start b left found is =
     (begins_within s.text rest.line.start left.utf8 rest.line at s rest.before source refl
     (left_within s rest source left) found.begins left.is.stop
     (subst (IsCharBoundary s.text) left.is.stop
-    (line_end_within s.text rest.line.start rest.line.stop left.from.content)))
+    (stop_between s.text rest.line.start rest.line.stop left.from.content)))
 
 found_stands : (s : Source) (rest : LineRest) (source : SourceLine) (at : ℕ) (start : BlockStart)
     → IsLeft s rest source → IsFound s rest source at start → FoundStands s.text rest.line at start
@@ -843,7 +834,7 @@ pub record Meets (s : Source) (old now : Pass) (rest : LineRest) (turn : Turn) (
   pub stands : FoundStands now.placing.builder.text rest.line at start
 
 -- the pass reads the text of which it stands for blocks
-here_text : (s : Source) (pass : Pass) (rest : LineRest) (turn : Turn) (source : SourceLine) (blocks : Forest Block)
+pub here_text : (s : Source) (pass : Pass) (rest : LineRest) (turn : Turn) (source : SourceLine) (blocks : Forest Block)
     → IsHere s pass rest turn source blocks → pass.placing.builder.text ≡ s.text
 here_text s pass rest (first before line) source blocks state = ap (λ (s : Source). s.text) state.holds.source
 here_text s pass rest (later frames) source blocks state = ap (λ (s : Source). s.text) state.opened.source

@@ -14,7 +14,7 @@ use Rattle.markdown_lines.specs.SourceLines.{SourceLine, is_blank_rest, rest_ins
 use Rattle.markdown_builder.specs.TreeLevels.{followed_by}
 use Rattle.markdown_block_rules.specs.BlockGrowth as was
 use Rattle.markdown_block_rules.specs.BlockGrowth.{Block, Kind, block_with, container_with, goes_on, is_nil, lazily}
-use Rattle.markdown_block_rules.specs.BlockGrowth.{line_block, next_item, past_footnote, past_indentation}
+use Rattle.markdown_block_rules.specs.BlockGrowth.{line_block, past_footnote, past_indentation}
 use Rattle.markdown_block_rules.specs.BlockGrowth.{past_quote, with_lazy, with_line, with_rest}
 use Rattle.markdown_plain.specs.Frames.{AreContainers, AreNested, Frame, IsContainer, forgotten}
 use Rattle.markdown_plain.specs.Frames.{innermost_is, inside_container, is_item, is_list, rebuilt}
@@ -95,7 +95,7 @@ around_list (g ∷ h ∷ outer) f marker is nested =
 
 -- ---- the last block
 
-ends_in_block : (before : Forest Block) (b : Block) (below : Forest Block)
+pub ends_in_block : (before : Forest Block) (b : Block) (below : Forest Block)
     → is_nil (followed_by before (node b below nil)) ≡ false
 ends_in_block nil b below = refl
 ends_in_block (node c inside after) b below = refl

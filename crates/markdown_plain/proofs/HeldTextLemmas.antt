@@ -1,7 +1,7 @@
 -- The rest of a line that is text, as a line of a paragraph.
-use Rattle.std.proofs.Common.{◌≡◌, inl, inr, ℕ, ◌<◌, ◌≤◌, false, List, [], ◌∷◌, length, drop}
+use Rattle.std.proofs.Common.{◌≡◌, inl, inr, ℕ, ◌<◌, ◌≤◌, false, List, length, drop}
 use Rattle.std.proofs.Common.{arith, refl, sym, ap, ◌∙◌, subst}
-use Rattle.std.specs.Prelude.{slice_range, slice_index, nat_le, ◌==◌}
+use Rattle.std.specs.Prelude.{slice_range, slice_index, ◌==◌}
 use Rattle.std.specs.List.{prefix_len}
 use Rattle.std.proofs.lemmas.Bool.{true≢false}
 use Rattle.std.proofs.lemmas.Bool.Decides.{eqb_tells, nat_tests}
@@ -13,11 +13,9 @@ use Rattle.markdown_lines.specs.declared.held_line.HeldLine.{HeldLine}
 use Rattle.markdown_lines.specs.declared.line.Line.{Line}
 use Rattle.markdown_lines.proofs.BlockStartsLemmas.{is_blank}
 use Rattle.markdown_lines.proofs.PositionsLemmas.{in_part, rest_of_part}
-use Rattle.markdown_plain.specs.Frames.{Frame}
 use Rattle.markdown_plain.specs.HeldSources.{IsTextLine}
-use Rattle.markdown_plain.specs.OpenLeaves.{AreItemsOpenedIn, BeginsText, ComesAfter}
+use Rattle.markdown_plain.specs.OpenLeaves.{BeginsText, ComesAfter}
 use Rattle.markdown_plain.specs.Paragraphs.{lines_end}
-use Rattle.markdown_plain.specs.Standing.{AreOpenedBefore}
 use Rattle.markdown_plain.specs.TextLines.{IsContentAt, held_line, text_block}
 
 -- a line that is not blank has fewer bytes of white space than bytes

@@ -24,7 +24,7 @@ use Rattle.std.proofs.lemmas.Option.{same_Some}
 use Rattle.markdown_builder.specs.BuilderView.{with_items}
 use Rattle.markdown_lines.specs.declared.line.Line.{Line}
 use Rattle.markdown_lines.specs.declared.position.Position.{Position}
-use Rattle.markdown_block_rules.specs.BlockGrowth.{closes, leaf_with}
+use Rattle.markdown_block_rules.specs.BlockGrowth.{leaf_with}
 use Rattle.markdown_block_rules.specs.LineContents.{source_line}
 use Rattle.markdown_plain.specs.Fitting.{stepped}
 use Rattle.markdown_plain.specs.OpenLeaves.{IsLineRest}

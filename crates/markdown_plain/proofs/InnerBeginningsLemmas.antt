@@ -15,10 +15,10 @@ use Rattle.markdown_lines.specs.ListMarkers.{list_marker_at}
 use Rattle.markdown_lines.specs.ThematicBreaks.{is_thematic_break, setext_level}
 use Rattle.markdown_lines.specs.declared.block_start.Before.{Before}
 use Rattle.markdown_lines.specs.BlockBeginnings as line
-use Rattle.markdown_lines.specs.BlockBeginnings.{Beginning, Source, begins, begins_after, break_in_line, fence_in_line}
+use Rattle.markdown_lines.specs.BlockBeginnings.{Beginning, Source, begins_after, break_in_line, fence_in_line}
 use Rattle.markdown_lines.specs.BlockBeginnings.{first_found, footnote_in_line, footnote_marker, heading_in_line}
 use Rattle.markdown_lines.specs.BlockBeginnings.{html_in_line, is_paragraph, is_reached, item_in_line, item_of}
-use Rattle.markdown_lines.specs.BlockBeginnings.{metadata_begun, past_bytes}
+use Rattle.markdown_lines.specs.BlockBeginnings.{past_bytes}
 use Rattle.markdown_lines.specs.BlockBeginnings.{quote_in_line, quote_of, quote_or_alert, underline_in_line}
 use Rattle.markdown_lines.specs.BlockBeginnings.{whole_heading}
 use Rattle.markdown_block_rules.proofs.BlockBeginningsLemmas.{either}

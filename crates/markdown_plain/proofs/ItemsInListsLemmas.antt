@@ -17,13 +17,12 @@ use Rattle.markdown_lines.specs.SourceLines.{SourceLine, cut, is_blank_rest, res
 use Rattle.markdown_scan.specs.Entity.{entity_names}
 use Rattle.markdown_scan.specs.LineStart.{LineLeft, leading_space}
 use Rattle.markdown_block_rules.specs.BlockGrowth as was
-use Rattle.markdown_block_rules.specs.BlockGrowth.{Block, Kind, added_in, another_item, begun_by, begun_in, block_with}
+use Rattle.markdown_block_rules.specs.BlockGrowth.{Block, Kind, another_item, begun_by, begun_in, block_with}
 use Rattle.markdown_block_rules.specs.BlockGrowth.{closes, container_with, cut_paragraph, ends_html, goes_on, inside_of}
 use Rattle.markdown_block_rules.specs.BlockGrowth.{is_nil, is_text, leaf_with, line_block, new_blocks, next_item}
 use Rattle.markdown_block_rules.specs.BlockGrowth.{paragraph_with, past_footnote, past_indentation, past_quote}
-use Rattle.markdown_block_rules.specs.BlockGrowth.{table_after, table_ended, table_of_lines, table_with}
-use Rattle.markdown_block_rules.specs.BlockGrowth.{with_lazy, with_lazy_text, with_line, with_next_line, with_rest}
-use Rattle.markdown_block_rules.specs.BlockGrowth.{with_ended_table, within_limit}
+use Rattle.markdown_block_rules.specs.BlockGrowth.{table_after, table_of_lines, table_with}
+use Rattle.markdown_block_rules.specs.BlockGrowth.{with_lazy, with_lazy_text, with_line, with_rest}
 use Rattle.markdown_block_rules.specs.BlockRules.{is_blank_block}
 use Rattle.markdown_block_rules.specs.TableLines.{alignments_for, is_row, reads_tables}
 use Rattle.markdown_block_rules.proofs.BlockBeginningsLemmas.{either}

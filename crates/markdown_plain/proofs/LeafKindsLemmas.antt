@@ -43,7 +43,6 @@ use Rattle.markdown_plain.proofs.LeavesInPlaceLemmas.{opened_leaf, shown_alone}
 use Rattle.markdown_base.specs.declared.tag.MetadataBlockKind.{MetadataBlockKind}
 use Rattle.markdown_lines.specs.MetadataBlocks.{closes_metadata}
 use Rattle.markdown_plain.specs.Fitting.{opened}
-use Rattle.markdown_block_rules.specs.BlockGrowth.{ends_html}
 use Rattle.markdown_plain.proofs.LinedLeavesLemmas.{IsLined, closed_by_line, ends_with_line, grown_to, kind_is_leaf}
 use Rattle.markdown_plain.proofs.LinedLeavesLemmas.{line_added_to, lined_shown, opened_as, plain_leaf_opened}
 

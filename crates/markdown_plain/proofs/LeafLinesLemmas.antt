@@ -26,7 +26,7 @@ use Rattle.markdown_plain.specs.declared.pass.Pass.{Pass}
 use Rattle.markdown_plain.specs.Closing.{MayEnd}
 use Rattle.markdown_plain.specs.Containers.{is_container, is_innermost}
 use Rattle.markdown_plain.specs.Frames.{AreContainers, AreNested, Frame, is_list, reached, rebuilt, touched}
-use Rattle.markdown_plain.specs.OpenBlocks.{innermost_is, is_table, outer_of, without_leaf}
+use Rattle.markdown_plain.specs.OpenBlocks.{innermost_is, is_table, without_leaf}
 use Rattle.markdown_plain.specs.OpenLeaves.{IsOpenIn, is_leaf, leaf_block}
 use Rattle.markdown_plain.specs.OpenedFrames.{around_innermost}
 use Rattle.markdown_plain.specs.ReachedFrames.{IsAtMostLeaf, IsBefore, IsReached}
@@ -35,12 +35,11 @@ use Rattle.markdown_plain.specs.declared.containers.Reached as code
 use Rattle.markdown_plain.specs.Settled.{AreOpen, EmptyKnown, EmptyKnownIn, IsBodyOf, IsLooseAs, are_loose, placed_end}
 use Rattle.markdown_plain.specs.Standing.{HasLast, IsLeafKind, IsSource, KnowsLast, Stands, with_last}
 use Rattle.markdown_plain.proofs.BlanksKnownLemmas.{same_touched}
-use Rattle.markdown_plain.proofs.FramesLemmas.{goes_on_last}
+use Rattle.markdown_plain.proofs.FramesLemmas.{ends_in_block, goes_on_last}
 use Rattle.markdown_plain.proofs.LeavesInPlaceLemmas.{shown_alone, shown_leaf}
 use Rattle.markdown_plain.proofs.LinedLeavesLemmas.{grown_to}
 use Rattle.markdown_plain.proofs.LooseFramesLemmas.{closed_separated, loose_by_last, same_last}
-use Rattle.markdown_plain.proofs.OpenBlocksLemmas.{around_leaf, innermost_of_opened, outer_of_these, outside_leaf}
-use Rattle.markdown_plain.proofs.ReachedFramesLemmas.{some_follow}
+use Rattle.markdown_plain.proofs.OpenBlocksLemmas.{around_leaf, innermost_of_opened, outside_leaf}
 use Rattle.markdown_plain.proofs.ReachedLemmas.{last_goes_on, reached_parts}
 use Rattle.markdown_plain.proofs.TouchedFramesLemmas.{around_touched, built_touched}
 
@@ -135,7 +134,7 @@ open_parts s pass frames inside (Some b) has loose = by_held has.0 has.1 has.2
           alone = (leaf_alone s view frames inside b pass.leaf knows.0 is).0;
           are = is.around.blocks;
           nested = is.around.nested;
-          empty = none_empty frames (followed_by inside (leaf_block b)) (some_follow inside b nil);
+          empty = none_empty frames (followed_by inside (leaf_block b)) (ends_in_block inside b nil);
         }
     by_held (Some sources) may knows = record {
       containers = pass.placing.builder.blocks;
@@ -300,7 +299,7 @@ lists_alike (f ∷ frames) one other apart same =
     ∙ ap (λ flags. if is_list f.block.kind then is_loose (rebuilt frames other) ∷ flags else flags)
     (lists_alike frames one other apart same)
 
-empty_alike : (empty : Bool) (frames : List Frame) (one other : Forest Block) → is_nil one ≡ is_nil other
+pub empty_alike : (empty : Bool) (frames : List Frame) (one other : Forest Block) → is_nil one ≡ is_nil other
     → EmptyKnown empty frames one → EmptyKnown empty frames other
 empty_alike empty [] one other same known = tt
 empty_alike empty (f ∷ []) one other same known = by_kind f.block.kind known
@@ -336,7 +335,7 @@ loose_grown l now frames inside b c same loose =
     same_touched l now frames other (record {
       lists = loose.lists ∙ lists_alike frames one other apart alike;
       empty = empty_alike now.item_is_empty frames one other
-          (some_follow inside b nil ∙ sym (some_follow inside c nil)) loose.empty;
+          (ends_in_block inside b nil ∙ sym (ends_in_block inside c nil)) loose.empty;
     })
 
 -- and with a blank line after them

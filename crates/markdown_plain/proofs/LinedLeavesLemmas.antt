@@ -35,7 +35,7 @@ use Rattle.markdown_scan.specs.LineStart.{LineLeft, Space, column_after, space_f
 use Rattle.markdown_lines.specs.SourceLines.{cut, stop_of}
 use Rattle.markdown_lines.specs.declared.line.Line.{Line}
 use Rattle.markdown_lines.specs.declared.position.Position.{Position}
-use Rattle.markdown_block_rules.specs.BlockGrowth.{closes, leaf_with}
+use Rattle.markdown_block_rules.specs.BlockGrowth.{closes}
 use Rattle.markdown_block_rules.specs.BlockRules.{Around}
 use Rattle.markdown_block_rules.specs.LineContents.{source_line}
 use Rattle.markdown_plain.specs.CodeLines.{after_line, whole_of}

@@ -33,11 +33,12 @@ use Rattle.markdown_lines.specs.SourceLines.{SourceLine}
 use Rattle.markdown_lines.specs.ThematicBreaks.{is_thematic_break, setext_level}
 use Rattle.markdown_lines.specs.declared.block_start.Before.{Before}
 use Rattle.markdown_lines.specs.declared.list_marker.ListMarker.{ListMarker}
-use Rattle.markdown_block_rules.proofs.BlockBeginningsLemmas.{either, space_left}
+use Rattle.markdown_block_rules.proofs.BlockBeginningsLemmas.{either}
 use Rattle.markdown_plain.specs.Containers.{content_of}
 use Rattle.markdown_plain.proofs.BegunLemmas.{IsLeftOf, space_is_of}
 use Rattle.markdown_plain.proofs.LeafTreesLemmas.{on_test}
-use Rattle.markdown_plain.proofs.ReachedFramesLemmas.{end_of, space_alike}
+use Rattle.markdown_plain.proofs.ReachedFramesLemmas.{space_alike}
+use Rattle.markdown_plain.proofs.BegunRestsLemmas.{space_after}
 
 -- the rest in a container that begins comes after the first byte of a rest's content
 abbrev pub HoldsPast : LineLeft → Beginning → Type 0
@@ -49,13 +50,6 @@ HoldsPast whole other = Unit
 abbrev IfHoldsPast : LineLeft → Option Beginning → Type 0
 IfHoldsPast whole None = Unit
 IfHoldsPast whole (Some b) = HoldsPast whole b
-
--- space is read forwards
-space_on : (n : ℕ) (left : LineLeft) → left.scanned ≤ (leading_space n left).after.scanned
-space_on n left =
-    let end : end_of (leading_space n left).after ≡ end_of left = (space_alike n left).end in
-    let fewer = space_left n left in
-    omega (arith, end, fewer)
 
 -- bytes that begin with one that is not white begin with content
 first_other : (byte : ℕ) (more bytes : List ℕ) → is_space_or_tab byte ≡ false
@@ -82,7 +76,7 @@ in_quote s whole here same =
     on_test (IfHoldsPast whole) (begins_with (codes ">") here.bytes) (Some (quote_of s.options (past_marker here))) None
     (λ marker.
     let none = first_other 62 [] here.bytes refl marker in
-    let on = space_on 1 (past_one_byte here) in
+    let on = space_after 1 (past_one_byte here) in
     quote_past whole (past_marker here) (alert_read s.options (past_marker here)) (omega (arith, same, none, on)))
     (λ none. tt)
 
@@ -154,8 +148,8 @@ item_past : (whole : LineLeft) (columns : ℕ) (here : LineLeft) (found : Option
 item_past whole columns here None same some = tt
 item_past whole columns here (Some marker) same some =
     let left = past_bytes marker.width here in
-    let five = space_on 5 left in
-    let one = space_on 1 left in
+    let five = space_after 5 left in
+    let one = space_after 1 left in
     either (λ (space : Space). content_of whole ≤ space.after.scanned)
     (nat_lt 0 (leading_space 5 left).columns && nat_lt (leading_space 5 left).columns 5
     && not (length (leading_space 5 left).after.bytes == 0))

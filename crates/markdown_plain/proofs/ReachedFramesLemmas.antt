@@ -10,10 +10,9 @@ use Rattle.std.proofs.lemmas.Bool.Decides.{eqb_tells, nat_tests}
 use Rattle.std.proofs.lemmas.List.Sums.{prefix_len-le-length}
 use Rattle.markdown_base.specs.Bytes.{space, tab}
 use Rattle.markdown_base.specs.EnabledOptions.{old_footnotes_on}
-use Rattle.markdown_base.specs.Forest.{Forest, nil, node}
+use Rattle.markdown_base.specs.Forest.{Forest}
 use Rattle.markdown_base.specs.declared.item.ItemBody.{ItemBody}
 use Rattle.markdown_builder.specs.declared.open_block.OpenBlock.{OpenBlock}
-use Rattle.markdown_builder.specs.TreeLevels.{followed_by}
 use Rattle.markdown_scan.specs.Beginnings.{begins_with}
 use Rattle.markdown_scan.specs.LineStart.{LineLeft, Space, column_after, leading_space, past_marker}
 use Rattle.markdown_scan.specs.LineStart.{past_one_byte, space_from, space_width}
@@ -38,6 +37,7 @@ use Rattle.markdown_plain.specs.Settled.{AreOpen, EmptyKnown, IsBodyOf}
 use Rattle.markdown_plain.specs.ReachedFrames.{IsAtMostLeaf, IsBefore, IsReached, are_none}
 use Rattle.markdown_plain.specs.ReachedFrames.{quote_depth}
 use Rattle.markdown_plain.proofs.LeafTreesLemmas.{few_owed, on_test}
+use Rattle.markdown_plain.proofs.FramesLemmas.{ends_in_block}
 
 -- ---- what space leaves
 
@@ -299,11 +299,6 @@ known_inside : (empty : Bool) (f : Frame) (frames : List Frame) (inside : Forest
 known_inside empty f [] inside known = tt
 known_inside empty f (g ∷ frames) inside known = known
 
-pub some_follow : (before : Forest Block) (b : Block) (below : Forest Block)
-    → is_nil (followed_by before (node b below nil)) ≡ false
-some_follow nil b below = refl
-some_follow (node a inner after) b below = refl
-
 same_of_any : (kind : Kind) (one other : Bool) → one ≡ other → AreSameOf kind one other
 same_of_any (was.item_container indent) one other same = same
 same_of_any any one other same = tt
@@ -326,7 +321,7 @@ same_empty texts empty f [] (block ∷ containers) leaf inside are known = absur
 same_empty texts empty f (g ∷ frames) [] leaf inside are known = absurd are
 same_empty texts empty f (g ∷ frames) (block ∷ containers) leaf inside are known =
     same_of_any f.block.kind false (is_nil (rebuilt (g ∷ frames) inside))
-    (sym (some_follow g.before g.block (rebuilt frames inside)))
+    (sym (ends_in_block g.before g.block (rebuilt frames inside)))
 
 -- ---- what is reached
 

@@ -47,9 +47,10 @@ use Rattle.markdown_plain.proofs.OpenedFramesLemmas.{as_many_containers, list_in
 use Rattle.markdown_plain.proofs.ReachedLemmas.{reached_parts}
 use Rattle.markdown_plain.proofs.ReadyPlacesLemmas.{are_bodies}
 use Rattle.markdown_plain.proofs.ReadyTextsLemmas.{first_ready, line_in_text, line_white}
-use Rattle.markdown_plain.proofs.RoomForBlocksLemmas.{is_begun, line_some}
+use Rattle.markdown_plain.proofs.RoomForBlocksLemmas.{line_some}
 use Rattle.markdown_plain.proofs.RoomLemmas.{last_open}
 use Rattle.markdown_plain.proofs.RoomReadyLemmas.{nothing_taken, ready_later}
+use Rattle.markdown_plain.proofs.FoundBlocksLemmas.{found_begins}
 
 -- ---- room outside all blocks
 
@@ -178,7 +179,7 @@ item_fits s old new rest (turn.first before l) source blocks item at state found
 item_fits s old new rest (turn.later frames) source blocks item at state found opens =
     let b = line.begins_item item.marker item.indent (left_at rest.reader item.inside) in
     later_fits s old new rest frames source blocks at state
-    (is_begun s rest source at (start.Item item) b found refl).0 found.begins opens
+    (found_begins s rest source at (start.Item item) b found refl).0 found.begins opens
 
 -- ---- the paragraph that may follow an alert's marker
 

@@ -1,49 +1,42 @@
 -- Readiness between two lines: where a line takes the pass, the calls for the next one fit.
 use Rattle.std.proofs.Common.{◌≡◌, ⊎_elim, ℕ, ◌+◌, ◌-◌, ◌<◌, ◌≤◌, Bool, true, false, not, ◌&&◌, ◌||◌, ◌==◌, List, []}
-use Rattle.std.proofs.Common.{◌∷◌, Option, Some, None, drop, get_or, get_or-drop, length, length-drop, arith}
+use Rattle.std.proofs.Common.{◌∷◌, Option, Some, None, get_or, length, arith}
 use Rattle.std.proofs.Common.{refl, sym, ap, ◌∙◌, subst, true≢false}
 use Rattle.std.specs.Prelude.{slice_range, if◌then◌else◌}
 use Rattle.std.specs.List.{list_all}
 use Rattle.std.specs.Option.{option_map}
 use Rattle.std.specs.Str.{IsCharBoundary, IsUtf8}
-use Rattle.std.proofs.Math.Bool.{and-false}
 use Rattle.std.proofs.lemmas.Bool.{cases_lt}
 use Rattle.std.proofs.lemmas.List.Sums.{AllPass-from_list_all}
 use Rattle.std.proofs.lemmas.Option.{none-some, same_Some}
 use Rattle.markdown_base.proofs.ByteListLemmas.{part_length}
 use Rattle.markdown_base.specs.EnabledOptions.{old_footnotes_on}
 use Rattle.markdown_base.specs.Forest.{Forest}
-use Rattle.markdown_builder.specs.BuilderView.{BuilderView}
-use Rattle.markdown_builder.specs.EvenRows.{is_in_row}
 use Rattle.markdown_builder.specs.declared.open_block.OpenBlock.{OpenBlock}
 use Rattle.markdown_scan.specs.LineStart.{LineLeft}
 use Rattle.markdown_lines.specs.BlockBeginnings.{Source}
-use Rattle.markdown_lines.specs.Lines.{AllPass, IsLineFrom, ending_length, is_in_blank_line, is_line_ending}
+use Rattle.markdown_lines.specs.Lines.{AllPass, IsLineFrom, is_in_blank_line, is_line_ending}
 use Rattle.markdown_lines.specs.Lines.{is_space_or_tab}
 use Rattle.markdown_lines.specs.Positions.{IsSpaceAt}
 use Rattle.markdown_lines.specs.SourceLines.{SourceLine, is_blank_rest, rest_inside}
-use Rattle.markdown_lines.specs.declared.held_line.HeldLine.{HeldLine}
 use Rattle.markdown_lines.specs.declared.line.Line.{Line}
 use Rattle.markdown_lines.specs.declared.position.Position.{Position}
 use Rattle.markdown_lines.specs.declared.space.Space.{Space}
-use Rattle.markdown_lines.proofs.HeldLinesLemmas.{ends_within}
-use Rattle.markdown_lines.proofs.LinesAheadLemmas.{in_ending, some_ending}
-use Rattle.markdown_lines.proofs.LinesLemmas.{AllPass-none, ending_ascii, past_ascii}
+use Rattle.markdown_lines.proofs.LinesLemmas.{AllPass-none}
 use Rattle.markdown_lines.proofs.PositionsLemmas.{in_part}
 use Rattle.markdown_block_rules.specs.BlockGrowth as was
-use Rattle.markdown_block_rules.specs.BlockGrowth.{Block, Kind, is_nil, past_footnote, past_indentation}
+use Rattle.markdown_block_rules.specs.BlockGrowth.{Block, Kind, is_nil, past_indentation}
 use Rattle.markdown_block_rules.specs.BlockRules.{block_end}
 use Rattle.markdown_plain.specs.declared.containers.Reached as code
 use Rattle.markdown_plain.specs.declared.pass.Pass.{Pass}
-use Rattle.markdown_plain.specs.Closable.{AreAhead, AreClosable, AreContainers, HaveTask, IsReady, IsReadyAfter}
+use Rattle.markdown_plain.specs.Closable.{AreClosable, AreContainers, IsReady, IsReadyAfter}
 use Rattle.markdown_plain.specs.Closable.{has_quote, leaf_end}
-use Rattle.markdown_plain.specs.Containers.{is_container}
 use Rattle.markdown_plain.specs.Fits.{IsInLeaf, MayAddAfter, MayAddBefore, MayAddLine}
 use Rattle.markdown_plain.specs.Frames.{Frame, inside_container, is_quote as is_quote_kind, reached, reached_past}
 use Rattle.markdown_plain.specs.Frames.{rebuilt}
-use Rattle.markdown_plain.specs.OpenBlocks.{is_quote, outer_of, without_leaf}
+use Rattle.markdown_plain.specs.OpenBlocks.{is_quote, without_leaf}
 use Rattle.markdown_plain.specs.OpenLeaves.{IsLeafIn, is_leaf}
-use Rattle.markdown_plain.specs.Paragraphs.{has_paragraph, lines_end}
+use Rattle.markdown_plain.specs.Paragraphs.{lines_end}
 use Rattle.markdown_plain.specs.ReachedLines.{Before, IsReachedBy, blocks_in, reached_of}
 use Rattle.markdown_plain.specs.Settled.{AreOpen, IsBodyOf}
 use Rattle.markdown_plain.proofs.BlankLinesLemmas.{indented_alike}

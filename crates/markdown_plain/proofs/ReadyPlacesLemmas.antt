@@ -1,10 +1,10 @@
 -- What a placed line leaves is ready for the next one: a leaf is open, or none, and nothing is held back.
-use Rattle.std.proofs.Common.{◌≡◌, ℕ, zero, suc, ◌+◌, ◌-◌, ◌<◌, ◌≤◌, Bool, true, false, not, ◌&&◌, ◌||◌, List, [], ◌∷◌}
+use Rattle.std.proofs.Common.{◌≡◌, ℕ, zero, suc, ◌+◌, ◌-◌, ◌<◌, ◌≤◌, Bool, true, false, ◌||◌, List, [], ◌∷◌}
 use Rattle.std.proofs.Common.{Option, Some, None, get_or, length, drop, take, ⊎_elim, refl, sym, ap, ◌∙◌, subst, arith}
-use Rattle.std.specs.Prelude.{◌==◌, if◌then◌else◌, slice_index}
+use Rattle.std.specs.Prelude.{if◌then◌else◌, slice_index}
 use Rattle.std.specs.List.{list_all}
 use Rattle.std.specs.Str.{IsCharBoundary, IsUtf8}
-use Rattle.std.proofs.Math.Bool.{and-false, or-true}
+use Rattle.std.proofs.Math.Bool.{or-true}
 use Rattle.std.proofs.lemmas.Bool.{and_parts, cases_lt, true≢false}
 use Rattle.std.proofs.lemmas.Bool.Decides.{nat_tests}
 use Rattle.std.proofs.lemmas.List.{get_or-drop, get_or-take, length-drop, length-take}
@@ -26,13 +26,12 @@ use Rattle.markdown_lines.proofs.TitleLemmas.{ending_bytes}
 use Rattle.markdown_block_rules.specs.BlockGrowth as was
 use Rattle.markdown_block_rules.specs.BlockGrowth.{Block, Kind}
 use Rattle.markdown_plain.specs.declared.pass.Pass.{Pass}
-use Rattle.markdown_plain.specs.Closable.{AreAhead, AreContainers, HaveTask, IsReadyAfter, leaf_end}
+use Rattle.markdown_plain.specs.Closable.{AreContainers, IsReadyAfter, leaf_end}
 use Rattle.markdown_plain.specs.Containers.{is_container}
 use Rattle.markdown_plain.specs.Fits.{IsInLeaf, MayAddBefore}
 use Rattle.markdown_plain.specs.Frames.{Frame}
 use Rattle.markdown_plain.specs.OpenBlocks.{outer_of, without_leaf}
 use Rattle.markdown_plain.specs.OpenLeaves.{IsOpenIn, IsUnended}
-use Rattle.markdown_plain.specs.Paragraphs.{has_paragraph, lines_end}
 use Rattle.markdown_plain.specs.Settled.{AreOpen, IsBodyOf, IsBuilt}
 use Rattle.markdown_plain.specs.Standing.{PlacesLast}
 use Rattle.markdown_plain.proofs.ClosableLemmas.{innermost_no_row, leaf_end_here, no_task, none_ahead}

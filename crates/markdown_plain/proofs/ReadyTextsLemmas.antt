@@ -29,7 +29,7 @@ use Rattle.markdown_plain.specs.Closable.{IsInText, IsReady, IsReadyAfter, has_q
 use Rattle.markdown_plain.specs.Fitting.{defining}
 use Rattle.markdown_plain.specs.Frames.{Frame, reached}
 use Rattle.markdown_plain.specs.HeldSources.{AreInParagraph}
-use Rattle.markdown_plain.specs.OpenBlocks.{outer_of, without_leaf}
+use Rattle.markdown_plain.specs.OpenBlocks.{without_leaf}
 use Rattle.markdown_plain.specs.Paragraphs.{has_paragraph, is_item_in, lines_end, task_at}
 use Rattle.markdown_plain.specs.Standing.{IsSource}
 use Rattle.markdown_plain.specs.TextLines.{IsContentAt, held_line}

@@ -1,20 +1,18 @@
 -- Room for the block that the rest of a line begins: first what the open containers left of the line, and then what is
 -- left of it inside containers that it opened.
-use Rattle.std.proofs.Common.{◌≡◌, ◌⊎◌, inl, inr, ⊎_elim, ℕ, zero, suc, ◌<◌, ◌≤◌, ◌-◌, Bool, true, false, not, ◌&&◌}
-use Rattle.std.proofs.Common.{◌==◌, List, [], ◌∷◌, ◌++◌, Option, Some, None, length, map, take, drop, refl, sym, ap}
+use Rattle.std.proofs.Common.{◌≡◌, ◌⊎◌, inl, inr, ⊎_elim, ℕ, ◌<◌, ◌≤◌, ◌-◌, Bool, true, false, not, ◌&&◌}
+use Rattle.std.proofs.Common.{◌==◌, List, [], ◌∷◌, Option, Some, None, length, map, take, drop, refl, sym, ap}
 use Rattle.std.proofs.Common.{◌∙◌, subst, arith}
 use Rattle.std.proofs.Math.Bool.{and-false}
 use Rattle.std.proofs.lemmas.Bool.{true≢false, and_parts}
-use Rattle.std.proofs.lemmas.Bool.Decides.{nat_tests}
 use Rattle.std.proofs.lemmas.List.{length-append}
 use Rattle.std.proofs.lemmas.Option.{none-some, same_Some}
-use Rattle.std.specs.Prelude.{if◌then◌else◌, nat_le}
+use Rattle.std.specs.Prelude.{if◌then◌else◌}
 use Rattle.std.specs.List.{list_all}
 use Rattle.std.specs.Option.{option_map}
 use Rattle.markdown_base.specs.Forest.{Forest, nil}
 use Rattle.markdown_builder.specs.BuilderView.{BuilderView}
 use Rattle.markdown_builder.specs.TreeLevels.{followed_by}
-use Rattle.markdown_builder.specs.declared.open_block.OpenBlock.{OpenBlock}
 use Rattle.markdown_scan.specs.LineStart.{LineLeft}
 use Rattle.markdown_lines.specs.BlockBeginnings as beginning
 use Rattle.markdown_lines.specs.BlockBeginnings.{Beginning, Source, begins}
@@ -24,7 +22,6 @@ use Rattle.markdown_lines.specs.SourceLines.{SourceLine, is_blank_rest, rest_ins
 use Rattle.markdown_lines.specs.declared.block_start.Before as code
 use Rattle.markdown_lines.specs.declared.block_start.Before.TheVariants as paragraph
 use Rattle.markdown_lines.specs.declared.block_start.BlockStart.{BlockStart}
-use Rattle.markdown_lines.specs.declared.line.Line.{Line}
 use Rattle.markdown_lines.specs.declared.list_marker.ListMarker.{ListMarker}
 use Rattle.markdown_block_rules.specs.BlockGrowth as was
 use Rattle.markdown_block_rules.specs.BlockGrowth.{Block, Kind, another_item, begun_by, goes_on, is_nil, is_text}
@@ -45,13 +42,13 @@ use Rattle.markdown_plain.specs.Fitting.{AllFitted, IfFitted}
 use Rattle.markdown_plain.specs.Frames.{AreContainers, AreNested, Frame, IsContainer, innermost_is, inside_container}
 use Rattle.markdown_plain.specs.Frames.{is_item, is_list, reached, reached_past, rebuilt, room_depth, touched}
 use Rattle.markdown_plain.specs.OpenBlocks.{without_leaf}
-use Rattle.markdown_plain.specs.OpenLeaves.{AreItemsOpenedIn, leaf_block}
+use Rattle.markdown_plain.specs.OpenLeaves.{leaf_block}
 use Rattle.markdown_plain.specs.OpenedFrames.{MayOpen}
 use Rattle.markdown_plain.specs.Paragraphs.{has_paragraph, source_of}
 use Rattle.markdown_plain.specs.ReachedFrames.{are_none}
 use Rattle.markdown_plain.specs.ReachedLines.{Before, blocks_in, reached_of}
 use Rattle.markdown_plain.specs.Settled.{AreOpen, BlanksKnown, IsBuilt, IsLooseAs, IsLooseBefore, placed_end}
-use Rattle.markdown_plain.specs.Standing.{AreOpenedBefore, with_last}
+use Rattle.markdown_plain.specs.Standing.{with_last}
 use Rattle.markdown_plain.specs.TextLines.{paragraph_before}
 use Rattle.markdown_plain.proofs.AddedLinesLemmas.{has_held}
 use Rattle.markdown_plain.proofs.BegunAloneLemmas.{BeginsBlock, begins_alone, block_needed, is_no_text}
@@ -60,7 +57,6 @@ use Rattle.markdown_plain.proofs.BlanksKnownLemmas.{lists_touched}
 use Rattle.markdown_plain.proofs.FramesLemmas.{goes_on_last, innermost_inner, outer_nested}
 use Rattle.markdown_plain.proofs.ItemsInListsLemmas.{line_keeps}
 use Rattle.markdown_plain.proofs.LastBlocksLemmas.{open_are_containers}
-use Rattle.markdown_plain.proofs.OpenBlocksLemmas.{outer_of_these}
 use Rattle.markdown_plain.proofs.OpenedFramesLemmas.{room_is_free}
 use Rattle.markdown_plain.proofs.ReachedLemmas.{inner_goes_lazily, outer_taken, reached_parts}
 use Rattle.markdown_plain.proofs.ReadyPlacesLemmas.{no_frames}
@@ -70,6 +66,7 @@ use Rattle.markdown_plain.proofs.TouchedFramesLemmas.{built_touched, earlier_tou
 use Rattle.markdown_plain.proofs.TouchedFramesLemmas.{earlier_taken, not_opened}
 use Rattle.markdown_plain.proofs.ClosableLemmas.{no_paragraph}
 use Rattle.markdown_plain.proofs.RoomLemmas.{last_open}
+use Rattle.markdown_plain.proofs.FoundBlocksLemmas.{found_begins}
 
 -- ---- a line that goes on with no paragraph
 
@@ -358,12 +355,6 @@ begun_some : (s : Source) (source : SourceLine) (before : code.Before) (b : Begi
 begun_some s source before b true is = absurd (none-some b (sym is))
 begun_some s source before b false is = (refl, sym (same_Some b (begins s before source) is))
 
-pub is_begun : (s : Source) (rest : LineRest) (source : SourceLine) (at : ℕ) (start : BlockStart) (b : Beginning)
-    → IsFound s rest source at start → beginning_found rest.reader start ≡ Some b
-    → (is_blank_rest source ≡ false) × (begins s rest.before source ≡ b)
-is_begun s rest source at start b is found =
-    begun_some s source rest.before b (is_blank_rest source) (sym found ∙ is.is)
-
 -- ---- after the containers that go on in the line
 
 module _ (s : Source) (old new : Pass) (rest : LineRest) (before : Before) (l source : SourceLine) (b : Beginning)
@@ -530,11 +521,11 @@ pub room_for : (s : Source) (old new : Pass) (rest : LineRest) (turn : Turn) (so
     → beginning_found rest.reader start ≡ Some b → NeedsRoom b
     → IfFitted old.placing new.placing (HasRoom s new rest source b blocks)
 room_for s old new rest (turn.first before l) source at start b blocks makes state found begins needs =
-    let begun = is_begun s rest source at start b found begins in
+    let begun = found_begins s rest source at start b found begins in
     first_room s old new rest before l source b blocks state begun.1 needs
     (subst (λ n. MakesRoom old new n) state.depth makes)
 room_for s old new rest (turn.later frames) source at start b blocks makes state found begins needs =
-    let begun = is_begun s rest source at start b found begins in
+    let begun = found_begins s rest source at start b found begins in
     later_room s old new rest frames source b blocks state begun.0 begun.1 makes
 
 -- and it is made by calls that fit

@@ -15,7 +15,6 @@ use Rattle.markdown_plain.proofs.FramesLemmas.{HasMarker, Innermost, innermost_a
 use Rattle.markdown_plain.proofs.ReachedLemmas.{block_begins, list_ends, outer_taken, reached_parts}
 use Rattle.markdown_plain.proofs.OpenBlocksLemmas.{around_leaf, outside_leaf}
 use Rattle.std.proofs.Common.{Option, Some, subst}
-use Rattle.markdown_builder.specs.declared.open_block.OpenBlock.{OpenBlock}
 use Rattle.markdown_plain.specs.declared.pass.Pass.{Pass}
 use Rattle.markdown_plain.specs.Beginning.{HoldsLast}
 use Rattle.markdown_plain.specs.Closing.{AreItemsInLists, MayEnd}

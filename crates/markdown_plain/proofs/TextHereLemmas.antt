@@ -26,13 +26,14 @@ use Rattle.markdown_plain.specs.Standing.{PlacesFor}
 use Rattle.markdown_plain.specs.TextLines.{IsContentAt, IsTextHere, held_line}
 use Rattle.markdown_plain.proofs.BegunBlocksLemmas.{begun_block, source_kept}
 use Rattle.markdown_plain.proofs.BegunLemmas.{begun_once}
-use Rattle.markdown_plain.proofs.BegunTextsLemmas.{none_open, text_begins, text_inside}
+use Rattle.markdown_plain.proofs.BegunTextsLemmas.{text_begins, text_inside}
 use Rattle.markdown_plain.proofs.FoundBlocksLemmas.{found_begins}
 use Rattle.markdown_plain.proofs.FoundPlacesLemmas.{left_content, left_stands}
 use Rattle.markdown_plain.proofs.HeldTextLemmas.{starts_before}
 use Rattle.markdown_plain.proofs.ReadyPlacesLemmas.{are_bodies, no_frames}
 use Rattle.markdown_plain.proofs.ReadyTextsLemmas.{first_ready, line_in_text}
 use Rattle.markdown_plain.proofs.TextStepsLemmas.{AddsText, text_places}
+use Rattle.markdown_plain.proofs.ClosableLemmas.{no_paragraph}
 
 -- what is left of a line is text, whose first byte of content is at a byte offset
 pub record IsTextLeft (s : Source) (rest : LineRest) (source : SourceLine) (at : ℕ) : Type 0 where
@@ -77,7 +78,7 @@ later_ready s old new rest at frames source blocks adds state left =
     let view = old.placing.builder in
     let held = held_line rest.line at in
     let same = (adds.inside s frames opened.free state.depth opened.loose).0 in
-    let none = none_open old opened.free.lines in
+    let none = no_paragraph old opened.free.lines in
     let text : view.text ≡ s.text = ap (λ (r : Source). r.text) opened.source in
     let content = left_content s rest source at state.left left.filled left.here in
     let begun = text_begins s.text rest.position rest.line source at state.left.is left.here
@@ -119,7 +120,7 @@ text_later s old new rest at frames source blocks adds state left fitted =
     let l = text_line source in
     let b = begun_block source (was.paragraph_leaf (l ∷ [])) in
     let same = adds.inside s frames opened.free state.depth opened.loose in
-    let none = none_open old opened.free.lines in
+    let none = no_paragraph old opened.free.lines in
     let text : old.placing.builder.text ≡ s.text = ap (λ (r : Source). r.text) opened.source in
     let begun = text_begins s.text rest.position rest.line source at state.left.is left.here
     (left_stands s rest source at state.left left.filled left.here) in

@@ -11,7 +11,7 @@ use Rattle.markdown_scan.specs.LineStart.{LineLeft, Space, leading_space, no_spa
 use Rattle.markdown_lines.specs.declared.block_start.Before.{Before}
 use Rattle.markdown_lines.specs.declared.position.Position.{Position}
 use Rattle.markdown_lines.specs.BlockBeginnings as beginning
-use Rattle.markdown_lines.specs.BlockBeginnings.{Beginning, Source, begins, begins_after, metadata_begun}
+use Rattle.markdown_lines.specs.BlockBeginnings.{Source, begins_after, metadata_begun}
 use Rattle.markdown_lines.specs.BlockBeginnings.{metadata_in_line}
 use Rattle.markdown_lines.specs.Lines.{is_space_or_tab}
 use Rattle.markdown_lines.specs.MetadataBlocks.{line_opens, opened_before}

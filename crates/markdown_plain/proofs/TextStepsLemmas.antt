@@ -2,12 +2,9 @@
 use Rattle.std.proofs.Common.{◌≡◌, ℕ, ◌≤◌, Bool, true, false, not, List, [], ◌∷◌, ◌++◌, Option, Some, None, arith}
 use Rattle.std.proofs.Common.{length, take, drop, refl, sym, ap, ◌∙◌, subst}
 use Rattle.std.specs.Prelude.{◌==◌, ◌&&◌, if◌then◌else◌}
-use Rattle.std.proofs.Math.Bool.{and-false}
 use Rattle.std.proofs.lemmas.List.{length-append}
 use Rattle.markdown_base.specs.Forest.{Forest, nil}
-use Rattle.markdown_builder.specs.BuilderView.{BuilderView}
 use Rattle.markdown_builder.specs.TreeLevels.{followed_by}
-use Rattle.markdown_builder.specs.declared.open_block.OpenBlock.{OpenBlock}
 use Rattle.markdown_lines.specs.declared.block_start.Before.TheVariants as paragraph
 use Rattle.markdown_lines.specs.declared.line.Line.{Line}
 use Rattle.markdown_lines.specs.BlockBeginnings as beginning
@@ -20,7 +17,7 @@ use Rattle.markdown_plain.specs.declared.pass.Pass.{Pass}
 use Rattle.markdown_plain.specs.Beginning.{Holds, HoldsLast}
 use Rattle.markdown_plain.specs.Closable.{AreClosable, IsClosable}
 use Rattle.markdown_plain.specs.Closing as closing
-use Rattle.markdown_plain.specs.Closing.{AreItemsInLists, MayClose, MayEnd}
+use Rattle.markdown_plain.specs.Closing.{MayClose, MayEnd}
 use Rattle.markdown_plain.specs.Fitting.{AllFitted, IfFitted}
 use Rattle.markdown_plain.specs.Frames.{AreNested, Frame, Reached, reached, rebuilt, room_depth}
 use Rattle.markdown_plain.specs.OpenBlocks.{without_leaf}
@@ -34,7 +31,6 @@ use Rattle.markdown_plain.specs.TextLines.{IsTextHere, held_line, paragraph_befo
 use Rattle.markdown_plain.proofs.AddedLinesLemmas.{has_held}
 use Rattle.markdown_plain.proofs.AddedTextLemmas.{GoesAs, continues, reaches}
 use Rattle.markdown_plain.proofs.LastBlocksLemmas.{open_are_containers}
-use Rattle.markdown_plain.proofs.OpenBlocksLemmas.{outer_of_these}
 use Rattle.markdown_plain.proofs.PlacedTextLemmas.{BeginsLine, text_added, text_begun}
 use Rattle.markdown_plain.proofs.ReachedLemmas.{reached_parts}
 use Rattle.markdown_plain.proofs.ClosableLemmas.{no_paragraph}

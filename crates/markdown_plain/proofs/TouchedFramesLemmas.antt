@@ -17,7 +17,7 @@ use Rattle.markdown_plain.specs.Settled.{AreOpen, IsBuilt, QuotesEnd, around_in,
 use Rattle.markdown_plain.specs.Standing.{AreOpenedBefore}
 use Rattle.markdown_plain.proofs.AppendedBlocksLemmas.{IsGathered, definitions_gathered, footnotes_gathered}
 use Rattle.markdown_plain.proofs.AppendedBlocksLemmas.{gathered_around}
-use Rattle.std.proofs.Common.{◌<◌, zero, suc, true, false, take}
+use Rattle.std.proofs.Common.{◌<◌, zero, suc, false, take}
 use Rattle.std.specs.Prelude.{◌==◌, nat_le}
 use Rattle.std.proofs.lemmas.Bool.Decides.{nat_tests}
 use Rattle.markdown_lines.specs.declared.line.Line.{Line}
@@ -119,6 +119,11 @@ earlier_touched l from to less (f ∷ frames) earlier = (
 )
 
 -- the outermost of some containers were opened as early
+pub earlier_outer : (from : ℕ) (outer inner : List Frame) → AreOpenedBefore from (outer ++ inner)
+    → AreOpenedBefore from outer
+earlier_outer from [] inner earlier = tt
+earlier_outer from (f ∷ outer) inner earlier = (earlier.0, earlier_outer from outer inner earlier.1)
+
 pub earlier_taken : (from n : ℕ) (frames : List Frame) → AreOpenedBefore from frames → AreOpenedBefore from (take n frames)
 earlier_taken from zero frames earlier = tt
 earlier_taken from (suc n) [] earlier = tt

@@ -51,7 +51,6 @@ use Rattle.markdown_plain.proofs.AddedLinesLemmas.{has_held, no_leaf_open}
 use Rattle.markdown_plain.proofs.AddedTextLemmas.{around_text, loose_as_leaf}
 use Rattle.markdown_plain.proofs.BegunBlocksLemmas.{source_kept}
 use Rattle.markdown_plain.proofs.BegunLeavesLemmas.{none_held}
-use Rattle.markdown_plain.proofs.BegunTextsLemmas.{none_open}
 use Rattle.markdown_plain.proofs.BlanksKnownLemmas.{same_touched}
 use Rattle.markdown_plain.proofs.BlankStandingLemmas.{next_after, none_inside}
 use Rattle.markdown_plain.proofs.FramesLemmas.{goes_on_last}
@@ -64,6 +63,7 @@ use Rattle.markdown_plain.proofs.ReachedLemmas.{all_go_on, reached_next}
 use Rattle.markdown_plain.proofs.ReadyPlacesLemmas.{next_between, ready_last}
 use Rattle.markdown_plain.proofs.ReadyTextsLemmas.{again_ready}
 use Rattle.markdown_plain.proofs.TouchedFramesLemmas.{earlier_touched, quotes_touched}
+use Rattle.markdown_plain.proofs.ClosableLemmas.{no_paragraph}
 
 -- ---- the line begins an underline
 
@@ -380,7 +380,7 @@ module _ (s : Source) (old new : Pass) (rest : LineRest) (level : HeadingLevel) 
         left = left_again;
         depth = here.depth;
         paragraph = ap (λ has. if has then (if are_none (reached s frames now l).inner then paragraph.Reached
-            else paragraph.Lazy) else paragraph.NoParagraph) (sym (none_open new ends.emptied));
+            else paragraph.Lazy) else paragraph.NoParagraph) (sym (no_paragraph new ends.emptied));
         filled = here.filled;
         over = λ free. over_again none;
         whole = here.whole;
@@ -416,7 +416,7 @@ paragraph_underlined : (s : Source) (old new : Pass) (rest : LineRest) (level : 
     → IfFitted old.placing new.placing
     (HasBegun s new rest (record rest { before = paragraph.NoParagraph }) blocks (not some))
 paragraph_underlined s old new rest level some frames inside None l source blocks here underlines reaches has all ends =
-    absurd (true≢false (sym has ∙ none_open old here.holds.unended.1))
+    absurd (true≢false (sym has ∙ no_paragraph old here.holds.unended.1))
 paragraph_underlined s old new rest level some frames inside (Some b) l source blocks here underlines reaches has all
     ends =
     by_held here.holds.unended.0 here.holds.unended.1

@@ -8,13 +8,13 @@ use Rattle.markdown_plain.specs.Fitting.{AllFitted}
 use Rattle.markdown_plain.specs.declared.placing.Placing.{Placing}
 use Rattle.markdown_plain.specs.Paragraphs.{has_paragraph, task_at}
 use Rattle.markdown_base.specs.Forest.{nil}
-use Rattle.markdown_plain.proofs.BegunTextsLemmas.{none_open}
 use Rattle.markdown_plain.specs.Settled.{IsLooseBefore}
 use Rattle.markdown_plain.specs.declared.looseness.Looseness.{Looseness}
 use Rattle.markdown_plain.specs.declared.pass.Pass.{Pass}
 use Rattle.markdown_plain.proofs.pass.Pass.add_text.Goals.{then-not-has_paragraph+in_ok-make_room}
 use Rattle.markdown_plain.proofs.pass.Pass.add_text.Goals.{else-not-has_paragraph}
 use Rattle.markdown_plain.proofs.pass.Pass.add_text.Goals as goal
+use Rattle.markdown_plain.proofs.ClosableLemmas.{no_paragraph}
 
 -- the line as it is held back
 abbrev line_of : goal.In_ok-push → HeldLine
@@ -74,7 +74,7 @@ returns-clause-inside c = λ s frames may deep loose.
           )
       | else-not-has_paragraph w ↦
           let held : has_paragraph c.args.self.now ≡ true = search rules in
-          absurd (true≢false (sym held ∙ none_open c.args.self.now may.lines))
+          absurd (true≢false (sym held ∙ no_paragraph c.args.self.now may.lines))
     ]
 
 -- what was closed may be, where room was made
