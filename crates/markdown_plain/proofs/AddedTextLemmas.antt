@@ -1,32 +1,30 @@
 -- A paragraph with one more line of text, which it reaches or continues lazily, as the definition of blocks says.
-use Rattle.std.proofs.Common.{◌≡◌, ℕ, Bool, false, List, [], ◌∷◌, Some}
-use Rattle.std.proofs.Common.{map, refl, sym, ap, ◌∙◌}
+use Rattle.std.proofs.Common.{◌≡◌, ℕ, Bool, false, List, [], ◌∷◌, Some, map, refl, sym, ap, ◌∙◌}
 use Rattle.std.specs.Prelude.{unwrap_or, if◌then◌else◌}
 use Rattle.std.specs.Option.{option_map}
 use Rattle.markdown_base.specs.Forest.{Forest, nil, node}
+use Rattle.markdown_builder.specs.TreeLevels.{followed_by}
 use Rattle.markdown_lines.specs.declared.block_start.Before.TheVariants as paragraph
 use Rattle.markdown_lines.specs.BlockBeginnings as line
 use Rattle.markdown_lines.specs.BlockBeginnings.{Source, begins}
 use Rattle.markdown_lines.specs.SourceLines.{SourceLine, is_blank_rest}
-use Rattle.markdown_builder.specs.TreeLevels.{followed_by}
 use Rattle.markdown_block_rules.specs.BlockGrowth as was
-use Rattle.markdown_block_rules.specs.BlockGrowth.{Block, Kind, goes_on, is_nil, is_text}
-use Rattle.markdown_block_rules.specs.BlockGrowth.{with_lazy, with_line}
+use Rattle.markdown_block_rules.specs.BlockGrowth.{Block, Kind, goes_on, is_nil, is_text, with_lazy, with_line}
 use Rattle.markdown_block_rules.specs.BlockRules.{are_separated, is_blank_block, is_loose}
 use Rattle.markdown_block_rules.specs.TableLines.{reads_tables}
 use Rattle.markdown_plain.specs.declared.looseness.Looseness.{Looseness}
 use Rattle.markdown_plain.specs.Closing.{AreItemsInLists}
-use Rattle.markdown_plain.specs.Frames.{AreContainers, AreNested, Frame, Reached, innermost_is, is_item}
-use Rattle.markdown_plain.specs.Frames.{is_list, reached, rebuilt, touched}
+use Rattle.markdown_plain.specs.Frames.{AreContainers, AreNested, Frame, Reached, innermost_is, is_item, is_list}
+use Rattle.markdown_plain.specs.Frames.{reached, rebuilt, touched}
 use Rattle.markdown_plain.specs.OpenLeaves.{leaf_block}
 use Rattle.markdown_plain.specs.Settled.{EmptyKnown, EmptyKnownIn, IsLooseAs, IsLooseBefore, are_loose}
 use Rattle.markdown_plain.specs.TextLines.{with_text}
+use Rattle.markdown_plain.proofs.ClosedFramesLemmas.{last_items}
 use Rattle.markdown_plain.proofs.FramesLemmas.{goes_on_last, innermost_inner, with_lazy_last}
 use Rattle.markdown_plain.proofs.LastBlocksLemmas.{line_goes_lazily}
+use Rattle.markdown_plain.proofs.LeafLinesLemmas.{empty_alike}
 use Rattle.markdown_plain.proofs.LooseFramesLemmas.{closed_separated, loose_with_item, one_separated, same_last}
 use Rattle.markdown_plain.proofs.ReachedLemmas.{all_go_on}
-use Rattle.markdown_plain.proofs.ClosedFramesLemmas.{last_items}
-use Rattle.markdown_plain.proofs.LeafLinesLemmas.{empty_alike}
 
 -- ---- the definition
 
@@ -125,12 +123,6 @@ module _ (inside : Forest Block) (b c : Block) (filled : is_blank_block b.kind �
       else are_loose frames (followed_by inside (leaf_block b))) (loose_alike frames)
       ∙ ap (λ flags. if is_list f.block.kind
       then is_loose (rebuilt frames (followed_by inside (leaf_block c))) ∷ flags else flags) (lists_alike frames)
-
-known_in : (empty : Bool) (inside now : Forest Block) → is_nil inside ≡ is_nil now → (kind : Kind)
-    → EmptyKnownIn empty inside kind → EmptyKnownIn empty now kind
-known_in empty inside now same (was.item_container indent) known = known ∙ same
-known_in empty inside now same (was.list_container marker) known = tt
-known_in empty inside now same other known = known
 
 -- what is remembered of lists is so with another leaf
 pub loose_as_leaf : (now : Looseness) (frames : List Frame) (inside : Forest Block) (b c : Block)

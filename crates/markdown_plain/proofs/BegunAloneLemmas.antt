@@ -1,7 +1,7 @@
 -- What a line begins beside text and underlines: where it may go on with a paragraph, it begins the same as where there
 -- is none.
-use Rattle.std.proofs.Common.{◌≡◌, ℕ, ◌+◌, ◌-◌, Bool, true, false, ◌&&◌, ◌==◌, List, [], ◌∷◌, ◌++◌, Option}
-use Rattle.std.proofs.Common.{Some, None, not, length, drop, slice_range, nat_le, refl, sym, ap, ◌∙◌, subst, arith}
+use Rattle.std.proofs.Common.{◌≡◌, ℕ, ◌+◌, ◌-◌, Bool, true, false, ◌&&◌, ◌==◌, List, [], ◌∷◌, ◌++◌, Option, Some}
+use Rattle.std.proofs.Common.{None, not, length, drop, slice_range, nat_le, refl, sym, ap, ◌∙◌, subst, arith}
 use Rattle.std.proofs.lemmas.Bool.{true≢false, and_parts, or_right}
 use Rattle.std.proofs.lemmas.Bool.Decides.{nat_tests}
 use Rattle.std.proofs.lemmas.Option.{none-some}
@@ -19,10 +19,10 @@ use Rattle.markdown_lines.specs.declared.block_start.Before.{Before}
 use Rattle.markdown_lines.specs.declared.block_start.Before.TheVariants as paragraph
 use Rattle.markdown_lines.specs.declared.list_marker.ListMarker.{ListMarker}
 use Rattle.markdown_lines.specs.BlockBeginnings as line
-use Rattle.markdown_lines.specs.BlockBeginnings.{Beginning, Source, begins, begins_after, break_in_line, fence_in_line}
-use Rattle.markdown_lines.specs.BlockBeginnings.{first_found, footnote_in_line, heading_in_line, html_in_line}
-use Rattle.markdown_lines.specs.BlockBeginnings.{item_in_line, item_of, metadata_begun, metadata_in_line}
-use Rattle.markdown_lines.specs.BlockBeginnings.{quote_in_line, underline_in_line}
+use Rattle.markdown_lines.specs.BlockBeginnings.{Beginning, Source, begins, begins_after, break_in_line}
+use Rattle.markdown_lines.specs.BlockBeginnings.{fence_in_line, first_found, footnote_in_line, heading_in_line}
+use Rattle.markdown_lines.specs.BlockBeginnings.{html_in_line, item_in_line, item_of, metadata_begun}
+use Rattle.markdown_lines.specs.BlockBeginnings.{metadata_in_line, quote_in_line, underline_in_line}
 use Rattle.markdown_lines.specs.LineBytes.{is_parted}
 use Rattle.markdown_lines.specs.Lines.{is_space_or_tab}
 use Rattle.markdown_lines.specs.ListMarkers.{if_it_stands, list_marker_at, marker_of, may_interrupt}

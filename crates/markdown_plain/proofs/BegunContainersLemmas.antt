@@ -1,29 +1,16 @@
 -- Containers that begin with the rest of a line, and what is left of the line inside them.
-use Rattle.std.proofs.Common.{◌≡◌, ℕ, ◌<◌, ◌≤◌, Bool, true, false, List, [], ◌∷◌, ◌++◌, refl, sym}
-use Rattle.std.proofs.Common.{ap, ◌∙◌, subst, arith, append-nil, length, if◌then◌else◌, ◌&&◌, ◌==◌, nat_le}
+use Rattle.std.proofs.Common.{◌≡◌, ℕ, ◌<◌, ◌≤◌, Bool, true, false, List, [], ◌∷◌, ◌++◌, refl, sym, ap, ◌∙◌, subst}
+use Rattle.std.proofs.Common.{arith, append-nil, length, if◌then◌else◌, ◌&&◌, ◌==◌, nat_le}
 use Rattle.std.proofs.lemmas.Bool.Decides.{nat_tests}
+use Rattle.std.specs.List.{list_all}
+use Rattle.std.specs.Str.{IsCharBoundary}
+use Rattle.markdown_base.specs.Forest.{Forest, nil, node}
+use Rattle.markdown_builder.specs.TreeLevels.{followed_by}
 use Rattle.markdown_scan.specs.LineStart.{LineLeft}
 use Rattle.markdown_lines.specs.Positions.{left_from}
 use Rattle.markdown_lines.specs.declared.block_start.Before.{Before}
 use Rattle.markdown_lines.specs.declared.position.Position.{Position}
-use Rattle.markdown_plain.specs.declared.pass.Pass.{Pass}
-use Rattle.std.specs.List.{list_all}
-use Rattle.std.specs.Str.{IsCharBoundary}
 use Rattle.markdown_lines.specs.Lines.{is_space_or_tab}
-use Rattle.markdown_plain.specs.Containers.{content_of as left_content}
-use Rattle.markdown_plain.specs.Standing.{AreOpenedBefore, IsOpenedBefore}
-use Rattle.markdown_plain.proofs.ReachedFramesLemmas.{blank_at, end_of}
-use Rattle.markdown_plain.specs.Closing.{AreItemsInLists}
-use Rattle.markdown_plain.specs.Fitting.{AllFitted, IfFitted}
-use Rattle.markdown_plain.specs.Paragraphs.{has_paragraph, source_of}
-use Rattle.markdown_plain.specs.Settled.{IsBuilt}
-use Rattle.markdown_plain.proofs.BegunLemmas.{left_from_is_of}
-use Rattle.markdown_plain.proofs.BegunRestsLemmas.{HoldsRest, IsRestOf, begins_rest}
-use Rattle.markdown_plain.proofs.PassedMarkersLemmas.{HoldsPast, begins_past}
-use Rattle.markdown_plain.proofs.FramesLemmas.{rebuilt_more}
-use Rattle.markdown_plain.proofs.OpenedFramesLemmas.{as_many_containers}
-use Rattle.markdown_base.specs.Forest.{Forest, nil, node}
-use Rattle.markdown_builder.specs.TreeLevels.{followed_by}
 use Rattle.markdown_lines.specs.BlockBeginnings.{Beginning, Source, is_paragraph}
 use Rattle.markdown_lines.specs.SourceLines.{SourceLine, is_blank_rest, rest_inside}
 use Rattle.markdown_lines.specs.declared.block_start.Before.TheVariants as paragraph
@@ -31,6 +18,14 @@ use Rattle.markdown_lines.specs.declared.line.Line.{Line}
 use Rattle.markdown_lines.specs.BlockStarts.{left_at}
 use Rattle.markdown_block_rules.specs.BlockGrowth.{Block, Kind, begun_by, content_of, inside_of, new_blocks}
 use Rattle.markdown_block_rules.specs.BlockRules.{is_blank_block, is_loose}
+use Rattle.markdown_plain.specs.declared.pass.Pass.{Pass}
+use Rattle.markdown_plain.specs.Containers.{content_of as left_content}
+use Rattle.markdown_plain.specs.Standing.{AreOpenedBefore, IsOpenedBefore}
+use Rattle.markdown_plain.specs.Closing.{AreItemsInLists}
+use Rattle.markdown_plain.specs.Fitting.{AllFitted, IfFitted}
+use Rattle.markdown_plain.specs.Paragraphs.{has_paragraph, source_of}
+use Rattle.markdown_plain.specs.Settled.{IsBuilt, EmptyKnown, EmptyKnownIn, IsLooseAs, IsLooseBefore, QuotesEnd}
+use Rattle.markdown_plain.specs.Settled.{are_loose, placed_end}
 use Rattle.markdown_plain.specs.declared.beginnings.LineRest.{LineRest}
 use Rattle.markdown_plain.specs.declared.looseness.Looseness.{Looseness}
 use Rattle.markdown_plain.specs.Beginning as here
@@ -38,11 +33,15 @@ use Rattle.markdown_plain.specs.Beginning.{HasRoom, IsLeft, MayBegin, ReadsOn, b
 use Rattle.markdown_plain.specs.Frames.{Frame, is_list, rebuilt}
 use Rattle.markdown_plain.specs.OpenLeaves.{AreItemsOpenedIn, IsOpenedIn}
 use Rattle.markdown_plain.specs.OpenedFrames.{with_frame}
-use Rattle.markdown_plain.specs.Settled.{EmptyKnown, EmptyKnownIn, IsLooseAs, IsLooseBefore, QuotesEnd, are_loose}
-use Rattle.markdown_plain.specs.Settled.{placed_end}
-use Rattle.markdown_plain.proofs.LooseFramesLemmas.{loose_more}
 use Rattle.markdown_plain.proofs.BegunBlocksLemmas.{KeepsRest, begun_block, begun_in_room, still_may}
+use Rattle.markdown_plain.proofs.BegunLemmas.{left_from_is_of}
+use Rattle.markdown_plain.proofs.BegunRestsLemmas.{HoldsRest, IsRestOf, begins_rest}
 use Rattle.markdown_plain.proofs.FramesInsideLemmas.{inner_last}
+use Rattle.markdown_plain.proofs.FramesLemmas.{rebuilt_more}
+use Rattle.markdown_plain.proofs.LooseFramesLemmas.{loose_more}
+use Rattle.markdown_plain.proofs.OpenedFramesLemmas.{as_many_containers}
+use Rattle.markdown_plain.proofs.PassedMarkersLemmas.{HoldsPast, begins_past}
+use Rattle.markdown_plain.proofs.ReachedFramesLemmas.{blank_at, end_of}
 
 -- ---- one more container
 

@@ -41,19 +41,19 @@ use Rattle.markdown_plain.proofs.BegunBlocksLemmas.{begun_block, source_kept}
 use Rattle.markdown_plain.proofs.BegunContainersLemmas.{AreInLine, container_inside, in_line_more}
 use Rattle.markdown_plain.proofs.BegunLemmas.{IsLeftOf, begun_once, block_begun, item_begun, left_from_is_of}
 use Rattle.markdown_plain.proofs.BegunRestsLemmas.{HoldsRest, IsRestOf, begins_rest}
-use Rattle.markdown_plain.proofs.PassedMarkersLemmas.{HoldsPast, begins_past}
 use Rattle.markdown_plain.proofs.BlanksKnownLemmas.{same_touched}
+use Rattle.markdown_plain.proofs.FoundBlocksLemmas.{found_begins}
 use Rattle.markdown_plain.proofs.FramesLemmas.{innermost_apart, marker_of_list, rebuilt_more}
 use Rattle.markdown_plain.proofs.ItemsInListsLemmas.{line_keeps}
 use Rattle.markdown_plain.proofs.LastBlocksLemmas.{open_are_containers}
 use Rattle.markdown_plain.proofs.OpenedFramesLemmas.{item_placed}
+use Rattle.markdown_plain.proofs.PassedMarkersLemmas.{HoldsPast, begins_past}
 use Rattle.markdown_plain.proofs.ReachedLemmas.{block_begins, inner_left, item_begins, list_ends, outer_taken}
 use Rattle.markdown_plain.proofs.ReachedLemmas.{reached_next, reached_parts}
 use Rattle.markdown_plain.proofs.RoomForBlocksLemmas.{line_some, none_goes_on}
 use Rattle.markdown_plain.proofs.RoomLemmas.{last_open}
-use Rattle.markdown_plain.proofs.TouchedFramesLemmas.{earlier_outer, not_opened}
-use Rattle.markdown_plain.proofs.TouchedFramesLemmas.{built_touched, earlier_touched, quotes_touched}
-use Rattle.markdown_plain.proofs.FoundBlocksLemmas.{found_begins}
+use Rattle.markdown_plain.proofs.TouchedFramesLemmas.{earlier_outer, not_opened, built_touched, earlier_touched}
+use Rattle.markdown_plain.proofs.TouchedFramesLemmas.{quotes_touched}
 
 -- ---- what a line makes of blocks with an item that it begins
 

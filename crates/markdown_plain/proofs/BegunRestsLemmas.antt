@@ -8,8 +8,6 @@ use Rattle.std.proofs.lemmas.List.Sums.{prefix_len-le-length}
 use Rattle.std.specs.Prelude.{if◌then◌else◌, slice_index, slice_range, unwrap_or}
 use Rattle.std.specs.Char.{is_ascii_digit}
 use Rattle.std.specs.List.{list_all, prefix_len}
-use Rattle.markdown_lines.specs.Lines.{is_space_or_tab}
-use Rattle.markdown_plain.specs.Containers.{content_of}
 use Rattle.std.specs.Option.{option_and_then, option_map}
 use Rattle.markdown_base.specs.EnabledOptions.{footnotes_on}
 use Rattle.markdown_base.specs.declared.tag.BlockQuoteKind.{BlockQuoteKind}
@@ -17,26 +15,28 @@ use Rattle.markdown_base.specs.declared.tag.MetadataBlockKind.{MetadataBlockKind
 use Rattle.markdown_base.specs.declared.tag.MetadataBlockKind.TheVariants as metadata
 use Rattle.markdown_scan.specs.Beginnings.{begins_with}
 use Rattle.markdown_scan.specs.LineStart.{LineLeft, Space, leading_space, past_marker, past_one_byte}
+use Rattle.markdown_scan.specs.Label.{link_label}
+use Rattle.markdown_lines.specs.Lines.{is_space_or_tab}
 use Rattle.markdown_lines.specs.declared.block_start.Before.{Before}
 use Rattle.markdown_lines.specs.declared.list_marker.ListMarker.{ListMarker}
 use Rattle.markdown_lines.specs.Alerts.{alert_read}
 use Rattle.markdown_lines.specs.AtxHeadings.{atx_heading_at}
 use Rattle.markdown_lines.specs.CodeFences.{opening_fence_at}
 use Rattle.markdown_lines.specs.BlockBeginnings as line
-use Rattle.markdown_lines.specs.BlockBeginnings.{Beginning, Source, begins, begins_after, break_in_line, fence_in_line}
-use Rattle.markdown_lines.specs.BlockBeginnings.{first_found, footnote_in_line, footnote_marker, heading_in_line}
-use Rattle.markdown_lines.specs.BlockBeginnings.{html_in_line, is_paragraph, is_reached, item_in_line, item_of}
-use Rattle.markdown_lines.specs.BlockBeginnings.{label_before_colon, metadata_begun, metadata_in_line}
-use Rattle.markdown_lines.specs.BlockBeginnings.{past_bytes, quote_in_line, quote_of, quote_or_alert}
-use Rattle.markdown_lines.specs.BlockBeginnings.{underline_in_line, whole_heading}
+use Rattle.markdown_lines.specs.BlockBeginnings.{Beginning, Source, begins, begins_after, break_in_line}
+use Rattle.markdown_lines.specs.BlockBeginnings.{fence_in_line, first_found, footnote_in_line, footnote_marker}
+use Rattle.markdown_lines.specs.BlockBeginnings.{heading_in_line, html_in_line, is_paragraph, is_reached}
+use Rattle.markdown_lines.specs.BlockBeginnings.{item_in_line, item_of, label_before_colon, metadata_begun}
+use Rattle.markdown_lines.specs.BlockBeginnings.{metadata_in_line, past_bytes, quote_in_line, quote_of}
+use Rattle.markdown_lines.specs.BlockBeginnings.{quote_or_alert, underline_in_line, whole_heading}
 use Rattle.markdown_lines.specs.HtmlBeginnings.{html_kind_of, in_one_line}
-use Rattle.markdown_scan.specs.Label.{link_label}
 use Rattle.markdown_lines.specs.ListMarkers.{decimal, ends_number, if_it_stands, is_bullet, list_marker_at, marker_of}
 use Rattle.markdown_lines.specs.ListMarkers.{ordered_marker, ordered_marker_of, stands_before}
 use Rattle.markdown_lines.specs.MetadataBlocks.{metadata_opened}
 use Rattle.markdown_lines.specs.SourceLines.{SourceLine}
 use Rattle.markdown_lines.specs.ThematicBreaks.{is_thematic_break, setext_level}
 use Rattle.markdown_block_rules.proofs.BlockBeginningsLemmas.{HoldsLess, begins_less, either, space_left}
+use Rattle.markdown_plain.specs.Containers.{content_of}
 use Rattle.markdown_plain.proofs.LeafTreesLemmas.{few_owed, on_test}
 use Rattle.markdown_plain.proofs.ReachedFramesLemmas.{AreAlike, blank_at, end_of, space_alike}
 

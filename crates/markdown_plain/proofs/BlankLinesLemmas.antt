@@ -1,13 +1,13 @@
 -- A blank line: which containers it reaches, and what it makes of the blocks in them.
-use Rattle.std.proofs.Common.{◌≡◌, ℕ, Bool, true, false, not, ◌&&◌, ◌||◌, List, [], ◌∷◌, Option, Some, None}
-use Rattle.std.proofs.Common.{map, nat_eq, refl, sym, ap, ◌∙◌, true≢false, ⊎_elim, arith}
+use Rattle.std.proofs.Common.{◌≡◌, ℕ, Bool, true, false, not, ◌&&◌, ◌||◌, List, [], ◌∷◌, Option, Some, None, map}
+use Rattle.std.proofs.Common.{nat_eq, refl, sym, ap, ◌∙◌, true≢false, ⊎_elim, arith}
 use Rattle.std.proofs.lemmas.Bool.Decides.{nat_tests}
-use Rattle.markdown_base.specs.EnabledOptions.{old_footnotes_on}
 use Rattle.std.proofs.lemmas.Bool.{cases_Bool}
 use Rattle.std.proofs.lemmas.Option.{none-some, same_Some}
 use Rattle.std.specs.Prelude.{◌==◌, codes, nat_le, nat_lt, if◌then◌else◌}
 use Rattle.std.specs.List.{list_all}
 use Rattle.std.specs.Option.{option_map}
+use Rattle.markdown_base.specs.EnabledOptions.{old_footnotes_on}
 use Rattle.markdown_base.specs.Forest.{Forest, nil}
 use Rattle.markdown_builder.specs.TreeLevels.{followed_by}
 use Rattle.markdown_scan.specs.Beginnings.{begins_with}
@@ -22,9 +22,9 @@ use Rattle.markdown_plain.specs.Frames.{Frame, inside_container, is_item, is_quo
 use Rattle.markdown_plain.specs.Frames.{touched}
 use Rattle.markdown_plain.specs.OpenLeaves.{leaf_block}
 use Rattle.markdown_plain.specs.Settled.{EmptyKnown, EmptyKnownIn, QuotesEnd}
+use Rattle.markdown_plain.proofs.FramesLemmas.{ends_in_block}
 use Rattle.markdown_plain.proofs.ReachedFramesLemmas.{blank_at, end_of, space_alike}
 use Rattle.markdown_plain.proofs.ReachedLemmas.{reached_same}
-use Rattle.markdown_plain.proofs.FramesLemmas.{ends_in_block}
 
 -- ---- what is left of a blank line
 

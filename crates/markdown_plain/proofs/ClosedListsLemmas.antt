@@ -1,23 +1,22 @@
 -- What the pass remembers of lists, as open containers are closed from the innermost on.
 use Rattle.std.proofs.Common.{◌≡◌, ℕ, zero, suc, ◌+◌, ◌-◌, ◌<◌, ◌≤◌, List, [], ◌∷◌, ◌++◌, Bool, true, false, Option}
-use Rattle.std.proofs.Common.{if◌then◌else◌}
-use Rattle.std.proofs.Common.{length, take, drop, refl, sym, ap, ◌∙◌, subst, arith, ⊎_elim}
+use Rattle.std.proofs.Common.{if◌then◌else◌, length, take, drop, refl, sym, ap, ◌∙◌, subst, arith, ⊎_elim}
 use Rattle.std.proofs.lemmas.Bool.{cases_lt, true≢false}
 use Rattle.std.proofs.lemmas.List.{length-take, take-append-drop, take_all}
 use Rattle.markdown_base.specs.Forest.{Forest}
+use Rattle.markdown_builder.specs.declared.open_block.OpenBlock.{OpenBlock}
 use Rattle.markdown_block_rules.specs.BlockGrowth.{Block, is_nil}
 use Rattle.markdown_block_rules.specs.BlockRules.{ends_blank}
-use Rattle.markdown_builder.specs.declared.open_block.OpenBlock.{OpenBlock}
-use Rattle.markdown_plain.proofs.FramesInsideLemmas.{list_of_open, no_list_outside}
-use Rattle.markdown_plain.proofs.FramesLemmas.{rebuilt_in}
-use Rattle.markdown_plain.proofs.OpenBlocksLemmas.{length_of_outer}
 use Rattle.markdown_plain.specs.Frames.{AreNested, Frame, forgotten, innermost_is, is_list, rebuilt, room_depth}
 use Rattle.markdown_plain.specs.OpenBlocks as block
 use Rattle.markdown_plain.specs.OpenBlocks.{outer_of}
 use Rattle.markdown_plain.specs.Settled.{AreOpen, BlanksKnown, IsLooseAs, IsLooseBefore}
 use Rattle.markdown_plain.specs.declared.looseness.Looseness.{Looseness}
-use Rattle.markdown_plain.proofs.OpenedFramesLemmas.{nested_taken}
 use Rattle.markdown_plain.proofs.ClosedFramesLemmas.{as_many_open}
+use Rattle.markdown_plain.proofs.FramesInsideLemmas.{list_of_open, no_list_outside}
+use Rattle.markdown_plain.proofs.FramesLemmas.{rebuilt_in}
+use Rattle.markdown_plain.proofs.OpenBlocksLemmas.{length_of_outer}
+use Rattle.markdown_plain.proofs.OpenedFramesLemmas.{nested_taken}
 
 -- ---- the outermost containers, and the next one
 

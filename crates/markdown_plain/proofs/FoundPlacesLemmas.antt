@@ -1,7 +1,7 @@
 -- What a reader of the rest of a line finds lies between characters of the text.
-use Rattle.std.proofs.Common.{◌≡◌, ℕ, zero, suc, ◌+◌, ◌-◌, ◌<◌, ◌≤◌, Bool, true, false, not, ◌&&◌, ◌||◌, ◌==◌}
-use Rattle.std.proofs.Common.{inl, inr, List, [], ◌∷◌, Option, Some, None, arith, codes, drop, length, nat_lt}
-use Rattle.std.proofs.Common.{refl, sym, ap, ◌∙◌, subst, take}
+use Rattle.std.proofs.Common.{◌≡◌, ℕ, zero, suc, ◌+◌, ◌-◌, ◌<◌, ◌≤◌, Bool, true, false, not, ◌&&◌, ◌||◌, ◌==◌, inl}
+use Rattle.std.proofs.Common.{inr, List, [], ◌∷◌, Option, Some, None, arith, codes, drop, length, nat_lt, refl, sym}
+use Rattle.std.proofs.Common.{ap, ◌∙◌, subst, take}
 use Rattle.std.specs.Prelude.{if◌then◌else◌, slice_index, slice_range, unwrap_or}
 use Rattle.std.specs.Char.{is_ascii_digit}
 use Rattle.std.specs.List.{prefix_len, suffix_len}
@@ -26,17 +26,17 @@ use Rattle.markdown_scan.specs.LineStart.{LineLeft, Space, leading_space, past_m
 use Rattle.markdown_lines.specs.Alerts.{alert_read}
 use Rattle.markdown_lines.specs.AtxHeadings.{atx_heading_at, heading_content, heading_from, is_hash}
 use Rattle.markdown_lines.specs.BlockBeginnings as line
-use Rattle.markdown_lines.specs.BlockBeginnings.{Beginning, Source, begins, begins_after, break_in_line, fence_in_line}
-use Rattle.markdown_lines.specs.BlockBeginnings.{first_found, footnote_in_line, footnote_marker, heading_in_line}
-use Rattle.markdown_lines.specs.BlockBeginnings.{html_in_line, is_paragraph, is_reached, item_in_line, item_of}
-use Rattle.markdown_lines.specs.BlockBeginnings.{label_before_colon, metadata_begun, metadata_in_line}
-use Rattle.markdown_lines.specs.BlockBeginnings.{past_bytes, quote_in_line, quote_of, quote_or_alert}
-use Rattle.markdown_lines.specs.BlockBeginnings.{underline_in_line, whole_heading}
+use Rattle.markdown_lines.specs.BlockBeginnings.{Beginning, Source, begins, begins_after, break_in_line}
+use Rattle.markdown_lines.specs.BlockBeginnings.{fence_in_line, first_found, footnote_in_line, footnote_marker}
+use Rattle.markdown_lines.specs.BlockBeginnings.{heading_in_line, html_in_line, is_paragraph, is_reached}
+use Rattle.markdown_lines.specs.BlockBeginnings.{item_in_line, item_of, label_before_colon, metadata_begun}
+use Rattle.markdown_lines.specs.BlockBeginnings.{metadata_in_line, past_bytes, quote_in_line, quote_of}
+use Rattle.markdown_lines.specs.BlockBeginnings.{quote_or_alert, underline_in_line, whole_heading}
 use Rattle.markdown_lines.specs.BlockStarts.{IsSameLine, beginning_found, begins_unless_blank, left_at, line_at}
 use Rattle.markdown_lines.specs.BlockStarts.{source_read}
 use Rattle.markdown_lines.specs.CodeFences.{opening_fence_at, opens_fence, run_length}
-use Rattle.markdown_lines.specs.HeadingAttributes.{attributed, attributed_by, attributes_read, braces_in}
-use Rattle.markdown_lines.specs.HeadingAttributes.{braces_to, is_enclosed}
+use Rattle.markdown_lines.specs.HeadingAttributes.{attributed, attributed_by, attributes_read, braces_in, braces_to}
+use Rattle.markdown_lines.specs.HeadingAttributes.{is_enclosed}
 use Rattle.markdown_lines.specs.HtmlBeginnings.{html_kind_of, in_one_line}
 use Rattle.markdown_lines.specs.LineBytes.{is_parted, without_end}
 use Rattle.markdown_lines.specs.Lines.{is_space_or_tab}
@@ -74,8 +74,9 @@ use Rattle.markdown_plain.proofs.FoundBlocksLemmas.{found_begins, here_found, he
 use Rattle.markdown_plain.proofs.HeldTextLemmas.{is_held_line}
 use Rattle.markdown_plain.proofs.LeafTreesLemmas.{on_test}
 use Rattle.markdown_plain.proofs.ReachedFramesLemmas.{space_alike}
-use Rattle.markdown_plain.proofs.TextReachedLemmas.{IsWithin, content_within, marker_within, next_within, space_within}
 use Rattle.markdown_plain.proofs.ReadyPlacesLemmas.{stop_between}
+use Rattle.markdown_plain.proofs.TextReachedLemmas.{IsWithin, content_within, marker_within, next_within}
+use Rattle.markdown_plain.proofs.TextReachedLemmas.{space_within}
 
 -- ---- where the content begins
 

@@ -1,24 +1,23 @@
 -- What a line makes of blocks of which some containers on the right edge are open: the outer ones go on in it, and what
 -- is left of it inside them goes on with the blocks in the innermost of these, begins an item, or begins other blocks.
-use Rattle.std.proofs.Common.{◌≡◌, ℕ, suc, Bool, true, false, ◌&&◌, List, [], ◌∷◌, ◌++◌, Option, Some, None}
-use Rattle.std.proofs.Common.{length, map, refl, sym, ap, ◌∙◌, subst, arith}
+use Rattle.std.proofs.Common.{◌≡◌, ℕ, suc, Bool, true, false, ◌&&◌, List, [], ◌∷◌, ◌++◌, Option, Some, None, length}
+use Rattle.std.proofs.Common.{map, refl, sym, ap, ◌∙◌, subst, arith}
 use Rattle.std.proofs.lemmas.Bool.{true≢false}
 use Rattle.std.proofs.lemmas.Option.{none-some, same_Some}
 use Rattle.std.specs.Prelude.{unwrap_or, if◌then◌else◌, slice_get, ◌-◌}
 use Rattle.std.specs.Option.{option_map, option_map_or}
 use Rattle.markdown_base.specs.Forest.{Forest, nil, node}
+use Rattle.markdown_builder.specs.TreeLevels.{followed_by}
+use Rattle.markdown_scan.specs.LineStart.{LineLeft}
 use Rattle.markdown_lines.specs.declared.list_marker.ListMarker.{ListMarker}
 use Rattle.markdown_lines.specs.BlockBeginnings.{Source}
-use Rattle.markdown_scan.specs.LineStart.{LineLeft}
 use Rattle.markdown_lines.specs.SourceLines.{SourceLine, is_blank_rest, rest_inside}
-use Rattle.markdown_builder.specs.TreeLevels.{followed_by}
 use Rattle.markdown_block_rules.specs.BlockGrowth as was
 use Rattle.markdown_block_rules.specs.BlockGrowth.{Block, Kind, block_with, container_with, goes_on, is_nil, lazily}
-use Rattle.markdown_block_rules.specs.BlockGrowth.{line_block, past_footnote, past_indentation}
-use Rattle.markdown_block_rules.specs.BlockGrowth.{past_quote, with_lazy, with_line, with_rest}
-use Rattle.markdown_plain.specs.Frames.{AreContainers, AreNested, Frame, IsContainer, forgotten}
-use Rattle.markdown_plain.specs.Frames.{innermost_is, inside_container, is_item, is_list, rebuilt}
-use Rattle.markdown_plain.specs.Frames.{touched}
+use Rattle.markdown_block_rules.specs.BlockGrowth.{line_block, past_footnote, past_indentation, past_quote, with_lazy}
+use Rattle.markdown_block_rules.specs.BlockGrowth.{with_line, with_rest}
+use Rattle.markdown_plain.specs.Frames.{AreContainers, AreNested, Frame, IsContainer, forgotten, innermost_is}
+use Rattle.markdown_plain.specs.Frames.{inside_container, is_item, is_list, rebuilt, touched}
 
 -- ---- frames
 

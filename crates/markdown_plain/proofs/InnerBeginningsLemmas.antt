@@ -1,6 +1,6 @@
 -- What the bytes of a line after its white space begin where no paragraph is reached: no underline, and no metadata.
-use Rattle.std.proofs.Common.{◌≡◌, ℕ, ◌+◌, false, List, [], ◌∷◌, Option, Some, None, sym, subst}
-use Rattle.std.proofs.Common.{◌||◌, ◌==◌, codes, length}
+use Rattle.std.proofs.Common.{◌≡◌, ℕ, ◌+◌, false, List, [], ◌∷◌, Option, Some, None, sym, subst, ◌||◌, ◌==◌, codes}
+use Rattle.std.proofs.Common.{length}
 use Rattle.std.specs.Prelude.{if◌then◌else◌, slice_index}
 use Rattle.std.specs.Option.{option_map}
 use Rattle.markdown_base.specs.EnabledOptions.{footnotes_on}
@@ -18,9 +18,8 @@ use Rattle.markdown_lines.specs.BlockBeginnings as line
 use Rattle.markdown_lines.specs.BlockBeginnings.{Beginning, Source, begins_after, break_in_line, fence_in_line}
 use Rattle.markdown_lines.specs.BlockBeginnings.{first_found, footnote_in_line, footnote_marker, heading_in_line}
 use Rattle.markdown_lines.specs.BlockBeginnings.{html_in_line, is_paragraph, is_reached, item_in_line, item_of}
-use Rattle.markdown_lines.specs.BlockBeginnings.{past_bytes}
-use Rattle.markdown_lines.specs.BlockBeginnings.{quote_in_line, quote_of, quote_or_alert, underline_in_line}
-use Rattle.markdown_lines.specs.BlockBeginnings.{whole_heading}
+use Rattle.markdown_lines.specs.BlockBeginnings.{past_bytes, quote_in_line, quote_of, quote_or_alert}
+use Rattle.markdown_lines.specs.BlockBeginnings.{underline_in_line, whole_heading}
 use Rattle.markdown_block_rules.proofs.BlockBeginningsLemmas.{either}
 
 -- it begins inside a container

@@ -6,6 +6,9 @@ use Rattle.std.specs.Prelude.{unwrap_or, if◌then◌else◌}
 use Rattle.std.specs.Option.{option_map, option_or}
 use Rattle.markdown_base.specs.Forest.{Forest, nil, node}
 use Rattle.markdown_base.specs.declared.tag.Alignment.{Alignment}
+use Rattle.markdown_builder.specs.TreeLevels.{followed_by}
+use Rattle.markdown_scan.specs.Entity.{entity_names}
+use Rattle.markdown_scan.specs.LineStart.{LineLeft, leading_space}
 use Rattle.markdown_lines.specs.declared.block_start.Before.TheVariants as paragraph
 use Rattle.markdown_lines.specs.declared.list_marker.ListMarker.{ListMarker}
 use Rattle.markdown_lines.specs.BlockBeginnings as line
@@ -14,19 +17,16 @@ use Rattle.markdown_lines.specs.DefinitionRules.{divided}
 use Rattle.markdown_lines.specs.HtmlKinds.{ends_at_blank}
 use Rattle.markdown_lines.specs.MetadataBlocks.{closes_metadata}
 use Rattle.markdown_lines.specs.SourceLines.{SourceLine, cut, is_blank_rest, rest_inside, text_line}
-use Rattle.markdown_scan.specs.Entity.{entity_names}
-use Rattle.markdown_scan.specs.LineStart.{LineLeft, leading_space}
 use Rattle.markdown_block_rules.specs.BlockGrowth as was
-use Rattle.markdown_block_rules.specs.BlockGrowth.{Block, Kind, another_item, begun_by, begun_in, block_with}
-use Rattle.markdown_block_rules.specs.BlockGrowth.{closes, container_with, cut_paragraph, ends_html, goes_on, inside_of}
+use Rattle.markdown_block_rules.specs.BlockGrowth.{Block, Kind, another_item, begun_by, begun_in, block_with, closes}
+use Rattle.markdown_block_rules.specs.BlockGrowth.{container_with, cut_paragraph, ends_html, goes_on, inside_of}
 use Rattle.markdown_block_rules.specs.BlockGrowth.{is_nil, is_text, leaf_with, line_block, new_blocks, next_item}
 use Rattle.markdown_block_rules.specs.BlockGrowth.{paragraph_with, past_footnote, past_indentation, past_quote}
-use Rattle.markdown_block_rules.specs.BlockGrowth.{table_after, table_of_lines, table_with}
-use Rattle.markdown_block_rules.specs.BlockGrowth.{with_lazy, with_lazy_text, with_line, with_rest}
+use Rattle.markdown_block_rules.specs.BlockGrowth.{table_after, table_of_lines, table_with, with_lazy, with_lazy_text}
+use Rattle.markdown_block_rules.specs.BlockGrowth.{with_line, with_rest}
 use Rattle.markdown_block_rules.specs.BlockRules.{is_blank_block}
 use Rattle.markdown_block_rules.specs.TableLines.{alignments_for, is_row, reads_tables}
 use Rattle.markdown_block_rules.proofs.BlockBeginningsLemmas.{either}
-use Rattle.markdown_builder.specs.TreeLevels.{followed_by}
 use Rattle.markdown_plain.specs.Closing.{AreItemsInLists, MayBeIn}
 use Rattle.markdown_plain.specs.Frames.{is_item, is_list}
 

@@ -1,48 +1,44 @@
 -- Fenced code and metadata in the innermost open container, line by line.
-use Rattle.std.proofs.Common.{◌≡◌, ℕ, Bool, true, false, List, [], ◌∷◌, ◌++◌, Some, None, length, slice_range}
-use Rattle.std.proofs.Common.{refl, sym, ap, ◌∙◌, subst}
+use Rattle.std.proofs.Common.{◌≡◌, ℕ, Bool, true, false, List, [], ◌∷◌, ◌++◌, Some, None, length, slice_range, refl}
+use Rattle.std.proofs.Common.{sym, ap, ◌∙◌, subst}
+use Rattle.std.specs.Prelude.{◌&&◌, nat_lt, if◌then◌else◌}
+use Rattle.std.proofs.lemmas.Option.{same_Some}
 use Rattle.markdown_base.specs.Forest.{Forest, nil, node}
 use Rattle.markdown_base.specs.declared.item.ItemBody.{ItemBody}
 use Rattle.markdown_base.specs.declared.item.ItemBody.TheVariants as body
 use Rattle.markdown_base.specs.declared.options.Options.{Options}
+use Rattle.markdown_base.specs.declared.tag.MetadataBlockKind.{MetadataBlockKind}
 use Rattle.markdown_builder.specs.declared.open_block.OpenBlock.{OpenBlock}
 use Rattle.markdown_builder.specs.BuilderView.{BuilderView, parts_of}
 use Rattle.markdown_builder.specs.Shown.{shown_item}
 use Rattle.markdown_builder.specs.TreeLevels.{followed_by}
+use Rattle.markdown_scan.specs.Entity.{entity_names}
+use Rattle.markdown_scan.specs.Unescape.{unescaped}
+use Rattle.markdown_scan.specs.LineStart.{leading_space}
 use Rattle.markdown_items.proofs.RestOfLineLemmas.{no_items}
 use Rattle.markdown_lines.specs.BlockBeginnings.{Source}
 use Rattle.markdown_lines.specs.LineBytes.{IsPartOf}
-use Rattle.markdown_lines.specs.SourceLines.{SourceLine}
+use Rattle.markdown_lines.specs.SourceLines.{SourceLine, cut, stop_of}
 use Rattle.markdown_lines.specs.declared.fence.OpeningFence.{OpeningFence}
-use Rattle.markdown_scan.specs.Entity.{entity_names}
-use Rattle.markdown_scan.specs.Unescape.{unescaped}
-use Rattle.markdown_block_rules.specs.BlockGrowth as was
-use Rattle.markdown_block_rules.specs.BlockGrowth.{Block, Kind}
-use Rattle.markdown_block_rules.specs.BlockRules.{in_no_item, info_of, shown_over}
-use Rattle.markdown_plain.specs.Fitting.{GoesOn, OpensFenced}
-use Rattle.markdown_plain.specs.Frames.{Frame}
-use Rattle.markdown_plain.specs.LeafTrees.{HasItems, HasMoreTexts}
-use Rattle.markdown_plain.specs.OpenedFrames.{around_innermost}
-use Rattle.markdown_plain.specs.OpenLeaves.{InfoStands, IsOpenIn, IsPlaced, leaf_block}
-use Rattle.markdown_plain.specs.Settled.{IsBuilt}
-use Rattle.markdown_plain.proofs.LeafTreesLemmas.{get_last, no_text}
-use Rattle.std.specs.Prelude.{◌&&◌, nat_lt, if◌then◌else◌}
-use Rattle.std.proofs.lemmas.Option.{same_Some}
-use Rattle.markdown_scan.specs.LineStart.{leading_space}
 use Rattle.markdown_lines.specs.CodeFences.{closes_fence}
-use Rattle.markdown_lines.specs.SourceLines.{cut, stop_of}
 use Rattle.markdown_lines.specs.declared.fence.Fence.{Fence}
 use Rattle.markdown_lines.specs.declared.line.Line.{Line}
 use Rattle.markdown_lines.specs.declared.position.Position.{Position}
-use Rattle.markdown_block_rules.specs.BlockGrowth.{closes, leaf_with}
-use Rattle.markdown_block_rules.specs.LineContents.{source_line}
-use Rattle.markdown_plain.specs.CodeLines.{is_closed_at}
-use Rattle.markdown_plain.specs.Fitting.{PutsBlock, closed, stepped}
-use Rattle.markdown_plain.specs.OpenLeaves.{IsLeafIn, IsLineRest, has_ended}
-use Rattle.markdown_plain.proofs.LeavesInPlaceLemmas.{opened_leaf, shown_alone}
-use Rattle.markdown_base.specs.declared.tag.MetadataBlockKind.{MetadataBlockKind}
 use Rattle.markdown_lines.specs.MetadataBlocks.{closes_metadata}
-use Rattle.markdown_plain.specs.Fitting.{opened}
+use Rattle.markdown_block_rules.specs.BlockGrowth as was
+use Rattle.markdown_block_rules.specs.BlockGrowth.{Block, Kind, closes, leaf_with}
+use Rattle.markdown_block_rules.specs.BlockRules.{in_no_item, info_of, shown_over}
+use Rattle.markdown_block_rules.specs.LineContents.{source_line}
+use Rattle.markdown_plain.specs.Fitting.{GoesOn, OpensFenced, PutsBlock, closed, stepped, opened}
+use Rattle.markdown_plain.specs.Frames.{Frame}
+use Rattle.markdown_plain.specs.LeafTrees.{HasItems, HasMoreTexts}
+use Rattle.markdown_plain.specs.OpenedFrames.{around_innermost}
+use Rattle.markdown_plain.specs.OpenLeaves.{InfoStands, IsOpenIn, IsPlaced, leaf_block, IsLeafIn, IsLineRest}
+use Rattle.markdown_plain.specs.OpenLeaves.{has_ended}
+use Rattle.markdown_plain.specs.Settled.{IsBuilt}
+use Rattle.markdown_plain.specs.CodeLines.{is_closed_at}
+use Rattle.markdown_plain.proofs.LeafTreesLemmas.{get_last, no_text}
+use Rattle.markdown_plain.proofs.LeavesInPlaceLemmas.{opened_leaf, shown_alone}
 use Rattle.markdown_plain.proofs.LinedLeavesLemmas.{IsLined, closed_by_line, ends_with_line, grown_to, kind_is_leaf}
 use Rattle.markdown_plain.proofs.LinedLeavesLemmas.{line_added_to, lined_shown, opened_as, plain_leaf_opened}
 

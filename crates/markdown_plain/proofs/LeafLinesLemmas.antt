@@ -15,8 +15,8 @@ use Rattle.markdown_lines.specs.BlockBeginnings.{Source}
 use Rattle.markdown_lines.specs.SourceLines.{SourceLine}
 use Rattle.markdown_lines.specs.declared.line.Line.{Line}
 use Rattle.markdown_block_rules.specs.BlockGrowth as was
-use Rattle.markdown_block_rules.specs.BlockGrowth.{Block, Kind, container_with, goes_on, is_nil, leaf_with, table_with}
-use Rattle.markdown_block_rules.specs.BlockGrowth.{with_line}
+use Rattle.markdown_block_rules.specs.BlockGrowth.{Block, Kind, container_with, goes_on, is_nil, leaf_with}
+use Rattle.markdown_block_rules.specs.BlockGrowth.{table_with, with_line}
 use Rattle.markdown_block_rules.specs.BlockRules.{are_separated, ends_blank, hold_separated, in_no_item}
 use Rattle.markdown_block_rules.specs.BlockRules.{is_blank_block, is_loose, shown_blocks}
 use Rattle.markdown_plain.specs.declared.looseness.Looseness.{Looseness}
@@ -32,7 +32,8 @@ use Rattle.markdown_plain.specs.OpenedFrames.{around_innermost}
 use Rattle.markdown_plain.specs.ReachedFrames.{IsAtMostLeaf, IsBefore, IsReached}
 use Rattle.markdown_plain.specs.ReachedLines.{Before, IsReachedBy, blocks_in}
 use Rattle.markdown_plain.specs.declared.containers.Reached as code
-use Rattle.markdown_plain.specs.Settled.{AreOpen, EmptyKnown, EmptyKnownIn, IsBodyOf, IsLooseAs, are_loose, placed_end}
+use Rattle.markdown_plain.specs.Settled.{AreOpen, EmptyKnown, EmptyKnownIn, IsBodyOf, IsLooseAs, are_loose}
+use Rattle.markdown_plain.specs.Settled.{placed_end}
 use Rattle.markdown_plain.specs.Standing.{HasLast, IsLeafKind, IsSource, KnowsLast, Stands, with_last}
 use Rattle.markdown_plain.proofs.BlanksKnownLemmas.{same_touched}
 use Rattle.markdown_plain.proofs.FramesLemmas.{ends_in_block, goes_on_last}

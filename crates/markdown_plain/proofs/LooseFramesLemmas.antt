@@ -5,15 +5,15 @@ use Rattle.std.specs.Prelude.{◌||◌, if◌then◌else◌}
 use Rattle.std.proofs.Math.Bool.{and-false, and-true, or-false, or-true, or_assoc}
 use Rattle.std.proofs.lemmas.Bool.{true≢false}
 use Rattle.markdown_base.specs.Forest.{Forest, nil, node}
+use Rattle.markdown_builder.specs.TreeLevels.{followed_by}
 use Rattle.markdown_block_rules.specs.BlockGrowth as was
 use Rattle.markdown_block_rules.specs.BlockGrowth.{Block, Kind}
 use Rattle.markdown_block_rules.specs.BlockRules.{are_separated, block_ends_blank, ends_blank, hold_separated}
 use Rattle.markdown_block_rules.specs.BlockRules.{holds_block, is_blank_block, is_loose}
-use Rattle.markdown_builder.specs.TreeLevels.{followed_by}
-use Rattle.markdown_plain.proofs.FramesLemmas.{innermost_inner, rebuilt_in}
 use Rattle.markdown_plain.specs.Frames.{AreNested, Frame, forgotten, innermost_is, is_item, is_list, rebuilt}
-use Rattle.markdown_plain.proofs.FramesInsideLemmas.{item_no_list, list_no_item}
 use Rattle.markdown_plain.specs.Settled.{IsOneBlock, are_loose}
+use Rattle.markdown_plain.proofs.FramesInsideLemmas.{item_no_list, list_no_item}
+use Rattle.markdown_plain.proofs.FramesLemmas.{innermost_inner, rebuilt_in}
 use Rattle.markdown_plain.proofs.ListLoosenessLemmas.{one_of_three}
 
 -- ---- blocks after others

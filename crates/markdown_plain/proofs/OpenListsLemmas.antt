@@ -1,20 +1,17 @@
 -- What the pass remembers of lists, as a block is added, and as containers are opened and closed.
-use Rattle.std.proofs.Common.{◌≡◌, ℕ, ◌+◌, List, [], ◌∷◌, ◌++◌, Bool, true, false, ◌&&◌, ◌||◌, not, refl, sym, ap, ◌∙◌}
-use Rattle.std.proofs.Common.{Option, Some, None, length, subst, arith, append-nil, if◌then◌else◌}
+use Rattle.std.proofs.Common.{◌≡◌, ℕ, ◌+◌, List, [], ◌∷◌, ◌++◌, Bool, true, false, ◌&&◌, ◌||◌, not, refl, sym, ap}
+use Rattle.std.proofs.Common.{◌∙◌, Option, Some, None, length, subst, arith, append-nil, if◌then◌else◌}
 use Rattle.std.proofs.Math.Bool.{or-false, or-true}
 use Rattle.std.proofs.lemmas.Bool.{true≢false}
 use Rattle.markdown_base.specs.Forest.{Forest, nil, node}
-use Rattle.markdown_block_rules.specs.BlockGrowth as was
-use Rattle.markdown_block_rules.specs.BlockGrowth.{Block, Kind, is_nil}
-use Rattle.markdown_block_rules.specs.BlockRules.{are_separated, block_ends_blank, ends_blank}
-use Rattle.markdown_block_rules.specs.BlockRules.{is_blank_block, is_loose}
 use Rattle.markdown_builder.specs.declared.open_block.OpenBlock.{OpenBlock}
 use Rattle.markdown_builder.specs.TreeLevels.{followed_by}
-use Rattle.markdown_plain.proofs.FramesInsideLemmas.{inner_item_no_quote}
-use Rattle.markdown_plain.proofs.FramesInsideLemmas.{inner_list_no_quote, item_no_list, item_of_open}
-use Rattle.markdown_plain.proofs.LooseFramesLemmas.{by_item, by_list, by_other, loose_last, loose_more}
-use Rattle.markdown_plain.proofs.LooseFramesLemmas.{loose_with_item, one_separated, same_last}
-use Rattle.markdown_plain.specs.Frames.{AreNested, Frame, forgotten, innermost_is, is_item, is_list, is_quote, rebuilt}
+use Rattle.markdown_block_rules.specs.BlockGrowth as was
+use Rattle.markdown_block_rules.specs.BlockGrowth.{Block, Kind, is_nil}
+use Rattle.markdown_block_rules.specs.BlockRules.{are_separated, block_ends_blank, ends_blank, is_blank_block}
+use Rattle.markdown_block_rules.specs.BlockRules.{is_loose}
+use Rattle.markdown_plain.specs.Frames.{AreNested, Frame, forgotten, innermost_is, is_item, is_list, is_quote}
+use Rattle.markdown_plain.specs.Frames.{rebuilt}
 use Rattle.markdown_plain.specs.ListLooseness as body
 use Rattle.markdown_plain.specs.ListLooseness.{is_after_blank}
 use Rattle.markdown_plain.specs.OpenBlocks as block
@@ -22,7 +19,11 @@ use Rattle.markdown_plain.specs.Settled.{AreOpen, BlanksKnown, EmptyKnown, Empty
 use Rattle.markdown_plain.specs.Settled.{IsOneBlock, are_loose, is_blank_in}
 use Rattle.markdown_plain.specs.declared.looseness.Looseness.{Looseness}
 use Rattle.markdown_plain.proofs.ClosedFramesLemmas.{as_many_open}
+use Rattle.markdown_plain.proofs.FramesInsideLemmas.{inner_item_no_quote, inner_list_no_quote, item_no_list}
+use Rattle.markdown_plain.proofs.FramesInsideLemmas.{item_of_open}
 use Rattle.markdown_plain.proofs.FramesLemmas.{innermost_inner}
+use Rattle.markdown_plain.proofs.LooseFramesLemmas.{by_item, by_list, by_other, loose_last, loose_more}
+use Rattle.markdown_plain.proofs.LooseFramesLemmas.{loose_with_item, one_separated, same_last}
 
 -- ---- what is known of the innermost container
 

@@ -1,7 +1,7 @@
 -- A container that is opened: one more frame, and nothing else of the tree changes.
-use Rattle.std.proofs.Common.{◌≡◌, ℕ, zero, suc, Bool, true, false, List, [], ◌∷◌, ◌++◌, Some, refl, sym, ap}
-use Rattle.std.proofs.Common.{◌∙◌, ◌-◌, ◌<◌, ◌≤◌, Option, None, length, take, drop, take_all, length-take-le}
-use Rattle.std.proofs.Common.{subst, arith, append-nil}
+use Rattle.std.proofs.Common.{◌≡◌, ℕ, zero, suc, Bool, true, false, List, [], ◌∷◌, ◌++◌, Some, refl, sym, ap, ◌∙◌}
+use Rattle.std.proofs.Common.{◌-◌, ◌<◌, ◌≤◌, Option, None, length, take, drop, take_all, length-take-le, subst, arith}
+use Rattle.std.proofs.Common.{append-nil}
 use Rattle.std.specs.Prelude.{◌==◌, slice_get, Result, Ok, Err}
 use Rattle.std.specs.Result.{IfOk}
 use Rattle.std.proofs.lemmas.List.{drop_all}
@@ -15,13 +15,14 @@ use Rattle.markdown_base.specs.declared.tag.BlockQuoteKind.{BlockQuoteKind}
 use Rattle.markdown_builder.specs.declared.open_block.OpenBlock.{OpenBlock}
 use Rattle.markdown_builder.specs.Bodies.{is_leaf}
 use Rattle.markdown_builder.specs.BuilderView.{BuilderView, Opens, OpensNaming}
+use Rattle.markdown_scan.specs.Entity.{entity_names}
 use Rattle.markdown_lines.specs.BlockBeginnings.{Source}
+use Rattle.markdown_lines.specs.DefinitionRules.{divided, divided_in}
+use Rattle.markdown_lines.specs.declared.list_marker.ListMarker.{ListMarker}
 use Rattle.markdown_block_rules.specs.BlockGrowth as was
 use Rattle.markdown_block_rules.specs.BlockGrowth.{Block, Kind}
-use Rattle.markdown_block_rules.specs.BlockRules.{definitions_in, footnotes_in, in_no_item, label_of}
-use Rattle.markdown_block_rules.specs.BlockRules.{paragraph_lines, shown_blocks}
-use Rattle.markdown_lines.specs.DefinitionRules.{divided, divided_in}
-use Rattle.markdown_scan.specs.Entity.{entity_names}
+use Rattle.markdown_block_rules.specs.BlockRules.{definitions_in, footnotes_in, in_no_item, label_of, paragraph_lines}
+use Rattle.markdown_block_rules.specs.BlockRules.{shown_blocks}
 use Rattle.markdown_plain.specs.Fitting.{stepped}
 use Rattle.markdown_plain.specs.Frames.{AreNested, Frame, forgotten, innermost_is, is_item, is_list, rebuilt}
 use Rattle.markdown_plain.specs.Frames.{room_depth}
@@ -29,12 +30,11 @@ use Rattle.markdown_plain.specs.Settled.{AreOpen, IsBodyOf, IsBuilt, IsOpen, lev
 use Rattle.markdown_plain.specs.OpenedFrames.{is_list_for, quote_kind, with_frame, with_item, with_list}
 use Rattle.markdown_plain.specs.NewContainers.{is_list_of}
 use Rattle.markdown_plain.specs.OpenBlocks as own
-use Rattle.markdown_lines.specs.declared.list_marker.ListMarker.{ListMarker}
 use Rattle.markdown_plain.proofs.AppendedBlocksLemmas.{definitions_appended, footnotes_appended, open_after}
 use Rattle.markdown_plain.proofs.ClosedFramesLemmas.{as_many_open, last_kept, levels_parted}
+use Rattle.markdown_plain.proofs.FramesInsideLemmas.{inner_last}
 use Rattle.markdown_plain.proofs.FramesLemmas.{innermost_inner, rebuilt_more}
 use Rattle.markdown_plain.proofs.LeafTreesLemmas.{get_last, on_test}
-use Rattle.markdown_plain.proofs.FramesInsideLemmas.{inner_last}
 
 -- ---- one more frame
 

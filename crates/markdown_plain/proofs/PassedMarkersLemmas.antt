@@ -1,8 +1,7 @@
 -- What is left of a line inside a container that it begins comes after the first byte of the container's marker,
 -- which is the first byte of the line's content.
 use Rattle.std.proofs.Common.{◌≡◌, ℕ, ◌+◌, ◌≤◌, Bool, true, false, List, [], ◌∷◌, Option, Some, None, refl, sym, ap}
-use Rattle.std.proofs.Common.{◌∙◌}
-use Rattle.std.proofs.Common.{subst, arith, length, drop, ◌&&◌, ◌||◌, ◌==◌, codes, nat_lt, not, ⊎_elim}
+use Rattle.std.proofs.Common.{◌∙◌, subst, arith, length, drop, ◌&&◌, ◌||◌, ◌==◌, codes, nat_lt, not, ⊎_elim}
 use Rattle.std.proofs.lemmas.Bool.{true≢false, cases_Bool}
 use Rattle.std.proofs.lemmas.Bool.Decides.{nat_tests}
 use Rattle.std.specs.Prelude.{if◌then◌else◌, slice_index, unwrap_or}
@@ -18,12 +17,12 @@ use Rattle.markdown_scan.specs.LineStart.{LineLeft, Space, leading_space, past_m
 use Rattle.markdown_lines.specs.Alerts.{alert_read}
 use Rattle.markdown_lines.specs.AtxHeadings.{atx_heading_at}
 use Rattle.markdown_lines.specs.BlockBeginnings as line
-use Rattle.markdown_lines.specs.BlockBeginnings.{Beginning, Source, begins, begins_after, break_in_line, fence_in_line}
-use Rattle.markdown_lines.specs.BlockBeginnings.{first_found, footnote_in_line, footnote_marker, heading_in_line}
-use Rattle.markdown_lines.specs.BlockBeginnings.{html_in_line, is_paragraph, is_reached, item_in_line, item_of}
-use Rattle.markdown_lines.specs.BlockBeginnings.{label_before_colon, metadata_begun, metadata_in_line, past_bytes}
-use Rattle.markdown_lines.specs.BlockBeginnings.{quote_in_line, quote_of, quote_or_alert, underline_in_line}
-use Rattle.markdown_lines.specs.BlockBeginnings.{whole_heading}
+use Rattle.markdown_lines.specs.BlockBeginnings.{Beginning, Source, begins, begins_after, break_in_line}
+use Rattle.markdown_lines.specs.BlockBeginnings.{fence_in_line, first_found, footnote_in_line, footnote_marker}
+use Rattle.markdown_lines.specs.BlockBeginnings.{heading_in_line, html_in_line, is_paragraph, is_reached}
+use Rattle.markdown_lines.specs.BlockBeginnings.{item_in_line, item_of, label_before_colon, metadata_begun}
+use Rattle.markdown_lines.specs.BlockBeginnings.{metadata_in_line, past_bytes, quote_in_line, quote_of}
+use Rattle.markdown_lines.specs.BlockBeginnings.{quote_or_alert, underline_in_line, whole_heading}
 use Rattle.markdown_lines.specs.CodeFences.{opening_fence_at}
 use Rattle.markdown_lines.specs.HtmlBeginnings.{html_kind_of, in_one_line}
 use Rattle.markdown_lines.specs.Lines.{is_space_or_tab}
@@ -36,9 +35,9 @@ use Rattle.markdown_lines.specs.declared.list_marker.ListMarker.{ListMarker}
 use Rattle.markdown_block_rules.proofs.BlockBeginningsLemmas.{either}
 use Rattle.markdown_plain.specs.Containers.{content_of}
 use Rattle.markdown_plain.proofs.BegunLemmas.{IsLeftOf, space_is_of}
+use Rattle.markdown_plain.proofs.BegunRestsLemmas.{space_after}
 use Rattle.markdown_plain.proofs.LeafTreesLemmas.{on_test}
 use Rattle.markdown_plain.proofs.ReachedFramesLemmas.{space_alike}
-use Rattle.markdown_plain.proofs.BegunRestsLemmas.{space_after}
 
 -- the rest in a container that begins comes after the first byte of a rest's content
 abbrev pub HoldsPast : LineLeft → Beginning → Type 0

@@ -1,6 +1,6 @@
 -- What the pass has placed with a line of text: a paragraph with one more line, or one that begins.
-use Rattle.std.proofs.Common.{◌≡◌, ℕ, ◌≤◌, false, List, [], ◌∷◌, ◌++◌, Some, None}
-use Rattle.std.proofs.Common.{arith, length, map, take, drop, refl, sym, ap, ◌∙◌, subst, true≢false}
+use Rattle.std.proofs.Common.{◌≡◌, ℕ, ◌≤◌, false, List, [], ◌∷◌, ◌++◌, Some, None, arith, length, map, take, drop}
+use Rattle.std.proofs.Common.{refl, sym, ap, ◌∙◌, subst, true≢false}
 use Rattle.std.specs.Prelude.{slice_range}
 use Rattle.markdown_base.specs.Forest.{Forest}
 use Rattle.markdown_builder.specs.TreeLevels.{followed_by}
@@ -31,7 +31,6 @@ use Rattle.markdown_plain.proofs.AddedTextLemmas.{GoesAs, loose_as_leaf, loose_w
 use Rattle.markdown_plain.proofs.BegunLemmas.{IsLeftOf, block_begun, item_begun}
 use Rattle.markdown_plain.proofs.BlanksKnownLemmas.{same_touched}
 use Rattle.markdown_plain.proofs.HeldTextLemmas.{begins_block, comes_after, ends_after}
-use Rattle.markdown_plain.proofs.TouchedFramesLemmas.{earlier_taken, not_opened}
 use Rattle.markdown_plain.proofs.ItemsInListsLemmas.{line_keeps}
 use Rattle.markdown_plain.proofs.LastBlocksLemmas.{open_are_containers}
 use Rattle.markdown_plain.proofs.LooseFramesLemmas.{ends_more}
@@ -39,7 +38,8 @@ use Rattle.markdown_plain.proofs.ReadyPlacesLemmas.{no_frames}
 use Rattle.markdown_plain.proofs.ReadyTextsLemmas.{BeginsReady, begun_ready, further_ready, none_left}
 use Rattle.markdown_plain.proofs.RoomLemmas.{begins_in_room}
 use Rattle.markdown_plain.proofs.RoomReadyLemmas.{nothing_taken}
-use Rattle.markdown_plain.proofs.TouchedFramesLemmas.{earlier_touched, holds_touched, quotes_touched}
+use Rattle.markdown_plain.proofs.TouchedFramesLemmas.{earlier_taken, not_opened, earlier_touched, holds_touched}
+use Rattle.markdown_plain.proofs.TouchedFramesLemmas.{quotes_touched}
 
 -- no blank lines are held back where no leaf is open
 abbrev pub IsUnheld : Pass → Type 0

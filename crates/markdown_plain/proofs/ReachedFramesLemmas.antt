@@ -1,7 +1,6 @@
 -- What the open containers take of a line, by the open blocks and by the definition of blocks.
-use Rattle.std.proofs.Common.{◌≡◌, ◌≢◌, ⊎_elim, inl, inr, ℕ, zero, suc, ◌+◌, ◌-◌, ◌<◌, ◌≤◌}
-use Rattle.std.proofs.Common.{Bool, true, false, List, [], ◌∷◌, ◌++◌, length, drop, nat_le, nat_lt}
-use Rattle.std.proofs.Common.{refl, sym, ap, ◌∙◌, subst, arith}
+use Rattle.std.proofs.Common.{◌≡◌, ◌≢◌, ⊎_elim, inl, inr, ℕ, zero, suc, ◌+◌, ◌-◌, ◌<◌, ◌≤◌, Bool, true, false, List}
+use Rattle.std.proofs.Common.{[], ◌∷◌, ◌++◌, length, drop, nat_le, nat_lt, refl, sym, ap, ◌∙◌, subst, arith}
 use Rattle.std.specs.Prelude.{Option, Some, None, not, ◌==◌, ◌||◌, ◌&&◌, if◌then◌else◌, codes}
 use Rattle.std.specs.List.{list_all, prefix_len}
 use Rattle.std.specs.Option.{IfSome, option_map}
@@ -14,8 +13,8 @@ use Rattle.markdown_base.specs.Forest.{Forest}
 use Rattle.markdown_base.specs.declared.item.ItemBody.{ItemBody}
 use Rattle.markdown_builder.specs.declared.open_block.OpenBlock.{OpenBlock}
 use Rattle.markdown_scan.specs.Beginnings.{begins_with}
-use Rattle.markdown_scan.specs.LineStart.{LineLeft, Space, column_after, leading_space, past_marker}
-use Rattle.markdown_scan.specs.LineStart.{past_one_byte, space_from, space_width}
+use Rattle.markdown_scan.specs.LineStart.{LineLeft, Space, column_after, leading_space, past_marker, past_one_byte}
+use Rattle.markdown_scan.specs.LineStart.{space_from, space_width}
 use Rattle.markdown_lines.specs.declared.line.Line.{Line}
 use Rattle.markdown_lines.specs.Lines.{is_space_or_tab}
 use Rattle.markdown_lines.specs.BlockBeginnings.{Source}
@@ -26,18 +25,16 @@ use Rattle.markdown_block_rules.specs.BlockGrowth.{Block, Kind, is_nil}
 use Rattle.markdown_block_rules.proofs.BlockBeginningsLemmas.{either}
 use Rattle.markdown_plain.specs.declared.containers.Reached as code
 use Rattle.markdown_plain.specs.declared.pass.Pass.{Pass}
-use Rattle.markdown_plain.specs.Containers.{Reach, content_of, is_container, is_innermost}
-use Rattle.markdown_plain.specs.Containers.{past_container, past_footnote, past_indent, past_quote}
-use Rattle.markdown_plain.specs.Containers.{reach_after, reach_from, reach_of, reach_past}
-use Rattle.markdown_plain.specs.Containers.{reach_start, whole_line}
+use Rattle.markdown_plain.specs.Containers.{Reach, content_of, is_container, is_innermost, past_container}
+use Rattle.markdown_plain.specs.Containers.{past_footnote, past_indent, past_quote, reach_after, reach_from, reach_of}
+use Rattle.markdown_plain.specs.Containers.{reach_past, reach_start, whole_line}
 use Rattle.markdown_plain.specs.OpenBlocks as by_body
-use Rattle.markdown_plain.specs.Frames.{Frame, Reached, inside_container, is_list, is_quote}
-use Rattle.markdown_plain.specs.Frames.{reached, reached_here, reached_past, rebuilt}
+use Rattle.markdown_plain.specs.Frames.{Frame, Reached, inside_container, is_list, is_quote, reached, reached_here}
+use Rattle.markdown_plain.specs.Frames.{reached_past, rebuilt}
 use Rattle.markdown_plain.specs.Settled.{AreOpen, EmptyKnown, IsBodyOf}
-use Rattle.markdown_plain.specs.ReachedFrames.{IsAtMostLeaf, IsBefore, IsReached, are_none}
-use Rattle.markdown_plain.specs.ReachedFrames.{quote_depth}
-use Rattle.markdown_plain.proofs.LeafTreesLemmas.{few_owed, on_test}
+use Rattle.markdown_plain.specs.ReachedFrames.{IsAtMostLeaf, IsBefore, IsReached, are_none, quote_depth}
 use Rattle.markdown_plain.proofs.FramesLemmas.{ends_in_block}
+use Rattle.markdown_plain.proofs.LeafTreesLemmas.{few_owed, on_test}
 
 -- ---- what space leaves
 

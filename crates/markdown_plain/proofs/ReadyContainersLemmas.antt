@@ -1,7 +1,7 @@
 -- Where an item may be opened that the rest of a line begins: only white space is before it where no block is open. And
 -- an alert, which takes the whole line, leaves the pass ready for the next one.
-use Rattle.std.proofs.Common.{◌≡◌, ℕ, zero, suc, ◌-◌, ◌≤◌, Bool, true, false, List, [], ◌∷◌, length}
-use Rattle.std.proofs.Common.{Some, take, refl, sym, ap, ◌∙◌, subst, arith, true≢false}
+use Rattle.std.proofs.Common.{◌≡◌, ℕ, zero, suc, ◌-◌, ◌≤◌, Bool, true, false, List, [], ◌∷◌, length, Some, take, refl}
+use Rattle.std.proofs.Common.{sym, ap, ◌∙◌, subst, arith, true≢false}
 use Rattle.std.specs.Prelude.{if◌then◌else◌}
 use Rattle.std.specs.Str.{IsCharBoundary}
 use Rattle.std.proofs.lemmas.List.{length-append, length-take}
@@ -41,6 +41,7 @@ use Rattle.markdown_plain.proofs.BegunTextsLemmas.{end_begins}
 use Rattle.markdown_plain.proofs.ClosableLemmas.{white_both}
 use Rattle.markdown_plain.proofs.ClosedFramesLemmas.{as_many_open}
 use Rattle.markdown_plain.proofs.FittingLemmas.{some_opened}
+use Rattle.markdown_plain.proofs.FoundBlocksLemmas.{found_begins}
 use Rattle.markdown_plain.proofs.FoundPlacesLemmas.{left_content}
 use Rattle.markdown_plain.proofs.LeafTreesLemmas.{on_test}
 use Rattle.markdown_plain.proofs.OpenedFramesLemmas.{as_many_containers, list_innermost}
@@ -50,7 +51,6 @@ use Rattle.markdown_plain.proofs.ReadyTextsLemmas.{first_ready, line_in_text, li
 use Rattle.markdown_plain.proofs.RoomForBlocksLemmas.{line_some}
 use Rattle.markdown_plain.proofs.RoomLemmas.{last_open}
 use Rattle.markdown_plain.proofs.RoomReadyLemmas.{nothing_taken, ready_later}
-use Rattle.markdown_plain.proofs.FoundBlocksLemmas.{found_begins}
 
 -- ---- room outside all blocks
 

@@ -1,7 +1,6 @@
 -- Readiness between two lines: where a line takes the pass, the calls for the next one fit.
 use Rattle.std.proofs.Common.{◌≡◌, ⊎_elim, ℕ, ◌+◌, ◌-◌, ◌<◌, ◌≤◌, Bool, true, false, not, ◌&&◌, ◌||◌, ◌==◌, List, []}
-use Rattle.std.proofs.Common.{◌∷◌, Option, Some, None, get_or, length, arith}
-use Rattle.std.proofs.Common.{refl, sym, ap, ◌∙◌, subst, true≢false}
+use Rattle.std.proofs.Common.{◌∷◌, Option, Some, None, get_or, length, arith, refl, sym, ap, ◌∙◌, subst, true≢false}
 use Rattle.std.specs.Prelude.{slice_range, if◌then◌else◌}
 use Rattle.std.specs.List.{list_all}
 use Rattle.std.specs.Option.{option_map}
@@ -15,8 +14,7 @@ use Rattle.markdown_base.specs.Forest.{Forest}
 use Rattle.markdown_builder.specs.declared.open_block.OpenBlock.{OpenBlock}
 use Rattle.markdown_scan.specs.LineStart.{LineLeft}
 use Rattle.markdown_lines.specs.BlockBeginnings.{Source}
-use Rattle.markdown_lines.specs.Lines.{AllPass, IsLineFrom, is_in_blank_line, is_line_ending}
-use Rattle.markdown_lines.specs.Lines.{is_space_or_tab}
+use Rattle.markdown_lines.specs.Lines.{AllPass, IsLineFrom, is_in_blank_line, is_line_ending, is_space_or_tab}
 use Rattle.markdown_lines.specs.Positions.{IsSpaceAt}
 use Rattle.markdown_lines.specs.SourceLines.{SourceLine, is_blank_rest, rest_inside}
 use Rattle.markdown_lines.specs.declared.line.Line.{Line}
@@ -29,8 +27,7 @@ use Rattle.markdown_block_rules.specs.BlockGrowth.{Block, Kind, is_nil, past_ind
 use Rattle.markdown_block_rules.specs.BlockRules.{block_end}
 use Rattle.markdown_plain.specs.declared.containers.Reached as code
 use Rattle.markdown_plain.specs.declared.pass.Pass.{Pass}
-use Rattle.markdown_plain.specs.Closable.{AreClosable, AreContainers, IsReady, IsReadyAfter}
-use Rattle.markdown_plain.specs.Closable.{has_quote, leaf_end}
+use Rattle.markdown_plain.specs.Closable.{AreClosable, AreContainers, IsReady, IsReadyAfter, has_quote, leaf_end}
 use Rattle.markdown_plain.specs.Fits.{IsInLeaf, MayAddAfter, MayAddBefore, MayAddLine}
 use Rattle.markdown_plain.specs.Frames.{Frame, inside_container, is_quote as is_quote_kind, reached, reached_past}
 use Rattle.markdown_plain.specs.Frames.{rebuilt}

@@ -24,8 +24,8 @@ use Rattle.markdown_lines.proofs.PositionsLemmas.{in_part}
 use Rattle.markdown_block_rules.specs.BlockGrowth.{Block}
 use Rattle.markdown_block_rules.proofs.BlockBeginningsLemmas.{either}
 use Rattle.markdown_plain.specs.declared.pass.Pass.{Pass}
-use Rattle.markdown_plain.specs.Closable.{AreAhead, AreApart, AreClosable, AreContainers, AreInText, HasTask, HaveTask}
-use Rattle.markdown_plain.specs.Closable.{IsInText, IsReady, IsReadyAfter, has_quote, leaf_end}
+use Rattle.markdown_plain.specs.Closable.{AreAhead, AreApart, AreClosable, AreContainers, AreInText, HasTask}
+use Rattle.markdown_plain.specs.Closable.{HaveTask, IsInText, IsReady, IsReadyAfter, has_quote, leaf_end}
 use Rattle.markdown_plain.specs.Fitting.{defining}
 use Rattle.markdown_plain.specs.Frames.{Frame, reached}
 use Rattle.markdown_plain.specs.HeldSources.{AreInParagraph}
@@ -36,8 +36,8 @@ use Rattle.markdown_plain.specs.TextLines.{IsContentAt, held_line}
 use Rattle.markdown_plain.proofs.AddedLinesLemmas.{end_after, past, past_is_end}
 use Rattle.markdown_plain.proofs.ClosableLemmas.{innermost_no_row, leaf_end_here, no_task, none_ahead, white_both}
 use Rattle.markdown_plain.proofs.HeldTextLemmas.{starts_after, starts_before}
-use Rattle.markdown_plain.proofs.ReadyPlacesLemmas.{ending_white, next_between, stop_between}
 use Rattle.markdown_plain.proofs.OpenBlocksLemmas.{outside_leaf}
+use Rattle.markdown_plain.proofs.ReadyPlacesLemmas.{ending_white, next_between, stop_between}
 
 -- ---- lines
 

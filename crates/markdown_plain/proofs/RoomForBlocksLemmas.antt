@@ -1,8 +1,7 @@
 -- Room for the block that the rest of a line begins: first what the open containers left of the line, and then what is
 -- left of it inside containers that it opened.
-use Rattle.std.proofs.Common.{◌≡◌, ◌⊎◌, inl, inr, ⊎_elim, ℕ, ◌<◌, ◌≤◌, ◌-◌, Bool, true, false, not, ◌&&◌}
-use Rattle.std.proofs.Common.{◌==◌, List, [], ◌∷◌, Option, Some, None, length, map, take, drop, refl, sym, ap}
-use Rattle.std.proofs.Common.{◌∙◌, subst, arith}
+use Rattle.std.proofs.Common.{◌≡◌, ◌⊎◌, inl, inr, ⊎_elim, ℕ, ◌<◌, ◌≤◌, ◌-◌, Bool, true, false, not, ◌&&◌, ◌==◌, List}
+use Rattle.std.proofs.Common.{[], ◌∷◌, Option, Some, None, length, map, take, drop, refl, sym, ap, ◌∙◌, subst, arith}
 use Rattle.std.proofs.Math.Bool.{and-false}
 use Rattle.std.proofs.lemmas.Bool.{true≢false, and_parts}
 use Rattle.std.proofs.lemmas.List.{length-append}
@@ -33,8 +32,8 @@ use Rattle.markdown_plain.specs.declared.beginnings.LineRest.{LineRest}
 use Rattle.markdown_plain.specs.declared.looseness.Looseness.{Looseness}
 use Rattle.markdown_plain.specs.declared.pass.Pass.{Pass}
 use Rattle.markdown_plain.specs.Beginning as turn
-use Rattle.markdown_plain.specs.Beginning.{HasRoom, HoldsLast, IsFirst, IsFound, IsHere, IsInside, IsLeft}
-use Rattle.markdown_plain.specs.Beginning.{NeedsRoom, Turn}
+use Rattle.markdown_plain.specs.Beginning.{HasRoom, HoldsLast, IsFirst, IsFound, IsHere, IsInside, IsLeft, NeedsRoom}
+use Rattle.markdown_plain.specs.Beginning.{Turn}
 use Rattle.markdown_plain.specs.Closable.{AreClosable, IsClosable}
 use Rattle.markdown_plain.specs.Closing as closing
 use Rattle.markdown_plain.specs.Closing.{AreItemsInLists, MayClose, MayEnd}
@@ -54,19 +53,18 @@ use Rattle.markdown_plain.proofs.AddedLinesLemmas.{has_held}
 use Rattle.markdown_plain.proofs.BegunAloneLemmas.{BeginsBlock, begins_alone, block_needed, is_no_text}
 use Rattle.markdown_plain.proofs.BegunLemmas.{IsLeftOf, item_begun, left_from_is_of}
 use Rattle.markdown_plain.proofs.BlanksKnownLemmas.{lists_touched}
+use Rattle.markdown_plain.proofs.ClosableLemmas.{no_paragraph}
+use Rattle.markdown_plain.proofs.FoundBlocksLemmas.{found_begins}
 use Rattle.markdown_plain.proofs.FramesLemmas.{goes_on_last, innermost_inner, outer_nested}
 use Rattle.markdown_plain.proofs.ItemsInListsLemmas.{line_keeps}
 use Rattle.markdown_plain.proofs.LastBlocksLemmas.{open_are_containers}
 use Rattle.markdown_plain.proofs.OpenedFramesLemmas.{room_is_free}
 use Rattle.markdown_plain.proofs.ReachedLemmas.{inner_goes_lazily, outer_taken, reached_parts}
 use Rattle.markdown_plain.proofs.ReadyPlacesLemmas.{no_frames}
-use Rattle.markdown_plain.proofs.RoomLemmas.{begins_in_room}
+use Rattle.markdown_plain.proofs.RoomLemmas.{begins_in_room, last_open}
 use Rattle.markdown_plain.proofs.RoomReadyLemmas.{IsReadyIn, nothing_taken, ready_first, ready_later}
-use Rattle.markdown_plain.proofs.TouchedFramesLemmas.{built_touched, earlier_touched, quotes_touched}
-use Rattle.markdown_plain.proofs.TouchedFramesLemmas.{earlier_taken, not_opened}
-use Rattle.markdown_plain.proofs.ClosableLemmas.{no_paragraph}
-use Rattle.markdown_plain.proofs.RoomLemmas.{last_open}
-use Rattle.markdown_plain.proofs.FoundBlocksLemmas.{found_begins}
+use Rattle.markdown_plain.proofs.TouchedFramesLemmas.{built_touched, earlier_touched, quotes_touched, earlier_taken}
+use Rattle.markdown_plain.proofs.TouchedFramesLemmas.{not_opened}
 
 -- ---- a line that goes on with no paragraph
 
@@ -347,13 +345,6 @@ none_kept old new depth makes false is unheld = makes.unheld (unheld is)
 source_stays : (s : Source) (old new : Pass) (depth : ℕ) → MakesRoom old new depth → source_of old ≡ s
     → source_of new ≡ s
 source_stays s old new depth makes is = rw (makes.text, makes.options) is
-
--- what was found is begun, and the rest of the line is not blank
-begun_some : (s : Source) (source : SourceLine) (before : code.Before) (b : Beginning) (blank : Bool)
-    → Some b ≡ (if blank then None else Some (begins s before source))
-    → (blank ≡ false) × (begins s before source ≡ b)
-begun_some s source before b true is = absurd (none-some b (sym is))
-begun_some s source before b false is = (refl, sym (same_Some b (begins s before source) is))
 
 -- ---- after the containers that go on in the line
 

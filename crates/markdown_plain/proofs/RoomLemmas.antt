@@ -1,20 +1,16 @@
 -- A block that begins in a line, inside the containers that the line reaches, and around a list among these.
 use Rattle.std.proofs.Common.{◌≡◌, ℕ, ◌-◌, Bool, true, false, List, [], ◌∷◌, ◌++◌, None, arith, append_assoc, length}
-use Rattle.std.proofs.Common.{map, take, drop, refl, sym, ap, ◌∙◌}
+use Rattle.std.proofs.Common.{map, take, drop, refl, sym, ap, ◌∙◌, Option, Some, subst}
 use Rattle.std.proofs.lemmas.List.{drop_at, length-append, take_at}
 use Rattle.std.specs.Prelude.{if◌then◌else◌}
 use Rattle.markdown_base.specs.Forest.{Forest}
+use Rattle.markdown_builder.specs.TreeLevels.{followed_by}
 use Rattle.markdown_lines.specs.declared.list_marker.ListMarker.{ListMarker}
 use Rattle.markdown_lines.specs.BlockBeginnings.{Source}
 use Rattle.markdown_lines.specs.SourceLines.{SourceLine}
-use Rattle.markdown_builder.specs.TreeLevels.{followed_by}
 use Rattle.markdown_block_rules.specs.BlockGrowth.{Block, goes_on, line_block, next_item, with_line}
-use Rattle.markdown_plain.specs.Frames.{AreContainers, AreNested, Frame, Reached, innermost_is, is_list}
-use Rattle.markdown_plain.specs.Frames.{reached, rebuilt, room_depth, touched}
-use Rattle.markdown_plain.proofs.FramesLemmas.{HasMarker, Innermost, innermost_apart, marker_of_list}
-use Rattle.markdown_plain.proofs.ReachedLemmas.{block_begins, list_ends, outer_taken, reached_parts}
-use Rattle.markdown_plain.proofs.OpenBlocksLemmas.{around_leaf, outside_leaf}
-use Rattle.std.proofs.Common.{Option, Some, subst}
+use Rattle.markdown_plain.specs.Frames.{AreContainers, AreNested, Frame, Reached, innermost_is, is_list, reached}
+use Rattle.markdown_plain.specs.Frames.{rebuilt, room_depth, touched}
 use Rattle.markdown_plain.specs.declared.pass.Pass.{Pass}
 use Rattle.markdown_plain.specs.Beginning.{HoldsLast}
 use Rattle.markdown_plain.specs.Closing.{AreItemsInLists, MayEnd}
@@ -22,6 +18,9 @@ use Rattle.markdown_plain.specs.OpenBlocks.{without_leaf}
 use Rattle.markdown_plain.specs.OpenLeaves.{leaf_block}
 use Rattle.markdown_plain.specs.Settled.{AreOpen, IsBuilt}
 use Rattle.markdown_plain.specs.Standing.{with_last}
+use Rattle.markdown_plain.proofs.FramesLemmas.{HasMarker, Innermost, innermost_apart, marker_of_list}
+use Rattle.markdown_plain.proofs.OpenBlocksLemmas.{around_leaf, outside_leaf}
+use Rattle.markdown_plain.proofs.ReachedLemmas.{block_begins, list_ends, outer_taken, reached_parts}
 
 -- the containers around such a block, of those that a line reaches: all, or all but the list
 record IsRoomOf (frames outer inner : List Frame) (n : ℕ) : Type 0 where

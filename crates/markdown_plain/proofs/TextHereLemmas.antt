@@ -27,13 +27,13 @@ use Rattle.markdown_plain.specs.TextLines.{IsContentAt, IsTextHere, held_line}
 use Rattle.markdown_plain.proofs.BegunBlocksLemmas.{begun_block, source_kept}
 use Rattle.markdown_plain.proofs.BegunLemmas.{begun_once}
 use Rattle.markdown_plain.proofs.BegunTextsLemmas.{text_begins, text_inside}
+use Rattle.markdown_plain.proofs.ClosableLemmas.{no_paragraph}
 use Rattle.markdown_plain.proofs.FoundBlocksLemmas.{found_begins}
 use Rattle.markdown_plain.proofs.FoundPlacesLemmas.{left_content, left_stands}
 use Rattle.markdown_plain.proofs.HeldTextLemmas.{starts_before}
 use Rattle.markdown_plain.proofs.ReadyPlacesLemmas.{are_bodies, no_frames}
 use Rattle.markdown_plain.proofs.ReadyTextsLemmas.{first_ready, line_in_text}
 use Rattle.markdown_plain.proofs.TextStepsLemmas.{AddsText, text_places}
-use Rattle.markdown_plain.proofs.ClosableLemmas.{no_paragraph}
 
 -- what is left of a line is text, whose first byte of content is at a byte offset
 pub record IsTextLeft (s : Source) (rest : LineRest) (source : SourceLine) (at : ℕ) : Type 0 where

@@ -30,10 +30,10 @@ use Rattle.markdown_plain.specs.Standing.{HasLast, IsSource, PlacesFor, Stands, 
 use Rattle.markdown_plain.specs.TextLines.{IsTextHere, held_line, paragraph_before}
 use Rattle.markdown_plain.proofs.AddedLinesLemmas.{has_held}
 use Rattle.markdown_plain.proofs.AddedTextLemmas.{GoesAs, continues, reaches}
+use Rattle.markdown_plain.proofs.ClosableLemmas.{no_paragraph}
 use Rattle.markdown_plain.proofs.LastBlocksLemmas.{open_are_containers}
 use Rattle.markdown_plain.proofs.PlacedTextLemmas.{BeginsLine, text_added, text_begun}
 use Rattle.markdown_plain.proofs.ReachedLemmas.{reached_parts}
-use Rattle.markdown_plain.proofs.ClosableLemmas.{no_paragraph}
 use Rattle.markdown_plain.proofs.RoomLemmas.{last_open}
 
 -- a line was added from a byte offset on, inside the outermost `depth` of the open blocks

@@ -1,27 +1,26 @@
 -- Open containers that go on in a line are open as before: what is known of the blocks in them stays.
-use Rattle.std.proofs.Common.{◌≡◌, ℕ, ◌≤◌, List, [], ◌∷◌, ◌++◌, arith, map, refl, sym, ap, ◌∙◌, subst}
+use Rattle.std.proofs.Common.{◌≡◌, ℕ, ◌≤◌, List, [], ◌∷◌, ◌++◌, arith, map, refl, sym, ap, ◌∙◌, subst, ◌<◌, zero, suc}
+use Rattle.std.proofs.Common.{false, take}
+use Rattle.std.specs.Prelude.{◌==◌, nat_le}
+use Rattle.std.proofs.lemmas.Bool.Decides.{nat_tests}
 use Rattle.markdown_base.specs.Forest.{Forest}
 use Rattle.markdown_builder.specs.declared.open_block.OpenBlock.{OpenBlock}
 use Rattle.markdown_builder.specs.BuilderView.{BuilderView}
 use Rattle.markdown_lines.specs.BlockBeginnings.{Source}
 use Rattle.markdown_lines.specs.SourceLines.{SourceLine}
+use Rattle.markdown_lines.specs.declared.line.Line.{Line}
 use Rattle.markdown_block_rules.specs.BlockGrowth as was
 use Rattle.markdown_block_rules.specs.BlockGrowth.{Block, Kind}
 use Rattle.markdown_block_rules.specs.BlockRules.{Around, definitions_in, footnotes_in, in_no_item, shown_blocks}
 use Rattle.markdown_plain.specs.declared.pass.Pass.{Pass}
 use Rattle.markdown_plain.specs.Frames.{AreNested, Frame, rebuilt, touched}
-use Rattle.markdown_plain.specs.OpenLeaves.{HoldsParagraph}
+use Rattle.markdown_plain.specs.OpenLeaves.{HoldsParagraph, AreItemsOpenedIn}
 use Rattle.markdown_plain.specs.OpenedFrames.{around_innermost}
 use Rattle.markdown_plain.specs.Paragraphs.{EndsFrom, first_task}
 use Rattle.markdown_plain.specs.Settled.{AreOpen, IsBuilt, QuotesEnd, around_in, levels_shown}
 use Rattle.markdown_plain.specs.Standing.{AreOpenedBefore}
 use Rattle.markdown_plain.proofs.AppendedBlocksLemmas.{IsGathered, definitions_gathered, footnotes_gathered}
 use Rattle.markdown_plain.proofs.AppendedBlocksLemmas.{gathered_around}
-use Rattle.std.proofs.Common.{◌<◌, zero, suc, false, take}
-use Rattle.std.specs.Prelude.{◌==◌, nat_le}
-use Rattle.std.proofs.lemmas.Bool.Decides.{nat_tests}
-use Rattle.markdown_lines.specs.declared.line.Line.{Line}
-use Rattle.markdown_plain.specs.OpenLeaves.{AreItemsOpenedIn}
 
 -- ---- what is built
 

@@ -1,9 +1,8 @@
 -- The turns at the rest of a line: each goes on, and the last of them is over before the range of turns is.
-use Rattle.std.proofs.Common.{◌≡◌, ℕ, ◌+◌, ◌≤◌, Bool, true, false, arith, refl, sym, ap, ◌∙◌, subst}
-use Rattle.std.proofs.Common.{List, None}
+use Rattle.std.proofs.Common.{◌≡◌, ℕ, ◌+◌, ◌≤◌, Bool, true, false, arith, refl, sym, ap, ◌∙◌, subst, List, None}
 use Rattle.std.specs.Prelude.{if◌then◌else◌}
-use Rattle.markdown_scan.specs.LineStart.{LineLeft}
 use Rattle.markdown_base.specs.Forest.{Forest}
+use Rattle.markdown_scan.specs.LineStart.{LineLeft}
 use Rattle.markdown_lines.specs.BlockBeginnings.{Source, is_paragraph}
 use Rattle.markdown_lines.specs.Positions.{left_from}
 use Rattle.markdown_lines.specs.SourceLines.{SourceLine}
@@ -17,10 +16,10 @@ use Rattle.markdown_plain.specs.Fitting.{AllFitted, FittedBefore, IfFitted}
 use Rattle.markdown_plain.specs.Standing.{PlacesFor}
 use Rattle.markdown_plain.specs.TextLines.{IsTextFrom}
 use Rattle.markdown_plain.specs.Turns.{KeepsFitting, KeepsReading}
+use Rattle.markdown_plain.proofs.FoundBlocksLemmas.{here_left}
 use Rattle.markdown_plain.proofs.FoundPlacesLemmas.{found_fits, here_text}
 use Rattle.markdown_plain.proofs.TextHereLemmas.{text_fits, text_here}
 use Rattle.markdown_plain.proofs.TextStepsLemmas.{AddsText}
-use Rattle.markdown_plain.proofs.FoundBlocksLemmas.{here_left}
 
 -- before the first turn
 pub before_turns : (pass : Pass) (rest : LineRest) → KeepsReading pass pass rest rest rest.line.start

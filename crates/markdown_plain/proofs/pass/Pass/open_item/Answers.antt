@@ -16,15 +16,15 @@ use Rattle.markdown_plain.specs.OpenedFrames.{with_frame}
 use Rattle.markdown_plain.specs.Settled.{BlanksKnown, IsBuilt, IsLooseAs}
 use Rattle.markdown_plain.specs.declared.looseness.Looseness.{Looseness}
 use Rattle.markdown_plain.specs.declared.pass.Pass.{Pass}
-use Rattle.markdown_plain.proofs.RoomLemmas.{last_open}
-use Rattle.markdown_plain.proofs.ClosedListsLemmas.{known_of_outermost}
-use Rattle.markdown_plain.proofs.OpenedFramesLemmas.{as_many_containers, item_is, item_placed}
-use Rattle.markdown_plain.proofs.OpenedFramesLemmas.{list_for_item, plain_is_built}
-use Rattle.markdown_plain.proofs.ClosableLemmas.{item_ahead, item_outside, item_white, listed_ahead}
 use Rattle.markdown_plain.specs.Closable.{AreClosable, IsWhiteBefore}
 use Rattle.markdown_plain.specs.OpenBlocks as own
-use Rattle.markdown_plain.proofs.pass.Pass.open_item.Goals as goal
+use Rattle.markdown_plain.proofs.ClosableLemmas.{item_ahead, item_outside, item_white, listed_ahead}
+use Rattle.markdown_plain.proofs.ClosedListsLemmas.{known_of_outermost}
 use Rattle.markdown_plain.proofs.FramesInsideLemmas.{inner_last}
+use Rattle.markdown_plain.proofs.OpenedFramesLemmas.{as_many_containers, item_is, item_placed, list_for_item}
+use Rattle.markdown_plain.proofs.OpenedFramesLemmas.{plain_is_built}
+use Rattle.markdown_plain.proofs.RoomLemmas.{last_open}
+use Rattle.markdown_plain.proofs.pass.Pass.open_item.Goals as goal
 
 -- once its list is the innermost open container
 item_in : (c : goal.After-open_block) (s : Source) (frames : List Frame) (inside : Forest Block) (b : Block)

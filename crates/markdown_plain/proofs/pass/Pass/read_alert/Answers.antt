@@ -18,12 +18,12 @@ use Rattle.markdown_plain.specs.declared.pass.Pass.{Pass}
 use Rattle.markdown_plain.proofs.BegunBlocksLemmas.{begun_block, begun_in_room, keeps_leaf, source_kept, still_may}
 use Rattle.markdown_plain.proofs.BegunContainersLemmas.{fitted_before_line, in_line_more, line_in_room, loose_inside}
 use Rattle.markdown_plain.proofs.BegunTextsLemmas.{end_begins, end_block, held_from, text_inside}
+use Rattle.markdown_plain.proofs.ClosableLemmas.{no_paragraph}
+use Rattle.markdown_plain.proofs.FramesInsideLemmas.{inner_last}
 use Rattle.markdown_plain.proofs.FramesLemmas.{rebuilt_more}
 use Rattle.markdown_plain.proofs.OpenedFramesLemmas.{as_many_containers}
 use Rattle.markdown_plain.proofs.ReadyContainersLemmas.{end_ready}
 use Rattle.markdown_plain.proofs.pass.Pass.read_alert.Goals as goal
-use Rattle.markdown_plain.proofs.ClosableLemmas.{no_paragraph}
-use Rattle.markdown_plain.proofs.FramesInsideLemmas.{inner_last}
 
 -- the alert was opened where there was room for it, and the end of its line is held back inside it
 record IsAlert (c : goal.In_ok-add_text) (s : Source) (source : SourceLine) (blocks : Forest Block) : Type 0 where

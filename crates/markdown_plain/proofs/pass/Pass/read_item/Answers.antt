@@ -3,9 +3,9 @@ use Rattle.std.proofs.Common.{ap, subst}
 use Rattle.std.specs.Str.{IsCharBoundary}
 use Rattle.markdown_plain.specs.declared.pass.Pass.{Pass}
 use Rattle.markdown_plain.proofs.BegunItemsLemmas.{item_reads_on}
+use Rattle.markdown_plain.proofs.FoundPlacesLemmas.{here_text}
 use Rattle.markdown_plain.proofs.ReadyContainersLemmas.{item_fits}
 use Rattle.markdown_plain.proofs.pass.Pass.read_item.Goals as goal
-use Rattle.markdown_plain.proofs.FoundPlacesLemmas.{here_text}
 
 pub returns-clause-reads_on : goal.returns-clause-reads_on
 returns-clause-reads_on c = λ s turn source blocks state found boundary fitted.
