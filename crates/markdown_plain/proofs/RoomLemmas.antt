@@ -1,4 +1,5 @@
--- A block that begins in a line, inside the containers that the line reaches, and around a list among these.
+-- A block that begins in a line, inside the containers that the line reaches, and around a list among these; and
+-- what is open before the line.
 use Rattle.std.proofs.Common.{◌≡◌, ℕ, ◌-◌, Bool, true, false, List, [], ◌∷◌, ◌++◌, None, arith, append_assoc, length}
 use Rattle.std.proofs.Common.{map, take, drop, refl, sym, ap, ◌∙◌, Option, Some, subst}
 use Rattle.std.proofs.lemmas.List.{drop_at, length-append, take_at}

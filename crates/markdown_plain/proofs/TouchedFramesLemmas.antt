@@ -123,7 +123,8 @@ pub earlier_outer : (from : ℕ) (outer inner : List Frame) → AreOpenedBefore 
 earlier_outer from [] inner earlier = tt
 earlier_outer from (f ∷ outer) inner earlier = (earlier.0, earlier_outer from outer inner earlier.1)
 
-pub earlier_taken : (from n : ℕ) (frames : List Frame) → AreOpenedBefore from frames → AreOpenedBefore from (take n frames)
+pub earlier_taken : (from n : ℕ) (frames : List Frame) → AreOpenedBefore from frames
+    → AreOpenedBefore from (take n frames)
 earlier_taken from zero frames earlier = tt
 earlier_taken from (suc n) [] earlier = tt
 earlier_taken from (suc n) (f ∷ frames) earlier = (earlier.0, earlier_taken from n frames earlier.1)
