@@ -58,6 +58,7 @@ pub mod TextStepsLemmas
 pub mod TextReachedLemmas
 pub mod TextLinesLemmas
 -- on blocks that begin with the rest of a line
+pub mod LineBeginningsLemmas
 pub mod BegunRestsLemmas
 pub mod PassedMarkersLemmas
 pub mod BegunBlocksLemmas

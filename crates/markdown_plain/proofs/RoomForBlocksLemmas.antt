@@ -18,7 +18,6 @@ use Rattle.markdown_lines.specs.BlockBeginnings.{Beginning, Source, begins}
 use Rattle.markdown_lines.specs.BlockStarts.{beginning_found}
 use Rattle.markdown_lines.specs.Lines.{is_space_or_tab}
 use Rattle.markdown_lines.specs.SourceLines.{SourceLine, is_blank_rest, rest_inside}
-use Rattle.markdown_lines.specs.declared.block_start.Before as code
 use Rattle.markdown_lines.specs.declared.block_start.Before.TheVariants as paragraph
 use Rattle.markdown_lines.specs.declared.block_start.BlockStart.{BlockStart}
 use Rattle.markdown_lines.specs.declared.list_marker.ListMarker.{ListMarker}
