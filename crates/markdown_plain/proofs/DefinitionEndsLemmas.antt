@@ -40,7 +40,7 @@ use Rattle.markdown_plain.specs.HeldSources.{AreTextLines}
 
 -- ---- values that are there
 
-some_if : {A : Type 0} (test : Bool) (value : Option A) (a : A) → (if test then value else None) ≡ Some a
+pub some_if : {A : Type 0} (test : Bool) (value : Option A) (a : A) → (if test then value else None) ≡ Some a
     → (test ≡ true) × (value ≡ Some a)
 some_if true value a e = (refl, e)
 some_if false value a e = absurd (grind (arith, e))

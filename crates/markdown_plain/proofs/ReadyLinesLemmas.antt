@@ -37,6 +37,7 @@ use Rattle.markdown_plain.specs.Paragraphs.{lines_end}
 use Rattle.markdown_plain.specs.ReachedLines.{Before, IsReachedBy, blocks_in, reached_of}
 use Rattle.markdown_plain.specs.Settled.{AreOpen, IsBodyOf}
 use Rattle.markdown_plain.proofs.BlankLinesLemmas.{indented_alike}
+use Rattle.markdown_plain.proofs.BlanksKnownLemmas.{has_quote as quotes_in}
 use Rattle.markdown_plain.proofs.ClosableLemmas.{innermost_no_row, leaf_end_here, no_task, none_ahead, white_both}
 use Rattle.markdown_plain.proofs.FittingLemmas.{open_in_leaf, space_ahead, space_stops}
 use Rattle.markdown_plain.proofs.LeavesInPlaceLemmas.{leaf_end as placed_leaf_end}
@@ -206,14 +207,8 @@ leaf_ready s pass frames inside b false to leaf is lines blanks end boundary =
 
 -- ---- blank lines
 
--- one of these open containers is a block quote
-quotes_in : List Frame → Bool
-quotes_in [] = false
-quotes_in (f ∷ frames) = is_quote_kind f.block.kind || quotes_in frames
-
 quotes_alike : (texts : List (List ℕ)) (blocks : List OpenBlock) (frames : List Frame) → AreOpen texts blocks frames
     → has_quote blocks ≡ quotes_in frames
-unfolding quotes_in
 quotes_alike texts [] [] are = refl
 quotes_alike texts [] (f ∷ frames) are = absurd are
 quotes_alike texts (block ∷ blocks) [] are = absurd are
@@ -259,7 +254,7 @@ taken_alike s l m empty other plain takes = ap is_blank_rest (sym (same_Some l m
 unquoted_alike : (s : Source) (frames : List Frame) (inside : Forest Block) (l : SourceLine)
     → quotes_in (reached s frames inside l).outer ≡ false
     → is_blank_rest (reached s frames inside l).rest ≡ is_blank_rest l
-unfolding reached quotes_in
+unfolding reached
 unquoted_alike s [] inside l none = refl
 unquoted_alike s (f ∷ frames) inside l none =
     past (inside_container s l (is_nil (rebuilt frames inside)) f.block.kind) refl
