@@ -1,28 +1,28 @@
 -- A paragraph with one more line of text, which it reaches or continues lazily, as the definition of blocks says.
-use Rattle.std.proofs.Common.{◌≡◌, ℕ, Bool, false, List, [], ◌∷◌, Some}
-use Rattle.std.proofs.Common.{map, refl, sym, ap, ◌∙◌}
+use Rattle.std.proofs.Common.{◌≡◌, ℕ, Bool, false, List, [], ◌∷◌, Some, map, refl, sym, ap, ◌∙◌}
 use Rattle.std.specs.Prelude.{unwrap_or, if◌then◌else◌}
 use Rattle.std.specs.Option.{option_map}
 use Rattle.markdown_base.specs.Forest.{Forest, nil, node}
+use Rattle.markdown_builder.specs.TreeLevels.{followed_by}
 use Rattle.markdown_lines.specs.declared.block_start.Before.TheVariants as paragraph
 use Rattle.markdown_lines.specs.BlockBeginnings as line
 use Rattle.markdown_lines.specs.BlockBeginnings.{Source, begins}
 use Rattle.markdown_lines.specs.SourceLines.{SourceLine, is_blank_rest}
-use Rattle.markdown_builder.specs.TreeLevels.{followed_by}
 use Rattle.markdown_block_rules.specs.BlockGrowth as was
-use Rattle.markdown_block_rules.specs.BlockGrowth.{Block, Kind, goes_on, is_nil, is_text, leaf_with, table_with}
-use Rattle.markdown_block_rules.specs.BlockGrowth.{with_lazy, with_line}
+use Rattle.markdown_block_rules.specs.BlockGrowth.{Block, Kind, goes_on, is_nil, is_text, with_lazy, with_line}
 use Rattle.markdown_block_rules.specs.BlockRules.{are_separated, is_blank_block, is_loose}
 use Rattle.markdown_block_rules.specs.TableLines.{reads_tables}
 use Rattle.markdown_plain.specs.declared.looseness.Looseness.{Looseness}
 use Rattle.markdown_plain.specs.Closing.{AreItemsInLists}
-use Rattle.markdown_plain.specs.Frames.{AreContainers, AreNested, Frame, Reached, innermost_is, is_item}
-use Rattle.markdown_plain.specs.Frames.{is_list, reached, rebuilt, touched}
+use Rattle.markdown_plain.specs.Frames.{AreContainers, AreNested, Frame, Reached, innermost_is, is_item, is_list}
+use Rattle.markdown_plain.specs.Frames.{reached, rebuilt, touched}
 use Rattle.markdown_plain.specs.OpenLeaves.{leaf_block}
 use Rattle.markdown_plain.specs.Settled.{EmptyKnown, EmptyKnownIn, IsLooseAs, IsLooseBefore, are_loose}
 use Rattle.markdown_plain.specs.TextLines.{with_text}
+use Rattle.markdown_plain.proofs.ClosedFramesLemmas.{last_items}
 use Rattle.markdown_plain.proofs.FramesLemmas.{goes_on_last, innermost_inner, with_lazy_last}
 use Rattle.markdown_plain.proofs.LastBlocksLemmas.{line_goes_lazily}
+use Rattle.markdown_plain.proofs.LeafLinesLemmas.{empty_alike}
 use Rattle.markdown_plain.proofs.LooseFramesLemmas.{closed_separated, loose_with_item, one_separated, same_last}
 use Rattle.markdown_plain.proofs.ReachedLemmas.{all_go_on}
 
@@ -83,22 +83,17 @@ in_no_list : (in_list : Bool) (before : Forest Block) (b : Block) → is_item b.
 in_no_list in_list nil b item filled are = sym (are.0 filled) ∙ item
 in_no_list in_list (node a below after) b item filled are = in_no_list in_list after b item filled are.2
 
-in_last : (in_list : Bool) (before : Forest Block) (b : Block) (below : Forest Block)
-    → AreItemsInLists in_list (followed_by before (node b below nil)) → AreItemsInLists (is_list b.kind) below
-in_last in_list nil b below are = are.1
-in_last in_list (node a inside after) b below are = in_last in_list after b below are.2
-
 pub around_text : (in_list : Bool) (frames : List Frame) (inside : Forest Block) (b : Block) → is_item b.kind ≡ false
     → is_blank_block b.kind ≡ false → AreItemsInLists in_list (rebuilt frames (followed_by inside (leaf_block b)))
     → innermost_is is_list frames ≡ false
 around_text in_list [] inside b item filled are = refl
 around_text in_list (f ∷ []) inside b item filled are =
     in_no_list (is_list f.block.kind) inside b item filled
-    (in_last in_list f.before f.block (followed_by inside (leaf_block b)) are)
+    (last_items in_list f.before f.block (followed_by inside (leaf_block b)) are)
 around_text in_list (f ∷ g ∷ frames) inside b item filled are =
     innermost_inner is_list f g frames
     ∙ around_text (is_list f.block.kind) (g ∷ frames) inside b item filled
-    (in_last in_list f.before f.block (rebuilt (g ∷ frames) (followed_by inside (leaf_block b))) are)
+    (last_items in_list f.before f.block (rebuilt (g ∷ frames) (followed_by inside (leaf_block b))) are)
 
 -- lists are loose or not with one leaf as with another
 same_separated : (frames : List Frame) (f : Frame) (inside now : Forest Block)
@@ -129,18 +124,6 @@ module _ (inside : Forest Block) (b c : Block) (filled : is_blank_block b.kind �
       ∙ ap (λ flags. if is_list f.block.kind
       then is_loose (rebuilt frames (followed_by inside (leaf_block c))) ∷ flags else flags) (lists_alike frames)
 
-known_in : (empty : Bool) (inside now : Forest Block) → is_nil inside ≡ is_nil now → (kind : Kind)
-    → EmptyKnownIn empty inside kind → EmptyKnownIn empty now kind
-known_in empty inside now same (was.item_container indent) known = known ∙ same
-known_in empty inside now same (was.list_container marker) known = tt
-known_in empty inside now same other known = known
-
-known_alike : (empty : Bool) (frames : List Frame) (inside now : Forest Block) → is_nil inside ≡ is_nil now
-    → EmptyKnown empty frames inside → EmptyKnown empty frames now
-known_alike empty [] inside now same known = tt
-known_alike empty (f ∷ []) inside now same known = known_in empty inside now same f.block.kind known
-known_alike empty (f ∷ g ∷ frames) inside now same known = known_alike empty (g ∷ frames) inside now same known
-
 -- what is remembered of lists is so with another leaf
 pub loose_as_leaf : (now : Looseness) (frames : List Frame) (inside : Forest Block) (b c : Block)
     → is_blank_block b.kind ≡ false → is_blank_block c.kind ≡ false
@@ -148,7 +131,7 @@ pub loose_as_leaf : (now : Looseness) (frames : List Frame) (inside : Forest Blo
     → IsLooseAs now frames (followed_by inside (leaf_block c))
 loose_as_leaf now frames inside b c filled also loose = record {
   lists = loose.lists ∙ lists_alike inside b c filled also frames;
-  empty = known_alike now.item_is_empty frames (followed_by inside (leaf_block b)) (followed_by inside (leaf_block c))
+  empty = empty_alike now.item_is_empty frames (followed_by inside (leaf_block b)) (followed_by inside (leaf_block c))
       (some_there inside b ∙ sym (some_there inside c)) loose.empty;
 }
 

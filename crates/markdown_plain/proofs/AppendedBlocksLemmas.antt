@@ -21,12 +21,12 @@ use Rattle.markdown_plain.specs.Frames.{Frame, rebuilt}
 use Rattle.markdown_plain.specs.Settled.{AreOpen, IsAtEnd, IsBodyOf, IsBuilt, around_in, levels_shown, placed_end}
 use Rattle.markdown_plain.specs.declared.pass.Pass.{Pass}
 use Rattle.markdown_plain.specs.OpenedFrames.{around_innermost}
-use Rattle.markdown_plain.proofs.ClosedFramesLemmas.{end_of_both, shown_of_both, some_level}
+use Rattle.markdown_plain.proofs.ClosedFramesLemmas.{end_of_both, shown_of_both}
 
 -- ---- what is shown
 
 -- they are put at the end of the innermost level
-pub levels_appended : (s : Source) (around : Around) (frames : List Frame) (inside new : Forest Block)
+levels_appended : (s : Source) (around : Around) (frames : List Frame) (inside new : Forest Block)
     → levels_shown s around frames (followed_by inside new)
     ≡ with_trees (levels_shown s around frames inside) (shown_blocks s (around_innermost around frames) new)
 levels_appended s around [] inside new = ap (λ f. f ∷ []) (shown_of_both s around inside new)
@@ -126,10 +126,6 @@ open_after texts more (block ∷ blocks) (f ∷ frames) are = (
   record { start = are.0.start; body = body_after texts more f.block.kind block.body are.0.body },
   open_after texts more blocks frames are.1,
 )
-
-pub some_levels : (s : Source) (view : BuilderView) (frames : List Frame) (inside : Forest Block)
-    → IsBuilt s view frames inside → view.levels ≡ [] → ⊥
-some_levels s view frames inside built none = some_level s in_no_item frames inside (sym built.levels ∙ none)
 
 -- a builder has appended, in the innermost of these open containers, what is shown of some blocks, with the texts that
 -- this refers to, and what they define

@@ -1,7 +1,7 @@
 -- What a line begins beside text and underlines: where it may go on with a paragraph, it begins the same as where there
 -- is none.
-use Rattle.std.proofs.Common.{◌≡◌, ℕ, ◌+◌, ◌-◌, Bool, true, false, ◌&&◌, ◌==◌, List, [], ◌∷◌, ◌++◌, Option}
-use Rattle.std.proofs.Common.{Some, None, not, length, drop, slice_range, nat_le, refl, sym, ap, ◌∙◌, subst, arith}
+use Rattle.std.proofs.Common.{◌≡◌, ℕ, ◌+◌, ◌-◌, Bool, true, false, ◌&&◌, ◌==◌, List, [], ◌∷◌, ◌++◌, Option, Some}
+use Rattle.std.proofs.Common.{None, not, length, drop, slice_range, nat_le, refl, sym, ap, ◌∙◌, subst, arith}
 use Rattle.std.proofs.lemmas.Bool.{true≢false, and_parts, or_right}
 use Rattle.std.proofs.lemmas.Bool.Decides.{nat_tests}
 use Rattle.std.proofs.lemmas.Option.{none-some}
@@ -19,10 +19,10 @@ use Rattle.markdown_lines.specs.declared.block_start.Before.{Before}
 use Rattle.markdown_lines.specs.declared.block_start.Before.TheVariants as paragraph
 use Rattle.markdown_lines.specs.declared.list_marker.ListMarker.{ListMarker}
 use Rattle.markdown_lines.specs.BlockBeginnings as line
-use Rattle.markdown_lines.specs.BlockBeginnings.{Beginning, Source, begins, begins_after, break_in_line, fence_in_line}
-use Rattle.markdown_lines.specs.BlockBeginnings.{first_found, footnote_in_line, heading_in_line, html_in_line}
-use Rattle.markdown_lines.specs.BlockBeginnings.{is_paragraph, item_in_line, item_of, metadata_begun, metadata_in_line}
-use Rattle.markdown_lines.specs.BlockBeginnings.{quote_in_line, underline_in_line}
+use Rattle.markdown_lines.specs.BlockBeginnings.{Beginning, Source, begins, begins_after, break_in_line}
+use Rattle.markdown_lines.specs.BlockBeginnings.{fence_in_line, first_found, footnote_in_line, heading_in_line}
+use Rattle.markdown_lines.specs.BlockBeginnings.{html_in_line, item_in_line, item_of, metadata_begun}
+use Rattle.markdown_lines.specs.BlockBeginnings.{metadata_in_line, quote_in_line, underline_in_line}
 use Rattle.markdown_lines.specs.LineBytes.{is_parted}
 use Rattle.markdown_lines.specs.Lines.{is_space_or_tab}
 use Rattle.markdown_lines.specs.ListMarkers.{if_it_stands, list_marker_at, marker_of, may_interrupt}
@@ -234,14 +234,7 @@ reached_alone s l b own is block = by_columns ((leading_space 4 l.left).columns 
     by_columns false is =
         by_metadata l.outermost (metadata_opened s.options s.text l.left.bytes l.next) refl is
 
--- a line that may go on with a paragraph, but begins a block, begins that where it could only continue one lazily
-pub lazy_alone : (s : Source) (before : Before) (l : SourceLine) (b : Beginning) → IsLeftOf s.text l.left
-    → is_paragraph before ≡ true → begins s before l ≡ b → BeginsBlock b → begins s paragraph.Lazy l ≡ b
-lazy_alone s paragraph.NoParagraph l b own some is block = absurd (true≢false (sym some))
-lazy_alone s paragraph.Lazy l b own some is block = is
-lazy_alone s paragraph.Reached l b own some is block = reached_alone s l b own is block
-
--- which it does where there is none
+-- what begins a block where it could only continue a paragraph lazily, begins that where there is none
 lazily_alone : (s : Source) (l : SourceLine) (b : Beginning) → IsLeftOf s.text l.left → begins s paragraph.Lazy l ≡ b
     → BeginsBlock b → begins s paragraph.NoParagraph l ≡ b
 lazily_alone s l b own is block = begins_same s l own (ap is_text is ∙ is_no_text b block) ∙ is

@@ -1,29 +1,16 @@
 -- Containers that begin with the rest of a line, and what is left of the line inside them.
-use Rattle.std.proofs.Common.{◌≡◌, ℕ, ◌<◌, ◌≤◌, Bool, true, false, List, [], ◌∷◌, ◌++◌, refl, sym}
-use Rattle.std.proofs.Common.{ap, ◌∙◌, subst, arith, append-nil, length, if◌then◌else◌, ◌&&◌, ◌==◌, nat_le}
+use Rattle.std.proofs.Common.{◌≡◌, ℕ, ◌<◌, ◌≤◌, Bool, true, false, List, [], ◌∷◌, ◌++◌, refl, sym, ap, ◌∙◌, subst}
+use Rattle.std.proofs.Common.{arith, append-nil, length, if◌then◌else◌, ◌&&◌, ◌==◌, nat_le}
 use Rattle.std.proofs.lemmas.Bool.Decides.{nat_tests}
+use Rattle.std.specs.List.{list_all}
+use Rattle.std.specs.Str.{IsCharBoundary}
+use Rattle.markdown_base.specs.Forest.{Forest, nil, node}
+use Rattle.markdown_builder.specs.TreeLevels.{followed_by}
 use Rattle.markdown_scan.specs.LineStart.{LineLeft}
 use Rattle.markdown_lines.specs.Positions.{left_from}
 use Rattle.markdown_lines.specs.declared.block_start.Before.{Before}
 use Rattle.markdown_lines.specs.declared.position.Position.{Position}
-use Rattle.markdown_plain.specs.declared.pass.Pass.{Pass}
-use Rattle.std.specs.List.{list_all}
-use Rattle.std.specs.Str.{IsCharBoundary}
 use Rattle.markdown_lines.specs.Lines.{is_space_or_tab}
-use Rattle.markdown_plain.specs.Containers.{content_of as left_content}
-use Rattle.markdown_plain.specs.Standing.{AreOpenedBefore, IsOpenedBefore}
-use Rattle.markdown_plain.proofs.ReachedFramesLemmas.{blank_at, end_of}
-use Rattle.markdown_plain.specs.Closing.{AreItemsInLists}
-use Rattle.markdown_plain.specs.Fitting.{AllFitted, IfFitted}
-use Rattle.markdown_plain.specs.Paragraphs.{has_paragraph, source_of}
-use Rattle.markdown_plain.specs.Settled.{IsBuilt}
-use Rattle.markdown_plain.proofs.BegunLemmas.{left_from_is_of}
-use Rattle.markdown_plain.proofs.BegunRestsLemmas.{HoldsRest, IsRestOf, begins_rest}
-use Rattle.markdown_plain.proofs.PassedMarkersLemmas.{HoldsPast, begins_past}
-use Rattle.markdown_plain.proofs.FramesLemmas.{rebuilt_more}
-use Rattle.markdown_plain.proofs.OpenedFramesLemmas.{as_many_containers, innermost_of_more}
-use Rattle.markdown_base.specs.Forest.{Forest, nil, node}
-use Rattle.markdown_builder.specs.TreeLevels.{followed_by}
 use Rattle.markdown_lines.specs.BlockBeginnings.{Beginning, Source, is_paragraph}
 use Rattle.markdown_lines.specs.SourceLines.{SourceLine, is_blank_rest, rest_inside}
 use Rattle.markdown_lines.specs.declared.block_start.Before.TheVariants as paragraph
@@ -31,17 +18,30 @@ use Rattle.markdown_lines.specs.declared.line.Line.{Line}
 use Rattle.markdown_lines.specs.BlockStarts.{left_at}
 use Rattle.markdown_block_rules.specs.BlockGrowth.{Block, Kind, begun_by, content_of, inside_of, new_blocks}
 use Rattle.markdown_block_rules.specs.BlockRules.{is_blank_block, is_loose}
-use Rattle.markdown_plain.specs.declared.block_pass.LineRest.{LineRest}
+use Rattle.markdown_plain.specs.declared.pass.Pass.{Pass}
+use Rattle.markdown_plain.specs.Containers.{content_of as left_content}
+use Rattle.markdown_plain.specs.Standing.{AreOpenedBefore, IsOpenedBefore}
+use Rattle.markdown_plain.specs.Closing.{AreItemsInLists}
+use Rattle.markdown_plain.specs.Fitting.{AllFitted, IfFitted}
+use Rattle.markdown_plain.specs.Paragraphs.{has_paragraph, source_of}
+use Rattle.markdown_plain.specs.Settled.{IsBuilt, EmptyKnown, EmptyKnownIn, IsLooseAs, IsLooseBefore, QuotesEnd}
+use Rattle.markdown_plain.specs.Settled.{are_loose, placed_end}
+use Rattle.markdown_plain.specs.declared.beginnings.LineRest.{LineRest}
 use Rattle.markdown_plain.specs.declared.looseness.Looseness.{Looseness}
 use Rattle.markdown_plain.specs.Beginning as here
 use Rattle.markdown_plain.specs.Beginning.{HasRoom, IsLeft, MayBegin, ReadsOn, begun_in_rest, turn_place}
 use Rattle.markdown_plain.specs.Frames.{Frame, is_list, rebuilt}
 use Rattle.markdown_plain.specs.OpenLeaves.{AreItemsOpenedIn, IsOpenedIn}
 use Rattle.markdown_plain.specs.OpenedFrames.{with_frame}
-use Rattle.markdown_plain.specs.Settled.{EmptyKnown, EmptyKnownIn, IsLooseAs, IsLooseBefore, QuotesEnd, are_loose}
-use Rattle.markdown_plain.specs.Settled.{placed_end}
-use Rattle.markdown_plain.proofs.LooseFramesLemmas.{loose_more}
 use Rattle.markdown_plain.proofs.BegunBlocksLemmas.{KeepsRest, begun_block, begun_in_room, still_may}
+use Rattle.markdown_plain.proofs.BegunLemmas.{left_from_is_of}
+use Rattle.markdown_plain.proofs.BegunRestsLemmas.{HoldsRest, IsRestOf, begins_rest}
+use Rattle.markdown_plain.proofs.FramesInsideLemmas.{inner_last}
+use Rattle.markdown_plain.proofs.FramesLemmas.{rebuilt_more}
+use Rattle.markdown_plain.proofs.LooseFramesLemmas.{loose_more}
+use Rattle.markdown_plain.proofs.OpenedFramesLemmas.{as_many_containers}
+use Rattle.markdown_plain.proofs.PassedMarkersLemmas.{HoldsPast, begins_past}
+use Rattle.markdown_plain.proofs.ReachedFramesLemmas.{blank_at, end_of}
 
 -- ---- one more container
 
@@ -99,7 +99,7 @@ and_false true = refl
 and_false false = refl
 
 -- the rest of a line inside a container that it begins
-pub left_inside : (s : Source) (rest : LineRest) (source : SourceLine) (inside : Position) (depth : ℕ)
+left_inside : (s : Source) (rest : LineRest) (source : SourceLine) (inside : Position) (depth : ℕ)
     (before : Before) → IsLeft s rest source → IsRestOf source.left (left_at rest.reader inside)
     → IsCharBoundary s.text inside.at
     → IsLeft s (record rest { position = inside; depth = depth; before = before })
@@ -132,7 +132,7 @@ left_inside s rest source inside depth before left is boundary =
     }
 
 -- it begins later in the line
-pub inside_later : (s : Source) (rest : LineRest) (source : SourceLine) (inside : Position) (depth : ℕ)
+inside_later : (s : Source) (rest : LineRest) (source : SourceLine) (inside : Position) (depth : ℕ)
     → IsLeft s rest source → IsRestOf source.left (left_at rest.reader inside)
     → turn_place rest
     < turn_place (record rest { position = inside; depth = depth; before = paragraph.NoParagraph })
@@ -205,7 +205,7 @@ in_line_more s rest source kind frames inside left filled are = record {
 }
 
 -- one that is no list, where a block may begin
-pub opened_in : (s : Source) (now : Pass) (line : Line) (frames : List Frame) (inside : Forest Block) (b : Block)
+opened_in : (s : Source) (now : Pass) (line : Line) (frames : List Frame) (inside : Forest Block) (b : Block)
     → MayBegin s now line frames inside → IsBuilt s now.placing.builder (with_frame frames inside b) nil
     → HoldsBlocks b.kind → OpensIn s now frames inside b
 opened_in s now line frames inside b may built holds = record {
@@ -246,7 +246,7 @@ container_inside s now rest next outer before source blocks inside kind left fil
           free = record {
             built = opens.built;
             lines = opens.lines;
-            free = innermost_of_more is_list outer f ∙ opens.free;
+            free = inner_last is_list outer f ∙ opens.free;
           };
           blanks = opens.blanks;
           loose = opens.loose;
@@ -319,11 +319,11 @@ room_inside s room now rest next source begun blocks inside kind has goes is pas
 -- ---- a paragraph inside it
 
 -- where the line of a paragraph fitted, so did what was made before it
-pub fitted_before : (old now : Pass) (P : Type 0)
+pub fitted_before_line : (old now : Pass) (P : Type 0)
     → (has_paragraph old ≡ true → now ≡ record old { lines = now.lines })
     → (has_paragraph old ≡ false → IfFitted old.placing now.placing P) → AllFitted now.placing
     → AllFitted old.placing
-fitted_before old now P goes_on begins fitted = by_paragraph (has_paragraph old) refl
+fitted_before_line old now P goes_on begins fitted = by_paragraph (has_paragraph old) refl
   where
     by_paragraph : (some : Bool) → has_paragraph old ≡ some → AllFitted old.placing
     by_paragraph true is = subst (λ (p : Pass). AllFitted p.placing) (goes_on is) fitted

@@ -15,7 +15,7 @@ use Rattle.markdown_lines.specs.declared.atx_heading.AtxHeading.{AtxHeading}
 use Rattle.markdown_lines.specs.declared.block_start.BlockStart.TheVariants as start
 use Rattle.markdown_lines.specs.declared.position.Position.{Position}
 use Rattle.markdown_block_rules.specs.BlockGrowth.{Block, content_of}
-use Rattle.markdown_plain.specs.declared.block_pass.LineRest.{LineRest}
+use Rattle.markdown_plain.specs.declared.beginnings.LineRest.{LineRest}
 use Rattle.markdown_plain.specs.declared.pass.Pass.{Pass}
 use Rattle.markdown_plain.specs.Beginning.{HasRoom, IsFound, IsHeadingIn, IsHere, IsInside, Turn, first, later}
 use Rattle.markdown_plain.specs.Fits.{MayAddHeading, MayOpenHtml, MayOpenLeaf, MayStep}
@@ -34,13 +34,13 @@ module _ (s : Source) (room : Pass) (rest : LineRest) (source : SourceLine) (beg
   room_text = ap (λ (r : Source). r.text) has.may.source
 
   -- the line ends between characters
-  pub room_next : IsCharBoundary room.placing.builder.text rest.line.next
+  room_next : IsCharBoundary room.placing.builder.text rest.line.next
   room_next =
       subst (λ text. IsCharBoundary text rest.line.next) (sym room_text)
       (next_between s.text rest.line.start rest.line has.left.utf8 has.left.from)
 
   -- its content is in the line
-  pub content_within_line : content_of source ≤ rest.line.next
+  content_within_line : content_of source ≤ rest.line.next
   content_within_line =
       let white = prefix_len-le-length is_space_or_tab source.left.bytes in
       let stop = has.left.is.stop in
@@ -48,7 +48,7 @@ module _ (s : Source) (room : Pass) (rest : LineRest) (source : SourceLine) (beg
       omega (arith, white, stop, ends)
 
   -- a leaf fits that begins in the rest of the line, before its content or there
-  pub leaf_fits : (at : ℕ) → rest.position.at ≤ at → at ≤ content_of source
+  leaf_fits : (at : ℕ) → rest.position.at ≤ at → at ≤ content_of source
       → IsCharBoundary room.placing.builder.text at → MayOpenLeaf room.placing.builder at rest.line.next
   leaf_fits at low high boundary =
       let within = content_within_line in

@@ -19,7 +19,7 @@ use Rattle.markdown_lines.specs.declared.list_marker.ListMarker.{ListMarker}
 use Rattle.markdown_block_rules.specs.BlockGrowth as was
 use Rattle.markdown_block_rules.specs.BlockGrowth.{Block, Kind, another_item, begun_by, content_of, goes_on}
 use Rattle.markdown_block_rules.specs.BlockGrowth.{inside_of, line_block, new_blocks, next_item, with_line}
-use Rattle.markdown_plain.specs.declared.block_pass.LineRest.{LineRest}
+use Rattle.markdown_plain.specs.declared.beginnings.LineRest.{LineRest}
 use Rattle.markdown_plain.specs.declared.pass.Pass.{Pass}
 use Rattle.markdown_plain.specs.Beginning.{HoldsLast, IsFirst, IsFound, IsHere, IsInside, IsLeft, ReadsOn, Turn}
 use Rattle.markdown_plain.specs.Beginning.{begun_in_rest}
@@ -41,16 +41,19 @@ use Rattle.markdown_plain.proofs.BegunBlocksLemmas.{begun_block, source_kept}
 use Rattle.markdown_plain.proofs.BegunContainersLemmas.{AreInLine, container_inside, in_line_more}
 use Rattle.markdown_plain.proofs.BegunLemmas.{IsLeftOf, begun_once, block_begun, item_begun, left_from_is_of}
 use Rattle.markdown_plain.proofs.BegunRestsLemmas.{HoldsRest, IsRestOf, begins_rest}
-use Rattle.markdown_plain.proofs.PassedMarkersLemmas.{HoldsPast, begins_past}
 use Rattle.markdown_plain.proofs.BlanksKnownLemmas.{same_touched}
+use Rattle.markdown_plain.proofs.FoundBlocksLemmas.{found_begins}
 use Rattle.markdown_plain.proofs.FramesLemmas.{innermost_apart, marker_of_list, rebuilt_more}
 use Rattle.markdown_plain.proofs.ItemsInListsLemmas.{line_keeps}
 use Rattle.markdown_plain.proofs.LastBlocksLemmas.{open_are_containers}
 use Rattle.markdown_plain.proofs.OpenedFramesLemmas.{item_placed}
+use Rattle.markdown_plain.proofs.PassedMarkersLemmas.{HoldsPast, begins_past}
 use Rattle.markdown_plain.proofs.ReachedLemmas.{block_begins, inner_left, item_begins, list_ends, outer_taken}
 use Rattle.markdown_plain.proofs.ReachedLemmas.{reached_next, reached_parts}
-use Rattle.markdown_plain.proofs.RoomForBlocksLemmas.{is_begun, last_open, line_some, none_goes_on, not_opened}
-use Rattle.markdown_plain.proofs.TouchedFramesLemmas.{built_touched, earlier_touched, quotes_touched}
+use Rattle.markdown_plain.proofs.RoomForBlocksLemmas.{line_some, none_goes_on}
+use Rattle.markdown_plain.proofs.RoomLemmas.{last_open}
+use Rattle.markdown_plain.proofs.TouchedFramesLemmas.{earlier_outer, not_opened, built_touched, earlier_touched}
+use Rattle.markdown_plain.proofs.TouchedFramesLemmas.{quotes_touched}
 
 -- ---- what a line makes of blocks with an item that it begins
 
@@ -148,11 +151,6 @@ touched_both l frames inside list b starts ends =
     touched_more l (with_frame frames inside list) nil b ends
     ∙ ap (λ fs. with_frame fs nil b) (touched_more l frames inside list starts)
 
-earlier_front : (from : ℕ) (frames more : List Frame) → AreOpenedBefore from (frames ++ more)
-    → AreOpenedBefore from frames
-earlier_front from [] more earlier = tt
-earlier_front from (f ∷ frames) more earlier = (earlier.0, earlier_front from frames more earlier.1)
-
 -- containers that were open before the line, and go on in it
 line_touched : (to : Line) (l : SourceLine) (frames : List Frame) → l.next ≡ to.next → to.start < to.next
     → AreOpenedBefore to.start frames → AreInLine to (map (touched l) frames)
@@ -215,7 +213,7 @@ item_found : (s : Source) (rest : LineRest) (source : SourceLine) (at : ℕ) (it
     → IsLeft s rest source → IsFound s rest source at (start.Item item) → BeginsItem s rest source item
 item_found s rest source at item left found =
     let b = line.begins_item item.marker item.indent (left_at rest.reader item.inside) in
-    let begun = is_begun s rest source at (start.Item item) b found refl in
+    let begun = found_begins s rest source at (start.Item item) b found refl in
     let own = left_from_is_of s.text rest.position rest.line.stop source.left left.is.rest.left in
     let alone = begins_alone s rest.before source b own begun.1 tt in
     record {
@@ -289,10 +287,10 @@ module _ (s : Source) (old now : Pass) (rest next : LineRest) (before : Before) 
       → AreInLine rest.line (map (touched l) outer)
   first_line outer more parts =
       line_touched rest.line l outer (sym state.is.next) (line_some s rest source state.left state.filled)
-      (earlier_front rest.line.start outer more
+      (earlier_outer rest.line.start outer more
       (subst (AreOpenedBefore rest.line.start) (sym parts) state.holds.earlier))
 
-  pub item_first : IfFitted old.placing now.placing (ReadsOn s now rest next blocks)
+  item_first : IfFitted old.placing now.placing (ReadsOn s now rest next blocks)
   item_first fitted =
       let frames = before.frames in
       let inside = blocks_in before in
@@ -417,9 +415,3 @@ item_reads_on s old now rest next (turn.first before l) source blocks item at st
     (subst (λ n. OpensItem old now item at n) state.depth opens)
 item_reads_on s old now rest next (turn.later frames) source blocks item at state found boundary goes opens =
     item_later s old now rest next frames source blocks item at state found boundary goes opens
-
--- the text in which a line is read
-pub text_here : (s : Source) (pass : Pass) (rest : LineRest) (turn : Turn) (source : SourceLine)
-    (blocks : Forest Block) → IsHere s pass rest turn source blocks → pass.placing.builder.text ≡ s.text
-text_here s pass rest (turn.first before l) source blocks state = ap (λ (r : Source). r.text) state.holds.source
-text_here s pass rest (turn.later frames) source blocks state = ap (λ (r : Source). r.text) state.opened.source

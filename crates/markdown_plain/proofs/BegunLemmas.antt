@@ -1,8 +1,8 @@
 -- What a line begins that no paragraph reaches: where it is no text, it begins the same whether or not there is a
 -- paragraph that it could continue; and what begins with it holds what begins with the rest of it.
-use Rattle.std.proofs.Common.{◌≡◌, ◌⊎◌, inl, inr, ⊎_elim, ℕ, suc, ◌+◌, ◌-◌, ◌<◌, Bool, true, false, ◌&&◌}
-use Rattle.std.proofs.Common.{◌||◌, ◌==◌, List, [], ◌∷◌, Option, Some, None, length, drop, slice_range, codes, nat_le}
-use Rattle.std.proofs.Common.{nat_lt, refl, sym, ap, ◌∙◌, subst, arith}
+use Rattle.std.proofs.Common.{◌≡◌, ◌⊎◌, inl, inr, ⊎_elim, ℕ, suc, ◌+◌, ◌-◌, ◌<◌, Bool, true, false, ◌&&◌, ◌||◌, ◌==◌}
+use Rattle.std.proofs.Common.{List, [], ◌∷◌, Option, Some, None, length, drop, slice_range, codes, nat_le, nat_lt}
+use Rattle.std.proofs.Common.{refl, sym, ap, ◌∙◌, subst, arith}
 use Rattle.std.proofs.lemmas.Bool.{true≢false, and_parts, or_right}
 use Rattle.std.proofs.lemmas.Bool.Decides.{nat_tests}
 use Rattle.std.proofs.lemmas.Option.{none-some}
@@ -24,9 +24,8 @@ use Rattle.markdown_lines.specs.declared.html_kind.HtmlKind.TheVariants as html
 use Rattle.markdown_lines.specs.declared.list_marker.ListMarker.{ListMarker}
 use Rattle.markdown_lines.specs.declared.position.Position.{Position}
 use Rattle.markdown_lines.specs.BlockBeginnings as line
-use Rattle.markdown_lines.specs.BlockBeginnings.{Beginning, Source, begins, begins_after, break_in_line, first_found}
-use Rattle.markdown_lines.specs.BlockBeginnings.{html_in_line, is_paragraph, item_in_line, item_of, metadata_begun}
-use Rattle.markdown_lines.specs.BlockBeginnings.{metadata_in_line, underline_in_line}
+use Rattle.markdown_lines.specs.BlockBeginnings.{Beginning, Source, begins, begins_after, first_found, item_in_line}
+use Rattle.markdown_lines.specs.BlockBeginnings.{item_of, metadata_begun, metadata_in_line}
 use Rattle.markdown_lines.specs.HtmlBeginnings.{is_lone_tag, known_kind}
 use Rattle.markdown_lines.specs.Lines.{is_space_or_tab}
 use Rattle.markdown_lines.specs.ListMarkers.{if_it_stands, marker_of}
@@ -251,7 +250,7 @@ begins_same s l own other =
     ⊎_elim (λ same. same) (λ text. absurd (true≢false (ap is_text (sym text.0) ∙ other))) (begins_alike s l own)
 
 -- and the same item
-pub item_same : (s : Source) (l : SourceLine) (marker : ListMarker) → IsLeftOf s.text l.left
+item_same : (s : Source) (l : SourceLine) (marker : ListMarker) → IsLeftOf s.text l.left
     → another_item s l marker (begins s paragraph.Lazy l) ≡ another_item s l marker (begins s paragraph.NoParagraph l)
 item_same s l marker own =
     ⊎_elim (λ same. ap (another_item s l marker) (sym same))

@@ -24,7 +24,7 @@ use Rattle.markdown_lines.specs.MetadataBlocks.{metadata_option, opened_before}
 use Rattle.markdown_lines.specs.SourceLines.{SourceLine}
 use Rattle.markdown_lines.specs.declared.block_start.Before.TheVariants as paragraph
 use Rattle.markdown_block_rules.specs.BlockGrowth.{Block, content_of}
-use Rattle.markdown_plain.specs.declared.block_pass.LineRest.{LineRest}
+use Rattle.markdown_plain.specs.declared.beginnings.LineRest.{LineRest}
 use Rattle.markdown_plain.specs.declared.pass.Pass.{Pass}
 use Rattle.markdown_plain.specs.Beginning.{HasRoom, reads_metadata}
 use Rattle.markdown_plain.proofs.InnerBeginningsLemmas.{BeginsInside, after_inside}
@@ -87,7 +87,7 @@ pub record IsMetadata (s : Source) (l : SourceLine) : Type 0 where
   pub read : reads_metadata s.options ≡ true
   pub solid : prefix_len is_space_or_tab l.left.bytes ≡ 0
 
-pub metadata_begins : (s : Source) (l : SourceLine) (kind : MetadataBlockKind)
+metadata_begins : (s : Source) (l : SourceLine) (kind : MetadataBlockKind)
     → begins s paragraph.NoParagraph l ≡ line.begins_metadata kind → IsMetadata s l
 metadata_begins s l kind is = by_columns (space.columns == 4) is
   where

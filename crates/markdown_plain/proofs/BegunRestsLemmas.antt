@@ -5,39 +5,31 @@ use Rattle.std.proofs.Common.{nat_lt, nat_le}
 use Rattle.std.proofs.lemmas.Bool.{true≢false}
 use Rattle.std.proofs.lemmas.List.{length-drop, length-take}
 use Rattle.std.proofs.lemmas.List.Sums.{prefix_len-le-length}
-use Rattle.std.specs.Prelude.{if◌then◌else◌, slice_index, slice_range, unwrap_or}
+use Rattle.std.specs.Prelude.{slice_index, slice_range}
 use Rattle.std.specs.Char.{is_ascii_digit}
 use Rattle.std.specs.List.{list_all, prefix_len}
-use Rattle.markdown_lines.specs.Lines.{is_space_or_tab}
-use Rattle.markdown_plain.specs.Containers.{content_of}
-use Rattle.std.specs.Option.{option_and_then, option_map}
+use Rattle.std.specs.Option.{option_map}
 use Rattle.markdown_base.specs.EnabledOptions.{footnotes_on}
 use Rattle.markdown_base.specs.declared.tag.BlockQuoteKind.{BlockQuoteKind}
-use Rattle.markdown_base.specs.declared.tag.MetadataBlockKind.{MetadataBlockKind}
-use Rattle.markdown_base.specs.declared.tag.MetadataBlockKind.TheVariants as metadata
 use Rattle.markdown_scan.specs.Beginnings.{begins_with}
 use Rattle.markdown_scan.specs.LineStart.{LineLeft, Space, leading_space, past_marker, past_one_byte}
+use Rattle.markdown_scan.specs.Label.{link_label}
+use Rattle.markdown_lines.specs.Lines.{is_space_or_tab}
 use Rattle.markdown_lines.specs.declared.block_start.Before.{Before}
 use Rattle.markdown_lines.specs.declared.list_marker.ListMarker.{ListMarker}
 use Rattle.markdown_lines.specs.Alerts.{alert_read}
-use Rattle.markdown_lines.specs.AtxHeadings.{atx_heading_at}
-use Rattle.markdown_lines.specs.CodeFences.{opening_fence_at}
 use Rattle.markdown_lines.specs.BlockBeginnings as line
-use Rattle.markdown_lines.specs.BlockBeginnings.{Beginning, Source, begins, begins_after, break_in_line, fence_in_line}
-use Rattle.markdown_lines.specs.BlockBeginnings.{first_found, footnote_in_line, footnote_marker, heading_in_line}
-use Rattle.markdown_lines.specs.BlockBeginnings.{html_in_line, is_paragraph, is_reached, item_in_line, item_of}
-use Rattle.markdown_lines.specs.BlockBeginnings.{item_space, label_before_colon, metadata_begun, metadata_in_line}
-use Rattle.markdown_lines.specs.BlockBeginnings.{past_bytes, quote_in_line, quote_of, quote_or_alert}
-use Rattle.markdown_lines.specs.BlockBeginnings.{underline_in_line, whole_heading}
-use Rattle.markdown_lines.specs.HtmlBeginnings.{html_kind_of, in_one_line}
-use Rattle.markdown_scan.specs.Label.{link_label}
+use Rattle.markdown_lines.specs.BlockBeginnings.{Beginning, Source, begins, footnote_in_line, footnote_marker}
+use Rattle.markdown_lines.specs.BlockBeginnings.{is_reached, item_in_line, item_of, label_before_colon, past_bytes}
+use Rattle.markdown_lines.specs.BlockBeginnings.{quote_in_line, quote_of, quote_or_alert}
+use Rattle.markdown_lines.specs.HtmlBeginnings.{in_one_line}
 use Rattle.markdown_lines.specs.ListMarkers.{decimal, ends_number, if_it_stands, is_bullet, list_marker_at, marker_of}
 use Rattle.markdown_lines.specs.ListMarkers.{ordered_marker, ordered_marker_of, stands_before}
-use Rattle.markdown_lines.specs.MetadataBlocks.{metadata_opened}
 use Rattle.markdown_lines.specs.SourceLines.{SourceLine}
-use Rattle.markdown_lines.specs.ThematicBreaks.{is_thematic_break, setext_level}
 use Rattle.markdown_block_rules.proofs.BlockBeginningsLemmas.{HoldsLess, begins_less, either, space_left}
+use Rattle.markdown_plain.specs.Containers.{content_of}
 use Rattle.markdown_plain.proofs.LeafTreesLemmas.{few_owed, on_test}
+use Rattle.markdown_plain.proofs.LineBeginningsLemmas.{IfFound, after_holds, begins_holds, underline_holds}
 use Rattle.markdown_plain.proofs.ReachedFramesLemmas.{AreAlike, blank_at, end_of, space_alike}
 
 -- a rest ends with another, and its first tab owes at most three columns
@@ -52,10 +44,6 @@ HoldsTo whole (line.begins_item marker indent rest) = EndsAt whole rest
 HoldsTo whole (line.begins_indented rest) =
     AreAlike rest whole × (rest.owed ≤ 3) × (whole.scanned ≤ rest.scanned)
 HoldsTo whole other = Unit
-
-abbrev IfHoldsTo : LineLeft → Option Beginning → Type 0
-IfHoldsTo whole None = Unit
-IfHoldsTo whole (Some b) = HoldsTo whole b
 
 space_ends : (whole : LineLeft) (n : ℕ) (left : LineLeft) → EndsAt whole left
     → EndsAt whole (leading_space n left).after
@@ -84,9 +72,10 @@ marker_ends whole here marker ends =
     past_first scanned (b ∷ bytes) marker = omega arith
 
 in_quote : (s : Source) (whole : LineLeft) (here : LineLeft) → EndsAt whole here
-    → IfHoldsTo whole (quote_in_line s here)
+    → IfFound (HoldsTo whole) (quote_in_line s here)
 in_quote s whole here ends =
-    on_test (IfHoldsTo whole) (begins_with (codes ">") here.bytes) (Some (quote_of s.options (past_marker here))) None
+    on_test (IfFound (HoldsTo whole)) (begins_with (codes ">") here.bytes)
+    (Some (quote_of s.options (past_marker here))) None
     (λ marker. quote_ends whole (past_marker here) (alert_read s.options (past_marker here))
     (marker_ends whole here marker ends)) (λ none. tt)
 
@@ -100,24 +89,25 @@ colon_there (c ∷ bytes) zero is = omega arith
 colon_there (c ∷ bytes) (suc k) is = omega (arith, colon_there bytes k is)
 
 label_ends : (whole : LineLeft) (here : LineLeft) (label : Option (ℕ × List ℕ)) → EndsAt whole here
-    → IfHoldsTo whole (option_map (λ marker. line.begins_footnote marker.0 (past_bytes marker.1 here))
+    → IfFound (HoldsTo whole) (option_map (λ marker. line.begins_footnote marker.0 (past_bytes marker.1 here))
     (label_before_colon here.bytes label))
 label_ends whole here None ends = tt
 label_ends whole here (Some label) ends =
     on_test (λ (found : Option (List ℕ × ℕ)).
-    IfHoldsTo whole (option_map (λ marker. line.begins_footnote marker.0 (past_bytes marker.1 here)) found))
+    IfFound (HoldsTo whole) (option_map (λ marker. line.begins_footnote marker.0 (past_bytes marker.1 here)) found))
     (slice_index here.bytes (label.0 + 2) == 58) (Some (label.1, label.0 + 3)) None
     (λ is. past_ends whole (label.0 + 3) here
     (omega (arith, colon_there here.bytes (label.0 + 2) is)) ends) (λ none. tt)
 
 in_footnote : (s : Source) (whole : LineLeft) (here : LineLeft) → EndsAt whole here
-    → IfHoldsTo whole (footnote_in_line s.options here)
+    → IfFound (HoldsTo whole) (footnote_in_line s.options here)
 in_footnote s whole here ends =
     let label = link_label in_one_line false (drop 2 here.bytes) in
     let found : Option (List ℕ × ℕ) → Option Beginning =
     option_map (λ marker. line.begins_footnote marker.0 (past_bytes marker.1 here)) in
-    either (IfHoldsTo whole) (footnotes_on s.options) (found (footnote_marker here.bytes)) None
-    (either (λ o. IfHoldsTo whole (found o)) (begins_with (codes "[^") here.bytes) (label_before_colon here.bytes label)
+    either (IfFound (HoldsTo whole)) (footnotes_on s.options) (found (footnote_marker here.bytes)) None
+    (either (λ o. IfFound (HoldsTo whole) (found o)) (begins_with (codes "[^") here.bytes)
+    (label_before_colon here.bytes label)
     None (label_ends whole here label ends) tt) tt
 
 -- ---- a list item
@@ -155,7 +145,7 @@ more_within n m (Some marker) more within = omega (arith, more, within)
 
 item_ends : (whole : LineLeft) (columns : ℕ) (here : LineLeft) (found : Option ListMarker)
     → IsWithin (length here.bytes) found
-    → EndsAt whole here → IfHoldsTo whole (option_map (item_of columns here) found)
+    → EndsAt whole here → IfFound (HoldsTo whole) (option_map (item_of columns here) found)
 item_ends whole columns here None within ends = tt
 item_ends whole columns here (Some marker) within ends =
     let left = past_bytes marker.width here in
@@ -173,7 +163,7 @@ range_within text at n =
     omega (arith, length-take (at + n - at) (drop at text), size)
 
 in_item : (s : Source) (before : Before) (whole : LineLeft) (columns : ℕ) (here : LineLeft) → EndsAt whole here
-    → IfHoldsTo whole (item_in_line s before columns here)
+    → IfFound (HoldsTo whole) (item_in_line s before columns here)
 in_item s before whole columns here ends =
     let n = length here.bytes in
     let content = slice_range s.text here.scanned (here.scanned + n) in
@@ -184,97 +174,22 @@ in_item s before whole columns here ends =
 
 -- ---- what a line begins
 
--- each of some that are there does
-abbrev IfHoldAll : LineLeft → List (Option Beginning) → Type 0
-IfHoldAll whole [] = Unit
-IfHoldAll whole (o ∷ others) = IfHoldsTo whole o × IfHoldAll whole others
-
-first_ends : (whole : LineLeft) (found : List (Option Beginning)) → IfHoldAll whole found
-    → HoldsTo whole (first_found found)
-first_ends whole [] all = tt
-first_ends whole (None ∷ others) all = first_ends whole others all.1
-first_ends whole (Some b ∷ others) all = all.0
-
--- a leaf holds nothing
-leaf_ends : {A : Type 0} (whole : LineLeft) (f : A → Beginning) (found : Option A) → ((a : A) → HoldsTo whole (f a))
-    → IfHoldsTo whole (option_map f found)
-leaf_ends whole f None leaf = tt
-leaf_ends whole f (Some a) leaf = leaf a
-
-after_ends : (s : Source) (before : Before) (whole : LineLeft) (columns : ℕ) (here : LineLeft) → EndsAt whole here
-    → HoldsTo whole (begins_after s before columns here)
-after_ends s before whole columns here ends =
-    let n = length here.bytes in
-    let byte = slice_index here.bytes 0 in
-    let fence = opening_fence_at s.text here.scanned (here.scanned + n) byte columns in
-    let html = html_kind_of here.bytes (is_paragraph before) in
-    let heading = atx_heading_at s.text here.scanned (here.scanned + n) in
-    let underline = setext_level here.bytes in
-    first_ends whole (quote_in_line s here ∷ heading_in_line s here ∷ fence_in_line s columns here
-    ∷ html_in_line before here ∷ footnote_in_line s.options here ∷ underline_in_line before here
-    ∷ break_in_line here ∷ item_in_line s before columns here ∷ []) (
-      in_quote s whole here ends,
-      (
-        leaf_ends whole (λ found. line.begins_heading (whole_heading s.options here found)) heading (λ a. tt),
-        (
-          either (IfHoldsTo whole) ((byte == 96) || (byte == 126)) (option_map line.begins_fence fence) None
-              (leaf_ends whole line.begins_fence fence (λ a. tt)) tt,
-          (
-            either (IfHoldsTo whole) (begins_with (codes "<") here.bytes) (option_map line.begins_html html) None
-                (leaf_ends whole line.begins_html html (λ a. tt)) tt,
-            (
-              in_footnote s whole here ends,
-              (
-                either (IfHoldsTo whole) (is_reached before) (option_map line.begins_underline underline) None
-                    (leaf_ends whole line.begins_underline underline (λ a. tt)) tt,
-                (
-                  either (IfHoldsTo whole) (is_thematic_break here.bytes) (Some line.begins_break) None tt tt,
-                  (in_item s before whole columns here ends, tt),
-                ),
-              ),
-            ),
-          ),
-        ),
-      ),
-    )
-
-metadata_ends : (whole : LineLeft) (before : Before) (kind : MetadataBlockKind)
-    → IfHoldsTo whole (metadata_begun before kind)
-metadata_ends whole before metadata.YamlStyle =
-    either (IfHoldsTo whole) (is_reached before) None (Some (line.begins_metadata metadata.YamlStyle)) tt tt
-metadata_ends whole before metadata.PlusesStyle =
-    either (IfHoldsTo whole) (is_paragraph before) None (Some (line.begins_metadata metadata.PlusesStyle)) tt tt
-
-opened_ends : (whole : LineLeft) (before : Before) (found : Option MetadataBlockKind)
-    → IfHoldsTo whole (option_and_then (metadata_begun before) found)
-opened_ends whole before None = tt
-opened_ends whole before (Some kind) = metadata_ends whole before kind
-
-found_or_ends : (whole : LineLeft) (found : Option Beginning) (other : Beginning) → IfHoldsTo whole found
-    → HoldsTo whole other → HoldsTo whole (unwrap_or found other)
-found_or_ends whole None other ends more = more
-found_or_ends whole (Some b) other ends more = ends
-
 -- space is read forwards
-space_after : (n : ℕ) (whole : LineLeft) → whole.scanned ≤ (leading_space n whole).after.scanned
+pub space_after : (n : ℕ) (whole : LineLeft) → whole.scanned ≤ (leading_space n whole).after.scanned
 space_after n whole = let ends = (space_alike n whole).end in omega (arith, ends, space_left n whole)
 
 begins_to : (s : Source) (before : Before) (l : SourceLine) → l.left.owed ≤ 3 → HoldsTo l.left (begins s before l)
 begins_to s before l few =
     let whole = l.left in
-    let ends : EndsAt whole whole = (refl, few) in
-    let space = leading_space 4 l.left in
-    let found = metadata_in_line s before l in
-    let after = begins_after s before space.columns space.after in
-    let opened = metadata_opened s.options s.text l.left.bytes l.next in
-    either (HoldsTo whole) (space.columns == 4)
-    (if is_paragraph before then line.begins_text else line.begins_indented space.after) (unwrap_or found after)
-    (either (HoldsTo whole) (is_paragraph before) line.begins_text (line.begins_indented space.after) tt
-    (space_alike 4 whole, few_owed 4 whole few, space_after 4 whole))
-    (found_or_ends whole found after
-    (either (IfHoldsTo whole) l.outermost (option_and_then (metadata_begun before) opened) None
-    (opened_ends whole before opened) tt)
-    (after_ends s before whole space.columns space.after (space_ends whole 4 l.left ends)))
+    let space = leading_space 4 whole in
+    let ends = space_ends whole 4 whole (refl, few) in
+    begins_holds (HoldsTo whole) s before l tt (space_alike 4 whole, few_owed 4 whole few, space_after 4 whole)
+    (λ kind. tt)
+    (after_holds (HoldsTo whole) s before space.columns space.after
+    (record { text = tt; heading = λ heading. tt; fence = λ opening. tt; html = λ kind. tt; break = tt })
+    (in_quote s whole space.after ends) (in_footnote s whole space.after ends)
+    (underline_holds (HoldsTo whole) before space.after (λ level. tt))
+    (in_item s before whole space.columns space.after ends))
 
 -- a rest begins after another, and ends with it
 pub record IsRestOf (left rest : LineLeft) : Type 0 where

@@ -1,6 +1,6 @@
 -- Paragraphs that begin with the rest of a line, inside containers that were opened in this line.
-use Rattle.std.proofs.Common.{◌≡◌, ℕ, ◌<◌, ◌≤◌, ◌+◌, ◌-◌, Bool, true, false, List, [], ◌∷◌, Some, refl, sym}
-use Rattle.std.proofs.Common.{ap, ◌∙◌, subst, arith, length, not, ◌&&◌, ◌==◌, drop, slice_range}
+use Rattle.std.proofs.Common.{◌≡◌, ℕ, ◌<◌, ◌≤◌, ◌+◌, ◌-◌, true, false, List, [], ◌∷◌, Some, refl, sym, ap, ◌∙◌, subst}
+use Rattle.std.proofs.Common.{arith, length, ◌==◌, drop, slice_range}
 use Rattle.std.proofs.lemmas.Bool.Decides.{nat_tests}
 use Rattle.std.proofs.lemmas.Bool.{true≢false}
 use Rattle.std.specs.List.{list_all, prefix_len}
@@ -24,21 +24,11 @@ use Rattle.markdown_plain.specs.Closing.{AreItemsInLists}
 use Rattle.markdown_plain.specs.Frames.{Frame, rebuilt}
 use Rattle.markdown_plain.specs.HeldSources.{AreInOrder}
 use Rattle.markdown_plain.specs.OpenLeaves.{BeginsText, HoldsParagraph, IsLineRest, leaf_block}
-use Rattle.markdown_plain.specs.Paragraphs.{has_paragraph, lines_end, source_of}
+use Rattle.markdown_plain.specs.Paragraphs.{lines_end, source_of}
 use Rattle.markdown_plain.specs.Settled.{IsLooseBefore, QuotesEnd}
 use Rattle.markdown_plain.specs.Standing.{AreOpenedBefore, PlacesFor, is_metadata}
 use Rattle.markdown_plain.proofs.BegunBlocksLemmas.{begun_block}
 use Rattle.markdown_plain.proofs.BegunLeavesLemmas.{line_places}
-
--- no paragraph is open where no line is held
-pub none_open : (pass : Pass) → pass.lines.items ≡ [] → has_paragraph pass ≡ false
-none_open pass none =
-    ap (λ (lines : List HeldLine). not pass.placing.builder.leaf && not (length lines == 0)) none
-    ∙ never (not pass.placing.builder.leaf)
-  where
-    never : (b : Bool) → (b && false) ≡ false
-    never true = refl
-    never false = refl
 
 -- the rest of a line, from a byte offset on
 abbrev pub held_from : Line → ℕ → HeldLine

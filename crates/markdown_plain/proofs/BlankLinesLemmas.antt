@@ -1,13 +1,13 @@
 -- A blank line: which containers it reaches, and what it makes of the blocks in them.
-use Rattle.std.proofs.Common.{◌≡◌, ℕ, Bool, true, false, not, ◌&&◌, ◌||◌, List, [], ◌∷◌, Option, Some, None}
-use Rattle.std.proofs.Common.{map, nat_eq, refl, sym, ap, ◌∙◌, true≢false, ⊎_elim, arith}
+use Rattle.std.proofs.Common.{◌≡◌, ℕ, Bool, true, false, not, ◌&&◌, ◌||◌, List, [], ◌∷◌, Option, Some, None, map}
+use Rattle.std.proofs.Common.{nat_eq, refl, sym, ap, ◌∙◌, true≢false, ⊎_elim, arith}
 use Rattle.std.proofs.lemmas.Bool.Decides.{nat_tests}
-use Rattle.markdown_base.specs.EnabledOptions.{old_footnotes_on}
 use Rattle.std.proofs.lemmas.Bool.{cases_Bool}
 use Rattle.std.proofs.lemmas.Option.{none-some, same_Some}
 use Rattle.std.specs.Prelude.{◌==◌, codes, nat_le, nat_lt, if◌then◌else◌}
 use Rattle.std.specs.List.{list_all}
 use Rattle.std.specs.Option.{option_map}
+use Rattle.markdown_base.specs.EnabledOptions.{old_footnotes_on}
 use Rattle.markdown_base.specs.Forest.{Forest, nil}
 use Rattle.markdown_builder.specs.TreeLevels.{followed_by}
 use Rattle.markdown_scan.specs.Beginnings.{begins_with}
@@ -16,13 +16,14 @@ use Rattle.markdown_lines.specs.BlockBeginnings.{Source}
 use Rattle.markdown_lines.specs.Lines.{is_space_or_tab}
 use Rattle.markdown_lines.specs.SourceLines.{SourceLine, is_blank_rest, rest_inside}
 use Rattle.markdown_block_rules.specs.BlockGrowth as was
-use Rattle.markdown_block_rules.specs.BlockGrowth.{Block, Kind, is_nil, past_footnote, past_indentation, past_quote}
+use Rattle.markdown_block_rules.specs.BlockGrowth.{Block, Kind, is_nil, past_indentation, past_quote}
 use Rattle.markdown_plain.specs.Containers.{content_of}
 use Rattle.markdown_plain.specs.Frames.{Frame, inside_container, is_item, is_quote, reached, reached_past, rebuilt}
 use Rattle.markdown_plain.specs.Frames.{touched}
 use Rattle.markdown_plain.specs.OpenLeaves.{leaf_block}
 use Rattle.markdown_plain.specs.Settled.{EmptyKnown, EmptyKnownIn, QuotesEnd}
-use Rattle.markdown_plain.proofs.ReachedFramesLemmas.{blank_at, end_of, some_follow, space_alike}
+use Rattle.markdown_plain.proofs.FramesLemmas.{ends_in_block}
+use Rattle.markdown_plain.proofs.ReachedFramesLemmas.{blank_at, end_of, space_alike}
 use Rattle.markdown_plain.proofs.ReachedLemmas.{reached_same}
 
 -- ---- what is left of a blank line
@@ -205,7 +206,7 @@ empty_blank empty (f ∷ []) inside b some known = by_kind f.block.kind some kno
   where
     by_kind : (kind : Kind) → (is_item kind ≡ true → is_nil inside ≡ false) → EmptyKnownIn empty inside kind
         → EmptyKnownIn empty (followed_by inside (leaf_block b)) kind
-    by_kind (was.item_container indent) some known = known ∙ (some refl ∙ sym (some_follow inside b nil))
+    by_kind (was.item_container indent) some known = known ∙ (some refl ∙ sym (ends_in_block inside b nil))
     by_kind (was.list_container marker) some known = tt
     by_kind other some known = known
 empty_blank empty (f ∷ g ∷ frames) inside b some known = empty_blank empty (g ∷ frames) inside b some known

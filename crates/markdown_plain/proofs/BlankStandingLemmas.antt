@@ -5,17 +5,19 @@ use Rattle.std.proofs.Common.{take, length, map, refl, sym, ap, ◌∙◌, subst
 use Rattle.std.proofs.Common.{append-nil}
 use Rattle.std.specs.Prelude.{if◌then◌else◌}
 use Rattle.std.specs.Option.{option_map}
+use Rattle.std.proofs.Math.Bool.{and-false}
 use Rattle.markdown_base.specs.Forest.{Forest, nil}
 use Rattle.markdown_builder.specs.TreeLevels.{followed_by}
+use Rattle.markdown_builder.specs.declared.open_block.OpenBlock.{OpenBlock}
+use Rattle.markdown_scan.specs.LineStart.{LineLeft}
 use Rattle.markdown_lines.specs.BlockBeginnings.{Source}
 use Rattle.markdown_lines.specs.SourceLines.{SourceLine, cut, is_blank_rest}
 use Rattle.markdown_lines.specs.declared.held_line.HeldLine.{HeldLine}
 use Rattle.markdown_lines.specs.declared.line.Line.{Line}
 use Rattle.markdown_lines.specs.declared.list_marker.ListMarker.{ListMarker}
-use Rattle.markdown_scan.specs.LineStart.{LineLeft}
 use Rattle.markdown_block_rules.specs.BlockGrowth as was
-use Rattle.markdown_block_rules.specs.BlockGrowth.{Block, begun_by, goes_on, lazily, leaf_with, line_block}
-use Rattle.markdown_block_rules.specs.BlockGrowth.{next_item, Kind, with_line}
+use Rattle.markdown_block_rules.specs.BlockGrowth.{Block, begun_by, goes_on, lazily, leaf_with, line_block, next_item}
+use Rattle.markdown_block_rules.specs.BlockGrowth.{Kind, with_line}
 use Rattle.markdown_block_rules.specs.BlockRules.{code_lines, is_blank_block, last_is_blank}
 use Rattle.markdown_plain.specs.declared.pass.LeafKind.TheVariants as leaf
 use Rattle.markdown_plain.specs.declared.pass.Pass.{Pass}
@@ -31,9 +33,7 @@ use Rattle.markdown_plain.specs.Closable.{AreClosable, IsClosable}
 use Rattle.markdown_plain.specs.Fits.{MayAddBefore}
 use Rattle.markdown_plain.specs.Fitting.{AllFitted, IfFitted}
 use Rattle.markdown_plain.specs.OpenBlocks.{without_leaf}
-use Rattle.markdown_builder.specs.declared.open_block.OpenBlock.{OpenBlock}
 use Rattle.markdown_plain.specs.declared.pass.LeafKind.{LeafKind}
-use Rattle.std.proofs.Math.Bool.{and-false}
 use Rattle.markdown_plain.specs.Settled.{AreOpen, BlanksKnown, IsLooseAs, QuotesEnd}
 use Rattle.markdown_plain.specs.ReachedLines.{Before, IsReachedBy, LeavesOff, blocks_before, blocks_in, is_indented}
 use Rattle.markdown_plain.specs.ReachedLines.{reached_of}
@@ -45,17 +45,17 @@ use Rattle.markdown_plain.proofs.BlankLinesLemmas.{blank_quotes, empty_blank, it
 use Rattle.markdown_plain.proofs.BlanksKnownLemmas.{blank_at_end, blank_known, known_touched, same_touched}
 use Rattle.markdown_plain.proofs.ClosedListsLemmas.{known_of_outermost}
 use Rattle.markdown_plain.proofs.FramesLemmas.{HasMarker, Innermost, goes_on_last, innermost_apart, marker_of_list}
+use Rattle.markdown_plain.proofs.IndentedLeavesLemmas.{blank_cut, blank_held, code_before_blank}
 use Rattle.markdown_plain.proofs.ItemsInListsLemmas.{line_keeps}
 use Rattle.markdown_plain.proofs.LastBlocksLemmas.{leaf_is_over, open_are_containers}
 use Rattle.markdown_plain.proofs.LeafLinesLemmas.{end_touched, leaf_grows, leaf_leaves_off, lists_before_blank}
 use Rattle.markdown_plain.proofs.LeafLinesLemmas.{loose_grown, open_leaf_touched, open_parts}
 use Rattle.markdown_plain.proofs.LinedLeavesLemmas.{grown_to}
 use Rattle.markdown_plain.proofs.LooseFramesLemmas.{ends_more}
-use Rattle.markdown_plain.proofs.IndentedLeavesLemmas.{blank_cut, blank_held, code_before_blank}
+use Rattle.markdown_plain.proofs.ReachedLemmas.{block_begins, inner_goes_lazily, inner_left, item_begins, outer_taken}
+use Rattle.markdown_plain.proofs.ReachedLemmas.{reached_parts}
 use Rattle.markdown_plain.proofs.ReadyLinesLemmas.{SeesBlank, blank_moves, closed_ready, held_ready}
-use Rattle.markdown_plain.proofs.ReachedLemmas.{block_begins, inner_goes_lazily, inner_left, item_begins}
-use Rattle.markdown_plain.proofs.ReachedLemmas.{outer_taken, reached_parts}
-use Rattle.markdown_plain.proofs.TouchedFramesLemmas.{built_touched, earlier_touched, quotes_touched}
+use Rattle.markdown_plain.proofs.TouchedFramesLemmas.{built_touched, earlier_outer, earlier_touched, quotes_touched}
 
 -- ---- what goes on in a blank line
 
@@ -169,15 +169,10 @@ pub record HasClosed (s : Source) (old mid : Pass) (outer : List Frame) (inside 
   pub from : mid.looseness.blank_from ≡ old.looseness.blank_from
   pub closable : AreClosable mid.placing.builder old.placed
 
-pub items_of : (s : Source) (pass : Pass) (frames : List Frame) (inside : Forest Block) (last : Option Block)
+items_of : (s : Source) (pass : Pass) (frames : List Frame) (inside : Forest Block) (last : Option Block)
     → HasLast s pass frames inside last → AreItemsInLists false (rebuilt frames (with_last inside last))
 items_of s pass frames inside None has = has.0.stands.items
 items_of s pass frames inside (Some b) has = has.1.items
-
-earlier_outer : (from : ℕ) (outer inner : List Frame) → AreOpenedBefore from (outer ++ inner)
-    → AreOpenedBefore from outer
-earlier_outer from [] inner earlier = tt
-earlier_outer from (f ∷ outer) inner earlier = (earlier.0, earlier_outer from outer inner earlier.1)
 
 -- a line begins before the next one, or where that does
 pub next_after : (pass : Pass) (line : Line) (source : SourceLine) → IsSource pass line source

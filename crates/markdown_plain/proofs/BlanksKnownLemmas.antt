@@ -20,7 +20,8 @@ use Rattle.markdown_plain.specs.declared.looseness.Looseness.{Looseness}
 
 -- ---- block quotes among open containers
 
-abbrev has_quote : List Frame → Bool
+-- one of some open containers is a block quote
+abbrev pub has_quote : List Frame → Bool
 has_quote [] = false
 has_quote (f ∷ frames) = is_quote f.block.kind || has_quote frames
 

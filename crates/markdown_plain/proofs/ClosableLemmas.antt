@@ -1,55 +1,54 @@
 -- Calls that end a paragraph and close blocks fit.
 use Rattle.std.proofs.Common.{◌≡◌, ℕ, zero, suc, ◌+◌, ◌-◌, ◌<◌, ◌≤◌, Bool, true, false, List, [], ◌∷◌, ◌++◌, Option}
-use Rattle.std.proofs.Common.{Some, None}
-use Rattle.std.proofs.Common.{length, drop, take, slice_range, reverse, ⊎_elim, refl, sym, ap, ◌∙◌, subst, arith}
+use Rattle.std.proofs.Common.{Some, None, length, drop, take, slice_range, reverse, ⊎_elim, refl, sym, ap, ◌∙◌, subst}
+use Rattle.std.proofs.Common.{arith}
 use Rattle.std.specs.Prelude.{get_or, slice_get, slice_index, ◌==◌, ◌&&◌, ◌||◌, ◌%◌, if◌then◌else◌, nat_lt}
+use Rattle.std.specs.Prelude.{MatchOption, not}
 use Rattle.std.specs.Str.{IsCharBoundary, IsUtf8}
 use Rattle.std.specs.List.{prefix_len, suffix_len}
 use Rattle.std.proofs.lemmas.Bool.{and_parts, cases_lt, true≢false}
-use Rattle.markdown_base.specs.Bytes.{backslash, close_bracket, open_bracket}
-use Rattle.markdown_base.specs.declared.item.ItemBody.TheVariants as body
-use Rattle.markdown_lines.specs.LineBreaks.{IsLineBreak}
-use Rattle.markdown_lines.specs.declared.line_break.LineBreak.{LineBreak}
-use Rattle.markdown_plain.proofs.LeafTreesLemmas.{on_test}
 use Rattle.std.proofs.lemmas.Bool.Decides.{nat_tests}
 use Rattle.std.proofs.lemmas.List.{get_or-drop, get_or-reverse}
 use Rattle.std.proofs.lemmas.List.Sums.{prefix_len_passes}
 use Rattle.std.proofs.lemmas.Option.{same_Some}
 use Rattle.std.proofs.lemmas.Str.{IsCharBoundary-after_ascii, IsCharBoundary-before_ascii}
-use Rattle.std.specs.Prelude.{MatchOption}
+use Rattle.std.specs.Option.{option_map_or}
+use Rattle.std.proofs.Math.Bool.{and-false}
+use Rattle.markdown_base.specs.Bytes.{backslash, close_bracket, open_bracket}
+use Rattle.markdown_base.specs.declared.item.ItemBody.TheVariants as body
 use Rattle.markdown_base.specs.declared.item.ItemBody.{ItemBody}
 use Rattle.markdown_base.specs.declared.tag.HeadingLevel.{HeadingLevel}
+use Rattle.markdown_base.specs.Forest.{Forest}
 use Rattle.markdown_builder.specs.Bodies.{is_leaf}
 use Rattle.markdown_builder.specs.BuilderView.{BuilderView, Definition, Opens, innermost_block}
 use Rattle.markdown_builder.specs.EvenRows.{is_in_row, is_table_row}
 use Rattle.markdown_builder.specs.declared.open_block.OpenBlock.{OpenBlock}
+use Rattle.markdown_builder.specs.Shown.{Shown}
+use Rattle.markdown_lines.specs.LineBreaks.{IsLineBreak}
+use Rattle.markdown_lines.specs.declared.line_break.LineBreak.{LineBreak}
 use Rattle.markdown_lines.specs.declared.line.Line.{Line}
-use Rattle.markdown_plain.proofs.OpenBlocksLemmas.{innermost_of_opened, last_apart}
+use Rattle.markdown_lines.proofs.HeldLinesLemmas.{line_of}
+use Rattle.markdown_lines.specs.HeldLines.{AreHeldFrom}
+use Rattle.markdown_lines.specs.Lines.{AllPass, is_in_blank_line, is_space_or_tab}
+use Rattle.markdown_lines.specs.TaskMarkers.{is_task_done, is_task_space, task_length, task_marker}
+use Rattle.markdown_lines.specs.declared.held_line.HeldLine.{HeldLine}
+use Rattle.markdown_lines.specs.declared.braces.Braces.{Braces}
 use Rattle.markdown_plain.specs.Containers.{is_container}
 use Rattle.markdown_plain.specs.OpenBlocks.{innermost_is, is_list, is_quote, outer_of, room_in, without_leaf}
 use Rattle.markdown_plain.specs.OpenBlocks.{without_list}
 use Rattle.markdown_plain.specs.declared.placing.Placing.{Placing}
-use Rattle.markdown_base.specs.Forest.{Forest}
-use Rattle.markdown_builder.specs.Shown.{Shown}
-use Rattle.std.specs.Prelude.{not, nat_eq}
-use Rattle.std.specs.Option.{option_eq}
-use Rattle.markdown_lines.proofs.HeldLinesLemmas.{line_of}
-use Rattle.markdown_lines.specs.HeldLines.{AreHeldFrom}
-use Rattle.markdown_plain.proofs.DefinitionEndsLemmas.{IsSpanIn, MayCut}
 use Rattle.markdown_plain.specs.HeldSources.{AreInOrder, AreInParagraph}
 use Rattle.markdown_plain.specs.Paragraphs.{has_paragraph, lines_end}
 use Rattle.markdown_plain.specs.declared.pass.Pass.{Pass}
-use Rattle.markdown_lines.specs.Lines.{AllPass, is_in_blank_line, is_space_or_tab}
-use Rattle.markdown_lines.specs.TaskMarkers.{is_task_done, is_task_space, task_length, task_marker}
-use Rattle.markdown_lines.specs.declared.held_line.HeldLine.{HeldLine}
-use Rattle.markdown_plain.proofs.ParagraphLinesLemmas.{if_some, marker_within, range_byte, range_length}
 use Rattle.markdown_plain.specs.declared.paragraph.Ends.{Ends}
 use Rattle.markdown_plain.specs.Closable.{AreAhead, AreApart, AreClosable, AreContainers, AreInText, has_quote}
 use Rattle.markdown_plain.specs.Closable.{leaf_end, HasBraces, HasRoomFor, HasTask, HaveTask, IsClosable, IsInList}
-use Rattle.markdown_plain.specs.Closable.{IsPlaceable, IsReady, IsInText, IsLastInText, IsLeafOpen, IsWhiteBefore}
-use Rattle.markdown_lines.specs.declared.braces.Braces.{Braces}
-use Rattle.std.specs.Option.{option_map_or}
+use Rattle.markdown_plain.specs.Closable.{IsPlaceable, IsInText, IsLastInText, IsLeafOpen, IsWhiteBefore}
 use Rattle.markdown_plain.specs.Fitting.{AllFitted, GoesOn, OpensHeading, closed, defining, IsAhead, IsWhiteOutside}
+use Rattle.markdown_plain.proofs.DefinitionEndsLemmas.{IsSpanIn, MayCut}
+use Rattle.markdown_plain.proofs.LeafTreesLemmas.{on_test}
+use Rattle.markdown_plain.proofs.OpenBlocksLemmas.{innermost_of_opened, last_apart}
+use Rattle.markdown_plain.proofs.ParagraphLinesLemmas.{if_some, marker_within, range_byte, range_length}
 
 -- where a leaf is open, no call is outside blocks
 pub inside_leaf : (builder : BuilderView) (to : ℕ) → IsLeafOpen builder → IsWhiteOutside builder to
@@ -247,7 +246,7 @@ trimmed text line n is e =
 
 -- ---- lines cut off at braces
 
-pub last_in_text : (text : List ℕ) (line : HeldLine) → IsInText text line → IsLastInText text line
+last_in_text : (text : List ℕ) (line : HeldLine) → IsInText text line → IsLastInText text line
 last_in_text text line is =
     let content = is.content in
     let ending = is.ending in
@@ -260,12 +259,12 @@ last_in_text text line is =
     }
 
 -- braces are in what follows a task marker
-pub braces_of_rest : (text : List ℕ) (line rest : HeldLine) (braces : Option Braces) → rest.stop ≡ line.stop
+braces_of_rest : (text : List ℕ) (line rest : HeldLine) (braces : Option Braces) → rest.stop ≡ line.stop
     → HasBraces text braces line → HasBraces text braces rest
 braces_of_rest text line rest None same has = tt
 braces_of_rest text line rest (Some braces) same has = let within = has.0 in (omega (arith, within, same), has.1)
 
-pub cut_in_text : (text : List ℕ) (line : HeldLine) (braces : Option Braces) → IsInText text line
+cut_in_text : (text : List ℕ) (line : HeldLine) (braces : Option Braces) → IsInText text line
     → HasBraces text braces line
     → IsLastInText text (record line { stop = option_map_or (λ braces. braces.opening) braces line.stop })
 cut_in_text text line None is has = last_in_text text line is
@@ -339,7 +338,7 @@ room_after old new lines n ends other next less room e goes =
 -- ---- opening a paragraph or a heading
 
 -- blocks inside others are some
-pub never_none : (outer : List OpenBlock) (block : OpenBlock) → outer ++ block ∷ [] ≡ [] → ⊥
+never_none : (outer : List OpenBlock) (block : OpenBlock) → outer ++ block ∷ [] ≡ [] → ⊥
 never_none [] block e = absurd (omega (arith, ap length e))
 never_none (first ∷ outer) block e = absurd (omega (arith, ap length e))
 
@@ -488,7 +487,7 @@ list_no_quote (body.List tight character first) e = refl
 list_no_quote other e = absurd (true≢false (sym e))
 
 -- a list is no block quote
-pub innermost_no_quote : (blocks : List OpenBlock) → innermost_is is_list blocks ≡ true
+innermost_no_quote : (blocks : List OpenBlock) → innermost_is is_list blocks ≡ true
     → innermost_is is_quote blocks ≡ false
 innermost_no_quote blocks e = found (innermost_block blocks) e
   where
@@ -540,7 +539,7 @@ begins_list_after old new placed to list ahead white e fitted =
     }
 
 -- where nothing but a list is open, no block quote is
-pub no_quote_left : (blocks : List OpenBlock) → without_list blocks ≡ [] → has_quote blocks ≡ false
+no_quote_left : (blocks : List OpenBlock) → without_list blocks ≡ [] → has_quote blocks ≡ false
 no_quote_left [] none = refl
 no_quote_left (first ∷ blocks) none =
     let all : List OpenBlock = first ∷ blocks in
@@ -588,14 +587,6 @@ item_outside blocks other =
     (λ list. absurd (true≢false (sym list ∙ other))) (λ same none. none)
 
 -- ---- taking definitions
-
--- the bytes of a definition begin with a `[`
-pub bracket_there : (found : Option ℕ) → not (option_eq nat_eq found (Some 91)) ≡ false → found ≡ Some 91
-bracket_there None e = absurd (true≢false e)
-bracket_there (Some b) e = ap Some (by b e)
-  where
-    by : (b : ℕ) → not (nat_eq b 91) ≡ false → b ≡ 91
-    by b e = grind (arith, nat_tests)
 
 pub cuts_of : (text : List ℕ) (from : ℕ) (lines : List HeldLine) → AreInText text from lines → MayCut text lines
 cuts_of text from [] are = tt
@@ -739,34 +730,28 @@ white_ahead text at to builder same here white = λ none.
     subst (λ t. AllPass is_in_blank_line t builder.at to) (sym same)
     (subst (λ k. AllPass is_in_blank_line text k to) (sym here) white)
 
--- ---- the place where the next block begins
+-- ---- where no lines are held back
 
--- once blocks were closed, what begins in the next line is ahead
-pub next_ahead : (old : Pass) (new : BuilderView) (from to : ℕ) → IsReady old from → new.text ≡ old.placing.builder.text
-    → AreClosable new old.placed → from ≤ to → IsCharBoundary old.placing.builder.text to → IsAhead new to
-next_ahead old new from to ready text is low boundary =
-    let here = ready.low in
-    item_ahead old.placing.builder new old.placed to text is (omega (arith, here, low)) boundary
-
--- and where no block is open then, only white space is before it, if there is only white space in its line
-pub next_white : (old : Pass) (new : BuilderView) (from to : ℕ) → IsReady old from → new.text ≡ old.placing.builder.text
-    → AreClosable new old.placed
-    → (new.blocks ≡ [] → AllPass is_in_blank_line old.placing.builder.text from to) → IsWhiteOutside new to
-next_white old new from to ready text is white = λ none.
-    white_both new.text new.at old.placed to (is.white (ap has_quote none))
-    (subst (λ t. AllPass is_in_blank_line t old.placed to) (sym text)
-    (white_both old.placing.builder.text old.placed from to ready.white (white none)))
-
--- ---- a paragraph of definitions alone
-
-no_paragraph : (pass : Pass) → pass.lines.items ≡ [] → has_paragraph pass ≡ false
+-- no paragraph is
+pub no_paragraph : (pass : Pass) → pass.lines.items ≡ [] → has_paragraph pass ≡ false
 no_paragraph pass none =
     ap (λ (lines : List HeldLine). not pass.placing.builder.leaf && not (length lines == 0)) none
-    ∙ never (not pass.placing.builder.leaf)
-  where
-    never : (b : Bool) → (b && false) ≡ false
-    never true = refl
-    never false = refl
+    ∙ and-false (not pass.placing.builder.leaf)
+
+-- the open leaf ends where the builder is
+pub leaf_end_here : (pass : Pass) → pass.lines.items ≡ [] → leaf_end pass ≡ pass.placing.builder.at
+leaf_end_here pass none =
+    ap (λ (has : Bool). if has then lines_end pass.lines.items else pass.placing.builder.at) (no_paragraph pass none)
+
+-- without lines there are none ahead, and no task marker
+pub none_ahead : (builder : BuilderView) (lines : List HeldLine) → lines ≡ [] → AreAhead builder lines
+none_ahead builder lines none =
+    subst (AreAhead builder) (sym none) (record { inside = tt; order = tt; apart = λ outside. tt })
+
+pub no_task : (text : List ℕ) (task : Option Bool) (lines : List HeldLine) → lines ≡ [] → HaveTask text task lines
+no_task text task lines none = subst (HaveTask text task) (sym none) tt
+
+-- ---- a paragraph of definitions alone
 
 pub ended_definitions : (old new : Pass) (definitions : List Definition) → IsClosable old → has_paragraph old ≡ true
     → new.lines.items ≡ [] → new.placed ≡ old.placed
@@ -779,14 +764,14 @@ ended_definitions old new definitions is has none placed e =
     let blocks : now.blocks ≡ was.blocks = ap (λ (b : BuilderView). b.blocks) e in
     let inner : without_leaf now ≡ without_leaf was = ap without_leaf e in
     let end : leaf_end new ≡ leaf_end old =
-    ap (λ (t : Bool). if t then lines_end new.lines.items else now.at) (no_paragraph new none)
+    leaf_end_here new none
     ∙ (ap (λ (b : BuilderView). b.at) e
     ∙ sym (ap (λ (t : Bool). if t then lines_end old.lines.items else was.at) has)) in
     record {
       some = λ inside empty. is.some (sym leaf ∙ inside) (sym blocks ∙ empty);
       other = ap is_in_row blocks ∙ is.other;
-      held = λ outside. subst (AreAhead now) (sym none) (record { inside = tt; order = tt; apart = λ empty. tt });
-      task = subst (HaveTask now.text new.task) (sym none) tt;
+      held = λ outside. none_ahead now new.lines.items none;
+      task = no_task now.text new.task new.lines.items none;
       containers = subst AreContainers (sym inner) is.containers;
       low = subst (λ n. n ≤ new.placed) (sym end) (subst (λ n. leaf_end old ≤ n) (sym placed) is.low);
       boundary = subst (λ t. IsCharBoundary t new.placed) (sym text)

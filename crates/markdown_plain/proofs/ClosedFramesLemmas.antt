@@ -1,7 +1,7 @@
 -- Open containers that are closed: the blocks are the same.
-use Rattle.std.proofs.Common.{◌≡◌, ◌∙◌, ℕ, zero, suc, ◌-◌, ◌<◌, ◌≤◌, Bool, true, false, List, [], ◌∷◌, ◌++◌, Some, None}
-use Rattle.std.proofs.Common.{append-nil, not, true≢false, length, length-append, take, drop, length-take-le, take_all}
-use Rattle.std.proofs.Common.{refl, sym, ap, subst, arith}
+use Rattle.std.proofs.Common.{◌≡◌, ◌∙◌, ℕ, zero, suc, ◌-◌, ◌<◌, ◌≤◌, Bool, true, false, List, [], ◌∷◌, ◌++◌, Some}
+use Rattle.std.proofs.Common.{None, append-nil, not, true≢false, length, length-append, take, drop, length-take-le}
+use Rattle.std.proofs.Common.{take_all, refl, sym, ap, subst, arith}
 use Rattle.std.proofs.lemmas.List.{drop_all}
 use Rattle.std.specs.Prelude.{slice_get, if◌then◌else◌}
 use Rattle.std.specs.Option.{option_map, option_map_or}
@@ -31,14 +31,14 @@ use Rattle.markdown_plain.specs.OpenBlocks.{outer_of}
 use Rattle.markdown_plain.specs.Settled.{AreOpen, IsBodyOf, IsBuilt, IsOpen, QuotesEnd, are_loose, around_in}
 use Rattle.markdown_plain.specs.Settled.{levels_shown, placed_end}
 use Rattle.markdown_plain.proofs.FramesLemmas.{rebuilt_more}
-use Rattle.markdown_plain.proofs.LeafTreesLemmas.{closed_tree, get_last}
+use Rattle.markdown_plain.proofs.LeafTreesLemmas.{closed_tree, get_last, same_block}
 use Rattle.markdown_plain.proofs.OpenBlocksLemmas.{innermost_of_opened, outer_of_these}
 use Rattle.markdown_plain.proofs.TightBlocksLemmas.{items_made_tight}
 
 -- ---- the blocks
 
 -- what is in the innermost container is placed as it may be there
-last_items : (in_list : Bool) (before : Forest Block) (b : Block) (below : Forest Block)
+pub last_items : (in_list : Bool) (before : Forest Block) (b : Block) (below : Forest Block)
     → AreItemsInLists in_list (followed_by before (node b below nil)) → AreItemsInLists (is_list b.kind) below
 last_items in_list nil b below are = are.1
 last_items in_list (node a others after) b below are = last_items in_list after b below are.2
@@ -62,7 +62,7 @@ shown_of_both s around (node b below after) g =
     ∙ sym (followed_by-assoc _ (shown_blocks s around after) (shown_blocks s around g))
 
 -- in an open container no list is tight yet
-none_tight : (b : Block) (kind : Kind) → (around_in b kind).tight ≡ false
+pub none_tight : (b : Block) (kind : Kind) → (around_in b kind).tight ≡ false
 none_tight b (was.item_container indent) = refl
 none_tight b other = refl
 
@@ -204,7 +204,7 @@ pub record IsOpenInside (texts : List (List ℕ)) (blocks : List OpenBlock) (fra
   pub opened : IsOpen texts block f
   pub outside : AreOpen texts outer frames
 
-pub innermost_open : (texts : List (List ℕ)) (blocks : List OpenBlock) (frames : List Frame) (f : Frame)
+innermost_open : (texts : List (List ℕ)) (blocks : List OpenBlock) (frames : List Frame) (f : Frame)
     → AreOpen texts blocks (frames ++ f ∷ []) → IsOpenInside texts blocks frames f
 innermost_open texts [] [] f are = absurd are
 innermost_open texts (block ∷ []) [] f are =
@@ -304,7 +304,7 @@ closed_item s f inside parts block end opened items ends around loose =
     (container_shown s parts around f.block inside f.block.kind block.body opened.body items loose)
 
 -- it is forgotten that it was open
-pub forget : (s : Source) (old new : Pass) (frames : List Frame) (f : Frame) (inside : Forest Block)
+forget : (s : Source) (old new : Pass) (frames : List Frame) (f : Frame) (inside : Forest Block)
     → MayClose s old (frames ++ f ∷ []) inside
     → (last : IsOpenInside old.placing.builder.texts old.placing.builder.blocks frames f)
     → IsClosed old new f inside last.block → MayClose s new frames (forgotten f inside)
@@ -352,11 +352,6 @@ last_open : (s : Source) (pass : Pass) (frames : List Frame) (f : Frame) (inside
 last_open s pass frames f inside stands =
     innermost_open pass.placing.builder.texts pass.placing.builder.blocks frames f stands.built.blocks
 
-same_last : (these outer others : List OpenBlock) (a b : OpenBlock) → these ≡ outer ++ a ∷ []
-    → these ≡ others ++ b ∷ [] → a ≡ b
-same_last these outer others a b e f =
-    same_Some a b (sym (innermost_of_opened outer a) ∙ (ap innermost_block (sym e ∙ f) ∙ innermost_of_opened others b))
-
 innermost_test : (test : ItemBody → Bool) (these outer : List OpenBlock) (block : OpenBlock)
     → these ≡ outer ++ block ∷ [] → blocks.innermost_is test these ≡ test block.body
 innermost_test test these outer block is =
@@ -400,7 +395,7 @@ other_closed s old new to frames f inside may closes ends =
     let unlisted = sym (innermost_test blocks.is_list before.blocks last.outer last.block last.is) ∙ closes.other in
     let alike = are_alike before.texts f.block.kind last.block.body last.opened.body in
     let at = ap (λ (b : BuilderView). b.at) closes.closes in
-    let put = same_last before.blocks (outer_of before.blocks) last.outer closes.puts.block last.block closes.puts.was
+    let put = same_block before.blocks (outer_of before.blocks) last.outer closes.puts.block last.block closes.puts.was
     last.is in
     record {
       builder = closes.closes ∙ ap (λ n. record (closed before new.placing.builder.levels) { at = n }) (sym at);
@@ -438,10 +433,10 @@ list_closed s old new character first frames f inside may closes =
     let loose = (decided (are_loose frames (forgotten f inside)) (may.lists ∙ loose_parted frames f inside)).0 in
     let is_closed : body.List (not closes.loose) character first ≡ closed_body (is_loose inside) last.block.body =
     ap (λ flag. body.List (not flag) character first) loose ∙ sym (ap (closed_body (is_loose inside)) is_body) in
-    let put = same_last closes.settled.blocks (outer_of closes.settled.blocks) (outer_of before.blocks)
+    let put = same_block closes.settled.blocks (outer_of closes.settled.blocks) (outer_of before.blocks)
     closes.puts.block (record closes.settles.block { body = body.List (not closes.loose) character first })
     closes.puts.was closes.settles.becomes in
-    let was = same_last before.blocks (outer_of before.blocks) last.outer closes.settles.block last.block
+    let was = same_block before.blocks (outer_of before.blocks) last.outer closes.settles.block last.block
     closes.settles.was last.is in
     record {
       builder = closes.closes ∙ ap (λ n. record (closed before new.placing.builder.levels) { at = n }) (sym at);

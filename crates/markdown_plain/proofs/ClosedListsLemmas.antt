@@ -1,21 +1,22 @@
 -- What the pass remembers of lists, as open containers are closed from the innermost on.
 use Rattle.std.proofs.Common.{◌≡◌, ℕ, zero, suc, ◌+◌, ◌-◌, ◌<◌, ◌≤◌, List, [], ◌∷◌, ◌++◌, Bool, true, false, Option}
-use Rattle.std.proofs.Common.{if◌then◌else◌}
-use Rattle.std.proofs.Common.{length, take, drop, refl, sym, ap, ◌∙◌, subst, arith, ⊎_elim}
+use Rattle.std.proofs.Common.{if◌then◌else◌, length, take, drop, refl, sym, ap, ◌∙◌, subst, arith, ⊎_elim}
 use Rattle.std.proofs.lemmas.Bool.{cases_lt, true≢false}
 use Rattle.std.proofs.lemmas.List.{length-take, take-append-drop, take_all}
 use Rattle.markdown_base.specs.Forest.{Forest}
+use Rattle.markdown_builder.specs.declared.open_block.OpenBlock.{OpenBlock}
 use Rattle.markdown_block_rules.specs.BlockGrowth.{Block, is_nil}
 use Rattle.markdown_block_rules.specs.BlockRules.{ends_blank}
-use Rattle.markdown_builder.specs.declared.open_block.OpenBlock.{OpenBlock}
-use Rattle.markdown_plain.proofs.FramesInsideLemmas.{as_many_frames, list_of_open, no_list_outside}
-use Rattle.markdown_plain.proofs.FramesLemmas.{rebuilt_in}
-use Rattle.markdown_plain.proofs.OpenBlocksLemmas.{length_of_outer}
 use Rattle.markdown_plain.specs.Frames.{AreNested, Frame, forgotten, innermost_is, is_list, rebuilt, room_depth}
 use Rattle.markdown_plain.specs.OpenBlocks as block
 use Rattle.markdown_plain.specs.OpenBlocks.{outer_of}
 use Rattle.markdown_plain.specs.Settled.{AreOpen, BlanksKnown, IsLooseAs, IsLooseBefore}
 use Rattle.markdown_plain.specs.declared.looseness.Looseness.{Looseness}
+use Rattle.markdown_plain.proofs.ClosedFramesLemmas.{as_many_open}
+use Rattle.markdown_plain.proofs.FramesInsideLemmas.{list_of_open, no_list_outside}
+use Rattle.markdown_plain.proofs.FramesLemmas.{rebuilt_in}
+use Rattle.markdown_plain.proofs.OpenBlocksLemmas.{length_of_outer}
+use Rattle.markdown_plain.proofs.OpenedFramesLemmas.{nested_taken}
 
 -- ---- the outermost containers, and the next one
 
@@ -35,14 +36,6 @@ next_frame (f ∷ frames) (suc n) less =
       left = next.left;
     }
 
-nested_front : (n : ℕ) (frames : List Frame) → AreNested frames → AreNested (take n frames)
-nested_front zero frames nested = tt
-nested_front (suc n) [] nested = tt
-nested_front (suc n) (f ∷ []) nested =
-    subst (λ (fs : List Frame). AreNested (f ∷ fs)) (sym (take_all n [] (omega arith))) tt
-nested_front (suc zero) (f ∷ g ∷ frames) nested = tt
-nested_front (suc (suc n)) (f ∷ g ∷ frames) nested = (nested.0, nested_front (suc n) (g ∷ frames) nested.1)
-
 open_outer : (texts : List (List ℕ)) (blocks : List OpenBlock) (frames : List Frame) (f : Frame)
     → AreOpen texts blocks (frames ++ f ∷ []) → AreOpen texts (outer_of blocks) frames
 unfolding outer_of
@@ -57,7 +50,7 @@ open_outer texts (b ∷ c ∷ blocks) (g ∷ frames) f these =
 
 -- ---- blank lines
 
-pub known_outside : (from : Option ℕ) (outside : ℕ) (frames more : List Frame) (inside : Forest Block)
+known_outside : (from : Option ℕ) (outside : ℕ) (frames more : List Frame) (inside : Forest Block)
     → BlanksKnown from outside (frames ++ more) inside → BlanksKnown from outside frames (rebuilt more inside)
 known_outside from outside [] more inside known = tt
 known_outside from outside (f ∷ frames) more inside known = (
@@ -100,7 +93,7 @@ next_closed texts frames inside n blocks old new closes nested before =
       open_blocks = open_outer texts blocks (take n frames) next.frame these;
       loose = subst (λ (fs : List Frame). IsLooseAs new (take n frames) (rebuilt fs inside)) (sym next.left)
           (closes.loose (take n frames) next.frame (rebuilt (drop (suc n) frames) inside) these
-          (subst AreNested next.taken (nested_front (suc n) frames nested))
+          (subst AreNested next.taken (nested_taken (suc n) frames nested))
           (subst (λ (fs : List Frame). IsLooseAs old fs (rebuilt (drop (suc n) frames) inside)) next.taken
           before.loose));
       within = omega (arith, within);
@@ -127,7 +120,7 @@ pub none_closed : (texts : List (List ℕ)) (frames : List Frame) (inside : Fore
     (now : Looseness) → AreOpen texts blocks frames → IsLooseAs now frames inside
     → AreClosedTo texts frames inside (length blocks) blocks now
 none_closed texts frames inside blocks now these loose =
-    let count = as_many_frames texts blocks frames these in
+    let count = as_many_open texts blocks frames these in
     let all = take_all (length blocks) frames (omega (arith, count)) in
     let none = none_left (length blocks) frames (omega (arith, count)) in
     record {
@@ -144,7 +137,7 @@ pub all_closed : (texts : List (List ℕ)) (frames : List Frame) (inside : Fores
     → AreClosedTo texts frames inside (length blocks) blocks now
     → IsLooseAs now (take depth frames) (rebuilt (drop depth frames) inside)
 all_closed texts frames inside depth before blocks now these same most closed =
-    let count = as_many_frames texts before frames these in
+    let count = as_many_open texts before frames these in
     let left = length-take depth blocks in
     let was = length-take depth before in
     let equal = ap (λ (bs : List OpenBlock). length bs) same in
@@ -222,7 +215,7 @@ room_left texts frames inside (suc n) blocks left old now is closes nested close
     (record {
       closed = next_closed texts frames inside n blocks old now closes nested closed;
       no_list = no_list_outside (take n frames) next.frame
-          (subst AreNested next.taken (nested_front (suc n) frames nested))
+          (subst AreNested next.taken (nested_taken (suc n) frames nested))
           (subst (λ (fs : List Frame). innermost_is is_list fs ≡ true) next.taken inner);
     }))
 
@@ -238,5 +231,5 @@ pub room_made : (texts : List (List ℕ)) (frames : List Frame) (inside : Forest
     → IsRoom texts frames inside n blocks old
     → IsLooseBefore new (take n frames) (rebuilt (drop n frames) inside)
 room_made texts frames inside n blocks old new adds nested known room =
-    adds.loose (take n frames) (rebuilt (drop n frames) inside) room.closed.open_blocks (nested_front n frames nested)
+    adds.loose (take n frames) (rebuilt (drop n frames) inside) room.closed.open_blocks (nested_taken n frames nested)
     room.no_list room.closed.loose (λ some. known_of_outermost old.blank_from n frames inside (known some))

@@ -1,17 +1,16 @@
 -- How containers continue, by places in a text and by the rest of the line there.
-use Rattle.std.proofs.Common.{◌≡◌, ℕ, ◌+◌, ◌<◌, ◌≤◌, List, Some, true, ◌==◌, length, drop, slice_range}
-use Rattle.std.proofs.Common.{codes, nat_lt}
+use Rattle.std.proofs.Common.{◌≡◌, ℕ, ◌+◌, ◌<◌, ◌≤◌, List, Some, true, ◌==◌, length, drop, slice_range, codes, nat_lt}
 use Rattle.std.proofs.Common.{refl, sym, ◌∙◌, ap, arith, Bool, false, ◌&&◌, None, [], ◌∷◌, zero, suc, nat_le, get_or}
 use Rattle.std.proofs.Common.{drop-cons}
 use Rattle.std.proofs.lemmas.Bool.Decides.{nat_tests}
 use Rattle.std.proofs.lemmas.List.{drop_all}
+use Rattle.markdown_builder.specs.declared.open_block.OpenBlock.{OpenBlock}
 use Rattle.markdown_scan.specs.Beginnings.{begins_with}
-use Rattle.markdown_scan.specs.LineStart.{LineLeft, next_column, past_one_byte, past_marker, leading_space}
+use Rattle.markdown_scan.specs.LineStart.{LineLeft, past_one_byte, past_marker, leading_space}
 use Rattle.markdown_scan.specs.LineStart as scan
 use Rattle.markdown_lines.specs.declared.position.Position.{Position}
 use Rattle.markdown_lines.specs.declared.space.Space.{Space}
 use Rattle.markdown_lines.specs.Positions.{left_from, IsSpaceAt}
-use Rattle.markdown_builder.specs.declared.open_block.OpenBlock.{OpenBlock}
 use Rattle.markdown_plain.specs.Containers.{Reach, is_container, is_innermost, marker_after, past_container}
 use Rattle.markdown_plain.specs.Containers.{reach_after, reach_from}
 

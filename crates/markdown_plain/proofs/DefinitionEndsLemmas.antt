@@ -40,7 +40,7 @@ use Rattle.markdown_plain.specs.HeldSources.{AreTextLines}
 
 -- ---- values that are there
 
-some_if : {A : Type 0} (test : Bool) (value : Option A) (a : A) → (if test then value else None) ≡ Some a
+pub some_if : {A : Type 0} (test : Bool) (value : Option A) (a : A) → (if test then value else None) ≡ Some a
     → (test ≡ true) × (value ≡ Some a)
 some_if true value a e = (refl, e)
 some_if false value a e = absurd (grind (arith, e))
@@ -214,7 +214,7 @@ destination_ends names label before bytes d e =
       },
     )
 
-pub definition_ends : (names : EntityNames) (bytes : List ℕ) (d : Defined) → definition_in names bytes ≡ Some d
+definition_ends : (names : EntityNames) (bytes : List ℕ) (d : Defined) → definition_in names bytes ≡ Some d
     → IsDefinedIn bytes d.length
 definition_ends names bytes d e =
     let found = some_if (begins_with (codes "[") bytes)
@@ -347,7 +347,7 @@ abbrev pub MayCut : List ℕ → List HeldLine → Type 0
 MayCut text [] = Unit
 MayCut text (line ∷ lines) = IsCharBoundary text line.next × MayCut text lines
 
-pub ends_at : (text : List ℕ) (from : ℕ) (lines : List HeldLine) (sources : List SourceLine) (n : ℕ)
+ends_at : (text : List ℕ) (from : ℕ) (lines : List HeldLine) (sources : List SourceLine) (n : ℕ)
     → AreHeldFrom text from lines → MayCut text lines → AreTextLines text lines sources
     → IsDefinedIn (text_of_lines text sources) n → EndsAt text lines sources n
 ends_at text from [] [] n held cuts are is =

@@ -11,6 +11,8 @@ use Rattle.std.specs.Option.{option_eq, option_map}
 use Rattle.markdown_base.proofs.ByteListLemmas.{part_length}
 use Rattle.markdown_base.specs.CowText.{text_of}
 use Rattle.markdown_builder.specs.BuilderView.{BuilderView, Definition}
+use Rattle.markdown_scan.specs.Beginnings.{begins_with}
+use Rattle.markdown_scan.specs.declared.entity.EntityNames.{EntityNames}
 use Rattle.markdown_lines.specs.DefinitionRules.{Defined, Divided, definition_at, definition_in, divided, divided_in}
 use Rattle.markdown_lines.specs.DefinitionRules.{lines_behind, more_definitions, text_of_lines}
 use Rattle.markdown_lines.specs.HeldDefinitions.{IsDefinitionOf, IsFirstDefinition}
@@ -20,8 +22,6 @@ use Rattle.markdown_lines.specs.declared.definition.Definition.{Definition as Fo
 use Rattle.markdown_lines.specs.declared.held_line.HeldLine.{HeldLine}
 use Rattle.markdown_lines.proofs.HeldLinesLemmas.{bounds_of}
 use Rattle.markdown_lines.proofs.PositionsLemmas.{part_next}
-use Rattle.markdown_scan.specs.Beginnings.{begins_with}
-use Rattle.markdown_scan.specs.declared.entity.EntityNames.{EntityNames}
 use Rattle.markdown_plain.specs.HeldSources.{AreInOrder, AreInParagraph, AreTextLines, IsParagraph}
 use Rattle.markdown_plain.specs.Paragraphs.{IsDivided}
 use Rattle.markdown_plain.specs.TakenDefinitions.{TakesDefinitions, after_definitions}
@@ -240,7 +240,7 @@ no_bracket_byte (Some b) e same = by b e (inside b same)
     inside b same = cc
 
 -- or it is one
-bracket_byte : (found : Option ℕ) → not (option_eq nat_eq found (Some 91)) ≡ false → found ≡ Some 91
+pub bracket_byte : (found : Option ℕ) → not (option_eq nat_eq found (Some 91)) ≡ false → found ≡ Some 91
 bracket_byte None e = absurd (true≢false e)
 bracket_byte (Some b) e = ap Some (by b e)
   where

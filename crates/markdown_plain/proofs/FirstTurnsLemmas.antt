@@ -1,6 +1,6 @@
 -- The first turn at the rest of a line: what the open containers left of it is read, where no open leaf goes on in it.
-use Rattle.std.proofs.Common.{◌≡◌, ℕ, zero, suc, ◌≤◌, Bool, true, false, ◌&&◌, ◌==◌, List, [], ◌∷◌, ◌++◌, Option, Some}
-use Rattle.std.proofs.Common.{None, length, length-append, take, arith, refl, sym, ap, ◌∙◌, subst, true≢false}
+use Rattle.std.proofs.Common.{◌≡◌, ℕ, zero, suc, ◌≤◌, Bool, true, false, ◌&&◌, ◌==◌, List, [], ◌∷◌, ◌++◌, Option}
+use Rattle.std.proofs.Common.{Some, None, length, length-append, take, arith, refl, sym, ap, ◌∙◌, subst, true≢false}
 use Rattle.std.specs.List.{list_all}
 use Rattle.std.specs.Str.{IsCharBoundary, IsUtf8}
 use Rattle.std.proofs.lemmas.Bool.Decides.{nat_tests}
@@ -15,10 +15,10 @@ use Rattle.markdown_lines.specs.declared.position.Position.{Position}
 use Rattle.markdown_block_rules.specs.BlockGrowth as was
 use Rattle.markdown_block_rules.specs.BlockGrowth.{Block, Kind, is_nil, leaf_with, with_line}
 use Rattle.markdown_block_rules.specs.TableLines.{reads_tables}
-use Rattle.markdown_plain.specs.declared.block_pass.LineRest.{LineRest}
+use Rattle.markdown_plain.specs.declared.beginnings.LineRest.{LineRest}
 use Rattle.markdown_plain.specs.declared.containers.Reached as code
 use Rattle.markdown_plain.specs.declared.pass.Pass.{Pass}
-use Rattle.markdown_plain.specs.Beginning.{Holds, HoldsLast, IsFirst, IsLeft, reads_metadata}
+use Rattle.markdown_plain.specs.Beginning.{IsFirst, IsLeft, reads_metadata}
 use Rattle.markdown_plain.specs.Closing.{MayEnd}
 use Rattle.markdown_plain.specs.Frames.{Frame, inside_container, is_list, reached, reached_past, rebuilt}
 use Rattle.markdown_plain.specs.HeldSources.{IsRest}
@@ -27,11 +27,12 @@ use Rattle.markdown_plain.specs.OpenLeaves.{is_leaf}
 use Rattle.markdown_plain.specs.ReachedFrames.{are_none}
 use Rattle.markdown_plain.specs.ReachedLines.{Before, IsReachedBy, LeavesOff, blocks_before, blocks_in, reached_of}
 use Rattle.markdown_plain.specs.Settled.{AreOpen, IsBodyOf}
-use Rattle.markdown_plain.specs.Standing.{HasLast, Stands}
+use Rattle.markdown_plain.specs.Standing.{HasLast}
 use Rattle.markdown_plain.specs.TextLines.{paragraph_before}
 use Rattle.markdown_plain.proofs.LeafLinesLemmas.{open_parts}
 use Rattle.markdown_plain.proofs.ReachedLemmas.{outer_taken, reached_parts}
 use Rattle.markdown_plain.proofs.TextReachedLemmas.{nothing_left, reached_within, whole_within}
+use Rattle.markdown_plain.proofs.TextStepsLemmas.{stands_holds}
 
 -- ---- the open leaf
 
@@ -167,23 +168,6 @@ pub record IsMadeOf (s : Source) (pass : Pass) (found : code.Reached) (rest : Li
   pub depth : rest.depth ≡ found.depth
   pub before : rest.before ≡ paragraph_before pass found.all
 
-first_holds : (s : Source) (pass : Pass) (frames : List Frame) (inside : Forest Block) (last : Option Block) (from : ℕ)
-    → Stands s pass frames inside last from → Holds s pass frames inside last from
-first_holds s pass frames inside last from stands = record {
-  source = stands.source;
-  unended = by_last last stands.unended;
-  loose = stands.loose;
-  blanks = stands.blanks;
-  before = stands.before;
-  unheld = stands.unheld;
-  earlier = stands.earlier;
-  ready = stands.ready;
-}
-  where
-    by_last : (last : Option Block) → HasLast s pass frames inside last → HoldsLast s pass frames inside last
-    by_last None has = (has.0, has.1)
-    by_last (Some b) has = (has.0, has.1)
-
 first_left : (s : Source) (pass : Pass) (found : code.Reached) (before : Before) (source : SourceLine)
     (rest : LineRest) → IsUtf8 pass.placing.builder.text → IsReachedBy s pass rest.line found before source
     → IsMadeOf s pass found rest → IsLeft s rest (reached_of s before source).rest
@@ -264,7 +248,7 @@ pub first_turn : (s : Source) (pass : Pass) (found : code.Reached) (before : Bef
     → IsFirst s pass rest before source (reached_of s before source).rest (with_line s (blocks_before before) source)
 first_turn s pass found before source rest utf8 tables by made filled off = record {
   tables = tables;
-  holds = first_holds s pass before.frames before.inside before.last rest.line.start by.stands;
+  holds = stands_holds s pass before.frames before.inside before.last rest.line.start by.stands;
   is = by.is;
   reached = refl;
   left = first_left s pass found before source rest utf8 by made;

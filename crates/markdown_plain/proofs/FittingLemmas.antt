@@ -81,7 +81,7 @@ row_of outer block =
     ap (λ o. option_map_or (λ (b : OpenBlock). is_table_row b.body) o false) (innermost_of_opened outer block)
 
 -- a builder whose innermost open block is a leaf is in that leaf
-pub in_leaf : (view : BuilderView) (outer : List OpenBlock) (block : OpenBlock) → view.blocks ≡ outer ++ block ∷ []
+in_leaf : (view : BuilderView) (outer : List OpenBlock) (block : OpenBlock) → view.blocks ≡ outer ++ block ∷ []
     → view.leaf ≡ true → is_leaf block.body ≡ true → IsInLeaf view
 in_leaf view outer block blocks leaf is = record {
   leaf = leaf;
@@ -90,7 +90,7 @@ in_leaf view outer block blocks leaf is = record {
 }
 
 -- it stays there while more is appended
-pub stays_in_leaf : (old new : BuilderView) (to : ℕ) → GoesOn old new to → IsInLeaf old → IsInLeaf new
+stays_in_leaf : (old new : BuilderView) (to : ℕ) → GoesOn old new to → IsInLeaf old → IsInLeaf new
 stays_in_leaf old new to goes inside =
     subst IsInLeaf (sym goes) (record { leaf = inside.leaf; some = inside.some; plain = inside.plain })
 
@@ -272,7 +272,7 @@ after_one_more from lines number line e =
     ap (λ n. after_lines from (take n lines)) one ∙ after_next from lines number line e
 
 -- a line more fits after these
-pub lines_more : (text : List ℕ) (from : ℕ) (lines : List HeldLine) (line : HeldLine) → AreLinesFrom text from lines
+lines_more : (text : List ℕ) (from : ℕ) (lines : List HeldLine) (line : HeldLine) → AreLinesFrom text from lines
     → after_lines from lines ≤ line.start → IsCharBoundary text line.start → IsCharBoundary text line.next
     → AreLinesFrom text from (lines ++ line ∷ [])
 lines_more text from [] line are low boundary next = (low, boundary, next, tt)

@@ -1,12 +1,12 @@
 -- What a reader of the rest of a line finds is what the line begins, as the definition says.
 use Rattle.std.proofs.Common.{◌≡◌, ℕ, ◌+◌, ◌&&◌, ◌||◌, ◌==◌, Bool, true, false, List, Option, Some, None, refl}
-use Rattle.std.proofs.Common.{sym, ap, ◌∙◌, ◌≤◌, subst}
+use Rattle.std.proofs.Common.{sym, ap, ◌∙◌, subst}
 use Rattle.std.proofs.lemmas.Option.{none-some}
 use Rattle.std.specs.Prelude.{if◌then◌else◌, unwrap_or}
 use Rattle.std.specs.List.{list_all, prefix_len}
 use Rattle.std.specs.Option.{option_and_then}
 use Rattle.std.proofs.lemmas.Bool.{true≢false}
-use Rattle.markdown_base.specs.Forest.{Forest, nil}
+use Rattle.markdown_base.specs.Forest.{Forest}
 use Rattle.markdown_base.specs.declared.options.Options.{Options}
 use Rattle.markdown_base.specs.declared.options.TheConstants.Options.{ENABLE_YAML_STYLE_METADATA_BLOCKS}
 use Rattle.markdown_base.specs.declared.options.TheConstants.Options.{ENABLE_PLUSES_DELIMITED_METADATA_BLOCKS}
@@ -25,19 +25,16 @@ use Rattle.markdown_lines.specs.MetadataBlocks.{opened_before}
 use Rattle.markdown_lines.specs.Positions.{left_from}
 use Rattle.markdown_lines.specs.SourceLines.{SourceLine, is_blank_rest}
 use Rattle.markdown_lines.specs.declared.block_start.Before.{Before}
-use Rattle.markdown_lines.specs.declared.block_start.Before.TheVariants as paragraph
 use Rattle.markdown_lines.specs.declared.block_start.BlockStart.{BlockStart}
 use Rattle.markdown_lines.specs.declared.block_start.BlockStart.TheVariants as start
 use Rattle.markdown_lines.specs.declared.line_reader.LineReader.{LineReader}
-use Rattle.markdown_block_rules.specs.BlockGrowth.{Block, begun_by, inside_of, new_blocks}
-use Rattle.markdown_plain.specs.declared.block_pass.LineRest.{LineRest}
+use Rattle.markdown_block_rules.specs.BlockGrowth.{Block}
+use Rattle.markdown_plain.specs.declared.beginnings.LineRest.{LineRest}
 use Rattle.markdown_plain.specs.declared.pass.Pass.{Pass}
 use Rattle.markdown_plain.specs.Beginning.{IsFirst, IsFound, IsHere, IsInside, IsLeft, Turn, first, later}
-use Rattle.markdown_plain.specs.Beginning.{begun_in_rest, reads_metadata}
+use Rattle.markdown_plain.specs.Beginning.{reads_metadata}
 use Rattle.markdown_plain.specs.Frames.{Frame}
 use Rattle.markdown_plain.specs.ReachedLines.{Before as LineBefore}
-use Rattle.markdown_plain.proofs.BegunLemmas.{begun_once}
-use Rattle.markdown_plain.proofs.BegunRestsLemmas.{HoldsRest, begins_rest}
 
 -- a reader of the same line has found the same
 found_same : (old new : LineReader) (start : BlockStart) → IsSameLine old new
@@ -180,7 +177,7 @@ same_begins s before one other left next outermost =
     outermost))
 
 -- the line as the reader has it
-pub line_same : (s : Source) (rest : LineRest) (source : SourceLine) (before : Before) → IsLeft s rest source
+line_same : (s : Source) (rest : LineRest) (source : SourceLine) (before : Before) → IsLeft s rest source
     → (left_at rest.reader rest.position ≡ source.left)
     × (begins s before (line_at rest.reader rest.position) ≡ begins s before source)
 line_same s rest source before left =
@@ -238,55 +235,3 @@ pub found_begins : (s : Source) (rest : LineRest) (source : SourceLine) (at : �
     → (is_blank_rest source ≡ false) × (begins s rest.before source ≡ b)
 found_begins s rest source at start b is found =
     some_begun b (begins s rest.before source) (is_blank_rest source) (sym found ∙ is.is)
-
--- ---- what begins then
-
--- a line that begins something is not blank, and what it begins is this
-found_some : (s : Source) (source : SourceLine) (b : Beginning) (blank : Bool)
-    → Some b ≡ (if blank then None else Some (begins s paragraph.NoParagraph source))
-    → (if blank then nil else begun_by s source) ≡ new_blocks (inside_of (begun_by s) source) source b
-found_some s source b true is = absurd (none-some b (sym is))
-found_some s source b false is =
-    begun_once s source ∙ ap (new_blocks (inside_of (begun_by s) source) source) (sym (same b is))
-  where
-    same : (b : Beginning) → Some b ≡ Some (begins s paragraph.NoParagraph source)
-        → b ≡ begins s paragraph.NoParagraph source
-    same b is = ap (λ (o : Option Beginning). unwrap_or o b) is
-
--- the blocks that begin are those of what was found
-pub begun_found : (s : Source) (rest : LineRest) (source : SourceLine) (at : ℕ) (start : BlockStart) (b : Beginning)
-    → rest.before ≡ paragraph.NoParagraph → IsFound s rest source at start
-    → beginning_found rest.reader start ≡ Some b
-    → begun_in_rest s source ≡ new_blocks (inside_of (begun_by s) source) source b
-begun_found s rest source at start b before is found =
-    found_some s source b (is_blank_rest source)
-    (sym found ∙ (is.is ∙ ap (λ p. begins_unless_blank s p source) before))
-
--- the rest inside what was found
-rest_some : (s : Source) (source : SourceLine) (b : Beginning) (blank : Bool) → source.left.owed ≤ 3
-    → Some b ≡ (if blank then None else Some (begins s paragraph.NoParagraph source)) → HoldsRest source.left b
-rest_some s source b true few is = absurd (none-some b (sym is))
-rest_some s source b false few is =
-    subst (HoldsRest source.left) (ap (λ (o : Option Beginning). unwrap_or o b) (sym is))
-    (begins_rest s paragraph.NoParagraph source few)
-
-pub rest_found : (s : Source) (rest : LineRest) (source : SourceLine) (at : ℕ) (start : BlockStart) (b : Beginning)
-    → rest.before ≡ paragraph.NoParagraph → IsLeft s rest source → IsFound s rest source at start
-    → beginning_found rest.reader start ≡ Some b → HoldsRest source.left b
-rest_found s rest source at start b before left is found =
-    rest_some s source b (is_blank_rest source)
-    (subst (λ n. n ≤ 3) (ap (λ (l : LineLeft). l.owed) left.is.rest.left) left.is.rest.few)
-    (sym found ∙ (is.is ∙ ap (λ p. begins_unless_blank s p source) before))
-
--- it is not blank
-filled_some : (s : Source) (source : SourceLine) (b : Beginning) (blank : Bool)
-    → Some b ≡ (if blank then None else Some (begins s paragraph.NoParagraph source)) → blank ≡ false
-filled_some s source b true is = absurd (none-some b (sym is))
-filled_some s source b false is = refl
-
-pub found_filled : (s : Source) (rest : LineRest) (source : SourceLine) (at : ℕ) (start : BlockStart) (b : Beginning)
-    → rest.before ≡ paragraph.NoParagraph → IsFound s rest source at start
-    → beginning_found rest.reader start ≡ Some b → is_blank_rest source ≡ false
-found_filled s rest source at start b before is found =
-    filled_some s source b (is_blank_rest source)
-    (sym found ∙ (is.is ∙ ap (λ p. begins_unless_blank s p source) before))

@@ -1,7 +1,7 @@
 -- What a reader of the rest of a line finds lies between characters of the text.
-use Rattle.std.proofs.Common.{◌≡◌, ℕ, zero, suc, ◌+◌, ◌-◌, ◌<◌, ◌≤◌, Bool, true, false, not, ◌&&◌, ◌||◌, ◌==◌}
-use Rattle.std.proofs.Common.{inl, inr, List, [], ◌∷◌, Option, Some, None, arith, codes, drop, length, nat_lt}
-use Rattle.std.proofs.Common.{refl, sym, ap, ◌∙◌, subst, take}
+use Rattle.std.proofs.Common.{◌≡◌, ℕ, zero, suc, ◌+◌, ◌-◌, ◌<◌, ◌≤◌, Bool, true, false, not, ◌&&◌, ◌||◌, ◌==◌, inl}
+use Rattle.std.proofs.Common.{inr, List, [], ◌∷◌, Option, Some, None, arith, codes, drop, length, nat_lt, refl, sym}
+use Rattle.std.proofs.Common.{ap, ◌∙◌, subst, take}
 use Rattle.std.specs.Prelude.{if◌then◌else◌, slice_index, slice_range, unwrap_or}
 use Rattle.std.specs.Char.{is_ascii_digit}
 use Rattle.std.specs.List.{prefix_len, suffix_len}
@@ -26,20 +26,20 @@ use Rattle.markdown_scan.specs.LineStart.{LineLeft, Space, leading_space, past_m
 use Rattle.markdown_lines.specs.Alerts.{alert_read}
 use Rattle.markdown_lines.specs.AtxHeadings.{atx_heading_at, heading_content, heading_from, is_hash}
 use Rattle.markdown_lines.specs.BlockBeginnings as line
-use Rattle.markdown_lines.specs.BlockBeginnings.{Beginning, Source, begins, begins_after, break_in_line, fence_in_line}
-use Rattle.markdown_lines.specs.BlockBeginnings.{first_found, footnote_in_line, footnote_marker, heading_in_line}
-use Rattle.markdown_lines.specs.BlockBeginnings.{html_in_line, is_paragraph, is_reached, item_in_line, item_of}
-use Rattle.markdown_lines.specs.BlockBeginnings.{label_before_colon, metadata_begun, metadata_in_line}
-use Rattle.markdown_lines.specs.BlockBeginnings.{past_bytes, quote_in_line, quote_of, quote_or_alert}
-use Rattle.markdown_lines.specs.BlockBeginnings.{underline_in_line, whole_heading}
+use Rattle.markdown_lines.specs.BlockBeginnings.{Beginning, Source, begins, begins_after, break_in_line}
+use Rattle.markdown_lines.specs.BlockBeginnings.{fence_in_line, first_found, footnote_in_line, footnote_marker}
+use Rattle.markdown_lines.specs.BlockBeginnings.{heading_in_line, html_in_line, is_paragraph, is_reached}
+use Rattle.markdown_lines.specs.BlockBeginnings.{item_in_line, item_of, label_before_colon, metadata_begun}
+use Rattle.markdown_lines.specs.BlockBeginnings.{metadata_in_line, past_bytes, quote_in_line, quote_of}
+use Rattle.markdown_lines.specs.BlockBeginnings.{quote_or_alert, underline_in_line, whole_heading}
 use Rattle.markdown_lines.specs.BlockStarts.{IsSameLine, beginning_found, begins_unless_blank, left_at, line_at}
 use Rattle.markdown_lines.specs.BlockStarts.{source_read}
 use Rattle.markdown_lines.specs.CodeFences.{opening_fence_at, opens_fence, run_length}
-use Rattle.markdown_lines.specs.HeadingAttributes.{attributed, attributed_by, attributes_read, braces_in}
-use Rattle.markdown_lines.specs.HeadingAttributes.{braces_to, is_enclosed}
+use Rattle.markdown_lines.specs.HeadingAttributes.{attributed, attributed_by, attributes_read, braces_in, braces_to}
+use Rattle.markdown_lines.specs.HeadingAttributes.{is_enclosed}
 use Rattle.markdown_lines.specs.HtmlBeginnings.{html_kind_of, in_one_line}
 use Rattle.markdown_lines.specs.LineBytes.{is_parted, without_end}
-use Rattle.markdown_lines.specs.Lines.{IsLineEnd, is_space_or_tab}
+use Rattle.markdown_lines.specs.Lines.{is_space_or_tab}
 use Rattle.markdown_lines.specs.ListMarkers.{decimal, ends_number, if_it_stands, is_bullet, list_marker_at, marker_of}
 use Rattle.markdown_lines.specs.ListMarkers.{ordered_marker, ordered_marker_of, stands_before}
 use Rattle.markdown_lines.specs.MetadataBlocks.{metadata_opened}
@@ -61,7 +61,7 @@ use Rattle.markdown_lines.proofs.PositionsLemmas.{in_part, rest_of_part}
 use Rattle.markdown_block_rules.specs.BlockGrowth.{Block, content_of}
 use Rattle.markdown_block_rules.specs.TableLines.{reads_tables}
 use Rattle.markdown_block_rules.proofs.BlockBeginningsLemmas.{either}
-use Rattle.markdown_plain.specs.declared.block_pass.LineRest.{LineRest}
+use Rattle.markdown_plain.specs.declared.beginnings.LineRest.{LineRest}
 use Rattle.markdown_plain.specs.declared.pass.Pass.{Pass}
 use Rattle.markdown_plain.specs.Beginning.{FoundFits, FoundStands, HasBegun, IsFound, IsHeadingIn, IsHere, IsLeft}
 use Rattle.markdown_plain.specs.Beginning.{ReadsOn, StandsAsText, Turn, first, later}
@@ -74,12 +74,14 @@ use Rattle.markdown_plain.proofs.FoundBlocksLemmas.{found_begins, here_found, he
 use Rattle.markdown_plain.proofs.HeldTextLemmas.{is_held_line}
 use Rattle.markdown_plain.proofs.LeafTreesLemmas.{on_test}
 use Rattle.markdown_plain.proofs.ReachedFramesLemmas.{space_alike}
-use Rattle.markdown_plain.proofs.TextReachedLemmas.{IsWithin, content_within, marker_within, next_within, space_within}
+use Rattle.markdown_plain.proofs.ReadyPlacesLemmas.{stop_between}
+use Rattle.markdown_plain.proofs.TextReachedLemmas.{IsWithin, content_within, marker_within, next_within}
+use Rattle.markdown_plain.proofs.TextReachedLemmas.{space_within}
 
 -- ---- where the content begins
 
 -- what is left of a line begins between characters
-pub left_within : (s : Source) (rest : LineRest) (source : SourceLine) → IsLeft s rest source
+left_within : (s : Source) (rest : LineRest) (source : SourceLine) → IsLeft s rest source
     → IsWithin s.text rest.line.start source.left
 left_within s rest source left =
     subst (IsWithin s.text rest.line.start) left.is.rest.left (record {
@@ -331,16 +333,6 @@ mapped_within : {A : Type 0} (text : List ℕ) (whole : Line) (at : ℕ) (f : A 
     → ((a : A) → BeginsWithin text whole at (f a)) → IfWithin text whole at (option_map f found)
 mapped_within text whole at f None within = tt
 mapped_within text whole at f (Some a) within = within a
-
--- a line ends between characters
-line_end_within : (text : List ℕ) (from stop : ℕ) → IsLineEnd text from stop → IsCharBoundary text stop
-line_end_within text from stop ends = (
-  ends.high,
-  λ less high.
-      let ending = ends.stops less in
-      let ascii : slice_index text stop < 128 = grind (arith, nat_tests, ending) in
-      absurd (omega (arith, ascii, high)),
-)
 
 module _ (text : List ℕ) (from : ℕ) (utf8 : IsUtf8 text) (whole : Line) (at : ℕ) where
   -- the place before an ASCII byte of a line, and that after one
@@ -791,9 +783,9 @@ begun_within s rest source at start b left found is =
     (begins_within s.text rest.line.start left.utf8 rest.line at s rest.before source refl
     (left_within s rest source left) found.begins left.is.stop
     (subst (IsCharBoundary s.text) left.is.stop
-    (line_end_within s.text rest.line.start rest.line.stop left.from.content)))
+    (stop_between s.text rest.line.start rest.line.stop left.from.content)))
 
-pub found_stands : (s : Source) (rest : LineRest) (source : SourceLine) (at : ℕ) (start : BlockStart)
+found_stands : (s : Source) (rest : LineRest) (source : SourceLine) (at : ℕ) (start : BlockStart)
     → IsLeft s rest source → IsFound s rest source at start → FoundStands s.text rest.line at start
 found_stands s rest source at start.Text left found =
     left_stands s rest source at left
@@ -843,7 +835,7 @@ pub record Meets (s : Source) (old now : Pass) (rest : LineRest) (turn : Turn) (
   pub stands : FoundStands now.placing.builder.text rest.line at start
 
 -- the pass reads the text of which it stands for blocks
-here_text : (s : Source) (pass : Pass) (rest : LineRest) (turn : Turn) (source : SourceLine) (blocks : Forest Block)
+pub here_text : (s : Source) (pass : Pass) (rest : LineRest) (turn : Turn) (source : SourceLine) (blocks : Forest Block)
     → IsHere s pass rest turn source blocks → pass.placing.builder.text ≡ s.text
 here_text s pass rest (first before line) source blocks state = ap (λ (s : Source). s.text) state.holds.source
 here_text s pass rest (later frames) source blocks state = ap (λ (s : Source). s.text) state.opened.source

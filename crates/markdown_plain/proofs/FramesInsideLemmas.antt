@@ -1,22 +1,18 @@
 -- The innermost of the open containers, and the open blocks that they are.
-use Rattle.std.proofs.Common.{◌≡◌, ℕ, List, [], ◌∷◌, ◌++◌, Bool, true, false, length}
-use Rattle.std.proofs.Common.{refl, sym, ap, ◌∙◌, arith}
+use Rattle.std.proofs.Common.{◌≡◌, ℕ, List, [], ◌∷◌, ◌++◌, Bool, true, false, refl, sym, ap, ◌∙◌}
 use native.Mathlib.Numerals.{unary_clauses}
 use Rattle.std.proofs.lemmas.Bool.{true≢false}
 use Rattle.markdown_base.specs.declared.item.ItemBody.{ItemBody}
-use Rattle.markdown_block_rules.specs.BlockGrowth as was
-use Rattle.markdown_block_rules.specs.BlockGrowth.{Block, Kind}
 use Rattle.markdown_builder.specs.declared.open_block.OpenBlock.{OpenBlock}
+use Rattle.markdown_block_rules.specs.BlockGrowth as was
+use Rattle.markdown_block_rules.specs.BlockGrowth.{Kind}
 use Rattle.markdown_plain.specs.ListLooseness as body
 use Rattle.markdown_plain.specs.OpenBlocks as block
 use Rattle.markdown_plain.specs.Frames.{AreNested, Frame, innermost_is, is_item, is_list, is_quote}
 use Rattle.markdown_plain.specs.Settled.{AreOpen, IsBodyOf}
+use Rattle.markdown_plain.proofs.FramesLemmas.{innermost_inner}
 
 -- ---- the innermost container
-
-pub innermost_in : (test : Kind → Bool) (f g : Frame) (frames : List Frame)
-    → innermost_is test (f ∷ g ∷ frames) ≡ innermost_is test (g ∷ frames)
-innermost_in test f g frames = simp unary_clauses
 
 -- a container of one kind is of no other
 excludes : (one other : Kind → Bool) → ((kind : Kind) → one kind ≡ true → other kind ≡ false) → (frames : List Frame)
@@ -24,8 +20,8 @@ excludes : (one other : Kind → Bool) → ((kind : Kind) → one kind ≡ true 
 excludes one other apart [] is = refl
 excludes one other apart (f ∷ []) is = apart f.block.kind is
 excludes one other apart (f ∷ g ∷ frames) is =
-    innermost_in other f g frames
-    ∙ excludes one other apart (g ∷ frames) (sym (innermost_in one f g frames) ∙ is)
+    innermost_inner other f g frames
+    ∙ excludes one other apart (g ∷ frames) (sym (innermost_inner one f g frames) ∙ is)
 
 pub item_no_list : (kind : Kind) → is_item kind ≡ true → is_list kind ≡ false
 item_no_list (was.list_container marker) is = absurd (true≢false (sym is))
@@ -43,14 +39,6 @@ list_no_quote : (kind : Kind) → is_list kind ≡ true → is_quote kind ≡ fa
 list_no_quote (was.list_container marker) is = refl
 list_no_quote other is = absurd (true≢false (sym is))
 
-pub inner_item_no_list : (frames : List Frame) → innermost_is is_item frames ≡ true
-    → innermost_is is_list frames ≡ false
-inner_item_no_list frames is = excludes is_item is_list item_no_list frames is
-
-pub inner_list_no_item : (frames : List Frame) → innermost_is is_list frames ≡ true
-    → innermost_is is_item frames ≡ false
-inner_list_no_item frames is = excludes is_list is_item list_no_item frames is
-
 pub inner_item_no_quote : (frames : List Frame) → innermost_is is_item frames ≡ true
     → innermost_is is_quote frames ≡ false
 inner_item_no_quote frames is = excludes is_item is_quote item_no_quote frames is
@@ -60,14 +48,6 @@ pub inner_list_no_quote : (frames : List Frame) → innermost_is is_list frames 
 inner_list_no_quote frames is = excludes is_list is_quote list_no_quote frames is
 
 -- ---- the open blocks
-
-pub as_many_frames : (texts : List (List ℕ)) (blocks : List OpenBlock) (frames : List Frame)
-    → AreOpen texts blocks frames → length blocks ≡ length frames
-as_many_frames texts [] [] these = refl
-as_many_frames texts [] (f ∷ frames) these = absurd these
-as_many_frames texts (block ∷ blocks) [] these = absurd these
-as_many_frames texts (block ∷ blocks) (f ∷ frames) these =
-    let h = as_many_frames texts blocks frames these.1 in omega (arith, h)
 
 -- a test of bodies says of the innermost open block what one of kinds does
 inner_alike : (test : ItemBody → Bool) (of : Kind → Bool)
@@ -111,11 +91,11 @@ pub item_of_open : (texts : List (List ℕ)) (blocks : List OpenBlock) (frames :
 item_of_open texts blocks frames these = inner_alike body.is_item is_item item_alike texts blocks frames these
 
 -- the last of some open containers is the innermost
-inner_last : (test : Kind → Bool) (frames : List Frame) (f : Frame)
+pub inner_last : (test : Kind → Bool) (frames : List Frame) (f : Frame)
     → innermost_is test (frames ++ f ∷ []) ≡ test f.block.kind
 inner_last test [] f = refl
 inner_last test (g ∷ []) f = refl
-inner_last test (g ∷ h ∷ frames) f = innermost_in test g h (frames ++ f ∷ []) ∙ inner_last test (h ∷ frames) f
+inner_last test (g ∷ h ∷ frames) f = innermost_inner test g h (frames ++ f ∷ []) ∙ inner_last test (h ∷ frames) f
 
 -- the innermost open block is a list where the innermost container is
 pub list_of_last : (texts : List (List ℕ)) (blocks : List OpenBlock) (frames : List Frame) (f : Frame)
@@ -129,7 +109,7 @@ no_list_around : (frames : List Frame) (f : Frame) → AreNested (frames ++ f �
 no_list_around [] f nested list = refl
 no_list_around (g ∷ []) f nested list = nested.0 ∙ list_no_item f.block.kind list
 no_list_around (g ∷ h ∷ frames) f nested list =
-    innermost_in is_list g h frames ∙ no_list_around (h ∷ frames) f nested.1 list
+    innermost_inner is_list g h frames ∙ no_list_around (h ∷ frames) f nested.1 list
 
 -- outside a list is no list
 pub no_list_outside : (frames : List Frame) (f : Frame) → AreNested (frames ++ f ∷ [])

@@ -1,24 +1,23 @@
 -- What a line makes of blocks of which some containers on the right edge are open: the outer ones go on in it, and what
 -- is left of it inside them goes on with the blocks in the innermost of these, begins an item, or begins other blocks.
-use Rattle.std.proofs.Common.{◌≡◌, ℕ, zero, suc, Bool, true, false, ◌&&◌, List, [], ◌∷◌, ◌++◌, Option, Some, None}
-use Rattle.std.proofs.Common.{length, map, take, drop, refl, sym, ap, ◌∙◌, subst, arith}
+use Rattle.std.proofs.Common.{◌≡◌, ℕ, suc, Bool, true, false, ◌&&◌, List, [], ◌∷◌, ◌++◌, Option, Some, None, length}
+use Rattle.std.proofs.Common.{map, refl, sym, ap, ◌∙◌, subst, arith}
 use Rattle.std.proofs.lemmas.Bool.{true≢false}
 use Rattle.std.proofs.lemmas.Option.{none-some, same_Some}
 use Rattle.std.specs.Prelude.{unwrap_or, if◌then◌else◌, slice_get, ◌-◌}
 use Rattle.std.specs.Option.{option_map, option_map_or}
 use Rattle.markdown_base.specs.Forest.{Forest, nil, node}
+use Rattle.markdown_builder.specs.TreeLevels.{followed_by}
+use Rattle.markdown_scan.specs.LineStart.{LineLeft}
 use Rattle.markdown_lines.specs.declared.list_marker.ListMarker.{ListMarker}
 use Rattle.markdown_lines.specs.BlockBeginnings.{Source}
-use Rattle.markdown_scan.specs.LineStart.{LineLeft}
 use Rattle.markdown_lines.specs.SourceLines.{SourceLine, is_blank_rest, rest_inside}
-use Rattle.markdown_builder.specs.TreeLevels.{followed_by}
 use Rattle.markdown_block_rules.specs.BlockGrowth as was
 use Rattle.markdown_block_rules.specs.BlockGrowth.{Block, Kind, block_with, container_with, goes_on, is_nil, lazily}
-use Rattle.markdown_block_rules.specs.BlockGrowth.{line_block, next_item, past_footnote, past_indentation}
-use Rattle.markdown_block_rules.specs.BlockGrowth.{past_quote, with_lazy, with_line, with_rest}
-use Rattle.markdown_plain.specs.Frames.{AreContainers, AreNested, Frame, IsContainer, forgotten}
-use Rattle.markdown_plain.specs.Frames.{innermost_is, inside_container, is_item, is_list, rebuilt}
-use Rattle.markdown_plain.specs.Frames.{touched}
+use Rattle.markdown_block_rules.specs.BlockGrowth.{line_block, past_footnote, past_indentation, past_quote, with_lazy}
+use Rattle.markdown_block_rules.specs.BlockGrowth.{with_line, with_rest}
+use Rattle.markdown_plain.specs.Frames.{AreContainers, AreNested, Frame, IsContainer, forgotten, innermost_is}
+use Rattle.markdown_plain.specs.Frames.{inside_container, is_item, is_list, rebuilt, touched}
 
 -- ---- frames
 
@@ -34,14 +33,6 @@ pub rebuilt_more : (frames : List Frame) (f : Frame) (inside : Forest Block)
     → rebuilt (frames ++ f ∷ []) inside ≡ rebuilt frames (forgotten f inside)
 rebuilt_more frames f inside = rebuilt_in frames (f ∷ []) inside
 
--- all but the outermost `n` are closed
-pub rebuilt_split : (n : ℕ) (frames : List Frame) (inside : Forest Block)
-    → rebuilt frames inside ≡ rebuilt (take n frames) (rebuilt (drop n frames) inside)
-rebuilt_split zero frames inside = refl
-rebuilt_split (suc n) [] inside = refl
-rebuilt_split (suc n) (f ∷ frames) inside =
-    ap (λ (r : Forest Block). followed_by f.before (node f.block r nil)) (rebuilt_split n frames inside)
-
 -- the innermost of some open containers is that of the inner ones
 pub innermost_inner : (test : Kind → Bool) (f g : Frame) (frames : List Frame)
     → innermost_is test (f ∷ g ∷ frames) ≡ innermost_is test (g ∷ frames)
@@ -50,14 +41,6 @@ innermost_inner test f g frames =
     let inner : length frames ≡ suc (length frames) - 1 = omega arith in
     ap (λ n. option_map_or (λ (h : Frame). test h.block.kind) (slice_get (f ∷ g ∷ frames) n) false) all
     ∙ ap (λ n. option_map_or (λ (h : Frame). test h.block.kind) (slice_get (g ∷ frames) n) false) inner
-
--- and the last of them
-pub innermost_last : (test : Kind → Bool) (outer : List Frame) (f : Frame)
-    → innermost_is test (outer ++ f ∷ []) ≡ test f.block.kind
-innermost_last test [] f = refl
-innermost_last test (g ∷ []) f = innermost_inner test g f []
-innermost_last test (g ∷ h ∷ outer) f =
-    innermost_inner test g h (outer ++ f ∷ []) ∙ innermost_last test (h ∷ outer) f
 
 -- open containers of which the innermost passes a test of its kind
 pub record Innermost (test : Kind → Bool) (frames : List Frame) : Type 0 where
@@ -111,7 +94,7 @@ around_list (g ∷ h ∷ outer) f marker is nested =
 
 -- ---- the last block
 
-ends_in_block : (before : Forest Block) (b : Block) (below : Forest Block)
+pub ends_in_block : (before : Forest Block) (b : Block) (below : Forest Block)
     → is_nil (followed_by before (node b below nil)) ≡ false
 ends_in_block nil b below = refl
 ends_in_block (node c inside after) b below = refl

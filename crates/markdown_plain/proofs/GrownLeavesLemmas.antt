@@ -1,33 +1,33 @@
 -- An open leaf with one more line: what the pass has placed then.
-use Rattle.std.proofs.Common.{◌≡◌, ℕ, ◌≤◌, Bool, true, false, ◌&&◌, List, [], ◌∷◌, ◌++◌, Option, Some, None}
-use Rattle.std.proofs.Common.{map, refl, sym, ap, ◌∙◌, subst, append-nil, true≢false, arith}
+use Rattle.std.proofs.Common.{◌≡◌, ℕ, ◌≤◌, Bool, true, false, ◌&&◌, List, [], ◌∷◌, ◌++◌, Option, Some, None, map}
+use Rattle.std.proofs.Common.{refl, sym, ap, ◌∙◌, subst, append-nil, true≢false, arith}
 use Rattle.std.specs.Prelude.{◌==◌, nat_le}
 use Rattle.std.specs.Str.{IsCharBoundary}
+use Rattle.std.proofs.Math.Bool.{and-true, or-true}
 use Rattle.markdown_base.specs.Forest.{Forest}
+use Rattle.markdown_base.specs.declared.tag.MetadataBlockKind.{MetadataBlockKind}
 use Rattle.markdown_builder.specs.BuilderView.{BuilderView}
 use Rattle.markdown_builder.specs.TreeLevels.{followed_by}
+use Rattle.markdown_scan.specs.LineStart.{LineLeft, leading_space}
 use Rattle.markdown_lines.specs.BlockBeginnings.{Source}
 use Rattle.markdown_lines.specs.SourceLines.{SourceLine, cut, is_blank_rest}
 use Rattle.markdown_lines.specs.declared.held_line.HeldLine.{HeldLine}
 use Rattle.markdown_lines.specs.declared.line.Line.{Line}
-use Rattle.markdown_block_rules.specs.BlockGrowth as was
-use Rattle.markdown_block_rules.specs.BlockGrowth.{Block, Kind, closes, ends_html, leaf_with, with_line}
-use Rattle.markdown_base.specs.declared.tag.MetadataBlockKind.{MetadataBlockKind}
 use Rattle.markdown_lines.specs.HtmlKinds.{ends_at_blank}
 use Rattle.markdown_lines.specs.MetadataBlocks.{closes_metadata}
 use Rattle.markdown_lines.specs.declared.fence.Fence.{Fence}
 use Rattle.markdown_lines.specs.declared.fence.OpeningFence.{OpeningFence}
 use Rattle.markdown_lines.specs.declared.html_kind.HtmlKind.{HtmlKind}
 use Rattle.markdown_lines.specs.declared.position.Position.{Position}
+use Rattle.markdown_lines.specs.Positions.{left_from}
+use Rattle.markdown_block_rules.specs.BlockGrowth as was
+use Rattle.markdown_block_rules.specs.BlockGrowth.{Block, Kind, closes, ends_html, leaf_with, with_line}
+use Rattle.markdown_block_rules.specs.BlockRules.{block_end, block_ends_blank, code_lines, is_blank_block}
+use Rattle.markdown_block_rules.specs.BlockRules.{last_is_blank, lines_end as lines_end_from}
 use Rattle.markdown_plain.specs.Fitting.{IfFitted}
 use Rattle.markdown_plain.specs.declared.pass.LeafKind.{LeafKind}
 use Rattle.markdown_plain.specs.declared.pass.LeafKind.TheVariants as leaf
-use Rattle.markdown_block_rules.specs.BlockRules.{block_end, block_ends_blank, code_lines, is_blank_block}
-use Rattle.markdown_block_rules.specs.BlockRules.{last_is_blank, lines_end as lines_end_from}
-use Rattle.markdown_lines.specs.Positions.{left_from}
-use Rattle.markdown_scan.specs.LineStart.{LineLeft, leading_space}
 use Rattle.markdown_plain.specs.HeldSources.{AreHeld}
-use Rattle.std.proofs.Math.Bool.{and-true, or-true}
 use Rattle.markdown_plain.specs.declared.containers.Reached as code
 use Rattle.markdown_plain.specs.declared.pass.Pass.{Pass}
 use Rattle.markdown_plain.specs.Closable.{IsReadyAfter}
@@ -35,22 +35,21 @@ use Rattle.markdown_plain.specs.Closing.{AreItemsInLists, MayEnd}
 use Rattle.markdown_plain.specs.Frames.{Frame, reached, rebuilt, touched}
 use Rattle.markdown_plain.specs.OpenLeaves.{IsLeafIn, IsLineRest, IsPlaced, has_ended, is_leaf, leaf_block}
 use Rattle.markdown_plain.specs.Paragraphs.{lines_end, source_of}
-use Rattle.markdown_plain.specs.ReachedLines.{Before, IsReachedBy, LeavesOff, blocks_before, is_indented}
-use Rattle.markdown_plain.specs.ReachedLines.{reached_of}
+use Rattle.markdown_plain.specs.ReachedLines.{Before, IsReachedBy, LeavesOff, blocks_before, is_indented, reached_of}
 use Rattle.markdown_plain.specs.Settled.{IsLooseAs}
-use Rattle.markdown_plain.specs.Standing.{HasLast, HoldsBlanks, IsLeafKind, KnowsLast, PlacesFor}
-use Rattle.markdown_plain.specs.Standing.{is_metadata}
-use Rattle.markdown_plain.proofs.BlankStandingLemmas.{all_reached, last_of, next_after}
+use Rattle.markdown_plain.specs.Standing.{HasLast, HoldsBlanks, IsLeafKind, KnowsLast, PlacesFor, is_metadata}
 use Rattle.markdown_plain.proofs.BlankLinesLemmas.{blank_alike, whole_left}
+use Rattle.markdown_plain.proofs.BlankStandingLemmas.{all_reached, last_of, next_after}
 use Rattle.markdown_plain.proofs.IndentedLeavesLemmas.{code_to_end, end_of_last}
-use Rattle.markdown_plain.proofs.ReadyLinesLemmas.{boundary_after, leaf_ready}
-use Rattle.markdown_plain.proofs.LeafTreesLemmas.{few_owed}
-use Rattle.markdown_plain.proofs.ReachedFramesLemmas.{space_alike}
 use Rattle.markdown_plain.proofs.ItemsInListsLemmas.{line_keeps}
 use Rattle.markdown_plain.proofs.LastBlocksLemmas.{is_over, leaf_is_over, open_are_containers}
 use Rattle.markdown_plain.proofs.LeafLinesLemmas.{end_touched, leaf_grows, loose_grown, open_leaf_touched}
+use Rattle.markdown_plain.proofs.LeafTreesLemmas.{few_owed}
 use Rattle.markdown_plain.proofs.LinedLeavesLemmas.{grown_to}
 use Rattle.markdown_plain.proofs.LooseFramesLemmas.{ends_more}
+use Rattle.markdown_plain.proofs.ReachedFramesLemmas.{space_alike}
+use Rattle.markdown_plain.proofs.ReadyLinesLemmas.{leaf_ready}
+use Rattle.markdown_plain.proofs.ReadyPlacesLemmas.{next_between}
 use Rattle.markdown_plain.proofs.TouchedFramesLemmas.{built_touched, earlier_touched, quotes_touched}
 
 pub placed_touched : (l : SourceLine) (s : Source) (view : BuilderView) (frames : List Frame) (inside : Forest Block)
@@ -82,7 +81,7 @@ pub record AddsTo (s : Source) (old new : Pass) (frames : List Frame) (inside : 
     pub held : new.blanks.items ≡ []
     pub knows : has_ended c.kind ≡ false → IsLeafKind new.leaf c.kind × HoldsBlanks new.blanks.items c.kind
 
-pub grown_places : (s : Source) (old new : Pass) (line : Line) (found : code.Reached) (frames : List Frame)
+grown_places : (s : Source) (old new : Pass) (line : Line) (found : code.Reached) (frames : List Frame)
     (inside : Forest Block) (b : Block) (source : SourceLine) (now : Kind)
     → IsReachedBy s old line found (last_of frames inside b) source
     → (reached_of s (last_of frames inside b) source).inner ≡ []
@@ -131,7 +130,7 @@ grown_places s old new line found frames inside b source now by none may empty g
         (has_ended now) line.next grows.leaf adds.is (adds.lines ∙ empty) adds.held
         (grows.end (grown_to b (reached_of s (last_of frames inside b) source).rest.next now) refl ∙ sym next)
         (subst (λ t. IsCharBoundary t line.next) (sym text)
-        (boundary_after old.placing.builder.text line.start line by.is.utf8 by.is.from))
+        (next_between old.placing.builder.text line.start line by.is.utf8 by.is.from))
 
     by_end : (ended : Bool) → has_ended now ≡ ended
         → IsLeafIn s new.placing.builder frames inside
@@ -204,7 +203,7 @@ last_filled (m ∷ n ∷ lines) l some = last_filled (n ∷ lines) l some
 -- ---- the open leaf, by its kind
 
 -- the last block before a line is a leaf, where one is open
-pub leaf_case : (P : Before → Type 0) (s : Source) (pass : Pass) (before : Before)
+leaf_case : (P : Before → Type 0) (s : Source) (pass : Pass) (before : Before)
     → HasLast s pass before.frames before.inside before.last → pass.placing.builder.leaf ≡ true
     → ((b : Block) → MayEnd s pass before.frames before.inside b None → KnowsLast pass b None
     → P (last_of before.frames before.inside b)) → P before
@@ -223,7 +222,7 @@ leaf_case P s pass before has leaf some = by_last before.last has some
         by_held (Some sources) may knows = absurd (true≢false (sym leaf ∙ may.unended.built.outside))
 
 -- the rest of the line
-pub line_rest : (s : Source) (pass : Pass) (line : Line) (found : code.Reached) (before : Before)
+line_rest : (s : Source) (pass : Pass) (line : Line) (found : code.Reached) (before : Before)
     (source : SourceLine) → IsReachedBy s pass line found before source
     → IsLineRest pass.placing.builder.text found.position line (reached_of s before source).rest
 line_rest s pass line found before source by = record {
@@ -481,7 +480,7 @@ AddsIndented s old new line position =
     (record b { last = source.next; kind = was.indented_leaf ((lines ++ blank) ++ source ∷ []) }) false)
 
 -- the rest of a line after at most four columns of space
-pub rest_cut : (text : List ℕ) (position after : Position) (line : Line) (l : SourceLine)
+rest_cut : (text : List ℕ) (position after : Position) (line : Line) (l : SourceLine)
     → left_from text after line.stop ≡ (leading_space 4 (left_from text position line.stop)).after
     → IsLineRest text position line l → IsLineRest text after line (cut 4 l)
 rest_cut text position after line l read is =

@@ -1,7 +1,6 @@
 -- The rest of a line that is text, as a line of a paragraph.
-use Rattle.std.proofs.Common.{◌≡◌, inl, inr, ℕ, ◌<◌, ◌≤◌, false, List, [], ◌∷◌, length, drop}
-use Rattle.std.proofs.Common.{arith, refl, sym, ap, ◌∙◌, subst}
-use Rattle.std.specs.Prelude.{slice_range, slice_index, nat_le, ◌==◌}
+use Rattle.std.proofs.Common.{◌≡◌, inl, inr, ℕ, ◌<◌, ◌≤◌, false, List, length, drop, arith, refl, sym, ap, ◌∙◌, subst}
+use Rattle.std.specs.Prelude.{slice_range, slice_index, ◌==◌}
 use Rattle.std.specs.List.{prefix_len}
 use Rattle.std.proofs.lemmas.Bool.{true≢false}
 use Rattle.std.proofs.lemmas.Bool.Decides.{eqb_tells, nat_tests}
@@ -13,11 +12,9 @@ use Rattle.markdown_lines.specs.declared.held_line.HeldLine.{HeldLine}
 use Rattle.markdown_lines.specs.declared.line.Line.{Line}
 use Rattle.markdown_lines.proofs.BlockStartsLemmas.{is_blank}
 use Rattle.markdown_lines.proofs.PositionsLemmas.{in_part, rest_of_part}
-use Rattle.markdown_plain.specs.Frames.{Frame}
 use Rattle.markdown_plain.specs.HeldSources.{IsTextLine}
-use Rattle.markdown_plain.specs.OpenLeaves.{AreItemsOpenedIn, BeginsText, ComesAfter}
+use Rattle.markdown_plain.specs.OpenLeaves.{BeginsText, ComesAfter}
 use Rattle.markdown_plain.specs.Paragraphs.{lines_end}
-use Rattle.markdown_plain.specs.Standing.{AreOpenedBefore}
 use Rattle.markdown_plain.specs.TextLines.{IsContentAt, held_line, text_block}
 
 -- a line that is not blank has fewer bytes of white space than bytes
@@ -45,7 +42,7 @@ module _ (text : List ℕ) (line : Line) (rest : SourceLine) (start : ℕ) (at :
       let here = at.here in
       omega (arith, low, here)
 
-  pub is_text_line : IsTextLine text (held_line line start) (text_line rest)
+  is_text_line : IsTextLine text (held_line line start) (text_line rest)
   is_text_line = record {
     start = at.here;
     bytes = ap (λ n. slice_range text n line.stop) at.here
@@ -105,18 +102,3 @@ module _ (text : List ℕ) (line : Line) (rest : SourceLine) (start : ℕ) (at :
           kind = refl;
           last = refl;
         }
-
-    -- the items that were opened before the line were not opened in it
-    pub none_opened : (frames : List Frame) → AreOpenedBefore line.start frames → AreItemsOpenedIn line frames
-    none_opened [] earlier = tt
-    none_opened (f ∷ frames) earlier = (
-      λ item.
-          let before = earlier.0 item in
-          let start = before.start in
-          let first = before.first in
-          let after = ends_after in
-          let not_at : nat_le line.start f.block.start ≡ false = grind (arith, nat_tests, start) in
-          let not_there : (line.next == f.block.first) ≡ false = grind (arith, nat_tests, first, after) in
-          record { same = not_at ∙ sym not_there; before = omega (arith, first, after) },
-      none_opened frames earlier.1,
-    )

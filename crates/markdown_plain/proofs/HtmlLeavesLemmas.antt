@@ -1,52 +1,40 @@
 -- HTML blocks in the innermost open container, line by line.
-use Rattle.std.proofs.Common.{◌≡◌, ℕ, Bool, true, false, List, [], ◌∷◌, ◌++◌, Some, None}
-use Rattle.std.proofs.Common.{refl, sym, ap, ◌∙◌, subst}
+use Rattle.std.proofs.Common.{◌≡◌, ℕ, Bool, true, false, List, [], ◌∷◌, ◌++◌, Some, None, refl, sym, ap, ◌∙◌, subst}
+use Rattle.std.proofs.Common.{append-nil, arith, ◌<◌, true≢false}
+use Rattle.std.specs.Prelude.{◌&&◌, nat_lt, if◌then◌else◌}
+use Rattle.std.proofs.lemmas.Option.{same_Some}
+use Rattle.std.proofs.lemmas.Bool.Decides.{nat_tests}
 use Rattle.markdown_base.specs.Forest.{Forest, nil}
 use Rattle.markdown_base.specs.declared.item.ItemBody.TheVariants as body
 use Rattle.markdown_builder.specs.declared.open_block.OpenBlock.{OpenBlock}
-use Rattle.markdown_builder.specs.BuilderView.{BuilderView}
-use Rattle.markdown_builder.specs.Shown.{chain_of}
+use Rattle.markdown_builder.specs.BuilderView.{BuilderView, with_items, Opens}
+use Rattle.markdown_builder.specs.Shown.{chain_of, Shown}
 use Rattle.markdown_builder.specs.TreeLevels.{followed_by, with_trees}
+use Rattle.markdown_scan.specs.LineStart.{LineLeft}
 use Rattle.markdown_lines.specs.BlockBeginnings.{Source}
-use Rattle.markdown_lines.specs.SourceLines.{SourceLine}
-use Rattle.markdown_block_rules.specs.BlockGrowth as was
-use Rattle.markdown_block_rules.specs.BlockGrowth.{Block, Kind}
-use Rattle.markdown_block_rules.specs.BlockRules.{shown_over}
-use Rattle.markdown_plain.specs.Fitting.{GoesOn}
-use Rattle.markdown_plain.specs.Frames.{Frame}
-use Rattle.markdown_plain.specs.LeafTrees.{HasMoreTexts, HasTrees}
-use Rattle.markdown_plain.specs.OpenLeaves.{IsOpenIn, IsPlaced, leaf_block}
-use Rattle.markdown_plain.specs.Paragraphs.{IsPlacedTo}
-use Rattle.markdown_plain.specs.Settled.{IsBuilt}
-use Rattle.std.specs.Prelude.{◌&&◌, nat_lt, if◌then◌else◌}
-use Rattle.std.proofs.Common.{append-nil, arith}
-use Rattle.std.proofs.lemmas.Option.{same_Some}
-use Rattle.markdown_builder.specs.BuilderView.{with_items}
+use Rattle.markdown_lines.specs.SourceLines.{SourceLine, is_blank_rest}
 use Rattle.markdown_lines.specs.declared.line.Line.{Line}
 use Rattle.markdown_lines.specs.declared.position.Position.{Position}
-use Rattle.markdown_block_rules.specs.BlockGrowth.{closes, leaf_with}
-use Rattle.markdown_block_rules.specs.LineContents.{source_line}
-use Rattle.markdown_plain.specs.Fitting.{stepped}
-use Rattle.markdown_plain.specs.OpenLeaves.{IsLineRest}
-use Rattle.markdown_plain.proofs.LeavesInPlaceLemmas.{whole_leaf}
-use Rattle.markdown_plain.specs.LeafTrees.{OpensWith}
 use Rattle.markdown_lines.specs.declared.html_kind.HtmlKind.{HtmlKind}
 use Rattle.markdown_lines.specs.HtmlKinds.{ends_at_blank, ends_in}
 use Rattle.markdown_lines.specs.Lines.{IsNextContent}
-use Rattle.markdown_lines.specs.SourceLines.{is_blank_rest}
-use Rattle.markdown_scan.specs.LineStart.{LineLeft}
-use Rattle.markdown_builder.specs.Shown.{Shown}
-use Rattle.markdown_block_rules.specs.BlockGrowth.{ends_html}
+use Rattle.markdown_block_rules.specs.BlockGrowth as was
+use Rattle.markdown_block_rules.specs.BlockGrowth.{Block, Kind, leaf_with, ends_html}
+use Rattle.markdown_block_rules.specs.BlockRules.{shown_over}
+use Rattle.markdown_block_rules.specs.LineContents.{source_line}
+use Rattle.markdown_plain.specs.Fitting.{GoesOn, stepped, BeginsAtContent}
+use Rattle.markdown_plain.specs.Frames.{Frame}
+use Rattle.markdown_plain.specs.LeafTrees.{HasMoreTexts, HasTrees, OpensWith}
+use Rattle.markdown_plain.specs.OpenLeaves.{IsOpenIn, IsPlaced, leaf_block, IsLineRest}
+use Rattle.markdown_plain.specs.Paragraphs.{IsPlacedTo}
+use Rattle.markdown_plain.specs.Settled.{IsBuilt}
 use Rattle.markdown_plain.specs.CodeLines.{ends_html_at}
-use Rattle.markdown_builder.specs.BuilderView.{Opens}
-use Rattle.markdown_plain.specs.Fitting.{BeginsAtContent}
 use Rattle.markdown_plain.specs.OpenBlocks.{outer_of}
 use Rattle.markdown_plain.proofs.LeafTreesLemmas.{same_block}
+use Rattle.markdown_plain.proofs.LeavesInPlaceLemmas.{whole_leaf}
+use Rattle.markdown_plain.proofs.LinedLeavesLemmas.{IsLined, ends_with_line, kind_is_leaf, lined_shown, opened_as}
+use Rattle.markdown_plain.proofs.LinedLeavesLemmas.{plain_leaf_opened}
 use Rattle.markdown_plain.proofs.OpenBlocksLemmas.{outer_of_these}
-use Rattle.std.proofs.Common.{◌<◌, true≢false}
-use Rattle.std.proofs.lemmas.Bool.Decides.{nat_tests}
-use Rattle.markdown_plain.proofs.LinedLeavesLemmas.{IsLined, ends_with_line, kind_is_leaf}
-use Rattle.markdown_plain.proofs.LinedLeavesLemmas.{lined_shown, opened_as, plain_leaf_opened}
 
 pub html_lined : (s : Source) (kind : HtmlKind) (ended : Bool) (lines : List SourceLine)
     → IsLined s (was.html_leaf kind ended lines) body.HtmlBlock None body.Html lines

@@ -1,11 +1,14 @@
 -- Directly in the lists of a text there are items and blank lines, and items nowhere else: each line keeps that.
 use Rattle.std.proofs.Common.{◌≡◌, ◌∙◌, ℕ, zero, suc, Bool, true, false, not, ◌||◌, ◌&&◌, ◌==◌, List, [], ◌∷◌, ◌++◌}
-use Rattle.std.proofs.Common.{Option, Some, None, IfSome, length, refl, sym, subst, nat_le}
+use Rattle.std.proofs.Common.{Option, Some, None, IfSome, length, refl, sym, subst}
 use Rattle.std.proofs.lemmas.Bool.{true≢false}
 use Rattle.std.specs.Prelude.{unwrap_or, if◌then◌else◌}
 use Rattle.std.specs.Option.{option_map, option_or}
 use Rattle.markdown_base.specs.Forest.{Forest, nil, node}
 use Rattle.markdown_base.specs.declared.tag.Alignment.{Alignment}
+use Rattle.markdown_builder.specs.TreeLevels.{followed_by}
+use Rattle.markdown_scan.specs.Entity.{entity_names}
+use Rattle.markdown_scan.specs.LineStart.{LineLeft, leading_space}
 use Rattle.markdown_lines.specs.declared.block_start.Before.TheVariants as paragraph
 use Rattle.markdown_lines.specs.declared.list_marker.ListMarker.{ListMarker}
 use Rattle.markdown_lines.specs.BlockBeginnings as line
@@ -14,20 +17,16 @@ use Rattle.markdown_lines.specs.DefinitionRules.{divided}
 use Rattle.markdown_lines.specs.HtmlKinds.{ends_at_blank}
 use Rattle.markdown_lines.specs.MetadataBlocks.{closes_metadata}
 use Rattle.markdown_lines.specs.SourceLines.{SourceLine, cut, is_blank_rest, rest_inside, text_line}
-use Rattle.markdown_scan.specs.Entity.{entity_names}
-use Rattle.markdown_scan.specs.LineStart.{LineLeft, leading_space}
 use Rattle.markdown_block_rules.specs.BlockGrowth as was
-use Rattle.markdown_block_rules.specs.BlockGrowth.{Block, Kind, added_in, another_item, begun_by, begun_in, block_with}
-use Rattle.markdown_block_rules.specs.BlockGrowth.{closes, container_with, cut_paragraph, ends_html, goes_on, inside_of}
+use Rattle.markdown_block_rules.specs.BlockGrowth.{Block, Kind, another_item, begun_by, begun_in, block_with, closes}
+use Rattle.markdown_block_rules.specs.BlockGrowth.{container_with, cut_paragraph, ends_html, goes_on, inside_of}
 use Rattle.markdown_block_rules.specs.BlockGrowth.{is_nil, is_text, leaf_with, line_block, new_blocks, next_item}
 use Rattle.markdown_block_rules.specs.BlockGrowth.{paragraph_with, past_footnote, past_indentation, past_quote}
-use Rattle.markdown_block_rules.specs.BlockGrowth.{table_after, table_ended, table_of_lines, table_with}
-use Rattle.markdown_block_rules.specs.BlockGrowth.{with_lazy, with_lazy_text, with_line, with_next_line, with_rest}
-use Rattle.markdown_block_rules.specs.BlockGrowth.{with_ended_table, within_limit}
+use Rattle.markdown_block_rules.specs.BlockGrowth.{table_after, table_of_lines, table_with, with_lazy, with_lazy_text}
+use Rattle.markdown_block_rules.specs.BlockGrowth.{with_line, with_rest}
 use Rattle.markdown_block_rules.specs.BlockRules.{is_blank_block}
-use Rattle.markdown_block_rules.specs.TableLines.{alignments_for, is_row, most_added, reads_tables}
+use Rattle.markdown_block_rules.specs.TableLines.{alignments_for, is_row, reads_tables}
 use Rattle.markdown_block_rules.proofs.BlockBeginningsLemmas.{either}
-use Rattle.markdown_builder.specs.TreeLevels.{followed_by}
 use Rattle.markdown_plain.specs.Closing.{AreItemsInLists, MayBeIn}
 use Rattle.markdown_plain.specs.Frames.{is_item, is_list}
 
@@ -270,31 +269,3 @@ pub line_keeps : (s : Source) (blocks : Forest Block) (l : SourceLine) → AreIt
 line_keeps s blocks l are =
     unwrapped (AreItemsInLists false) (goes_on s blocks l) (followed_by blocks (line_block s l))
     (goes_placed false s l blocks are) (both_placed false blocks (line_block s l) are (line_placed s l))
-
-ended_same : (kind : Kind) → IsPlacedAs kind (table_ended kind)
-ended_same (was.table_leaf ended head alignments rows) = (refl, refl, refl)
-ended_same other = (refl, refl, refl)
-
-ended_placed : (in_list : Bool) (blocks : Forest Block) → AreItemsInLists in_list blocks
-    → AreItemsInLists in_list (with_ended_table blocks)
-ended_placed in_list nil are = tt
-ended_placed in_list (node b below nil) are =
-    let same = ended_same b.kind in (
-      λ e. same.1 ∙ are.0 (sym same.0 ∙ e),
-      subst (λ test. AreItemsInLists test (with_ended_table below)) (sym same.2)
-          (ended_placed (is_list b.kind) below are.1),
-      tt,
-    )
-ended_placed in_list (node b below (node c others after)) are =
-    (are.0, are.1, ended_placed in_list (node c others after) are.2)
-
--- the blocks of a text with one more line of it
-pub items_stay_in_lists : (s : Source) (blocks : Forest Block) (l : SourceLine) → AreItemsInLists false blocks
-    → AreItemsInLists false (with_next_line s blocks l)
-items_stay_in_lists s blocks l are =
-    let grown = with_line s blocks l in
-    let placed = line_keeps s blocks l are in
-    either (AreItemsInLists false) (reads_tables s) (within_limit s l blocks grown) grown
-    (either (AreItemsInLists false) (nat_le (added_in grown) (most_added s.text)) grown
-    (with_line s (with_ended_table blocks) l) placed
-    (line_keeps s (with_ended_table blocks) l (ended_placed false blocks are))) placed

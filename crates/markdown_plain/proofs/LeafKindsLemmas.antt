@@ -1,49 +1,44 @@
 -- Fenced code and metadata in the innermost open container, line by line.
-use Rattle.std.proofs.Common.{◌≡◌, ℕ, Bool, true, false, List, [], ◌∷◌, ◌++◌, Some, None, length, slice_range}
-use Rattle.std.proofs.Common.{refl, sym, ap, ◌∙◌, subst}
+use Rattle.std.proofs.Common.{◌≡◌, ℕ, Bool, true, false, List, [], ◌∷◌, ◌++◌, Some, None, length, slice_range, refl}
+use Rattle.std.proofs.Common.{sym, ap, ◌∙◌, subst}
+use Rattle.std.specs.Prelude.{◌&&◌, nat_lt, if◌then◌else◌}
+use Rattle.std.proofs.lemmas.Option.{same_Some}
 use Rattle.markdown_base.specs.Forest.{Forest, nil, node}
 use Rattle.markdown_base.specs.declared.item.ItemBody.{ItemBody}
 use Rattle.markdown_base.specs.declared.item.ItemBody.TheVariants as body
 use Rattle.markdown_base.specs.declared.options.Options.{Options}
+use Rattle.markdown_base.specs.declared.tag.MetadataBlockKind.{MetadataBlockKind}
 use Rattle.markdown_builder.specs.declared.open_block.OpenBlock.{OpenBlock}
 use Rattle.markdown_builder.specs.BuilderView.{BuilderView, parts_of}
 use Rattle.markdown_builder.specs.Shown.{shown_item}
 use Rattle.markdown_builder.specs.TreeLevels.{followed_by}
+use Rattle.markdown_scan.specs.Entity.{entity_names}
+use Rattle.markdown_scan.specs.Unescape.{unescaped}
+use Rattle.markdown_scan.specs.LineStart.{leading_space}
 use Rattle.markdown_items.proofs.RestOfLineLemmas.{no_items}
 use Rattle.markdown_lines.specs.BlockBeginnings.{Source}
 use Rattle.markdown_lines.specs.LineBytes.{IsPartOf}
-use Rattle.markdown_lines.specs.SourceLines.{SourceLine}
+use Rattle.markdown_lines.specs.SourceLines.{SourceLine, cut, stop_of}
 use Rattle.markdown_lines.specs.declared.fence.OpeningFence.{OpeningFence}
-use Rattle.markdown_scan.specs.Entity.{entity_names}
-use Rattle.markdown_scan.specs.Unescape.{unescaped}
-use Rattle.markdown_block_rules.specs.BlockGrowth as was
-use Rattle.markdown_block_rules.specs.BlockGrowth.{Block, Kind}
-use Rattle.markdown_block_rules.specs.BlockRules.{in_no_item, info_of, shown_over}
-use Rattle.markdown_plain.specs.Fitting.{GoesOn, OpensFenced}
-use Rattle.markdown_plain.specs.Frames.{Frame}
-use Rattle.markdown_plain.specs.LeafTrees.{HasItems, HasMoreTexts}
-use Rattle.markdown_plain.specs.OpenedFrames.{around_innermost}
-use Rattle.markdown_plain.specs.OpenLeaves.{InfoStands, IsOpenIn, IsPlaced, leaf_block}
-use Rattle.markdown_plain.specs.Settled.{IsBuilt}
-use Rattle.markdown_plain.proofs.LeafTreesLemmas.{get_last, no_text}
-use Rattle.std.specs.Prelude.{◌&&◌, nat_lt, if◌then◌else◌}
-use Rattle.std.proofs.lemmas.Option.{same_Some}
-use Rattle.markdown_scan.specs.LineStart.{leading_space}
 use Rattle.markdown_lines.specs.CodeFences.{closes_fence}
-use Rattle.markdown_lines.specs.SourceLines.{cut, stop_of}
 use Rattle.markdown_lines.specs.declared.fence.Fence.{Fence}
 use Rattle.markdown_lines.specs.declared.line.Line.{Line}
 use Rattle.markdown_lines.specs.declared.position.Position.{Position}
-use Rattle.markdown_block_rules.specs.BlockGrowth.{closes, leaf_with}
-use Rattle.markdown_block_rules.specs.LineContents.{source_line}
-use Rattle.markdown_plain.specs.CodeLines.{is_closed_at}
-use Rattle.markdown_plain.specs.Fitting.{PutsBlock, closed, stepped}
-use Rattle.markdown_plain.specs.OpenLeaves.{IsLeafIn, IsLineRest, has_ended}
-use Rattle.markdown_plain.proofs.LeavesInPlaceLemmas.{opened_leaf, shown_alone}
-use Rattle.markdown_base.specs.declared.tag.MetadataBlockKind.{MetadataBlockKind}
 use Rattle.markdown_lines.specs.MetadataBlocks.{closes_metadata}
-use Rattle.markdown_plain.specs.Fitting.{opened}
-use Rattle.markdown_block_rules.specs.BlockGrowth.{ends_html}
+use Rattle.markdown_block_rules.specs.BlockGrowth as was
+use Rattle.markdown_block_rules.specs.BlockGrowth.{Block, Kind, closes, leaf_with}
+use Rattle.markdown_block_rules.specs.BlockRules.{in_no_item, info_of, shown_over}
+use Rattle.markdown_block_rules.specs.LineContents.{source_line}
+use Rattle.markdown_plain.specs.Fitting.{GoesOn, OpensFenced, PutsBlock, closed, stepped, opened}
+use Rattle.markdown_plain.specs.Frames.{Frame}
+use Rattle.markdown_plain.specs.LeafTrees.{HasItems, HasMoreTexts}
+use Rattle.markdown_plain.specs.OpenedFrames.{around_innermost}
+use Rattle.markdown_plain.specs.OpenLeaves.{InfoStands, IsOpenIn, IsPlaced, leaf_block, IsLeafIn, IsLineRest}
+use Rattle.markdown_plain.specs.OpenLeaves.{has_ended}
+use Rattle.markdown_plain.specs.Settled.{IsBuilt}
+use Rattle.markdown_plain.specs.CodeLines.{is_closed_at}
+use Rattle.markdown_plain.proofs.LeafTreesLemmas.{get_last, no_text}
+use Rattle.markdown_plain.proofs.LeavesInPlaceLemmas.{opened_leaf, shown_alone}
 use Rattle.markdown_plain.proofs.LinedLeavesLemmas.{IsLined, closed_by_line, ends_with_line, grown_to, kind_is_leaf}
 use Rattle.markdown_plain.proofs.LinedLeavesLemmas.{line_added_to, lined_shown, opened_as, plain_leaf_opened}
 
@@ -52,7 +47,7 @@ use Rattle.markdown_plain.proofs.LinedLeavesLemmas.{line_added_to, lined_shown, 
 abbrev pub fenced_body : ItemBody
 fenced_body = body.FencedCodeBlock (record { 0 = 0 })
 
-pub fenced_lined : (s : Source) (opening : OpeningFence) (ended : Bool) (lines : List SourceLine)
+fenced_lined : (s : Source) (opening : OpeningFence) (ended : Bool) (lines : List SourceLine)
     → IsLined s (was.fenced_leaf opening ended lines) fenced_body (Some (info_of s opening)) (body.Text false) lines
 fenced_lined s opening ended lines =
     record { leaf = refl; named = refl; end = λ b. refl; shown = λ around b. refl }
@@ -70,7 +65,7 @@ closes_alike s text position line source fence same is =
     && closes_fence t (leading_space 4 source.left).after.scanned (stop_of source) fence) same)
 
 -- a fenced block with one more line
-pub fenced_with : (s : Source) (source : SourceLine) (b : Block) (kind : Kind) (opening : OpeningFence)
+fenced_with : (s : Source) (source : SourceLine) (b : Block) (kind : Kind) (opening : OpeningFence)
     (lines : List SourceLine) (ends : Bool) → b.kind ≡ was.fenced_leaf opening false lines
     → leaf_with s source b.kind ≡ Some kind → closes s source opening.fence ≡ ends
     → (if ends then was.fenced_leaf opening true lines
@@ -154,7 +149,7 @@ fenced_opened s old new options frames inside b opening at to info built same st
 
 -- ---- metadata
 
-pub metadata_lined : (s : Source) (kind : MetadataBlockKind) (ended : Bool) (lines : List SourceLine)
+metadata_lined : (s : Source) (kind : MetadataBlockKind) (ended : Bool) (lines : List SourceLine)
     → IsLined s (was.metadata_leaf kind ended lines) (body.MetadataBlock kind) None (body.Text false) lines
 metadata_lined s kind ended lines =
     record { leaf = refl; named = refl; end = λ b. refl; shown = λ around b. refl }
@@ -178,7 +173,7 @@ metadata_opened s old new frames inside b kind at to built same start last opens
       end = ends_with_line b kind_of to same refl last;
     })
 
-pub metadata_with : (s : Source) (source : SourceLine) (b : Block) (now : Kind) (kind : MetadataBlockKind)
+metadata_with : (s : Source) (source : SourceLine) (b : Block) (now : Kind) (kind : MetadataBlockKind)
     (lines : List SourceLine) (ends : Bool) → b.kind ≡ was.metadata_leaf kind false lines
     → leaf_with s source b.kind ≡ Some now → closes_metadata kind source.left.bytes ≡ ends
     → (if ends then was.metadata_leaf kind true lines else was.metadata_leaf kind false (lines ++ source ∷ [])) ≡ now

@@ -1,6 +1,6 @@
 -- What is open before a line; and an open leaf that goes on in the line, or leaves off.
 use Rattle.std.proofs.Common.{◌≡◌, ℕ, Bool, true, false, not, ◌&&◌, ◌||◌, List, [], ◌∷◌, ◌++◌, Option, Some, None}
-use Rattle.std.proofs.Common.{suc, ◌-◌, ◌<◌, arith, length, map, refl, sym, ap, ◌∙◌, append-nil, true≢false}
+use Rattle.std.proofs.Common.{suc, ◌-◌, arith, length, map, refl, sym, ap, ◌∙◌, append-nil, true≢false}
 use Rattle.std.proofs.Math.Bool.{and-false, or-false}
 use Rattle.std.specs.Prelude.{slice_get, if◌then◌else◌}
 use Rattle.std.specs.Option.{option_map, option_map_or}
@@ -12,11 +12,11 @@ use Rattle.markdown_builder.specs.Shown.{Shown, unnumbered}
 use Rattle.markdown_builder.specs.TreeLevels.{followed_by}
 use Rattle.markdown_builder.specs.declared.open_block.OpenBlock.{OpenBlock}
 use Rattle.markdown_lines.specs.BlockBeginnings.{Source}
-use Rattle.markdown_lines.specs.SourceLines.{SourceLine, is_blank_rest}
+use Rattle.markdown_lines.specs.SourceLines.{SourceLine}
 use Rattle.markdown_lines.specs.declared.line.Line.{Line}
 use Rattle.markdown_block_rules.specs.BlockGrowth as was
-use Rattle.markdown_block_rules.specs.BlockGrowth.{Block, Kind, container_with, goes_on, is_nil, leaf_with, table_with}
-use Rattle.markdown_block_rules.specs.BlockGrowth.{with_line}
+use Rattle.markdown_block_rules.specs.BlockGrowth.{Block, Kind, container_with, goes_on, is_nil, leaf_with}
+use Rattle.markdown_block_rules.specs.BlockGrowth.{table_with, with_line}
 use Rattle.markdown_block_rules.specs.BlockRules.{are_separated, ends_blank, hold_separated, in_no_item}
 use Rattle.markdown_block_rules.specs.BlockRules.{is_blank_block, is_loose, shown_blocks}
 use Rattle.markdown_plain.specs.declared.looseness.Looseness.{Looseness}
@@ -26,21 +26,21 @@ use Rattle.markdown_plain.specs.declared.pass.Pass.{Pass}
 use Rattle.markdown_plain.specs.Closing.{MayEnd}
 use Rattle.markdown_plain.specs.Containers.{is_container, is_innermost}
 use Rattle.markdown_plain.specs.Frames.{AreContainers, AreNested, Frame, is_list, reached, rebuilt, touched}
-use Rattle.markdown_plain.specs.OpenBlocks.{innermost_is, is_table, outer_of, without_leaf}
+use Rattle.markdown_plain.specs.OpenBlocks.{innermost_is, is_table, without_leaf}
 use Rattle.markdown_plain.specs.OpenLeaves.{IsOpenIn, is_leaf, leaf_block}
 use Rattle.markdown_plain.specs.OpenedFrames.{around_innermost}
 use Rattle.markdown_plain.specs.ReachedFrames.{IsAtMostLeaf, IsBefore, IsReached}
-use Rattle.markdown_plain.specs.ReachedLines.{Before, IsReachedBy, LeavesOff, blocks_in, is_indented}
+use Rattle.markdown_plain.specs.ReachedLines.{Before, IsReachedBy, blocks_in}
 use Rattle.markdown_plain.specs.declared.containers.Reached as code
-use Rattle.markdown_plain.specs.Settled.{AreOpen, EmptyKnown, EmptyKnownIn, IsBodyOf, IsLooseAs, are_loose, placed_end}
+use Rattle.markdown_plain.specs.Settled.{AreOpen, EmptyKnown, EmptyKnownIn, IsBodyOf, IsLooseAs, are_loose}
+use Rattle.markdown_plain.specs.Settled.{placed_end}
 use Rattle.markdown_plain.specs.Standing.{HasLast, IsLeafKind, IsSource, KnowsLast, Stands, with_last}
 use Rattle.markdown_plain.proofs.BlanksKnownLemmas.{same_touched}
-use Rattle.markdown_plain.proofs.FramesLemmas.{goes_on_last}
+use Rattle.markdown_plain.proofs.FramesLemmas.{ends_in_block, goes_on_last}
 use Rattle.markdown_plain.proofs.LeavesInPlaceLemmas.{shown_alone, shown_leaf}
 use Rattle.markdown_plain.proofs.LinedLeavesLemmas.{grown_to}
 use Rattle.markdown_plain.proofs.LooseFramesLemmas.{closed_separated, loose_by_last, same_last}
-use Rattle.markdown_plain.proofs.OpenBlocksLemmas.{innermost_of_opened, outer_of_these}
-use Rattle.markdown_plain.proofs.ReachedFramesLemmas.{some_follow}
+use Rattle.markdown_plain.proofs.OpenBlocksLemmas.{around_leaf, innermost_of_opened, outside_leaf}
 use Rattle.markdown_plain.proofs.ReachedLemmas.{last_goes_on, reached_parts}
 use Rattle.markdown_plain.proofs.TouchedFramesLemmas.{around_touched, built_touched}
 
@@ -107,9 +107,6 @@ pub record OpenParts (pass : Pass) (frames : List Frame) (now : Forest Block) : 
   pub nested : AreNested frames
   pub empty : EmptyKnown (is_innermost leaf && pass.looseness.item_is_empty) frames now
 
-outside_leaf : (view : BuilderView) → view.leaf ≡ false → without_leaf view ≡ view.blocks
-outside_leaf view outside = ap (λ t. if t then outer_of view.blocks else view.blocks) outside
-
 pub open_parts : (s : Source) (pass : Pass) (frames : List Frame) (inside : Forest Block) (last : Option Block)
     → HasLast s pass frames inside last → IsLooseAs pass.looseness frames (with_last inside last)
     → OpenParts pass frames (with_last inside last)
@@ -134,12 +131,11 @@ open_parts s pass frames inside (Some b) has loose = by_held has.0 has.1 has.2
           containers = is.outer;
           leaf = is.block ∷ [];
           blocks = is.blocks;
-          without = ap (λ t. if t then outer_of view.blocks else view.blocks) is.leaf
-              ∙ outer_of_these view.blocks is.outer is.block is.blocks;
+          without = around_leaf view is.outer is.block is.leaf is.blocks;
           alone = (leaf_alone s view frames inside b pass.leaf knows.0 is).0;
           are = is.around.blocks;
           nested = is.around.nested;
-          empty = none_empty frames (followed_by inside (leaf_block b)) (some_follow inside b nil);
+          empty = none_empty frames (followed_by inside (leaf_block b)) (ends_in_block inside b nil);
         }
     by_held (Some sources) may knows = record {
       containers = pass.placing.builder.blocks;
@@ -248,7 +244,7 @@ unfolding goes_on
 one_leaves_off s l b leaf none = rw (no_table s l b b.kind leaf, none, no_container s l b.kind leaf) refl
 
 -- after other blocks
-pub leaf_goes_on : (s : Source) (l : SourceLine) (inside : Forest Block) (b : Block) (now : Kind)
+leaf_goes_on : (s : Source) (l : SourceLine) (inside : Forest Block) (b : Block) (now : Kind)
     → is_leaf b.kind ≡ true → leaf_with s l b.kind ≡ Some now
     → goes_on s (followed_by inside (leaf_block b)) l ≡ Some (followed_by inside (leaf_block (grown_to b l.next now)))
 leaf_goes_on s l inside b now leaf grown =
@@ -280,34 +276,6 @@ leaf_grows s frames inside b l now are nested none leaf grown =
     ∙ leaf_goes_on s r.rest inside b now leaf grown)
     ∙ ap (λ (fs : List Frame). rebuilt (map (touched l) fs) after) all
 
--- where no leaf is open, none goes on
-pub no_leaf_goes_on : (s : Source) (pass : Pass) (frames : List Frame) (inside : Forest Block) (last : Option Block)
-    (rest : SourceLine) → HasLast s pass frames inside last → pass.placing.builder.leaf ≡ false
-    → LeavesOff s rest last
-no_leaf_goes_on s pass frames inside None rest has outside = tt
-no_leaf_goes_on s pass frames inside (Some b) rest has outside = λ is filled. by_held has.0 has.1 is
-  where
-    by_held : (held : Option (List SourceLine)) → MayEnd s pass frames inside b held → is_leaf b.kind ≡ true
-        → leaf_with s rest b.kind ≡ None
-    by_held None may is = absurd (true≢false (sym may.unended.1.leaf ∙ outside))
-    by_held (Some sources) may is = absurd (true≢false (sym is ∙ ap is_leaf may.unended.kind))
-
--- where no paragraph is open, nothing goes on in the rest of a line that is not blank, once the leaf leaves off
-pub nothing_goes_on_in : (s : Source) (pass : Pass) (frames : List Frame) (inside : Forest Block)
-    (last : Option Block) (rest : SourceLine) → HasLast s pass frames inside last → pass.lines.items ≡ []
-    → is_blank_rest rest ≡ false → LeavesOff s rest last → goes_on s (with_last inside last) rest ≡ None
-nothing_goes_on_in s pass frames inside None rest has none filled off = (has.2 rest).0
-nothing_goes_on_in s pass frames inside (Some b) rest has none filled off = by_held has.0 has.1
-  where
-    none_some : (count : ℕ) → 0 < count → count ≡ 0 → ⊥
-    none_some count some none = omega (arith, some, none)
-
-    by_held : (held : Option (List SourceLine)) → MayEnd s pass frames inside b held
-        → goes_on s (followed_by inside (leaf_block b)) rest ≡ None
-    by_held None may = leaf_leaves_off s rest inside b may.unended.0
-        (off may.unended.0 (ap (λ t. t && is_indented b.kind) filled))
-    by_held (Some sources) may = absurd (none_some (length pass.lines.items) may.unended.some (ap length none))
-
 -- ---- which lists are loose, with one leaf instead of another
 
 -- the same lists are loose around other blocks that are as separated
@@ -323,7 +291,7 @@ loose_alike [] one other apart same = same
 loose_alike (f ∷ frames) one other apart same =
     same_last f (rebuilt frames one) (rebuilt frames other) (separated_alike frames one other apart)
 
-pub lists_alike : (frames : List Frame) (one other : Forest Block) → are_separated one ≡ are_separated other
+lists_alike : (frames : List Frame) (one other : Forest Block) → are_separated one ≡ are_separated other
     → is_loose one ≡ is_loose other → are_loose frames one ≡ are_loose frames other
 lists_alike [] one other apart same = refl
 lists_alike (f ∷ frames) one other apart same =
@@ -368,7 +336,7 @@ loose_grown l now frames inside b c same loose =
     same_touched l now frames other (record {
       lists = loose.lists ∙ lists_alike frames one other apart alike;
       empty = empty_alike now.item_is_empty frames one other
-          (some_follow inside b nil ∙ sym (some_follow inside c nil)) loose.empty;
+          (ends_in_block inside b nil ∙ sym (ends_in_block inside c nil)) loose.empty;
     })
 
 -- and with a blank line after them

@@ -67,7 +67,7 @@ pub settled_leaf : (a : Shown) (inside : Forest Shown) → is_tight_list a.item.
 settled_leaf a inside e = ap (λ b. cond b (items_changed tight_shown inside) inside) e
 
 -- a leaf that was opened, filled and closed is put into the innermost level
-pub put_leaf : (levels : List (Forest Shown)) (items : List Shown) (a : Shown) → (levels ≡ [] → ⊥)
+put_leaf : (levels : List (Forest Shown)) (items : List Shown) (a : Shown) → (levels ≡ [] → ⊥)
     → is_tight_list a.item.body ≡ false
     → with_block (with_items (levels ++ nil ∷ []) items) a ≡ with_trees levels (node a (chain_of items) nil)
 put_leaf levels items a some e =
@@ -231,7 +231,7 @@ code_rest owed whole b line source is over more =
     (λ e. over (grind (arith, nat_tests, e, is.start, is.next)) ∙ sym (no_items owed))
 
 -- the columns that a tab owes before a line, and then the line, are the items of a line of code
-pub code_line : (levels owed whole : List (Forest Shown)) (b : ItemBody) (line : HeldLine) (source : SourceLine)
+code_line : (levels owed whole : List (Forest Shown)) (b : ItemBody) (line : HeldLine) (source : SourceLine)
     → IsHeld line source
     → (line.owed ≡ 0 → owed ≡ levels)
     → (0 < line.owed
@@ -343,7 +343,7 @@ pub record TakesNext (lines : List HeldLine) (sources : List SourceLine) (number
   pub is : IsHeld line source
   pub taken : take (suc number) sources ≡ take number sources ++ source ∷ []
 
-pub takes_next : (lines : List HeldLine) (sources : List SourceLine) (number : ℕ) (line : HeldLine)
+takes_next : (lines : List HeldLine) (sources : List SourceLine) (number : ℕ) (line : HeldLine)
     → AreHeld lines sources → slice_get lines number ≡ Some line → TakesNext lines sources number line
 takes_next [] [] number line are e = absurd (grind (arith, e))
 takes_next [] (source ∷ sources) number line are e = absurd are

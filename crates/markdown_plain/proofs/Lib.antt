@@ -13,9 +13,6 @@ pub mod PlacedParagraphsLemmas
 pub mod EndedParagraphsLemmas
 pub mod ParagraphsLemmas
 pub mod DividedLemmas
--- on calls that fit
-pub mod ClosableLemmas
-pub mod DefinitionEndsLemmas
 pub mod ListLoosenessLemmas
 -- on what a line makes of blocks, some of which are open
 pub mod FramesLemmas
@@ -57,35 +54,38 @@ pub mod GrownLeavesLemmas
 pub mod HeldTextLemmas
 pub mod AddedTextLemmas
 pub mod RoomLemmas
-pub mod ReadyTextsLemmas
 pub mod PlacedTextLemmas
 pub mod TextStepsLemmas
 pub mod TextReachedLemmas
 pub mod TextLinesLemmas
 -- on blocks that begin with the rest of a line
-pub mod BegunBlocksLemmas
-pub mod BegunContainersLemmas
-pub mod BegunItemsLemmas
+pub mod LineBeginningsLemmas
 pub mod BegunRestsLemmas
 pub mod PassedMarkersLemmas
-pub mod ReadyContainersLemmas
+pub mod BegunBlocksLemmas
 pub mod BegunLeavesLemmas
 pub mod BegunTextsLemmas
-pub mod FirstTurnsLemmas
-pub mod FoundBlocksLemmas
-pub mod InnerBeginningsLemmas
--- on calls that fit
-pub mod FittingLemmas
-pub mod ReadyPlacesLemmas
-pub mod RoomReadyLemmas
-pub mod BegunFitsLemmas
 pub mod BegunMetadataLemmas
-pub mod UnderlinesLemmas
-pub mod RoomForBlocksLemmas
+pub mod BegunContainersLemmas
+pub mod BegunItemsLemmas
+-- on what is found there, and on what is made of it turn by turn
+pub mod FoundBlocksLemmas
 pub mod FoundPlacesLemmas
+pub mod InnerBeginningsLemmas
+pub mod FirstTurnsLemmas
+pub mod RoomForBlocksLemmas
+pub mod UnderlinesLemmas
 pub mod TextHereLemmas
 pub mod TurnsLemmas
--- on readiness between two lines
+-- on calls that fit, and on readiness between two lines
+pub mod DefinitionEndsLemmas
+pub mod ClosableLemmas
+pub mod FittingLemmas
+pub mod RoomReadyLemmas
+pub mod BegunFitsLemmas
+pub mod ReadyPlacesLemmas
+pub mod ReadyTextsLemmas
+pub mod ReadyContainersLemmas
 pub mod ReadyLinesLemmas
 -- on a whole text
 pub mod WholeTextsLemmas

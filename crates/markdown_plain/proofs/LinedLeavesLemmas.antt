@@ -1,57 +1,44 @@
 -- Leaves in the innermost open container that are put there whole, or that consist of lines.
-use Rattle.std.proofs.Common.{◌≡◌, ℕ, Bool, true, false, List, [], ◌∷◌, ◌++◌, Option, None, length, slice_range}
-use Rattle.std.proofs.Common.{refl, sym, ap, ◌∙◌, subst, not}
-use Rattle.std.specs.Prelude.{◌||◌}
+use Rattle.std.proofs.Common.{◌≡◌, ℕ, Bool, true, false, List, [], ◌∷◌, ◌++◌, Option, None, length, slice_range, refl}
+use Rattle.std.proofs.Common.{sym, ap, ◌∙◌, subst, not, append-nil, arith}
+use Rattle.std.specs.Prelude.{◌||◌, ◌+◌, ◌-◌, ◌≤◌, ◌==◌, nat_le, nat_lt, IfOk, Result, Ok, Err}
 use Rattle.markdown_base.specs.Forest.{Forest, nil, node}
 use Rattle.markdown_base.specs.declared.item.ItemBody.{ItemBody}
 use Rattle.markdown_base.specs.declared.item.ItemBody.TheVariants as body
 use Rattle.markdown_base.specs.declared.options.Options.{Options}
-use Rattle.markdown_builder.specs.BuilderView.{AppendsItem, BuilderView, parts_of}
-use Rattle.markdown_builder.specs.Shown.{chain_of, shown_item}
+use Rattle.markdown_base.specs.declared.tag.MetadataBlockKind.{MetadataBlockKind}
+use Rattle.markdown_builder.specs.BuilderView.{AppendsItem, BuilderView, parts_of, with_items}
+use Rattle.markdown_builder.specs.Shown.{chain_of, shown_item, Parts, plain_item}
 use Rattle.markdown_builder.specs.TreeLevels.{followed_by, with_trees}
 use Rattle.markdown_builder.proofs.LaidLemmas.{followed_by-nil}
+use Rattle.markdown_scan.specs.LineStart.{LineLeft, Space, column_after, space_from, space_width}
 use Rattle.markdown_items.specs.ContentItems.{content_items}
 use Rattle.markdown_items.specs.LineItems.{item_extensions}
 use Rattle.markdown_items.proofs.RestOfLineLemmas.{no_items}
 use Rattle.markdown_lines.specs.BlockBeginnings.{Source}
-use Rattle.markdown_lines.specs.SourceLines.{SourceLine}
+use Rattle.markdown_lines.specs.SourceLines.{SourceLine, cut, stop_of}
 use Rattle.markdown_lines.specs.declared.atx_heading.AtxHeading.{AtxHeading}
-use Rattle.markdown_block_rules.specs.BlockGrowth as was
-use Rattle.markdown_block_rules.specs.BlockGrowth.{Block, Kind}
-use Rattle.markdown_block_rules.specs.BlockRules.{block_end, in_no_item, shown_heading, shown_over}
-use Rattle.markdown_block_rules.specs.LineContents.{source_lines}
-use Rattle.markdown_plain.specs.Fitting.{GoesOn}
-use Rattle.markdown_plain.specs.Frames.{Frame}
-use Rattle.markdown_plain.specs.LeafTrees.{HasItems, HasMoreTexts, HasTrees}
-use Rattle.markdown_plain.specs.OpenedFrames.{around_innermost}
-use Rattle.markdown_plain.specs.OpenLeaves.{IsOpenIn, IsPlaced, is_leaf, leaf_block}
-use Rattle.markdown_plain.specs.Paragraphs.{IsPlacedTo}
-use Rattle.markdown_plain.specs.Settled.{IsBuilt}
-use Rattle.markdown_plain.proofs.LeafTreesLemmas.{lines_append, no_text}
-use Rattle.std.specs.Prelude.{◌+◌, ◌-◌, ◌≤◌, ◌==◌, nat_le, nat_lt}
-use Rattle.std.proofs.Common.{append-nil, arith}
-use Rattle.markdown_builder.specs.BuilderView.{with_items}
-use Rattle.markdown_scan.specs.LineStart.{LineLeft, Space, column_after, space_from, space_width}
-use Rattle.markdown_lines.specs.SourceLines.{cut, stop_of}
 use Rattle.markdown_lines.specs.declared.line.Line.{Line}
 use Rattle.markdown_lines.specs.declared.position.Position.{Position}
-use Rattle.markdown_block_rules.specs.BlockGrowth.{closes, leaf_with}
-use Rattle.markdown_block_rules.specs.BlockRules.{Around}
-use Rattle.markdown_block_rules.specs.LineContents.{source_line}
-use Rattle.markdown_plain.specs.CodeLines.{after_line, whole_of}
-use Rattle.markdown_plain.specs.Fitting.{PutsBlock, closed, stepped}
-use Rattle.markdown_plain.specs.OpenLeaves.{IsLineRest}
-use Rattle.markdown_plain.specs.HeldSources.{IsHeld}
 use Rattle.markdown_lines.specs.declared.held_line.HeldLine.{HeldLine}
-use Rattle.std.specs.Prelude.{IfOk, Result, Ok, Err}
-use Rattle.markdown_plain.proofs.LeafTreesLemmas.{on_test}
-use Rattle.markdown_plain.proofs.LeavesInPlaceLemmas.{closed_leaf, shown_of_kind}
-use Rattle.markdown_plain.proofs.LeavesInPlaceLemmas.{filled_leaf, has_its_text, is_some, more_in_first, names_text}
-use Rattle.markdown_plain.proofs.LeavesInPlaceLemmas.{opened_leaf, shown_alone, shown_leaf, whole_leaf}
-use Rattle.markdown_base.specs.declared.tag.MetadataBlockKind.{MetadataBlockKind}
 use Rattle.markdown_lines.specs.MetadataBlocks.{closes_metadata}
-use Rattle.markdown_builder.specs.Shown.{Parts, plain_item}
-use Rattle.markdown_plain.specs.LeafTrees.{OpensWith}
+use Rattle.markdown_block_rules.specs.BlockGrowth as was
+use Rattle.markdown_block_rules.specs.BlockGrowth.{Block, Kind, closes}
+use Rattle.markdown_block_rules.specs.BlockRules.{block_end, in_no_item, shown_heading, shown_over, Around}
+use Rattle.markdown_block_rules.specs.LineContents.{source_lines, source_line}
+use Rattle.markdown_plain.specs.Fitting.{GoesOn, PutsBlock, closed, stepped}
+use Rattle.markdown_plain.specs.Frames.{Frame}
+use Rattle.markdown_plain.specs.LeafTrees.{HasItems, HasMoreTexts, HasTrees, OpensWith}
+use Rattle.markdown_plain.specs.OpenedFrames.{around_innermost}
+use Rattle.markdown_plain.specs.OpenLeaves.{IsOpenIn, IsPlaced, is_leaf, leaf_block, IsLineRest}
+use Rattle.markdown_plain.specs.Paragraphs.{IsPlacedTo}
+use Rattle.markdown_plain.specs.Settled.{IsBuilt}
+use Rattle.markdown_plain.specs.CodeLines.{after_line, whole_of}
+use Rattle.markdown_plain.specs.HeldSources.{IsHeld}
+use Rattle.markdown_plain.proofs.LeafTreesLemmas.{lines_append, no_text, on_test}
+use Rattle.markdown_plain.proofs.LeavesInPlaceLemmas.{closed_leaf, shown_of_kind, filled_leaf, has_its_text, is_some}
+use Rattle.markdown_plain.proofs.LeavesInPlaceLemmas.{more_in_first, names_text, opened_leaf, shown_alone, shown_leaf}
+use Rattle.markdown_plain.proofs.LeavesInPlaceLemmas.{whole_leaf}
 
 -- this is a leaf, by its kind
 pub kind_is_leaf : (b : Block) (kind : Kind) → b.kind ≡ kind → is_leaf kind ≡ true → is_leaf b.kind ≡ true
@@ -167,7 +154,7 @@ pub record IsLined (s : Source) (kind : Kind) (body : ItemBody) (text : Option (
 abbrev pub grown_to : Block → ℕ → Kind → Block
 grown_to b to kind = record b { last = to; kind = kind }
 
-pub more_lines_added : (s : Source) (old new : BuilderView) (frames : List Frame) (inside : Forest Block) (b : Block)
+more_lines_added : (s : Source) (old new : BuilderView) (frames : List Frame) (inside : Forest Block) (b : Block)
     (kind now : Kind) (body : ItemBody) (text : Option (List ℕ)) (line : ItemBody) (before lines : List SourceLine)
     → IsLined s kind body text line before → IsLined s now body text line (before ++ lines) → b.kind ≡ kind
     → GoesOn old new new.at → HasMoreTexts old new → HasItems old new (source_lines line lines)

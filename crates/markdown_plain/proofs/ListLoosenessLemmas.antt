@@ -59,7 +59,7 @@ one_of_four true b c d = refl
 one_of_four false true c d = refl
 one_of_four false false c d = refl
 
-one_of_three : (a b d : Bool) → ((a || d) || (b || false)) ≡ ((a || b) || d)
+pub one_of_three : (a b d : Bool) → ((a || d) || (b || false)) ≡ ((a || b) || d)
 one_of_three true b d = refl
 one_of_three false true true = refl
 one_of_three false true false = refl

@@ -5,15 +5,16 @@ use Rattle.std.specs.Prelude.{◌||◌, if◌then◌else◌}
 use Rattle.std.proofs.Math.Bool.{and-false, and-true, or-false, or-true, or_assoc}
 use Rattle.std.proofs.lemmas.Bool.{true≢false}
 use Rattle.markdown_base.specs.Forest.{Forest, nil, node}
+use Rattle.markdown_builder.specs.TreeLevels.{followed_by}
 use Rattle.markdown_block_rules.specs.BlockGrowth as was
-use Rattle.markdown_block_rules.specs.BlockGrowth.{Block, Kind, is_nil}
+use Rattle.markdown_block_rules.specs.BlockGrowth.{Block, Kind}
 use Rattle.markdown_block_rules.specs.BlockRules.{are_separated, block_ends_blank, ends_blank, hold_separated}
 use Rattle.markdown_block_rules.specs.BlockRules.{holds_block, is_blank_block, is_loose}
-use Rattle.markdown_builder.specs.TreeLevels.{followed_by}
-use Rattle.markdown_plain.proofs.FramesLemmas.{rebuilt_in}
 use Rattle.markdown_plain.specs.Frames.{AreNested, Frame, forgotten, innermost_is, is_item, is_list, rebuilt}
-use Rattle.markdown_plain.proofs.FramesInsideLemmas.{innermost_in, item_no_list, list_no_item}
 use Rattle.markdown_plain.specs.Settled.{IsOneBlock, are_loose}
+use Rattle.markdown_plain.proofs.FramesInsideLemmas.{item_no_list, list_no_item}
+use Rattle.markdown_plain.proofs.FramesLemmas.{innermost_inner, rebuilt_in}
+use Rattle.markdown_plain.proofs.ListLoosenessLemmas.{one_of_three}
 
 -- ---- blocks after others
 
@@ -140,19 +141,12 @@ same_deeper : (f g : Frame) (inside now : Forest Block)
 same_deeper f g inside now =
     same_last f (forgotten g inside) (forgotten g now) (closed_separated g inside ∙ sym (closed_separated g now))
 
-three : (a b d : Bool) → ((a || d) || (b || false)) ≡ ((a || b) || d)
-three true b d = refl
-three false true true = refl
-three false true false = refl
-three false false true = refl
-three false false false = refl
-
 -- a list with one more item, which is empty so far, is loose where it was, or where it ended with a blank line
 pub loose_with_item : (inside : Forest Block) (item : Block) → is_blank_block item.kind ≡ false
     → is_loose (followed_by inside (node item nil nil)) ≡ (is_loose inside || ends_blank false inside)
 loose_with_item inside item block =
     rw (one_separated inside (node item nil nil) (block, refl), hold_more inside (node item nil nil))
-    (three (are_separated inside) (hold_separated inside) (ends_blank false inside))
+    (one_of_three (are_separated inside) (hold_separated inside) (ends_blank false inside))
 
 -- ---- the open lists
 
@@ -210,12 +204,12 @@ pub by_list : (frames : List Frame) → AreNested frames → innermost_is is_lis
 by_list [] nested list = absurd (true≢false (sym list))
 by_list (f ∷ []) nested list = record { outer = []; is = λ inside. ap (λ b. listed b (is_loose inside) []) list }
 by_list (f ∷ g ∷ []) nested list =
-    let inner = sym (innermost_in is_list f g []) ∙ list in
+    let inner = sym (innermost_inner is_list f g []) ∙ list in
     around f g [] is_loose (λ other. absurd (true≢false (sym other ∙ (nested.0 ∙ list_no_item g.block.kind inner))))
     (by_list (g ∷ []) nested.1 inner)
 by_list (f ∷ g ∷ h ∷ frames) nested list =
     around f g (h ∷ frames) is_loose (λ other inside. same_deeper g h (rebuilt frames inside) (rebuilt frames nil))
-    (by_list (g ∷ h ∷ frames) nested.1 (sym (innermost_in is_list f g (h ∷ frames)) ∙ list))
+    (by_list (g ∷ h ∷ frames) nested.1 (sym (innermost_inner is_list f g (h ∷ frames)) ∙ list))
 
 -- the innermost container is an item, in a list
 pub record ByItem (frames : List Frame) : Type 0 where
@@ -225,7 +219,7 @@ pub record ByItem (frames : List Frame) : Type 0 where
 pub by_item : (f g : Frame) (frames : List Frame) → AreNested (f ∷ g ∷ frames)
     → innermost_is is_item (f ∷ g ∷ frames) ≡ true → ByItem (f ∷ g ∷ frames)
 by_item f g [] nested item =
-    let inner = sym (innermost_in is_item f g []) ∙ item in
+    let inner = sym (innermost_inner is_item f g []) ∙ item in
     record {
       item = g;
       by = record {
@@ -237,7 +231,7 @@ by_item f g [] nested item =
       };
     }
 by_item f g (h ∷ frames) nested item =
-    let inner = by_item g h frames nested.1 (sym (innermost_in is_item f g (h ∷ frames)) ∙ item) in
+    let inner = by_item g h frames nested.1 (sym (innermost_inner is_item f g (h ∷ frames)) ∙ item) in
     record {
       item = inner.item;
       by = around f g (h ∷ frames) (λ inside. is_loose (forgotten inner.item inside))
@@ -252,13 +246,13 @@ by_other [] nested list item inside now = refl
 by_other (f ∷ []) nested list item inside now =
     ap (λ b. listed b (is_loose inside) []) list ∙ sym (ap (λ b. listed b (is_loose now) []) list)
 by_other (f ∷ g ∷ []) nested list item inside now =
-    let inner = sym (innermost_in is_item f g []) ∙ item in
+    let inner = sym (innermost_inner is_item f g []) ∙ item in
     ap (λ b. listed b (is_loose (forgotten g inside)) (are_loose (g ∷ []) inside)) (nested.0 ∙ inner)
-    ∙ (by_other (g ∷ []) nested.1 (sym (innermost_in is_list f g []) ∙ list) inner inside now
+    ∙ (by_other (g ∷ []) nested.1 (sym (innermost_inner is_list f g []) ∙ list) inner inside now
     ∙ sym (ap (λ b. listed b (is_loose (forgotten g now)) (are_loose (g ∷ []) now)) (nested.0 ∙ inner)))
 by_other (f ∷ g ∷ h ∷ frames) nested list item inside now =
     ap (λ loose. listed (is_list f.block.kind) loose (are_loose (g ∷ h ∷ frames) inside))
     (same_deeper g h (rebuilt frames inside) (rebuilt frames now))
     ∙ ap (listed (is_list f.block.kind) (is_loose (rebuilt (g ∷ h ∷ frames) now)))
-    (by_other (g ∷ h ∷ frames) nested.1 (sym (innermost_in is_list f g (h ∷ frames)) ∙ list)
-    (sym (innermost_in is_item f g (h ∷ frames)) ∙ item) inside now)
+    (by_other (g ∷ h ∷ frames) nested.1 (sym (innermost_inner is_list f g (h ∷ frames)) ∙ list)
+    (sym (innermost_inner is_item f g (h ∷ frames)) ∙ item) inside now)

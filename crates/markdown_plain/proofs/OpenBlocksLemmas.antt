@@ -1,9 +1,11 @@
 -- The open blocks, where one was opened and where the innermost is closed or replaced.
-use Rattle.std.proofs.Common.{◌≡◌, ℕ, zero, suc, ◌-◌, ◌<◌, List, [], ◌∷◌, ◌++◌, Some, length, take, refl, ap, arith}
+use Rattle.std.proofs.Common.{◌≡◌, ℕ, zero, suc, ◌-◌, ◌<◌, true, false, List, [], ◌∷◌, ◌++◌, Some, length, take, refl}
+use Rattle.std.proofs.Common.{ap, ◌∙◌, arith}
+use Rattle.std.specs.Prelude.{if◌then◌else◌}
 use native.Mathlib.Numerals.{unary_clauses}
 use Rattle.markdown_builder.specs.declared.open_block.OpenBlock.{OpenBlock}
-use Rattle.markdown_builder.specs.BuilderView.{innermost_block}
-use Rattle.markdown_plain.specs.OpenBlocks.{outer_of}
+use Rattle.markdown_builder.specs.BuilderView.{BuilderView, innermost_block}
+use Rattle.markdown_plain.specs.OpenBlocks.{outer_of, without_leaf}
 
 -- the blocks before the last one are those outside it
 pub outer_of_opened : (outer : List OpenBlock) (block : OpenBlock) → outer_of (outer ++ block ∷ []) ≡ outer
@@ -16,6 +18,16 @@ outer_of_opened (first ∷ second ∷ outer) block = ap (λ blocks. first ∷ bl
 pub outer_of_these : (blocks outer : List OpenBlock) (block : OpenBlock) → blocks ≡ outer ++ block ∷ []
     → outer_of blocks ≡ outer
 outer_of_these blocks outer block e = rw e (outer_of_opened outer block)
+
+-- no leaf is open, so that the open blocks are those without one
+pub outside_leaf : (view : BuilderView) → view.leaf ≡ false → without_leaf view ≡ view.blocks
+outside_leaf view outside = ap (λ leaf. if leaf then outer_of view.blocks else view.blocks) outside
+
+-- those around an open leaf
+pub around_leaf : (view : BuilderView) (outer : List OpenBlock) (block : OpenBlock) → view.leaf ≡ true
+    → view.blocks ≡ outer ++ block ∷ [] → without_leaf view ≡ outer
+around_leaf view outer block leaf is =
+    ap (λ leaf. if leaf then outer_of view.blocks else view.blocks) leaf ∙ outer_of_these view.blocks outer block is
 
 -- the last block is the innermost
 pub innermost_of_opened : (outer : List OpenBlock) (block : OpenBlock)

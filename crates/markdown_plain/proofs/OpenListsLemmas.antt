@@ -1,26 +1,29 @@
 -- What the pass remembers of lists, as a block is added, and as containers are opened and closed.
-use Rattle.std.proofs.Common.{◌≡◌, ℕ, ◌+◌, List, [], ◌∷◌, ◌++◌, Bool, true, false, ◌&&◌, ◌||◌, not, refl, sym, ap, ◌∙◌}
-use Rattle.std.proofs.Common.{Option, Some, None, length, subst, arith, append-nil, if◌then◌else◌}
+use Rattle.std.proofs.Common.{◌≡◌, ℕ, ◌+◌, List, [], ◌∷◌, ◌++◌, Bool, true, false, ◌&&◌, ◌||◌, not, refl, sym, ap}
+use Rattle.std.proofs.Common.{◌∙◌, Option, Some, None, length, subst, arith, append-nil, if◌then◌else◌}
 use Rattle.std.proofs.Math.Bool.{or-false, or-true}
 use Rattle.std.proofs.lemmas.Bool.{true≢false}
 use Rattle.markdown_base.specs.Forest.{Forest, nil, node}
-use Rattle.markdown_block_rules.specs.BlockGrowth as was
-use Rattle.markdown_block_rules.specs.BlockGrowth.{Block, Kind, is_nil}
-use Rattle.markdown_block_rules.specs.BlockRules.{are_separated, block_ends_blank, ends_blank}
-use Rattle.markdown_block_rules.specs.BlockRules.{is_blank_block, is_loose}
 use Rattle.markdown_builder.specs.declared.open_block.OpenBlock.{OpenBlock}
 use Rattle.markdown_builder.specs.TreeLevels.{followed_by}
-use Rattle.markdown_plain.proofs.FramesInsideLemmas.{as_many_frames, inner_item_no_quote}
-use Rattle.markdown_plain.proofs.FramesInsideLemmas.{inner_list_no_quote, innermost_in, item_no_list, item_of_open}
-use Rattle.markdown_plain.proofs.LooseFramesLemmas.{by_item, by_list, by_other, loose_last, loose_more}
-use Rattle.markdown_plain.proofs.LooseFramesLemmas.{loose_with_item, one_separated, same_last}
-use Rattle.markdown_plain.specs.Frames.{AreNested, Frame, forgotten, innermost_is, is_item, is_list, is_quote, rebuilt}
+use Rattle.markdown_block_rules.specs.BlockGrowth as was
+use Rattle.markdown_block_rules.specs.BlockGrowth.{Block, Kind, is_nil}
+use Rattle.markdown_block_rules.specs.BlockRules.{are_separated, block_ends_blank, ends_blank, is_blank_block}
+use Rattle.markdown_block_rules.specs.BlockRules.{is_loose}
+use Rattle.markdown_plain.specs.Frames.{AreNested, Frame, forgotten, innermost_is, is_item, is_list, is_quote}
+use Rattle.markdown_plain.specs.Frames.{rebuilt}
 use Rattle.markdown_plain.specs.ListLooseness as body
 use Rattle.markdown_plain.specs.ListLooseness.{is_after_blank}
 use Rattle.markdown_plain.specs.OpenBlocks as block
 use Rattle.markdown_plain.specs.Settled.{AreOpen, BlanksKnown, EmptyKnown, EmptyKnownIn, IsLooseAs, IsLooseBefore}
 use Rattle.markdown_plain.specs.Settled.{IsOneBlock, are_loose, is_blank_in}
 use Rattle.markdown_plain.specs.declared.looseness.Looseness.{Looseness}
+use Rattle.markdown_plain.proofs.ClosedFramesLemmas.{as_many_open}
+use Rattle.markdown_plain.proofs.FramesInsideLemmas.{inner_item_no_quote, inner_list_no_quote, item_no_list}
+use Rattle.markdown_plain.proofs.FramesInsideLemmas.{item_of_open}
+use Rattle.markdown_plain.proofs.FramesLemmas.{innermost_inner}
+use Rattle.markdown_plain.proofs.LooseFramesLemmas.{by_item, by_list, by_other, loose_last, loose_more}
+use Rattle.markdown_plain.proofs.LooseFramesLemmas.{loose_with_item, one_separated, same_last}
 
 -- ---- what is known of the innermost container
 
@@ -33,7 +36,7 @@ empty_item empty (f ∷ []) inside item known = in_item f.block.kind item known
     in_item (was.item_container indent) is this = this
     in_item other is this = absurd (true≢false (sym is))
 empty_item empty (f ∷ g ∷ frames) inside item known =
-    empty_item empty (g ∷ frames) inside (sym (innermost_in is_item f g frames) ∙ item) known
+    empty_item empty (g ∷ frames) inside (sym (innermost_inner is_item f g frames) ∙ item) known
 
 -- it ends with a blank line, where it is known from a number of blocks outside on
 blank_inner : (from : Option ℕ) (outside : ℕ) (f : Frame) (frames : List Frame) (inside : Forest Block)
@@ -42,7 +45,7 @@ blank_inner : (from : Option ℕ) (outside : ℕ) (f : Frame) (frames : List Fra
 blank_inner from outside f [] inside other known = known.0 other
 blank_inner from outside f (g ∷ frames) inside other known =
     ap (is_blank_in from) (omega arith)
-    ∙ blank_inner from (outside + 1) g frames inside (sym (innermost_in is_quote f g frames) ∙ other) known.1
+    ∙ blank_inner from (outside + 1) g frames inside (sym (innermost_inner is_quote f g frames) ∙ other) known.1
 
 after_blank : (from : Option ℕ) (blocks : List OpenBlock)
     → is_after_blank from blocks ≡ is_blank_in from (length blocks)
@@ -54,7 +57,7 @@ blank_in_blocks : (from : Option ℕ) (texts : List (List ℕ)) (blocks : List O
     (inside : Forest Block) → AreOpen texts blocks (f ∷ frames) → innermost_is is_quote (f ∷ frames) ≡ false
     → BlanksKnown from 0 (f ∷ frames) inside → is_after_blank from blocks ≡ ends_blank false inside
 blank_in_blocks from texts blocks f frames inside these other known =
-    after_blank from blocks ∙ (ap (is_blank_in from) (as_many_frames texts blocks (f ∷ frames) these)
+    after_blank from blocks ∙ (ap (is_blank_in from) (as_many_open texts blocks (f ∷ frames) these)
     ∙ (ap (is_blank_in from) (omega arith) ∙ blank_inner from 0 f frames inside other known))
 
 -- ---- a block, and an item, in the innermost container

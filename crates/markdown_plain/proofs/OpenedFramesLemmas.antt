@@ -1,7 +1,7 @@
 -- A container that is opened: one more frame, and nothing else of the tree changes.
-use Rattle.std.proofs.Common.{◌≡◌, ℕ, zero, suc, Bool, true, false, List, [], ◌∷◌, ◌++◌, Some, refl, sym, ap}
-use Rattle.std.proofs.Common.{◌∙◌, ◌-◌, ◌<◌, ◌≤◌, Option, None, length, take, drop, take_all, length-take-le}
-use Rattle.std.proofs.Common.{subst, arith, append-nil}
+use Rattle.std.proofs.Common.{◌≡◌, ℕ, zero, suc, Bool, true, false, List, [], ◌∷◌, ◌++◌, Some, refl, sym, ap, ◌∙◌}
+use Rattle.std.proofs.Common.{◌-◌, ◌<◌, ◌≤◌, Option, None, length, take, drop, take_all, length-take-le, subst, arith}
+use Rattle.std.proofs.Common.{append-nil}
 use Rattle.std.specs.Prelude.{◌==◌, slice_get, Result, Ok, Err}
 use Rattle.std.specs.Result.{IfOk}
 use Rattle.std.proofs.lemmas.List.{drop_all}
@@ -15,13 +15,14 @@ use Rattle.markdown_base.specs.declared.tag.BlockQuoteKind.{BlockQuoteKind}
 use Rattle.markdown_builder.specs.declared.open_block.OpenBlock.{OpenBlock}
 use Rattle.markdown_builder.specs.Bodies.{is_leaf}
 use Rattle.markdown_builder.specs.BuilderView.{BuilderView, Opens, OpensNaming}
+use Rattle.markdown_scan.specs.Entity.{entity_names}
 use Rattle.markdown_lines.specs.BlockBeginnings.{Source}
+use Rattle.markdown_lines.specs.DefinitionRules.{divided, divided_in}
+use Rattle.markdown_lines.specs.declared.list_marker.ListMarker.{ListMarker}
 use Rattle.markdown_block_rules.specs.BlockGrowth as was
 use Rattle.markdown_block_rules.specs.BlockGrowth.{Block, Kind}
-use Rattle.markdown_block_rules.specs.BlockRules.{definitions_in, footnotes_in, in_no_item, label_of}
-use Rattle.markdown_block_rules.specs.BlockRules.{paragraph_lines, shown_blocks}
-use Rattle.markdown_lines.specs.DefinitionRules.{divided, divided_in}
-use Rattle.markdown_scan.specs.Entity.{entity_names}
+use Rattle.markdown_block_rules.specs.BlockRules.{definitions_in, footnotes_in, in_no_item, label_of, paragraph_lines}
+use Rattle.markdown_block_rules.specs.BlockRules.{shown_blocks}
 use Rattle.markdown_plain.specs.Fitting.{stepped}
 use Rattle.markdown_plain.specs.Frames.{AreNested, Frame, forgotten, innermost_is, is_item, is_list, rebuilt}
 use Rattle.markdown_plain.specs.Frames.{room_depth}
@@ -29,10 +30,10 @@ use Rattle.markdown_plain.specs.Settled.{AreOpen, IsBodyOf, IsBuilt, IsOpen, lev
 use Rattle.markdown_plain.specs.OpenedFrames.{is_list_for, quote_kind, with_frame, with_item, with_list}
 use Rattle.markdown_plain.specs.NewContainers.{is_list_of}
 use Rattle.markdown_plain.specs.OpenBlocks as own
-use Rattle.markdown_lines.specs.declared.list_marker.ListMarker.{ListMarker}
 use Rattle.markdown_plain.proofs.AppendedBlocksLemmas.{definitions_appended, footnotes_appended, open_after}
 use Rattle.markdown_plain.proofs.ClosedFramesLemmas.{as_many_open, last_kept, levels_parted}
-use Rattle.markdown_plain.proofs.FramesLemmas.{rebuilt_more}
+use Rattle.markdown_plain.proofs.FramesInsideLemmas.{inner_last}
+use Rattle.markdown_plain.proofs.FramesLemmas.{innermost_inner, rebuilt_more}
 use Rattle.markdown_plain.proofs.LeafTreesLemmas.{get_last, on_test}
 
 -- ---- one more frame
@@ -42,19 +43,7 @@ levels_more : (s : Source) (frames : List Frame) (f : Frame)
 unfolding shown_blocks
 levels_more s frames f = levels_parted s in_no_item frames f nil
 
--- the innermost of at least two
-innermost_inside : (test : Kind → Bool) (f g : Frame) (frames : List Frame)
-    → innermost_is test (f ∷ g ∷ frames) ≡ innermost_is test (g ∷ frames)
-innermost_inside test f g frames = simp unary_clauses refl
-
-pub innermost_of_more : (test : Kind → Bool) (frames : List Frame) (f : Frame)
-    → innermost_is test (frames ++ f ∷ []) ≡ test f.block.kind
-innermost_of_more test [] f = refl
-innermost_of_more test (g ∷ []) f = innermost_inside test g f []
-innermost_of_more test (g ∷ h ∷ frames) f =
-    innermost_inside test g h (frames ++ f ∷ []) ∙ innermost_of_more test (h ∷ frames) f
-
-nested_taken : (n : ℕ) (frames : List Frame) → AreNested frames → AreNested (take n frames)
+pub nested_taken : (n : ℕ) (frames : List Frame) → AreNested frames → AreNested (take n frames)
 nested_taken zero frames nested = tt
 nested_taken (suc n) [] nested = tt
 nested_taken (suc n) (f ∷ []) nested = single n
@@ -75,14 +64,14 @@ list_outside (g ∷ []) f list nested = nested.0 ∙ no_item f.block.kind list
     no_item (was.item_container indent) e = absurd (true≢false (sym e))
     no_item other e = refl
 list_outside (g ∷ h ∷ frames) f list nested =
-    innermost_inside is_list g h frames ∙ list_outside (h ∷ frames) f list nested.1
+    innermost_inner is_list g h frames ∙ list_outside (h ∷ frames) f list nested.1
 
 nested_more : (frames : List Frame) (f : Frame) → innermost_is is_list frames ≡ is_item f.block.kind
     → AreNested frames → AreNested (frames ++ f ∷ [])
 nested_more [] f fits nested = tt
 nested_more (g ∷ []) f fits nested = (fits, tt)
 nested_more (g ∷ h ∷ frames) f fits nested =
-    (nested.0, nested_more (h ∷ frames) f (sym (innermost_inside is_list g h frames) ∙ fits) nested.1)
+    (nested.0, nested_more (h ∷ frames) f (sym (innermost_inner is_list g h frames) ∙ fits) nested.1)
 
 -- ---- the open blocks
 
@@ -125,7 +114,7 @@ own_label : (b : Block) → footnotes_in (node b nil nil) ≡ label_of b.kind
 unfolding footnotes_in
 own_label b = append-nil (label_of b.kind)
 
-pub opened_is_built : (s : Source) (old new : BuilderView) (frames : List Frame) (inside : Forest Block) (b : Block)
+opened_is_built : (s : Source) (old new : BuilderView) (frames : List Frame) (inside : Forest Block) (b : Block)
     → OpensContainer old new b → innermost_is is_list frames ≡ is_item b.kind → IsBuilt s old frames inside
     → IsBuilt s new (with_frame frames inside b) nil
 opened_is_built s old new frames inside b opens fits built =
@@ -224,7 +213,7 @@ innermost_alike test is alike texts (block ∷ []) (f ∷ g ∷ frames) are = ab
 innermost_alike test is alike texts (block ∷ inner ∷ blocks) (f ∷ []) are = absurd are.1
 innermost_alike test is alike texts (block ∷ inner ∷ blocks) (f ∷ g ∷ frames) are =
     block_inside test block inner blocks
-    ∙ (innermost_alike test is alike texts (inner ∷ blocks) (g ∷ frames) are.1 ∙ sym (innermost_inside is f g frames))
+    ∙ (innermost_alike test is alike texts (inner ∷ blocks) (g ∷ frames) are.1 ∙ sym (innermost_inner is f g frames))
   where
     block_inside : (test : ItemBody → Bool) (block inner : OpenBlock) (blocks : List OpenBlock)
         → own.innermost_is test (block ∷ inner ∷ blocks) ≡ own.innermost_is test (inner ∷ blocks)
@@ -300,8 +289,8 @@ list_for_item marker (f ∷ []) e = is f.block.kind e
     is (was.list_container found) e = refl
     is other e = absurd (true≢false (sym e))
 list_for_item marker (f ∷ g ∷ frames) e =
-    innermost_inside is_list f g frames
-    ∙ list_for_item marker (g ∷ frames) (sym (innermost_inside (is_list_for marker) f g frames) ∙ e)
+    innermost_inner is_list f g frames
+    ∙ list_for_item marker (g ∷ frames) (sym (innermost_inner (is_list_for marker) f g frames) ∙ e)
 
 -- a list is not the innermost of none
 list_among : (frames : List Frame) → innermost_is is_list frames ≡ true → 0 < length frames
@@ -324,7 +313,7 @@ room_is_free depth frames few nested =
         let taken : take depth frames ≡ take (depth - 1) frames ++ last.f ∷ [] =
         ap (λ n. take n frames) (sym next) ∙ last.taken in
         list_outside (take (depth - 1) frames) last.f
-        (sym (ap (innermost_is is_list) taken ∙ innermost_of_more is_list (take (depth - 1) frames) last.f) ∙ list)
+        (sym (ap (innermost_is is_list) taken ∙ inner_last is_list (take (depth - 1) frames) last.f) ∙ list)
         (subst AreNested taken (nested_taken depth frames nested))
 
 -- all of some containers
@@ -368,6 +357,6 @@ item_placed P marker list item frames inside goes_on begins changes =
     (innermost_is is_list (take (length frames) frames)) (length frames - 1) (length frames)
     (λ taken. let is = sym (ap (innermost_is is_list) all) ∙ taken in
     last_taken there frames (list_among frames is) (λ outer f whole. changes outer f whole
-    (sym (ap (innermost_is is_list) whole ∙ innermost_of_more is_list outer f) ∙ is)
-    (sym (ap (innermost_is (is_list_for marker)) whole ∙ innermost_of_more (is_list_for marker) outer f) ∙ other)))
+    (sym (ap (innermost_is is_list) whole ∙ inner_last is_list outer f) ∙ is)
+    (sym (ap (innermost_is (is_list_for marker)) whole ∙ inner_last (is_list_for marker) outer f) ∙ other)))
     (λ none. all_taken there frames (begins (sym (ap (innermost_is is_list) all) ∙ none))))

@@ -1,6 +1,6 @@
 -- The braces at the end of a heading's lines, and the task marker before the first.
-use Rattle.std.proofs.Common.{◌≡◌, ℕ, zero, suc, ◌+◌, ◌-◌, ◌<◌, Bool, true, false, List, [], ◌∷◌, Option}
-use Rattle.std.proofs.Common.{Some, None, length, take, drop, slice_range, refl, sym, ap, ◌∙◌, subst, arith}
+use Rattle.std.proofs.Common.{◌≡◌, ℕ, zero, suc, ◌+◌, ◌-◌, ◌<◌, Bool, true, false, List, [], ◌∷◌, Option, Some, None}
+use Rattle.std.proofs.Common.{length, take, drop, slice_range, refl, sym, ap, ◌∙◌, subst, arith}
 use Rattle.std.specs.Prelude.{get_or, slice_get, slice_index, ◌==◌, if◌then◌else◌}
 use Rattle.std.specs.Option.{is_some, option_map}
 use Rattle.std.specs.Str.{IsCharBoundary, IsUtf8}
@@ -24,19 +24,15 @@ use Rattle.markdown_lines.specs.TaskMarkers.{task_marker, task_read}
 use Rattle.markdown_lines.specs.declared.braces.Braces.{Braces}
 use Rattle.markdown_lines.specs.declared.held_line.HeldLine.{HeldLine}
 use Rattle.markdown_block_rules.specs.BlockRules.{before_braces, items_after_task, last_braces, paragraph_items}
-use Rattle.markdown_plain.proofs.ParagraphLinesLemmas.{if_some, marker_before_brace, on_false, range_byte}
 use Rattle.markdown_plain.specs.Closable.{HasBraces}
 use Rattle.markdown_plain.specs.Fitting.{BracesStand}
 use Rattle.markdown_plain.specs.HeldSources.{AreTextLines, IsTextLine}
 use Rattle.markdown_plain.specs.ParagraphItems.{BeginWithTask, OpenInLast, heading_braces, text_items}
 use Rattle.markdown_plain.specs.Paragraphs.{first_task}
+use Rattle.markdown_plain.proofs.DefinitionEndsLemmas.{some_if}
+use Rattle.markdown_plain.proofs.ParagraphLinesLemmas.{if_some, marker_before_brace, on_false, range_byte}
 
 -- ---- where braces are
-
-some_if : {A : Type 0} (test : Bool) (value : Option A) (a : A) → (if test then value else None) ≡ Some a
-    → (test ≡ true) × (value ≡ Some a)
-some_if true value a e = (refl, e)
-some_if false value a e = absurd (grind (arith, e))
 
 taken_within : (n : ℕ) (bytes : List ℕ) (k byte : ℕ) → 0 < byte → slice_index (take n bytes) k ≡ byte
     → k < length (take n bytes)
@@ -138,10 +134,6 @@ braces_within text line utf8 = of_found (braces_in bytes) refl
         )
 
 -- ---- the last line
-
-line_braces : Options → ℕ → List ℕ → Option Braces
-line_braces options start bytes =
-    if attributes_read options then option_map (braces_from start) (braces_in bytes) else None
 
 last_of : (options : Options) (text : List ℕ) (lines : List HeldLine) (sources : List SourceLine) (from k : ℕ)
     (line : HeldLine) → AreTextLines text lines sources → from < length lines → k + 1 ≡ length lines

@@ -229,7 +229,7 @@ no_longer test zero (b ∷ bytes) less stops = sym (ap (λ t. cond t (1 + prefix
 no_longer test (suc n) (b ∷ bytes) less stops =
     ap (λ k. cond (test b) (1 + k) 0) (no_longer test n bytes (omega (arith, less)) stops)
 
-pub byte_within : (bytes : List ℕ) (k : ℕ) → slice_index bytes k ≡ open_brace → k < length bytes
+byte_within : (bytes : List ℕ) (k : ℕ) → slice_index bytes k ≡ open_brace → k < length bytes
 byte_within [] k e = absurd (omega (arith, e))
 byte_within (b ∷ bytes) zero e = omega arith
 byte_within (b ∷ bytes) (suc k) e = let more = byte_within bytes k e in omega (arith, more)

@@ -1,6 +1,6 @@
 -- A paragraph, or the heading that it turned out to be, as the last block in the innermost open container.
-use Rattle.std.proofs.Common.{◌≡◌, ◌∙◌, ℕ, Bool, true, false, List, [], ◌∷◌, ◌++◌, Option, Some, None}
-use Rattle.std.proofs.Common.{append-nil, arith, drop, length, not, refl, sym, ap, true≢false}
+use Rattle.std.proofs.Common.{◌≡◌, ◌∙◌, ℕ, Bool, true, false, List, [], ◌∷◌, ◌++◌, Option, Some, None, append-nil}
+use Rattle.std.proofs.Common.{arith, drop, length, not, refl, sym, ap, true≢false}
 use Rattle.std.specs.Prelude.{nat_lt, ◌==◌, if◌then◌else◌}
 use Rattle.std.proofs.lemmas.Bool.Decides.{nat_tests}
 use Rattle.std.proofs.lemmas.List.{length-drop}
@@ -11,13 +11,13 @@ use Rattle.markdown_builder.specs.BuilderView.{BuilderView}
 use Rattle.markdown_builder.specs.Shown.{Shown}
 use Rattle.markdown_builder.specs.TreeLevels.{followed_by, with_trees}
 use Rattle.markdown_builder.proofs.LaidLemmas.{followed_by-nil}
+use Rattle.markdown_scan.specs.Entity.{entity_names}
 use Rattle.markdown_lines.specs.BlockBeginnings.{Source}
 use Rattle.markdown_lines.specs.DefinitionRules.{divided}
 use Rattle.markdown_lines.specs.SourceLines.{SourceLine}
 use Rattle.markdown_lines.specs.declared.line.Line.{Line}
-use Rattle.markdown_scan.specs.Entity.{entity_names}
 use Rattle.markdown_block_rules.specs.BlockGrowth as was
-use Rattle.markdown_block_rules.specs.BlockGrowth.{Block, Kind}
+use Rattle.markdown_block_rules.specs.BlockGrowth.{Block}
 use Rattle.markdown_block_rules.specs.BlockRules.{Around, block_end, definitions_in, footnotes_in, in_no_item}
 use Rattle.markdown_block_rules.specs.BlockRules.{is_blank_block, label_of, paragraph_body, paragraph_lines}
 use Rattle.markdown_block_rules.specs.BlockRules.{shown_block, shown_blocks, shown_setext, shown_text}
@@ -28,25 +28,17 @@ use Rattle.markdown_plain.specs.LeafTrees.{HasMoreTexts, HasTrees}
 use Rattle.markdown_plain.specs.OpenLeaves.{HoldsParagraph, IsPlaced, ended_block, leaf_block}
 use Rattle.markdown_plain.specs.OpenedFrames.{around_innermost}
 use Rattle.markdown_plain.specs.Paragraphs.{IsPlacedTo, divided_of, lines_end, paragraph_end, shown_ended, source_of}
-use Rattle.markdown_plain.specs.Settled.{IsBuilt, around_in, levels_shown, placed_end}
+use Rattle.markdown_plain.specs.Settled.{IsBuilt, around_in, placed_end}
 use Rattle.markdown_plain.proofs.AppendedBlocksLemmas.{appended_is_built, end_appended}
+use Rattle.markdown_plain.proofs.ClosedFramesLemmas.{none_tight, some_level}
 
 -- ---- what is around a block in an open container
-
-never_tight : (b : Block) (kind : Kind) → (around_in b kind).tight ≡ false
-never_tight b (was.item_container indent) = refl
-never_tight b other = refl
 
 still_loose : (around : Around) (frames : List Frame) → around.tight ≡ false
     → (around_innermost around frames).tight ≡ false
 still_loose around [] loose = loose
 still_loose around (f ∷ frames) loose =
-    still_loose (around_in f.block f.block.kind) frames (never_tight f.block f.block.kind)
-
-some_level : (s : Source) (around : Around) (frames : List Frame) (inside : Forest Block)
-    → levels_shown s around frames inside ≡ [] → ⊥
-some_level s around [] inside e = cc (e)
-some_level s around (f ∷ frames) inside e = cc (e)
+    still_loose (around_in f.block f.block.kind) frames (none_tight f.block f.block.kind)
 
 -- ---- a leaf that is made of lines
 

@@ -1,6 +1,6 @@
 -- What the pass has placed with a line of text: a paragraph with one more line, or one that begins.
-use Rattle.std.proofs.Common.{◌≡◌, ℕ, zero, suc, ◌≤◌, false, List, [], ◌∷◌, ◌++◌, Some, None}
-use Rattle.std.proofs.Common.{arith, length, map, take, drop, refl, sym, ap, ◌∙◌, subst, true≢false}
+use Rattle.std.proofs.Common.{◌≡◌, ℕ, ◌≤◌, false, List, [], ◌∷◌, ◌++◌, Some, None, arith, length, map, take, drop}
+use Rattle.std.proofs.Common.{refl, sym, ap, ◌∙◌, subst, true≢false}
 use Rattle.std.specs.Prelude.{slice_range}
 use Rattle.markdown_base.specs.Forest.{Forest}
 use Rattle.markdown_builder.specs.TreeLevels.{followed_by}
@@ -30,7 +30,7 @@ use Rattle.markdown_plain.specs.TextLines.{IsContentAt, held_line, text_block, w
 use Rattle.markdown_plain.proofs.AddedTextLemmas.{GoesAs, loose_as_leaf, loose_with_leaf, paragraph_line}
 use Rattle.markdown_plain.proofs.BegunLemmas.{IsLeftOf, block_begun, item_begun}
 use Rattle.markdown_plain.proofs.BlanksKnownLemmas.{same_touched}
-use Rattle.markdown_plain.proofs.HeldTextLemmas.{begins_block, comes_after, ends_after, none_opened}
+use Rattle.markdown_plain.proofs.HeldTextLemmas.{begins_block, comes_after, ends_after}
 use Rattle.markdown_plain.proofs.ItemsInListsLemmas.{line_keeps}
 use Rattle.markdown_plain.proofs.LastBlocksLemmas.{open_are_containers}
 use Rattle.markdown_plain.proofs.LooseFramesLemmas.{ends_more}
@@ -38,7 +38,8 @@ use Rattle.markdown_plain.proofs.ReadyPlacesLemmas.{no_frames}
 use Rattle.markdown_plain.proofs.ReadyTextsLemmas.{BeginsReady, begun_ready, further_ready, none_left}
 use Rattle.markdown_plain.proofs.RoomLemmas.{begins_in_room}
 use Rattle.markdown_plain.proofs.RoomReadyLemmas.{nothing_taken}
-use Rattle.markdown_plain.proofs.TouchedFramesLemmas.{earlier_touched, holds_touched, quotes_touched}
+use Rattle.markdown_plain.proofs.TouchedFramesLemmas.{earlier_taken, not_opened, earlier_touched, holds_touched}
+use Rattle.markdown_plain.proofs.TouchedFramesLemmas.{quotes_touched}
 
 -- no blank lines are held back where no leaf is open
 abbrev pub IsUnheld : Pass → Type 0
@@ -124,11 +125,6 @@ text_added s old new line start frames inside b sources source tables stands may
 
 -- ---- a paragraph that begins
 
-earlier_taken : (from n : ℕ) (frames : List Frame) → AreOpenedBefore from frames → AreOpenedBefore from (take n frames)
-earlier_taken from zero frames earlier = tt
-earlier_taken from (suc n) [] earlier = tt
-earlier_taken from (suc n) (f ∷ frames) earlier = (earlier.0, earlier_taken from n frames earlier.1)
-
 -- a line is held back as the first one of a paragraph, in the containers where there is room for it
 pub record BeginsLine (s : Source) (new : Pass) (line : Line) (start : ℕ) (outer : List Frame) (inside : Forest Block)
     : Type 0 where
@@ -179,8 +175,7 @@ text_begun s old new line start frames inside source of same is are nested items
     (begins_block old.placing.builder.text line r.rest start at is.from) in
     placed_text s new source line outer now b (text_line r.rest ∷ []) (rebuilt frames inside) of
     (begun.first b (text_line r.rest) begins_it
-    (none_opened old.placing.builder.text line r.rest start at is.from outer
-    (earlier_taken line.start n frames earlier)))
+    (not_opened line outer after (earlier_taken line.start n frames earlier)))
     is.next (sym at.next) (omega (arith, after)) (earlier_taken line.start n frames earlier) begun.unheld
     (loose_with_leaf new.looseness outer now b refl begun.loose) items
     (begins_in_room s frames inside source are nested none

@@ -1,7 +1,6 @@
 -- What the open containers take of a line, by the open blocks and by the definition of blocks.
-use Rattle.std.proofs.Common.{◌≡◌, ◌≢◌, ⊎_elim, inl, inr, ℕ, zero, suc, ◌+◌, ◌-◌, ◌<◌, ◌≤◌}
-use Rattle.std.proofs.Common.{Bool, true, false, List, [], ◌∷◌, ◌++◌, length, drop, nat_le, nat_lt}
-use Rattle.std.proofs.Common.{refl, sym, ap, ◌∙◌, subst, arith}
+use Rattle.std.proofs.Common.{◌≡◌, ◌≢◌, ⊎_elim, inl, inr, ℕ, zero, suc, ◌+◌, ◌-◌, ◌<◌, ◌≤◌, Bool, true, false, List}
+use Rattle.std.proofs.Common.{[], ◌∷◌, ◌++◌, length, drop, nat_le, nat_lt, refl, sym, ap, ◌∙◌, subst, arith}
 use Rattle.std.specs.Prelude.{Option, Some, None, not, ◌==◌, ◌||◌, ◌&&◌, if◌then◌else◌, codes}
 use Rattle.std.specs.List.{list_all, prefix_len}
 use Rattle.std.specs.Option.{IfSome, option_map}
@@ -10,13 +9,12 @@ use Rattle.std.proofs.lemmas.Bool.Decides.{eqb_tells, nat_tests}
 use Rattle.std.proofs.lemmas.List.Sums.{prefix_len-le-length}
 use Rattle.markdown_base.specs.Bytes.{space, tab}
 use Rattle.markdown_base.specs.EnabledOptions.{old_footnotes_on}
-use Rattle.markdown_base.specs.Forest.{Forest, nil, node}
+use Rattle.markdown_base.specs.Forest.{Forest}
 use Rattle.markdown_base.specs.declared.item.ItemBody.{ItemBody}
 use Rattle.markdown_builder.specs.declared.open_block.OpenBlock.{OpenBlock}
-use Rattle.markdown_builder.specs.TreeLevels.{followed_by}
 use Rattle.markdown_scan.specs.Beginnings.{begins_with}
-use Rattle.markdown_scan.specs.LineStart.{LineLeft, Space, column_after, leading_space, past_marker}
-use Rattle.markdown_scan.specs.LineStart.{past_one_byte, space_from, space_width}
+use Rattle.markdown_scan.specs.LineStart.{LineLeft, Space, column_after, leading_space, past_marker, past_one_byte}
+use Rattle.markdown_scan.specs.LineStart.{space_from, space_width}
 use Rattle.markdown_lines.specs.declared.line.Line.{Line}
 use Rattle.markdown_lines.specs.Lines.{is_space_or_tab}
 use Rattle.markdown_lines.specs.BlockBeginnings.{Source}
@@ -27,16 +25,15 @@ use Rattle.markdown_block_rules.specs.BlockGrowth.{Block, Kind, is_nil}
 use Rattle.markdown_block_rules.proofs.BlockBeginningsLemmas.{either}
 use Rattle.markdown_plain.specs.declared.containers.Reached as code
 use Rattle.markdown_plain.specs.declared.pass.Pass.{Pass}
-use Rattle.markdown_plain.specs.Containers.{Reach, content_of, is_container, is_innermost}
-use Rattle.markdown_plain.specs.Containers.{past_container, past_footnote, past_indent, past_quote}
-use Rattle.markdown_plain.specs.Containers.{reach_after, reach_from, reach_of, reach_past}
-use Rattle.markdown_plain.specs.Containers.{reach_start, whole_line}
+use Rattle.markdown_plain.specs.Containers.{Reach, content_of, is_container, is_innermost, past_container}
+use Rattle.markdown_plain.specs.Containers.{past_footnote, past_indent, past_quote, reach_after, reach_from, reach_of}
+use Rattle.markdown_plain.specs.Containers.{reach_past, reach_start, whole_line}
 use Rattle.markdown_plain.specs.OpenBlocks as by_body
-use Rattle.markdown_plain.specs.Frames.{Frame, Reached, inside_container, is_list, is_quote}
-use Rattle.markdown_plain.specs.Frames.{reached, reached_here, reached_past, rebuilt}
+use Rattle.markdown_plain.specs.Frames.{Frame, Reached, inside_container, is_list, is_quote, reached, reached_here}
+use Rattle.markdown_plain.specs.Frames.{reached_past, rebuilt}
 use Rattle.markdown_plain.specs.Settled.{AreOpen, EmptyKnown, IsBodyOf}
-use Rattle.markdown_plain.specs.ReachedFrames.{IsAtMostLeaf, IsBefore, IsReached, are_none}
-use Rattle.markdown_plain.specs.ReachedFrames.{quote_depth}
+use Rattle.markdown_plain.specs.ReachedFrames.{IsAtMostLeaf, IsBefore, IsReached, are_none, quote_depth}
+use Rattle.markdown_plain.proofs.FramesLemmas.{ends_in_block}
 use Rattle.markdown_plain.proofs.LeafTreesLemmas.{few_owed, on_test}
 
 -- ---- what space leaves
@@ -299,11 +296,6 @@ known_inside : (empty : Bool) (f : Frame) (frames : List Frame) (inside : Forest
 known_inside empty f [] inside known = tt
 known_inside empty f (g ∷ frames) inside known = known
 
-pub some_follow : (before : Forest Block) (b : Block) (below : Forest Block)
-    → is_nil (followed_by before (node b below nil)) ≡ false
-some_follow nil b below = refl
-some_follow (node a inner after) b below = refl
-
 same_of_any : (kind : Kind) (one other : Bool) → one ≡ other → AreSameOf kind one other
 same_of_any (was.item_container indent) one other same = same
 same_of_any any one other same = tt
@@ -326,7 +318,7 @@ same_empty texts empty f [] (block ∷ containers) leaf inside are known = absur
 same_empty texts empty f (g ∷ frames) [] leaf inside are known = absurd are
 same_empty texts empty f (g ∷ frames) (block ∷ containers) leaf inside are known =
     same_of_any f.block.kind false (is_nil (rebuilt (g ∷ frames) inside))
-    (sym (some_follow g.before g.block (rebuilt frames inside)))
+    (sym (ends_in_block g.before g.block (rebuilt frames inside)))
 
 -- ---- what is reached
 

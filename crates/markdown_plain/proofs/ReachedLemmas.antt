@@ -188,7 +188,7 @@ inner_goes_lazily s frames inside l f others are is =
 module _ (s : Source) (frames : List Frame) (inside : Forest Block) (l : SourceLine) (are : AreContainers frames)
     (nested : AreNested frames) where
   -- that of what is in the innermost container that it reaches, where that is no list
-  pub outer_go_on : innermost_is is_list (reached s frames inside l).outer ≡ false
+  outer_go_on : innermost_is is_list (reached s frames inside l).outer ≡ false
       → with_line s (rebuilt frames inside) l
       ≡ rebuilt (map (touched l) (reached s frames inside l).outer)
       (with_line s (rebuilt (reached s frames inside l).inner inside) (reached s frames inside l).rest)

@@ -1,7 +1,7 @@
 -- Where an item may be opened that the rest of a line begins: only white space is before it where no block is open. And
 -- an alert, which takes the whole line, leaves the pass ready for the next one.
-use Rattle.std.proofs.Common.{◌≡◌, ℕ, zero, suc, ◌-◌, ◌≤◌, Bool, true, false, List, [], ◌∷◌, length}
-use Rattle.std.proofs.Common.{Some, take, refl, sym, ap, ◌∙◌, subst, arith, true≢false}
+use Rattle.std.proofs.Common.{◌≡◌, ℕ, zero, suc, ◌-◌, ◌≤◌, Bool, true, false, List, [], ◌∷◌, length, Some, take, refl}
+use Rattle.std.proofs.Common.{sym, ap, ◌∙◌, subst, arith, true≢false}
 use Rattle.std.specs.Prelude.{if◌then◌else◌}
 use Rattle.std.specs.Str.{IsCharBoundary}
 use Rattle.std.proofs.lemmas.List.{length-append, length-take}
@@ -21,7 +21,7 @@ use Rattle.markdown_lines.specs.declared.block_start.ItemStart.{ItemStart}
 use Rattle.markdown_block_rules.specs.BlockGrowth as was
 use Rattle.markdown_block_rules.specs.BlockGrowth.{Block, Kind, content_of}
 use Rattle.markdown_block_rules.proofs.BlockBeginningsLemmas.{either}
-use Rattle.markdown_plain.specs.declared.block_pass.LineRest.{LineRest}
+use Rattle.markdown_plain.specs.declared.beginnings.LineRest.{LineRest}
 use Rattle.markdown_plain.specs.declared.pass.Pass.{Pass}
 use Rattle.markdown_plain.specs.Beginning as turn
 use Rattle.markdown_plain.specs.Beginning.{IsFirst, IsFound, IsHere, IsInside, IsLeft, Turn}
@@ -41,13 +41,15 @@ use Rattle.markdown_plain.proofs.BegunTextsLemmas.{end_begins}
 use Rattle.markdown_plain.proofs.ClosableLemmas.{white_both}
 use Rattle.markdown_plain.proofs.ClosedFramesLemmas.{as_many_open}
 use Rattle.markdown_plain.proofs.FittingLemmas.{some_opened}
+use Rattle.markdown_plain.proofs.FoundBlocksLemmas.{found_begins}
 use Rattle.markdown_plain.proofs.FoundPlacesLemmas.{left_content}
 use Rattle.markdown_plain.proofs.LeafTreesLemmas.{on_test}
 use Rattle.markdown_plain.proofs.OpenedFramesLemmas.{as_many_containers, list_innermost}
 use Rattle.markdown_plain.proofs.ReachedLemmas.{reached_parts}
 use Rattle.markdown_plain.proofs.ReadyPlacesLemmas.{are_bodies}
 use Rattle.markdown_plain.proofs.ReadyTextsLemmas.{first_ready, line_in_text, line_white}
-use Rattle.markdown_plain.proofs.RoomForBlocksLemmas.{is_begun, last_open, line_some}
+use Rattle.markdown_plain.proofs.RoomForBlocksLemmas.{line_some}
+use Rattle.markdown_plain.proofs.RoomLemmas.{last_open}
 use Rattle.markdown_plain.proofs.RoomReadyLemmas.{nothing_taken, ready_later}
 
 -- ---- room outside all blocks
@@ -177,7 +179,7 @@ item_fits s old new rest (turn.first before l) source blocks item at state found
 item_fits s old new rest (turn.later frames) source blocks item at state found opens =
     let b = line.begins_item item.marker item.indent (left_at rest.reader item.inside) in
     later_fits s old new rest frames source blocks at state
-    (is_begun s rest source at (start.Item item) b found refl).0 found.begins opens
+    (found_begins s rest source at (start.Item item) b found refl).0 found.begins opens
 
 -- ---- the paragraph that may follow an alert's marker
 

@@ -1,90 +1,54 @@
 -- Readiness between two lines: where a line takes the pass, the calls for the next one fit.
 use Rattle.std.proofs.Common.{◌≡◌, ⊎_elim, ℕ, ◌+◌, ◌-◌, ◌<◌, ◌≤◌, Bool, true, false, not, ◌&&◌, ◌||◌, ◌==◌, List, []}
-use Rattle.std.proofs.Common.{◌∷◌, Option, Some, None, drop, get_or, get_or-drop, length, length-drop, arith}
-use Rattle.std.proofs.Common.{refl, sym, ap, ◌∙◌, subst, true≢false}
+use Rattle.std.proofs.Common.{◌∷◌, Option, Some, None, get_or, length, arith, refl, sym, ap, ◌∙◌, subst, true≢false}
 use Rattle.std.specs.Prelude.{slice_range, if◌then◌else◌}
 use Rattle.std.specs.List.{list_all}
 use Rattle.std.specs.Option.{option_map}
 use Rattle.std.specs.Str.{IsCharBoundary, IsUtf8}
-use Rattle.std.proofs.Math.Bool.{and-false}
 use Rattle.std.proofs.lemmas.Bool.{cases_lt}
 use Rattle.std.proofs.lemmas.List.Sums.{AllPass-from_list_all}
 use Rattle.std.proofs.lemmas.Option.{none-some, same_Some}
 use Rattle.markdown_base.proofs.ByteListLemmas.{part_length}
 use Rattle.markdown_base.specs.EnabledOptions.{old_footnotes_on}
 use Rattle.markdown_base.specs.Forest.{Forest}
-use Rattle.markdown_builder.specs.BuilderView.{BuilderView}
-use Rattle.markdown_builder.specs.EvenRows.{is_in_row}
 use Rattle.markdown_builder.specs.declared.open_block.OpenBlock.{OpenBlock}
 use Rattle.markdown_scan.specs.LineStart.{LineLeft}
 use Rattle.markdown_lines.specs.BlockBeginnings.{Source}
-use Rattle.markdown_lines.specs.Lines.{AllPass, IsLineFrom, ending_length, is_in_blank_line, is_line_ending}
-use Rattle.markdown_lines.specs.Lines.{is_space_or_tab}
+use Rattle.markdown_lines.specs.Lines.{AllPass, IsLineFrom, is_in_blank_line, is_line_ending, is_space_or_tab}
 use Rattle.markdown_lines.specs.Positions.{IsSpaceAt}
 use Rattle.markdown_lines.specs.SourceLines.{SourceLine, is_blank_rest, rest_inside}
-use Rattle.markdown_lines.specs.declared.held_line.HeldLine.{HeldLine}
 use Rattle.markdown_lines.specs.declared.line.Line.{Line}
 use Rattle.markdown_lines.specs.declared.position.Position.{Position}
 use Rattle.markdown_lines.specs.declared.space.Space.{Space}
-use Rattle.markdown_lines.proofs.HeldLinesLemmas.{ends_within}
-use Rattle.markdown_plain.proofs.ReadyPlacesLemmas.{ending_white}
-use Rattle.markdown_lines.proofs.LinesAheadLemmas.{in_ending, some_ending}
-use Rattle.markdown_lines.proofs.LinesLemmas.{AllPass-none, ending_ascii, past_ascii}
+use Rattle.markdown_lines.proofs.LinesLemmas.{AllPass-none}
 use Rattle.markdown_lines.proofs.PositionsLemmas.{in_part}
 use Rattle.markdown_block_rules.specs.BlockGrowth as was
-use Rattle.markdown_block_rules.specs.BlockGrowth.{Block, Kind, is_nil, past_footnote, past_indentation}
+use Rattle.markdown_block_rules.specs.BlockGrowth.{Block, Kind, is_nil, past_indentation}
 use Rattle.markdown_block_rules.specs.BlockRules.{block_end}
 use Rattle.markdown_plain.specs.declared.containers.Reached as code
 use Rattle.markdown_plain.specs.declared.pass.Pass.{Pass}
-use Rattle.markdown_plain.specs.Closable.{AreAhead, AreClosable, AreContainers, HaveTask, IsReady, IsReadyAfter}
-use Rattle.markdown_plain.specs.Closable.{has_quote, leaf_end}
-use Rattle.markdown_plain.specs.Containers.{is_container}
+use Rattle.markdown_plain.specs.Closable.{AreClosable, AreContainers, IsReady, IsReadyAfter, has_quote, leaf_end}
 use Rattle.markdown_plain.specs.Fits.{IsInLeaf, MayAddAfter, MayAddBefore, MayAddLine}
 use Rattle.markdown_plain.specs.Frames.{Frame, inside_container, is_quote as is_quote_kind, reached, reached_past}
 use Rattle.markdown_plain.specs.Frames.{rebuilt}
-use Rattle.markdown_plain.specs.OpenBlocks.{is_quote, outer_of, without_leaf}
+use Rattle.markdown_plain.specs.OpenBlocks.{is_quote, without_leaf}
 use Rattle.markdown_plain.specs.OpenLeaves.{IsLeafIn, is_leaf}
-use Rattle.markdown_plain.specs.Paragraphs.{has_paragraph, lines_end}
+use Rattle.markdown_plain.specs.Paragraphs.{lines_end}
 use Rattle.markdown_plain.specs.ReachedLines.{Before, IsReachedBy, blocks_in, reached_of}
 use Rattle.markdown_plain.specs.Settled.{AreOpen, IsBodyOf}
 use Rattle.markdown_plain.proofs.BlankLinesLemmas.{indented_alike}
-use Rattle.markdown_plain.proofs.ClosableLemmas.{innermost_no_row, white_both}
+use Rattle.markdown_plain.proofs.BlanksKnownLemmas.{has_quote as quotes_in}
+use Rattle.markdown_plain.proofs.ClosableLemmas.{innermost_no_row, leaf_end_here, no_task, none_ahead, white_both}
 use Rattle.markdown_plain.proofs.FittingLemmas.{open_in_leaf, space_ahead, space_stops}
 use Rattle.markdown_plain.proofs.LeavesInPlaceLemmas.{leaf_end as placed_leaf_end}
-use Rattle.markdown_plain.proofs.OpenBlocksLemmas.{outer_of_opened}
+use Rattle.markdown_plain.proofs.OpenBlocksLemmas.{around_leaf, outside_leaf}
+use Rattle.markdown_plain.proofs.ReadyPlacesLemmas.{are_bodies, ending_white, next_between, ready_after}
 use Rattle.markdown_plain.proofs.TextReachedLemmas.{reached_within, whole_within}
 
 -- ---- a line
 
--- a text may be cut after a line
-pub boundary_after : (text : List ℕ) (at : ℕ) (line : Line) → IsUtf8 text → IsLineFrom text at line
-    → IsCharBoundary text line.next
-boundary_after text at line utf8 is =
-    let rest = drop line.stop text in
-    let within = ends_within rest in
-    let whole = length-drop line.stop text in
-    let ends = is.ends in
-    let high = is.content.high in
-    ⊎_elim (λ (less : line.stop < length text).
-    let some = some_ending rest (rw (get_or-drop line.stop text 0 0, add_zero line.stop) (is.content.stops less)) in
-    let last = line.stop + (ending_length rest - 1) in
-    let here : is_line_ending (get_or text last 0) ≡ true =
-    ap is_line_ending (sym (get_or-drop line.stop text (ending_length rest - 1) 0))
-    ∙ in_ending rest (ending_length rest - 1) (omega (arith, some)) in
-    let place : last + 1 ≡ line.next = omega (arith, some, ends) in
-    subst (IsCharBoundary text) place
-    (past_ascii text last utf8 (omega (arith, some, within, whole, less)) (ending_ascii (get_or text last 0) here)))
-    (λ (over : length text ≤ line.stop). (
-      omega (arith, within, whole, ends, high, over),
-      λ (less : line.next < length text). absurd (omega (arith, less, ends, over)),
-    ))
-    (cases_lt line.stop (length text))
-  where
-    add_zero : (n : ℕ) → n + 0 ≡ n
-    add_zero n = omega arith
-
 -- a line is white space, with its ending, where its content is
-pub white_line : (text : List ℕ) (line : Line) → IsLineFrom text line.start line
+white_line : (text : List ℕ) (line : Line) → IsLineFrom text line.start line
     → list_all is_space_or_tab (slice_range text line.start line.stop) ≡ true
     → AllPass is_in_blank_line text line.start line.next
 white_line text line is white = λ k low high.
@@ -133,7 +97,7 @@ place_reached s old line found before source by =
       high = omega (arith, same, stop);
       boundary = subst (IsCharBoundary text) (sym same) within.boundary;
       ends = omega (arith, ends);
-      next = boundary_after text line.start line by.is.utf8 by.is.from;
+      next = next_between text line.start line by.is.utf8 by.is.from;
     }
 
 -- so is its beginning
@@ -210,78 +174,7 @@ line_fits_after pass line at ready leaf place =
       next = place.next;
     }
 
--- ---- where nothing is held back
-
-no_paragraph : (pass : Pass) → pass.lines.items ≡ [] → has_paragraph pass ≡ false
-no_paragraph pass none =
-    ap (λ (lines : List HeldLine). not pass.placing.builder.leaf && not (length lines == 0)) none
-    ∙ and-false (not pass.placing.builder.leaf)
-
-leaf_end_here : (pass : Pass) → pass.lines.items ≡ [] → leaf_end pass ≡ pass.placing.builder.at
-leaf_end_here pass none =
-    ap (λ test. if test then lines_end pass.lines.items else pass.placing.builder.at) (no_paragraph pass none)
-
-none_ahead : (builder : BuilderView) (lines : List HeldLine) → lines ≡ [] → AreAhead builder lines
-none_ahead builder lines none =
-    subst (AreAhead builder) (sym none) (record { inside = tt; order = tt; apart = λ e. tt })
-
-none_marked : (text : List ℕ) (task : Option Bool) (lines : List HeldLine) → lines ≡ [] → HaveTask text task lines
-none_marked text task lines none = subst (HaveTask text task) (sym none) tt
-
-outside_blocks : (view : BuilderView) → view.leaf ≡ false → without_leaf view ≡ view.blocks
-outside_blocks view outside = ap (λ t. if t then outer_of view.blocks else view.blocks) outside
-
--- all is placed up to a byte offset, in containers or in a leaf in them
-pub record IsPlacedHere (pass : Pass) (to : ℕ) : Type 0 where
-  pub at : pass.placing.builder.at ≡ to
-  pub boundary : IsCharBoundary pass.placing.builder.text to
-  pub lines : pass.lines.items ≡ []
-  pub blanks : pass.blanks.items ≡ []
-  pub containers : AreContainers (without_leaf pass.placing.builder)
-  pub row : is_in_row pass.placing.builder.blocks ≡ false
-  pub leaf : pass.placing.builder.leaf ≡ true → IsInLeaf pass.placing.builder
-
-pub placed_ready : (pass : Pass) (to : ℕ) → IsPlacedHere pass to → IsReadyAfter pass to
-placed_ready pass to is =
-    let view = pass.placing.builder in
-    let here : leaf_end pass ≡ to = leaf_end_here pass is.lines ∙ is.at in
-    let at = is.at in
-    record {
-      closable = record {
-        some = λ leaf. (is.leaf leaf).some;
-        other = is.row;
-        held = λ outside. none_ahead view pass.lines.items is.lines;
-        task = none_marked view.text pass.task pass.lines.items is.lines;
-        containers = is.containers;
-        low = subst (λ n. n ≤ to) (sym here) (omega arith);
-        boundary = is.boundary;
-        white = λ none. subst (λ n. AllPass is_in_blank_line view.text n to) (sym here)
-            (AllPass-none is_in_blank_line view.text to);
-      };
-      low = omega arith;
-      boundary = is.boundary;
-      white = AllPass-none is_in_blank_line view.text to;
-      blanks = λ leaf. subst (λ lines. MayAddBefore view lines to) (sym is.blanks)
-          (record { may = record { inside = is.leaf leaf; are = tt }; low = omega (arith, at) });
-    }
-
 -- ---- leaves
-
--- open blocks that are containers of the definition are containers
-pub containers_open : (texts : List (List ℕ)) (blocks : List OpenBlock) (frames : List Frame)
-    → AreOpen texts blocks frames → AreContainers blocks
-containers_open texts [] frames are = tt
-containers_open texts (block ∷ blocks) [] are = absurd are
-containers_open texts (block ∷ blocks) (f ∷ frames) are =
-    (one f.block.kind are.0.body, containers_open texts blocks frames are.1)
-  where
-    one : (kind : Kind) → IsBodyOf texts kind block.body → is_container block.body ≡ true
-    one was.quote_container body = ap is_container body
-    one (was.alert_container kind) body = ap is_container body
-    one (was.list_container marker) body = ap is_container body
-    one (was.item_container indent) body = ap is_container body
-    one (was.footnote_container label) body = ap is_container body.1
-    one other body = absurd body
 
 -- after the last line of a leaf, or after one with which it has not ended
 pub leaf_ready : (s : Source) (pass : Pass) (frames : List Frame) (inside : Forest Block) (b : Block) (ended : Bool)
@@ -290,42 +183,32 @@ pub leaf_ready : (s : Source) (pass : Pass) (frames : List Frame) (inside : Fore
     → IsCharBoundary pass.placing.builder.text to → IsReadyAfter pass to
 leaf_ready s pass frames inside b true to leaf is lines blanks end boundary =
     let view = pass.placing.builder in
-    let are = containers_open view.texts view.blocks frames is.built.blocks in
-    placed_ready pass to (record {
+    let are = are_bodies view.texts view.blocks frames is.built.blocks in
+    ready_after pass to (record {
       at = is.at ∙ (placed_leaf_end frames inside b leaf ∙ end);
       boundary = boundary;
       lines = lines;
       blanks = blanks;
-      containers = subst AreContainers (sym (outside_blocks view is.built.outside)) are;
-      row = innermost_no_row view.blocks are;
+      containers = subst AreContainers (sym (outside_leaf view is.built.outside)) are;
       leaf = λ there. absurd (true≢false (sym there ∙ is.built.outside));
     })
 leaf_ready s pass frames inside b false to leaf is lines blanks end boundary =
     let view = pass.placing.builder in
     let in_it = open_in_leaf s view frames inside b leaf is in
-    let without : without_leaf view ≡ is.outer =
-    ap (λ t. if t then outer_of view.blocks else view.blocks) is.leaf
-    ∙ (ap outer_of is.blocks ∙ outer_of_opened is.outer is.block) in
-    placed_ready pass to (record {
+    let without = around_leaf view is.outer is.block is.leaf is.blocks in
+    ready_after pass to (record {
       at = is.end ∙ (placed_leaf_end frames inside b leaf ∙ end);
       boundary = boundary;
       lines = lines;
       blanks = blanks;
-      containers = subst AreContainers (sym without) (containers_open view.texts is.outer frames is.around.blocks);
-      row = in_it.plain;
+      containers = subst AreContainers (sym without) (are_bodies view.texts is.outer frames is.around.blocks);
       leaf = λ there. in_it;
     })
 
 -- ---- blank lines
 
--- one of these open containers is a block quote
-quotes_in : List Frame → Bool
-quotes_in [] = false
-quotes_in (f ∷ frames) = is_quote_kind f.block.kind || quotes_in frames
-
 quotes_alike : (texts : List (List ℕ)) (blocks : List OpenBlock) (frames : List Frame) → AreOpen texts blocks frames
     → has_quote blocks ≡ quotes_in frames
-unfolding quotes_in
 quotes_alike texts [] [] are = refl
 quotes_alike texts [] (f ∷ frames) are = absurd are
 quotes_alike texts (block ∷ blocks) [] are = absurd are
@@ -371,7 +254,7 @@ taken_alike s l m empty other plain takes = ap is_blank_rest (sym (same_Some l m
 unquoted_alike : (s : Source) (frames : List Frame) (inside : Forest Block) (l : SourceLine)
     → quotes_in (reached s frames inside l).outer ≡ false
     → is_blank_rest (reached s frames inside l).rest ≡ is_blank_rest l
-unfolding reached quotes_in
+unfolding reached
 unquoted_alike s [] inside l none = refl
 unquoted_alike s (f ∷ frames) inside l none =
     past (inside_container s l (is_nil (rebuilt frames inside)) f.block.kind) refl
@@ -424,7 +307,7 @@ blank_moves s old line found before source placed texts blocks by blank sees are
     text = old.placing.builder.text
 
     next : IsCharBoundary text line.next
-    next = boundary_after text line.start line by.is.utf8 by.is.from
+    next = next_between text line.start line by.is.utf8 by.is.from
 
     by_white : (white : Bool) → is_blank_rest source ≡ white
         → MovesOver old.placing.builder.text blocks old.placed placed line.next
@@ -470,14 +353,14 @@ pub record IsRead (pass : Pass) (to : ℕ) : Type 0 where
 pub read_ready : (pass : Pass) (to : ℕ) → IsRead pass to → IsReady pass to
 read_ready pass to is =
     let view = pass.placing.builder in
-    let without = outside_blocks view is.closable.outside in
+    let without = outside_leaf view is.closable.outside in
     let here = leaf_end_here pass is.lines in
     record {
       closable = record {
         some = λ leaf. absurd (true≢false (sym leaf ∙ is.closable.outside));
         other = innermost_no_row view.blocks is.closable.containers;
         held = λ outside. none_ahead view pass.lines.items is.lines;
-        task = none_marked view.text pass.task pass.lines.items is.lines;
+        task = no_task view.text pass.task pass.lines.items is.lines;
         containers = subst AreContainers (sym without) is.closable.containers;
         low = subst (λ n. n ≤ pass.placed) (sym here) is.closable.low;
         boundary = is.closable.boundary;

@@ -1,10 +1,10 @@
 -- What a placed line leaves is ready for the next one: a leaf is open, or none, and nothing is held back.
-use Rattle.std.proofs.Common.{◌≡◌, ℕ, zero, suc, ◌+◌, ◌-◌, ◌<◌, ◌≤◌, Bool, true, false, not, ◌&&◌, ◌||◌, List, [], ◌∷◌}
-use Rattle.std.proofs.Common.{Option, Some, None, get_or, length, drop, take, ⊎_elim, refl, sym, ap, ◌∙◌, subst, arith}
-use Rattle.std.specs.Prelude.{◌==◌, if◌then◌else◌, slice_index}
+use Rattle.std.proofs.Common.{◌≡◌, ℕ, zero, suc, ◌+◌, ◌-◌, ◌<◌, ◌≤◌, Bool, true, false, ◌||◌, List, [], ◌∷◌, Option}
+use Rattle.std.proofs.Common.{Some, None, get_or, length, drop, take, ⊎_elim, refl, sym, ap, ◌∙◌, subst, arith}
+use Rattle.std.specs.Prelude.{if◌then◌else◌, slice_index}
 use Rattle.std.specs.List.{list_all}
 use Rattle.std.specs.Str.{IsCharBoundary, IsUtf8}
-use Rattle.std.proofs.Math.Bool.{and-false, or-true}
+use Rattle.std.proofs.Math.Bool.{or-true}
 use Rattle.std.proofs.lemmas.Bool.{and_parts, cases_lt, true≢false}
 use Rattle.std.proofs.lemmas.Bool.Decides.{nat_tests}
 use Rattle.std.proofs.lemmas.List.{get_or-drop, get_or-take, length-drop, length-take}
@@ -26,16 +26,15 @@ use Rattle.markdown_lines.proofs.TitleLemmas.{ending_bytes}
 use Rattle.markdown_block_rules.specs.BlockGrowth as was
 use Rattle.markdown_block_rules.specs.BlockGrowth.{Block, Kind}
 use Rattle.markdown_plain.specs.declared.pass.Pass.{Pass}
-use Rattle.markdown_plain.specs.Closable.{AreAhead, AreContainers, HaveTask, IsReadyAfter, leaf_end}
+use Rattle.markdown_plain.specs.Closable.{AreContainers, IsReadyAfter, leaf_end}
 use Rattle.markdown_plain.specs.Containers.{is_container}
 use Rattle.markdown_plain.specs.Fits.{IsInLeaf, MayAddBefore}
 use Rattle.markdown_plain.specs.Frames.{Frame}
 use Rattle.markdown_plain.specs.OpenBlocks.{outer_of, without_leaf}
 use Rattle.markdown_plain.specs.OpenLeaves.{IsOpenIn, IsUnended}
-use Rattle.markdown_plain.specs.Paragraphs.{has_paragraph, lines_end}
 use Rattle.markdown_plain.specs.Settled.{AreOpen, IsBodyOf, IsBuilt}
 use Rattle.markdown_plain.specs.Standing.{PlacesLast}
-use Rattle.markdown_plain.proofs.ClosableLemmas.{innermost_no_row}
+use Rattle.markdown_plain.proofs.ClosableLemmas.{innermost_no_row, leaf_end_here, no_task, none_ahead}
 use Rattle.markdown_plain.proofs.FittingLemmas.{open_in_leaf}
 use Rattle.markdown_plain.proofs.LeafTreesLemmas.{on_test}
 use Rattle.markdown_plain.proofs.OpenBlocksLemmas.{outer_of_these}
@@ -121,7 +120,7 @@ no_frames texts [] (f ∷ frames) are none = absurd are
 no_frames texts (block ∷ blocks) frames are none = absurd (omega (arith, ap length none))
 
 -- the blocks around what is built are containers
-pub built_containers : (s : Source) (view : BuilderView) (frames : List Frame) (inside : Forest Block)
+built_containers : (s : Source) (view : BuilderView) (frames : List Frame) (inside : Forest Block)
     → IsBuilt s view frames inside → AreContainers (without_leaf view)
 built_containers s view frames inside built =
     on_test AreContainers view.leaf (outer_of view.blocks) view.blocks
@@ -129,7 +128,7 @@ built_containers s view frames inside built =
     (λ other. are_bodies view.texts view.blocks frames built.blocks)
 
 -- those around an open leaf are
-pub leaf_containers : (s : Source) (view : BuilderView) (frames : List Frame) (inside : Forest Block) (b : Block)
+leaf_containers : (s : Source) (view : BuilderView) (frames : List Frame) (inside : Forest Block) (b : Block)
     → IsOpenIn s view frames inside true b → AreContainers (without_leaf view)
 leaf_containers s view frames inside b is =
     on_test AreContainers view.leaf (outer_of view.blocks) view.blocks
@@ -148,25 +147,17 @@ pub record IsLeftAt (pass : Pass) (to : ℕ) : Type 0 where
   pub containers : AreContainers (without_leaf pass.placing.builder)
   pub leaf : pass.placing.builder.leaf ≡ true → IsInLeaf pass.placing.builder
 
--- no paragraph is held back where no line is
-none_held_back : (pass : Pass) → pass.lines.items ≡ [] → has_paragraph pass ≡ false
-none_held_back pass none =
-    ap (λ (lines : List HeldLine). not pass.placing.builder.leaf && not (length lines == 0)) none
-    ∙ and-false (not pass.placing.builder.leaf)
-
 -- the next line may be read
 pub ready_after : (pass : Pass) (to : ℕ) → IsLeftAt pass to → IsReadyAfter pass to
 ready_after pass to is =
     let view = pass.placing.builder in
-    let none : has_paragraph pass ≡ false = none_held_back pass is.lines in
-    let here : leaf_end pass ≡ to = ap (λ (has : Bool). if has then lines_end pass.lines.items else view.at) none
-    ∙ is.at in
+    let here : leaf_end pass ≡ to = leaf_end_here pass is.lines ∙ is.at in
     record {
       closable = record {
         some = λ leaf. (is.leaf leaf).some;
         other = no_row view.leaf refl;
-        held = λ outside. subst (AreAhead view) (sym is.lines) (record { inside = tt; order = tt; apart = λ e. tt });
-        task = subst (HaveTask view.text pass.task) (sym is.lines) tt;
+        held = λ outside. none_ahead view pass.lines.items is.lines;
+        task = no_task view.text pass.task pass.lines.items is.lines;
         containers = is.containers;
         low = subst (λ n. n ≤ to) (sym here) (omega arith);
         boundary = is.boundary;

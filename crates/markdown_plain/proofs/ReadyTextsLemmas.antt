@@ -24,28 +24,25 @@ use Rattle.markdown_lines.proofs.PositionsLemmas.{in_part}
 use Rattle.markdown_block_rules.specs.BlockGrowth.{Block}
 use Rattle.markdown_block_rules.proofs.BlockBeginningsLemmas.{either}
 use Rattle.markdown_plain.specs.declared.pass.Pass.{Pass}
-use Rattle.markdown_plain.specs.Closable.{AreAhead, AreApart, AreClosable, AreContainers, AreInText, HasTask, HaveTask}
-use Rattle.markdown_plain.specs.Closable.{IsInText, IsReady, IsReadyAfter, has_quote, leaf_end}
+use Rattle.markdown_plain.specs.Closable.{AreAhead, AreApart, AreClosable, AreContainers, AreInText, HasTask}
+use Rattle.markdown_plain.specs.Closable.{HaveTask, IsInText, IsReady, IsReadyAfter, has_quote, leaf_end}
 use Rattle.markdown_plain.specs.Fitting.{defining}
 use Rattle.markdown_plain.specs.Frames.{Frame, reached}
 use Rattle.markdown_plain.specs.HeldSources.{AreInParagraph}
-use Rattle.markdown_plain.specs.OpenBlocks.{outer_of, without_leaf}
+use Rattle.markdown_plain.specs.OpenBlocks.{without_leaf}
 use Rattle.markdown_plain.specs.Paragraphs.{has_paragraph, is_item_in, lines_end, task_at}
 use Rattle.markdown_plain.specs.Standing.{IsSource}
 use Rattle.markdown_plain.specs.TextLines.{IsContentAt, held_line}
 use Rattle.markdown_plain.proofs.AddedLinesLemmas.{end_after, past, past_is_end}
-use Rattle.markdown_plain.proofs.ClosableLemmas.{innermost_no_row, white_both}
+use Rattle.markdown_plain.proofs.ClosableLemmas.{innermost_no_row, leaf_end_here, no_task, none_ahead, white_both}
 use Rattle.markdown_plain.proofs.HeldTextLemmas.{starts_after, starts_before}
+use Rattle.markdown_plain.proofs.OpenBlocksLemmas.{outside_leaf}
 use Rattle.markdown_plain.proofs.ReadyPlacesLemmas.{ending_white, next_between, stop_between}
 
--- ---- open blocks
-
--- no leaf is open, so that the open blocks are those without one
-pub outside_leaf : (view : BuilderView) → view.leaf ≡ false → without_leaf view ≡ view.blocks
-outside_leaf view outside = ap (λ leaf. if leaf then outer_of view.blocks else view.blocks) outside
+-- ---- lines
 
 -- lines are held back, where no leaf is open
-pub some_held : (pass : Pass) → pass.placing.builder.leaf ≡ false → 0 < length pass.lines.items
+some_held : (pass : Pass) → pass.placing.builder.leaf ≡ false → 0 < length pass.lines.items
     → has_paragraph pass ≡ true
 some_held pass outside some =
     let other : (length pass.lines.items == 0) ≡ false = grind (arith, nat_tests, some) in
@@ -63,7 +60,7 @@ pub record HoldsText (pass : Pass) (to : ℕ) : Type 0 where
   pub ends : lines_end pass.lines.items ≡ to
   pub boundary : IsCharBoundary pass.placing.builder.text to
 
-pub held_ready : (pass : Pass) (to : ℕ) → HoldsText pass to → IsReadyAfter pass to
+held_ready : (pass : Pass) (to : ℕ) → HoldsText pass to → IsReadyAfter pass to
 held_ready pass to holds =
     let view = pass.placing.builder in
     let has = some_held pass holds.outside holds.some in
@@ -85,25 +82,6 @@ held_ready pass to holds =
       white = λ at low high. absurd (omega (arith, low, high));
       blanks = λ leaf. absurd (true≢false (sym leaf ∙ holds.outside));
     }
-
--- without lines there are none ahead, and no task marker
-pub none_ahead : (builder : BuilderView) (lines : List HeldLine) → lines ≡ [] → AreAhead builder lines
-none_ahead builder lines none =
-    subst (AreAhead builder) (sym none) (record { inside = tt; order = tt; apart = λ outside. tt })
-
-pub no_task : (text : List ℕ) (task : Option Bool) (lines : List HeldLine) → lines ≡ [] → HaveTask text task lines
-no_task text task lines none = subst (HaveTask text task) (sym none) tt
-
--- the open leaf ends where the builder is
-pub end_here : (pass : Pass) → pass.lines.items ≡ [] → leaf_end pass ≡ pass.placing.builder.at
-end_here pass none =
-    ap {B = ℕ} (λ (lines : List HeldLine). if not pass.placing.builder.leaf && not (length lines == 0)
-    then lines_end lines else pass.placing.builder.at) none
-    ∙ never (not pass.placing.builder.leaf)
-  where
-    never : (b : Bool) → (if b && false then 0 else pass.placing.builder.at) ≡ pass.placing.builder.at
-    never true = refl
-    never false = refl
 
 -- ---- a line more
 
@@ -127,7 +105,7 @@ apart_after text from [] line are white over = (white, (over, tt))
 apart_after text from (m ∷ lines) line are white over =
     (are.0, (are.1.0, apart_after text m.next lines line are.1.1 white over))
 
-pub ahead_after : (builder : BuilderView) (lines : List HeldLine) (line : HeldLine) → AreAhead builder lines
+ahead_after : (builder : BuilderView) (lines : List HeldLine) (line : HeldLine) → AreAhead builder lines
     → AreInParagraph builder.text (lines ++ line ∷ []) → IsNextLine builder lines line
     → AreAhead builder (lines ++ line ∷ [])
 ahead_after builder lines line ahead inside next = record {
@@ -164,7 +142,7 @@ read_task options text line = by_test (is_read ENABLE_TASKLISTS options)
     by_test false = tt
 
 -- what begins at a byte offset of a line has the task marker that was read there
-pub first_task_held : (pass : Pass) (line : Line) (start : ℕ) (task : Option Bool) → task ≡ task_at pass line start
+first_task_held : (pass : Pass) (line : Line) (start : ℕ) (task : Option Bool) → task ≡ task_at pass line start
     → HasTask pass.placing.builder.text task (held_line line start)
 first_task_held pass line start task is =
     subst (λ found. HasTask pass.placing.builder.text found (held_line line start)) (sym is)
@@ -358,7 +336,7 @@ again_ready old new from ends ready =
     let blocks : view.blocks ≡ was.blocks = ap (λ (b : BuilderView). b.blocks) ends.defines in
     let outer : without_leaf view ≡ without_leaf was = ap without_leaf ends.defines in
     let here : leaf_end new ≡ leaf_end old =
-    end_here new ends.emptied ∙ (ends.after
+    leaf_end_here new ends.emptied ∙ (ends.after
     ∙ sym (ap {B = ℕ} (λ has. if has then lines_end old.lines.items else was.at) ends.held)) in
     let low = closable.low in
     let placed = ends.placed in

@@ -1,30 +1,25 @@
 -- Room for the block that the rest of a line begins: first what the open containers left of the line, and then what is
 -- left of it inside containers that it opened.
-use Rattle.std.proofs.Common.{◌≡◌, ◌⊎◌, inl, inr, ⊎_elim, ℕ, zero, suc, ◌<◌, ◌≤◌, ◌-◌, Bool, true, false, not, ◌&&◌}
-use Rattle.std.proofs.Common.{◌==◌, List, [], ◌∷◌, ◌++◌, Option, Some, None, length, map, take, drop, refl, sym, ap}
-use Rattle.std.proofs.Common.{◌∙◌, subst, arith}
+use Rattle.std.proofs.Common.{◌≡◌, ◌⊎◌, inl, inr, ⊎_elim, ℕ, ◌<◌, ◌≤◌, ◌-◌, Bool, true, false, not, ◌&&◌, ◌==◌, List}
+use Rattle.std.proofs.Common.{[], ◌∷◌, Option, Some, None, length, map, take, drop, refl, sym, ap, ◌∙◌, subst, arith}
 use Rattle.std.proofs.Math.Bool.{and-false}
 use Rattle.std.proofs.lemmas.Bool.{true≢false, and_parts}
-use Rattle.std.proofs.lemmas.Bool.Decides.{nat_tests}
 use Rattle.std.proofs.lemmas.List.{length-append}
 use Rattle.std.proofs.lemmas.Option.{none-some, same_Some}
-use Rattle.std.specs.Prelude.{if◌then◌else◌, nat_le}
+use Rattle.std.specs.Prelude.{if◌then◌else◌}
 use Rattle.std.specs.List.{list_all}
 use Rattle.std.specs.Option.{option_map}
 use Rattle.markdown_base.specs.Forest.{Forest, nil}
 use Rattle.markdown_builder.specs.BuilderView.{BuilderView}
 use Rattle.markdown_builder.specs.TreeLevels.{followed_by}
-use Rattle.markdown_builder.specs.declared.open_block.OpenBlock.{OpenBlock}
 use Rattle.markdown_scan.specs.LineStart.{LineLeft}
 use Rattle.markdown_lines.specs.BlockBeginnings as beginning
 use Rattle.markdown_lines.specs.BlockBeginnings.{Beginning, Source, begins}
 use Rattle.markdown_lines.specs.BlockStarts.{beginning_found}
 use Rattle.markdown_lines.specs.Lines.{is_space_or_tab}
 use Rattle.markdown_lines.specs.SourceLines.{SourceLine, is_blank_rest, rest_inside}
-use Rattle.markdown_lines.specs.declared.block_start.Before as code
 use Rattle.markdown_lines.specs.declared.block_start.Before.TheVariants as paragraph
 use Rattle.markdown_lines.specs.declared.block_start.BlockStart.{BlockStart}
-use Rattle.markdown_lines.specs.declared.line.Line.{Line}
 use Rattle.markdown_lines.specs.declared.list_marker.ListMarker.{ListMarker}
 use Rattle.markdown_block_rules.specs.BlockGrowth as was
 use Rattle.markdown_block_rules.specs.BlockGrowth.{Block, Kind, another_item, begun_by, goes_on, is_nil, is_text}
@@ -32,12 +27,12 @@ use Rattle.markdown_block_rules.specs.BlockGrowth.{lazily, next_item, paragraph_
 use Rattle.markdown_block_rules.specs.BlockGrowth.{past_quote, with_lazy}
 use Rattle.markdown_block_rules.specs.TableLines.{reads_tables}
 use Rattle.markdown_block_rules.proofs.BlockBeginningsLemmas.{either}
-use Rattle.markdown_plain.specs.declared.block_pass.LineRest.{LineRest}
+use Rattle.markdown_plain.specs.declared.beginnings.LineRest.{LineRest}
 use Rattle.markdown_plain.specs.declared.looseness.Looseness.{Looseness}
 use Rattle.markdown_plain.specs.declared.pass.Pass.{Pass}
 use Rattle.markdown_plain.specs.Beginning as turn
-use Rattle.markdown_plain.specs.Beginning.{HasRoom, HoldsLast, IsFirst, IsFound, IsHere, IsInside, IsLeft}
-use Rattle.markdown_plain.specs.Beginning.{NeedsRoom, Turn}
+use Rattle.markdown_plain.specs.Beginning.{HasRoom, HoldsLast, IsFirst, IsFound, IsHere, IsInside, IsLeft, NeedsRoom}
+use Rattle.markdown_plain.specs.Beginning.{Turn}
 use Rattle.markdown_plain.specs.Closable.{AreClosable, IsClosable}
 use Rattle.markdown_plain.specs.Closing as closing
 use Rattle.markdown_plain.specs.Closing.{AreItemsInLists, MayClose, MayEnd}
@@ -45,28 +40,30 @@ use Rattle.markdown_plain.specs.Fitting.{AllFitted, IfFitted}
 use Rattle.markdown_plain.specs.Frames.{AreContainers, AreNested, Frame, IsContainer, innermost_is, inside_container}
 use Rattle.markdown_plain.specs.Frames.{is_item, is_list, reached, reached_past, rebuilt, room_depth, touched}
 use Rattle.markdown_plain.specs.OpenBlocks.{without_leaf}
-use Rattle.markdown_plain.specs.OpenLeaves.{AreItemsOpenedIn, leaf_block}
+use Rattle.markdown_plain.specs.OpenLeaves.{leaf_block}
 use Rattle.markdown_plain.specs.OpenedFrames.{MayOpen}
 use Rattle.markdown_plain.specs.Paragraphs.{has_paragraph, source_of}
 use Rattle.markdown_plain.specs.ReachedFrames.{are_none}
 use Rattle.markdown_plain.specs.ReachedLines.{Before, blocks_in, reached_of}
 use Rattle.markdown_plain.specs.Settled.{AreOpen, BlanksKnown, IsBuilt, IsLooseAs, IsLooseBefore, placed_end}
-use Rattle.markdown_plain.specs.Standing.{AreOpenedBefore, with_last}
+use Rattle.markdown_plain.specs.Standing.{with_last}
 use Rattle.markdown_plain.specs.TextLines.{paragraph_before}
 use Rattle.markdown_plain.proofs.AddedLinesLemmas.{has_held}
 use Rattle.markdown_plain.proofs.BegunAloneLemmas.{BeginsBlock, begins_alone, block_needed, is_no_text}
 use Rattle.markdown_plain.proofs.BegunLemmas.{IsLeftOf, item_begun, left_from_is_of}
 use Rattle.markdown_plain.proofs.BlanksKnownLemmas.{lists_touched}
+use Rattle.markdown_plain.proofs.ClosableLemmas.{no_paragraph}
+use Rattle.markdown_plain.proofs.FoundBlocksLemmas.{found_begins}
 use Rattle.markdown_plain.proofs.FramesLemmas.{goes_on_last, innermost_inner, outer_nested}
 use Rattle.markdown_plain.proofs.ItemsInListsLemmas.{line_keeps}
 use Rattle.markdown_plain.proofs.LastBlocksLemmas.{open_are_containers}
-use Rattle.markdown_plain.proofs.OpenBlocksLemmas.{outer_of_these}
 use Rattle.markdown_plain.proofs.OpenedFramesLemmas.{room_is_free}
 use Rattle.markdown_plain.proofs.ReachedLemmas.{inner_goes_lazily, outer_taken, reached_parts}
 use Rattle.markdown_plain.proofs.ReadyPlacesLemmas.{no_frames}
-use Rattle.markdown_plain.proofs.RoomLemmas.{begins_in_room}
+use Rattle.markdown_plain.proofs.RoomLemmas.{begins_in_room, last_open}
 use Rattle.markdown_plain.proofs.RoomReadyLemmas.{IsReadyIn, nothing_taken, ready_first, ready_later}
-use Rattle.markdown_plain.proofs.TouchedFramesLemmas.{built_touched, earlier_touched, quotes_touched}
+use Rattle.markdown_plain.proofs.TouchedFramesLemmas.{built_touched, earlier_touched, quotes_touched, earlier_taken}
+use Rattle.markdown_plain.proofs.TouchedFramesLemmas.{not_opened}
 
 -- ---- a line that goes on with no paragraph
 
@@ -142,7 +139,7 @@ no_item : (s : Source) (l : SourceLine) (marker : ListMarker) (b : Beginning) �
 no_item s l marker (beginning.begins_item found indent rest) needs = absurd needs
 no_item s l marker other needs = refl
 
-pub no_next_item : (s : Source) (l : SourceLine) (marker : ListMarker) (b : Beginning) → IsLeftOf s.text l.left
+no_next_item : (s : Source) (l : SourceLine) (marker : ListMarker) (b : Beginning) → IsLeftOf s.text l.left
     → is_blank_rest l ≡ false → begins s paragraph.NoParagraph l ≡ b → NeedsRoom b → next_item s l marker ≡ None
 no_next_item s l marker b own filled is needs =
     item_begun s l marker own filled ∙ (ap (another_item s l marker) is ∙ no_item s l marker b needs)
@@ -237,7 +234,7 @@ room_at_root (f ∷ g ∷ outer) frames lists nested taken =
 -- ---- containers that go on in the line
 
 -- what is remembered of lists is the same
-pub loose_touched : (l : SourceLine) (now : Looseness) (frames : List Frame) (inside : Forest Block)
+loose_touched : (l : SourceLine) (now : Looseness) (frames : List Frame) (inside : Forest Block)
     → IsLooseBefore now frames inside → IsLooseBefore now (map (touched l) frames) inside
 loose_touched l now frames inside loose = record {
   lists = λ new one. loose.lists new one ∙ sym (lists_touched l frames (followed_by inside new));
@@ -245,34 +242,13 @@ loose_touched l now frames inside loose = record {
 }
 
 -- the innermost container is a list as before
-pub free_touched : (l : SourceLine) (frames : List Frame)
+free_touched : (l : SourceLine) (frames : List Frame)
     → innermost_is is_list (map (touched l) frames) ≡ innermost_is is_list frames
 free_touched l [] = refl
 free_touched l (f ∷ []) = refl
 free_touched l (f ∷ g ∷ frames) =
     innermost_inner is_list (touched l f) (touched l g) (map (touched l) frames)
     ∙ (free_touched l (g ∷ frames) ∙ sym (innermost_inner is_list f g frames))
-
--- those that are left were opened as early
-earlier_taken : (from n : ℕ) (frames : List Frame) → AreOpenedBefore from frames → AreOpenedBefore from (take n frames)
-earlier_taken from zero frames earlier = tt
-earlier_taken from (suc n) [] earlier = tt
-earlier_taken from (suc n) (f ∷ frames) earlier = (earlier.0, earlier_taken from n frames earlier.1)
-
--- items that were opened before a line were not opened in it
-pub not_opened : (line : Line) (frames : List Frame) → line.start < line.next → AreOpenedBefore line.start frames
-    → AreItemsOpenedIn line frames
-not_opened line [] after earlier = tt
-not_opened line (f ∷ frames) after earlier = (
-  λ item.
-      let before = earlier.0 item in
-      let start = before.start in
-      let first = before.first in
-      let not_at : nat_le line.start f.block.start ≡ false = grind (arith, nat_tests, start) in
-      let not_there : (line.next == f.block.first) ≡ false = grind (arith, nat_tests, first, after) in
-      record { same = not_at ∙ sym not_there; before = omega (arith, first, after) },
-  not_opened line frames after earlier.1,
-)
 
 -- a line that is not blank has a byte
 filled_length : (bytes : List ℕ) → list_all is_space_or_tab bytes ≡ false → 0 < length bytes
@@ -286,59 +262,6 @@ line_some s rest source left filled =
     let at : rest.position.at ≡ source.left.scanned = ap (λ (l : LineLeft). l.scanned) left.is.rest.left in
     let some = filled_length source.left.bytes filled in
     omega (arith, at, some, left.after, left.is.stop, left.is.ends)
-
--- ---- what is open before the line
-
--- open containers, whether a paragraph is held back in them or not
-pub record HasOpen (s : Source) (pass : Pass) (frames : List Frame) (blocks : Forest Block) : Type 0 where
-  pub texts : List (List ℕ)
-  pub are : AreOpen texts (without_leaf pass.placing.builder) frames
-  pub nested : AreNested frames
-  pub items : AreItemsInLists false (rebuilt frames blocks)
-
-built_open : (s : Source) (pass : Pass) (frames : List Frame) (inside blocks : Forest Block)
-    → IsBuilt s pass.placing.builder frames inside → AreItemsInLists false (rebuilt frames blocks)
-    → HasOpen s pass frames blocks
-built_open s pass frames inside blocks built items =
-    let view = pass.placing.builder in
-    record {
-      texts = view.texts;
-      are = subst (λ blocks. AreOpen view.texts blocks frames) (sym (no_leaf view built.outside)) built.blocks;
-      nested = built.nested;
-      items = items;
-    }
-  where
-    no_leaf : (view : BuilderView) → view.leaf ≡ false → without_leaf view ≡ view.blocks
-    no_leaf view outside = rw outside refl
-
-leaf_open : (s : Source) (pass : Pass) (frames : List Frame) (inside : Forest Block) (b : Block)
-    → MayEnd s pass frames inside b None → HasOpen s pass frames (followed_by inside (leaf_block b))
-leaf_open s pass frames inside b may =
-    let is = may.unended.1 in
-    let view = pass.placing.builder in
-    record {
-      texts = view.texts;
-      are = subst (λ blocks. AreOpen view.texts blocks frames)
-          (sym (in_leaf view is.outer is.block is.leaf is.blocks)) is.around.blocks;
-      nested = is.around.nested;
-      items = may.items;
-    }
-  where
-    in_leaf : (view : BuilderView) (outer : List OpenBlock) (block : OpenBlock) → view.leaf ≡ true
-        → view.blocks ≡ outer ++ block ∷ [] → without_leaf view ≡ outer
-    in_leaf view outer block leaf is = rw leaf (outer_of_these view.blocks outer block is)
-
-pub last_open : (s : Source) (pass : Pass) (frames : List Frame) (inside : Forest Block) (last : Option Block)
-    → HoldsLast s pass frames inside last → HasOpen s pass frames (with_last inside last)
-last_open s pass frames inside None holds =
-    built_open s pass frames inside inside holds.0.stands.built holds.0.stands.items
-last_open s pass frames inside (Some b) holds = by_held holds.0 holds.1
-  where
-    by_held : (held : Option (List SourceLine)) → MayEnd s pass frames inside b held
-        → HasOpen s pass frames (followed_by inside (leaf_block b))
-    by_held None may = leaf_open s pass frames inside b may
-    by_held (Some sources) may =
-        built_open s pass frames inside (followed_by inside (leaf_block b)) may.unended.built may.items
 
 -- none of the blocks that a line does not reach goes on in it, if a block begins and they do not go on where no
 -- paragraph is held back
@@ -354,8 +277,7 @@ pub none_goes_on : (s : Source) (pass : Pass) (frames : List Frame) (inside : Fo
     → goes_on s (rebuilt (reached s frames (with_last inside last) l).inner (with_last inside last))
     (reached s frames (with_last inside last) l).rest ≡ None
 none_goes_on s pass frames inside None l begun tables are holds filled is block over =
-    over (ap (λ n. not pass.placing.builder.leaf && not (n == 0)) (ap length holds.1)
-    ∙ and-false (not pass.placing.builder.leaf))
+    over (no_paragraph pass holds.1)
 none_goes_on s pass frames inside (Some b) l begun tables are holds filled is block over = by_held holds.0 holds.1
   where
     blocks : Forest Block
@@ -422,19 +344,6 @@ none_kept old new depth makes false is unheld = makes.unheld (unheld is)
 source_stays : (s : Source) (old new : Pass) (depth : ℕ) → MakesRoom old new depth → source_of old ≡ s
     → source_of new ≡ s
 source_stays s old new depth makes is = rw (makes.text, makes.options) is
-
--- what was found is begun, and the rest of the line is not blank
-begun_some : (s : Source) (source : SourceLine) (before : code.Before) (b : Beginning) (blank : Bool)
-    → Some b ≡ (if blank then None else Some (begins s before source))
-    → (blank ≡ false) × (begins s before source ≡ b)
-begun_some s source before b true is = absurd (none-some b (sym is))
-begun_some s source before b false is = (refl, sym (same_Some b (begins s before source) is))
-
-pub is_begun : (s : Source) (rest : LineRest) (source : SourceLine) (at : ℕ) (start : BlockStart) (b : Beginning)
-    → IsFound s rest source at start → beginning_found rest.reader start ≡ Some b
-    → (is_blank_rest source ≡ false) × (begins s rest.before source ≡ b)
-is_begun s rest source at start b is found =
-    begun_some s source rest.before b (is_blank_rest source) (sym found ∙ is.is)
 
 -- ---- after the containers that go on in the line
 
@@ -602,11 +511,11 @@ pub room_for : (s : Source) (old new : Pass) (rest : LineRest) (turn : Turn) (so
     → beginning_found rest.reader start ≡ Some b → NeedsRoom b
     → IfFitted old.placing new.placing (HasRoom s new rest source b blocks)
 room_for s old new rest (turn.first before l) source at start b blocks makes state found begins needs =
-    let begun = is_begun s rest source at start b found begins in
+    let begun = found_begins s rest source at start b found begins in
     first_room s old new rest before l source b blocks state begun.1 needs
     (subst (λ n. MakesRoom old new n) state.depth makes)
 room_for s old new rest (turn.later frames) source at start b blocks makes state found begins needs =
-    let begun = is_begun s rest source at start b found begins in
+    let begun = found_begins s rest source at start b found begins in
     later_room s old new rest frames source b blocks state begun.0 begun.1 makes
 
 -- and it is made by calls that fit

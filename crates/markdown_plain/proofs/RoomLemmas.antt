@@ -1,17 +1,26 @@
--- A block that begins in a line, inside the containers that the line reaches, and around a list among these.
+-- A block that begins in a line, inside the containers that the line reaches, and around a list among these; and
+-- what is open before the line.
 use Rattle.std.proofs.Common.{◌≡◌, ℕ, ◌-◌, Bool, true, false, List, [], ◌∷◌, ◌++◌, None, arith, append_assoc, length}
-use Rattle.std.proofs.Common.{map, take, drop, refl, sym, ap, ◌∙◌}
+use Rattle.std.proofs.Common.{map, take, drop, refl, sym, ap, ◌∙◌, Option, Some, subst}
 use Rattle.std.proofs.lemmas.List.{drop_at, length-append, take_at}
 use Rattle.std.specs.Prelude.{if◌then◌else◌}
 use Rattle.markdown_base.specs.Forest.{Forest}
+use Rattle.markdown_builder.specs.TreeLevels.{followed_by}
 use Rattle.markdown_lines.specs.declared.list_marker.ListMarker.{ListMarker}
 use Rattle.markdown_lines.specs.BlockBeginnings.{Source}
 use Rattle.markdown_lines.specs.SourceLines.{SourceLine}
-use Rattle.markdown_builder.specs.TreeLevels.{followed_by}
 use Rattle.markdown_block_rules.specs.BlockGrowth.{Block, goes_on, line_block, next_item, with_line}
-use Rattle.markdown_plain.specs.Frames.{AreContainers, AreNested, Frame, Reached, innermost_is, is_list}
-use Rattle.markdown_plain.specs.Frames.{reached, rebuilt, room_depth, touched}
+use Rattle.markdown_plain.specs.Frames.{AreContainers, AreNested, Frame, Reached, innermost_is, is_list, reached}
+use Rattle.markdown_plain.specs.Frames.{rebuilt, room_depth, touched}
+use Rattle.markdown_plain.specs.declared.pass.Pass.{Pass}
+use Rattle.markdown_plain.specs.Beginning.{HoldsLast}
+use Rattle.markdown_plain.specs.Closing.{AreItemsInLists, MayEnd}
+use Rattle.markdown_plain.specs.OpenBlocks.{without_leaf}
+use Rattle.markdown_plain.specs.OpenLeaves.{leaf_block}
+use Rattle.markdown_plain.specs.Settled.{AreOpen, IsBuilt}
+use Rattle.markdown_plain.specs.Standing.{with_last}
 use Rattle.markdown_plain.proofs.FramesLemmas.{HasMarker, Innermost, innermost_apart, marker_of_list}
+use Rattle.markdown_plain.proofs.OpenBlocksLemmas.{around_leaf, outside_leaf}
 use Rattle.markdown_plain.proofs.ReachedLemmas.{block_begins, list_ends, outer_taken, reached_parts}
 
 -- the containers around such a block, of those that a line reaches: all, or all but the list
@@ -83,3 +92,49 @@ module _ (s : Source) (frames : List Frame) (inside : Forest Block) (l : SourceL
           block_begins s frames inside l are nested none plain
           ∙ same_made r.outer r.inner (parted_at frames r.outer r.inner n (reached_parts s frames inside l)
           (depth_reached false plain))
+
+-- ---- what is open before the line
+
+-- open containers, whether a paragraph is held back in them or not
+pub record HasOpen (s : Source) (pass : Pass) (frames : List Frame) (blocks : Forest Block) : Type 0 where
+  pub texts : List (List ℕ)
+  pub are : AreOpen texts (without_leaf pass.placing.builder) frames
+  pub nested : AreNested frames
+  pub items : AreItemsInLists false (rebuilt frames blocks)
+
+built_open : (s : Source) (pass : Pass) (frames : List Frame) (inside blocks : Forest Block)
+    → IsBuilt s pass.placing.builder frames inside → AreItemsInLists false (rebuilt frames blocks)
+    → HasOpen s pass frames blocks
+built_open s pass frames inside blocks built items =
+    let view = pass.placing.builder in
+    record {
+      texts = view.texts;
+      are = subst (λ blocks. AreOpen view.texts blocks frames) (sym (outside_leaf view built.outside)) built.blocks;
+      nested = built.nested;
+      items = items;
+    }
+
+leaf_open : (s : Source) (pass : Pass) (frames : List Frame) (inside : Forest Block) (b : Block)
+    → MayEnd s pass frames inside b None → HasOpen s pass frames (followed_by inside (leaf_block b))
+leaf_open s pass frames inside b may =
+    let is = may.unended.1 in
+    let view = pass.placing.builder in
+    record {
+      texts = view.texts;
+      are = subst (λ blocks. AreOpen view.texts blocks frames)
+          (sym (around_leaf view is.outer is.block is.leaf is.blocks)) is.around.blocks;
+      nested = is.around.nested;
+      items = may.items;
+    }
+
+pub last_open : (s : Source) (pass : Pass) (frames : List Frame) (inside : Forest Block) (last : Option Block)
+    → HoldsLast s pass frames inside last → HasOpen s pass frames (with_last inside last)
+last_open s pass frames inside None holds =
+    built_open s pass frames inside inside holds.0.stands.built holds.0.stands.items
+last_open s pass frames inside (Some b) holds = by_held holds.0 holds.1
+  where
+    by_held : (held : Option (List SourceLine)) → MayEnd s pass frames inside b held
+        → HasOpen s pass frames (followed_by inside (leaf_block b))
+    by_held None may = leaf_open s pass frames inside b may
+    by_held (Some sources) may =
+        built_open s pass frames inside (followed_by inside (leaf_block b)) may.unended.built may.items

@@ -13,7 +13,7 @@ use Rattle.markdown_lines.specs.Lines.{AllPass, is_in_blank_line}
 use Rattle.markdown_lines.specs.SourceLines.{SourceLine, is_blank_rest}
 use Rattle.markdown_block_rules.specs.BlockGrowth as was
 use Rattle.markdown_block_rules.specs.BlockGrowth.{Block, Kind, content_of, is_nil}
-use Rattle.markdown_plain.specs.declared.block_pass.LineRest.{LineRest}
+use Rattle.markdown_plain.specs.declared.beginnings.LineRest.{LineRest}
 use Rattle.markdown_plain.specs.declared.pass.Pass.{Pass}
 use Rattle.markdown_plain.specs.Beginning.{IsLeft}
 use Rattle.markdown_plain.specs.Closable.{AreClosable, IsReady, has_quote}
@@ -33,7 +33,7 @@ pub record IsWhiteBefore (text : List ℕ) (from to : ℕ) : Type 0 where
   pub boundary : IsCharBoundary text to
   pub white : AllPass is_in_blank_line text from to
 
-pub content_white : (s : Source) (rest : LineRest) (source : SourceLine) → IsLeft s rest source
+content_white : (s : Source) (rest : LineRest) (source : SourceLine) → IsLeft s rest source
     → is_blank_rest source ≡ false → IsWhiteBefore s.text rest.position.at (content_of source)
 content_white s rest source left filled =
     let at = content_of source in

@@ -20,7 +20,7 @@ pub record Opened (texts : List (List ℕ)) (frames : List Frame) : Type 0 where
   pub are : AreOpen texts blocks frames
 
 -- around a block that has not ended
-pub open_around : (s : Source) (pass : Pass) (frames : List Frame) (inside : Forest Block) (b : Block)
+open_around : (s : Source) (pass : Pass) (frames : List Frame) (inside : Forest Block) (b : Block)
     (held : Option (List SourceLine)) → IsUnended s pass frames inside b held
     → Opened pass.placing.builder.texts frames
 open_around s pass frames inside b None is = record { blocks = is.1.outer; are = is.1.around.blocks }

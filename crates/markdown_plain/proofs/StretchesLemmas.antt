@@ -45,7 +45,7 @@ some_begin old [] begins = cc
 some_begin old (block ∷ blocks) begins = omega arith
 
 -- the innermost begins a stretch where it is unlike the block before it
-pub begins_at : (old : Bool) (blocks : List OpenBlock) (number : ℕ) (or : OpenBlock) → length blocks ≡ number + 2
+begins_at : (old : Bool) (blocks : List OpenBlock) (number : ℕ) (or : OpenBlock) → length blocks ≡ number + 2
     → begins_stretch old blocks
     ≡ not (are_alike old (get_or blocks number or).body (get_or blocks (suc number) or).body)
 unfolding begins_stretch
@@ -231,7 +231,7 @@ past_one true here numbers later = later
 past_one false here numbers later = rw (here_is here) refl
 
 -- past a block are the stretches of the blocks inside it
-pub starts_past : (old : Bool) (number : ℕ) (block : OpenBlock) (blocks : List OpenBlock)
+starts_past : (old : Bool) (number : ℕ) (block : OpenBlock) (blocks : List OpenBlock)
     → starts_after (number + 1) (starts old number (outer_of (block ∷ blocks)))
     ≡ starts old (number + 1) (outer_of blocks)
 unfolding starts outer_of
@@ -393,7 +393,7 @@ past_next old empty stop number block inner next blocks reach false unlike takes
     (past_this old empty stop number block inner (next ∷ blocks) reach takes all)
 
 -- where a block takes nothing, the line goes past its stretch, up to the block that begins the next or the innermost
-pub past_stretch : (old empty : Bool) (stop number : ℕ) (block inner : OpenBlock) (blocks : List OpenBlock)
+past_stretch : (old empty : Bool) (stop number : ℕ) (block inner : OpenBlock) (blocks : List OpenBlock)
     (reach : Reach) → TakesNothing (nat_le stop reach.content) reach.left (taken_by old block.body) → reach.all ≡ true
     → PastStretch old empty stop number (block ∷ inner ∷ blocks) reach
     (next_of (number + suc (length blocks)) (starts old number (outer_of (block ∷ inner ∷ blocks))))

@@ -1,6 +1,6 @@
 -- A cell is one tree of its row, and a row with as many cells as the open table has columns may be closed.
 use Rattle.std.proofs.Common.{◌≡◌, ℕ, ◌+◌, List, [], ◌∷◌, ◌++◌, Option, Some, true, false, length, refl, sym, ap}
-use Rattle.std.proofs.Common.{◌∙◌, subst, arith, ◌≤◌, ◌<◌, ◌-◌, min, take, drop, ⊎_elim}
+use Rattle.std.proofs.Common.{◌∙◌, subst, arith, ◌≤◌, ◌<◌, ◌-◌, take, drop, ⊎_elim}
 use Rattle.std.proofs.lemmas.Bool.{cases_lt}
 use Rattle.std.specs.Option.{option_map_or}
 use Rattle.std.proofs.lemmas.List.{append_assoc, length-append}
@@ -54,11 +54,8 @@ more_roots : (f : Forest Shown) (a : Shown) (below : Forest Shown)
 more_roots nil a below = refl
 more_roots (node b inside after) a below = let h = more_roots after a below in omega (arith, h)
 
-pub no_cells : (outer levels : List (Forest Shown)) → levels ≡ outer ++ nil ∷ [] → HasCells outer 0 levels
-no_cells outer levels e = (nil, e, refl)
-
 -- one cell more
-pub more_cells : (outer : List (Forest Shown)) (count : ℕ) (old new : BuilderView) → HasCells outer count old.levels
+more_cells : (outer : List (Forest Shown)) (count : ℕ) (old new : BuilderView) → HasCells outer count old.levels
     → PutsTree old new → HasCells outer (count + 1) new.levels
 more_cells outer count old new has puts =
     let some : old.levels ≡ [] → ⊥ = λ e.
@@ -125,13 +122,6 @@ none_left text stop =
     let none : stop - stop ≡ 0 = omega arith in
     ap (λ n. length (cells_from stop (take n (drop stop text)))) none
     ∙ ap (λ (cells : List Cell). length cells) (no_cell stop [] refl)
-
--- all cells that are read are those of the row, or as many as there are columns
-pub found_is : (found columns left all : ℕ) → found ≤ columns → found + left ≡ all → (found < columns → left ≡ 0)
-    → found ≡ min columns all
-found_is found columns left all few whole lacking =
-    ⊎_elim (λ (less : found < columns). let none = lacking less in omega (arith, none, whole, less))
-    (λ (full : columns ≤ found). omega (arith, full, few, whole)) (cases_lt found columns)
 
 -- ---- a row that is made another block
 

@@ -11,9 +11,9 @@ use Rattle.markdown_lines.specs.declared.block_start.Before.TheVariants as parag
 use Rattle.markdown_lines.specs.declared.block_start.BlockStart.TheVariants as start
 use Rattle.markdown_block_rules.specs.BlockGrowth as was
 use Rattle.markdown_block_rules.specs.BlockGrowth.{Block, begun_by, content_of, goes_on, inside_of, new_blocks}
-use Rattle.markdown_plain.specs.declared.block_pass.LineRest.{LineRest}
+use Rattle.markdown_plain.specs.declared.beginnings.LineRest.{LineRest}
 use Rattle.markdown_plain.specs.declared.pass.Pass.{Pass}
-use Rattle.markdown_plain.specs.Beginning.{IsFirst, IsFound, IsHere, IsInside, IsLeft, Turn, first, later}
+use Rattle.markdown_plain.specs.Beginning.{IsFirst, IsFound, IsHere, IsInside, Turn, first, later}
 use Rattle.markdown_plain.specs.Closable.{IsInText, IsReadyAfter}
 use Rattle.markdown_plain.specs.Fitting.{AllFitted, IfFitted}
 use Rattle.markdown_plain.specs.Frames.{Frame, rebuilt}
@@ -23,10 +23,11 @@ use Rattle.markdown_plain.specs.Paragraphs.{task_at}
 use Rattle.markdown_plain.specs.ReachedLines.{Before, blocks_in, reached_of}
 use Rattle.markdown_plain.specs.Settled.{IsBuilt, placed_end}
 use Rattle.markdown_plain.specs.Standing.{PlacesFor}
-use Rattle.markdown_plain.specs.TextLines.{IsContentAt, IsTextFrom, IsTextHere, held_line}
+use Rattle.markdown_plain.specs.TextLines.{IsContentAt, IsTextHere, held_line}
 use Rattle.markdown_plain.proofs.BegunBlocksLemmas.{begun_block, source_kept}
 use Rattle.markdown_plain.proofs.BegunLemmas.{begun_once}
-use Rattle.markdown_plain.proofs.BegunTextsLemmas.{none_open, text_begins, text_inside}
+use Rattle.markdown_plain.proofs.BegunTextsLemmas.{text_begins, text_inside}
+use Rattle.markdown_plain.proofs.ClosableLemmas.{no_paragraph}
 use Rattle.markdown_plain.proofs.FoundBlocksLemmas.{found_begins}
 use Rattle.markdown_plain.proofs.FoundPlacesLemmas.{left_content, left_stands}
 use Rattle.markdown_plain.proofs.HeldTextLemmas.{starts_before}
@@ -46,17 +47,6 @@ pub found_text : (s : Source) (rest : LineRest) (source : SourceLine) (at : ℕ)
 found_text s rest source at found =
     let is = found_begins s rest source at start.Text beginning.begins_text found refl in
     record { filled = is.0; here = found.begins; text = is.1 }
-
--- so it is where its first byte shows that
-pub shown_text : (s : Source) (rest : LineRest) (source : SourceLine) → IsLeft s rest source
-    → IsTextFrom s.text rest.position rest.line.stop → IsTextLeft s rest source rest.position.at
-shown_text s rest source left shows =
-    let same = sym left.is.rest.left in
-    record {
-      filled = shows.filled source same;
-      here = sym (shows.here source same);
-      text = shows.begins_it s rest.before source refl same;
-    }
 
 -- after the containers that go on in the line
 text_first : (s : Source) (old new : Pass) (rest : LineRest) (at : ℕ) (before : Before) (line source : SourceLine)
@@ -88,7 +78,7 @@ later_ready s old new rest at frames source blocks adds state left =
     let view = old.placing.builder in
     let held = held_line rest.line at in
     let same = (adds.inside s frames opened.free state.depth opened.loose).0 in
-    let none = none_open old opened.free.lines in
+    let none = no_paragraph old opened.free.lines in
     let text : view.text ≡ s.text = ap (λ (r : Source). r.text) opened.source in
     let content = left_content s rest source at state.left left.filled left.here in
     let begun = text_begins s.text rest.position rest.line source at state.left.is left.here
@@ -130,7 +120,7 @@ text_later s old new rest at frames source blocks adds state left fitted =
     let l = text_line source in
     let b = begun_block source (was.paragraph_leaf (l ∷ [])) in
     let same = adds.inside s frames opened.free state.depth opened.loose in
-    let none = none_open old opened.free.lines in
+    let none = no_paragraph old opened.free.lines in
     let text : old.placing.builder.text ≡ s.text = ap (λ (r : Source). r.text) opened.source in
     let begun = text_begins s.text rest.position rest.line source at state.left.is left.here
     (left_stands s rest source at state.left left.filled left.here) in

@@ -1,6 +1,6 @@
 -- Lines whose first byte shows that they are text.
-use Rattle.std.proofs.Common.{◌≡◌, ℕ, ◌+◌, ◌<◌, Bool, true, false, List, ◌∷◌, Some, None, length}
-use Rattle.std.proofs.Common.{arith, refl, sym, ap, ◌∙◌, subst}
+use Rattle.std.proofs.Common.{◌≡◌, ℕ, ◌+◌, ◌<◌, Bool, true, false, List, ◌∷◌, Some, None, length, arith, refl, sym}
+use Rattle.std.proofs.Common.{ap, ◌∙◌, subst}
 use Rattle.std.specs.Prelude.{◌==◌, slice_get, slice_range, unwrap_or, if◌then◌else◌}
 use Rattle.std.specs.Char.{is_ascii_alphabetic}
 use Rattle.std.specs.List.{list_all, prefix_len}
@@ -11,8 +11,7 @@ use Rattle.markdown_scan.specs.LineStart.{LineLeft, Space, leading_space, no_spa
 use Rattle.markdown_lines.specs.declared.block_start.Before.{Before}
 use Rattle.markdown_lines.specs.declared.position.Position.{Position}
 use Rattle.markdown_lines.specs.BlockBeginnings as beginning
-use Rattle.markdown_lines.specs.BlockBeginnings.{Beginning, Source, begins, begins_after, metadata_begun}
-use Rattle.markdown_lines.specs.BlockBeginnings.{metadata_in_line}
+use Rattle.markdown_lines.specs.BlockBeginnings.{Source, begins_after, metadata_begun, metadata_in_line}
 use Rattle.markdown_lines.specs.Lines.{is_space_or_tab}
 use Rattle.markdown_lines.specs.MetadataBlocks.{line_opens, opened_before}
 use Rattle.markdown_lines.specs.Positions.{left_from}

@@ -280,7 +280,7 @@ whole_within pass line source is =
     })
 
 -- what the line reaches is text, from its first byte of content on, where a leaf that it reaches leaves off
-pub text_found : (s : Source) (pass : Pass) (line : Line) (found : code.Reached) (before : Before)
+text_found : (s : Source) (pass : Pass) (line : Line) (found : code.Reached) (before : Before)
     (source : SourceLine) (start : ℕ) → IsUtf8 pass.placing.builder.text
     → IsReachedBy s pass line found before source → start ≡ content_of (reached_of s before source).rest
     → is_blank_rest (reached_of s before source).rest ≡ false

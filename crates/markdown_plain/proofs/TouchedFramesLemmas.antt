@@ -1,18 +1,20 @@
 -- Open containers that go on in a line are open as before: what is known of the blocks in them stays.
-use Rattle.std.proofs.Common.{◌≡◌, ℕ, ◌≤◌, Bool, List, [], ◌∷◌, ◌++◌, arith, map, refl, sym, ap, ◌∙◌, subst}
-use Rattle.markdown_base.specs.Forest.{Forest, nil, node}
+use Rattle.std.proofs.Common.{◌≡◌, ℕ, ◌≤◌, List, [], ◌∷◌, ◌++◌, arith, map, refl, sym, ap, ◌∙◌, subst, ◌<◌, zero, suc}
+use Rattle.std.proofs.Common.{false, take}
+use Rattle.std.specs.Prelude.{◌==◌, nat_le}
+use Rattle.std.proofs.lemmas.Bool.Decides.{nat_tests}
+use Rattle.markdown_base.specs.Forest.{Forest}
 use Rattle.markdown_builder.specs.declared.open_block.OpenBlock.{OpenBlock}
 use Rattle.markdown_builder.specs.BuilderView.{BuilderView}
-use Rattle.markdown_builder.specs.TreeLevels.{followed_by}
 use Rattle.markdown_lines.specs.BlockBeginnings.{Source}
 use Rattle.markdown_lines.specs.SourceLines.{SourceLine}
+use Rattle.markdown_lines.specs.declared.line.Line.{Line}
 use Rattle.markdown_block_rules.specs.BlockGrowth as was
 use Rattle.markdown_block_rules.specs.BlockGrowth.{Block, Kind}
 use Rattle.markdown_block_rules.specs.BlockRules.{Around, definitions_in, footnotes_in, in_no_item, shown_blocks}
 use Rattle.markdown_plain.specs.declared.pass.Pass.{Pass}
-use Rattle.markdown_plain.specs.Closing.{AreItemsInLists}
-use Rattle.markdown_plain.specs.Frames.{AreNested, Frame, is_list, rebuilt, touched}
-use Rattle.markdown_plain.specs.OpenLeaves.{HoldsParagraph}
+use Rattle.markdown_plain.specs.Frames.{AreNested, Frame, rebuilt, touched}
+use Rattle.markdown_plain.specs.OpenLeaves.{HoldsParagraph, AreItemsOpenedIn}
 use Rattle.markdown_plain.specs.OpenedFrames.{around_innermost}
 use Rattle.markdown_plain.specs.Paragraphs.{EndsFrom, first_task}
 use Rattle.markdown_plain.specs.Settled.{AreOpen, IsBuilt, QuotesEnd, around_in, levels_shown}
@@ -103,23 +105,6 @@ pub quotes_touched : (l : SourceLine) (to : ℕ) → l.next ≡ to → (frames :
 quotes_touched l to ends [] = tt
 quotes_touched l to ends (f ∷ frames) = (λ quote. ends, quotes_touched l to ends frames)
 
-last_placed : (in_list : Bool) (l : SourceLine) (f : Frame) (before below now : Forest Block)
-    → (AreItemsInLists (is_list f.block.kind) below → AreItemsInLists (is_list f.block.kind) now)
-    → AreItemsInLists in_list (followed_by before (node f.block below nil))
-    → AreItemsInLists in_list (followed_by before (node (touched l f).block now nil))
-last_placed in_list l f nil below now inner are = (are.0, inner are.1, tt)
-last_placed in_list l f (node b inside after) below now inner are =
-    (are.0, are.1, last_placed in_list l f after below now inner are.2)
-
--- other blocks in the innermost may be there too
-pub items_touched : (l : SourceLine) (in_list : Bool) (frames : List Frame) (inside now : Forest Block)
-    → ((listed : Bool) → AreItemsInLists listed inside → AreItemsInLists listed now)
-    → AreItemsInLists in_list (rebuilt frames inside) → AreItemsInLists in_list (rebuilt (map (touched l) frames) now)
-items_touched l in_list [] inside now inner are = inner in_list are
-items_touched l in_list (f ∷ frames) inside now inner are =
-    last_placed in_list l f f.before (rebuilt frames inside) (rebuilt (map (touched l) frames) now)
-    (λ these. items_touched l (is_list f.block.kind) frames inside now inner these) are
-
 -- ---- when they were opened
 
 pub earlier_touched : (l : SourceLine) (from to : ℕ) → from ≤ to → (frames : List Frame) → AreOpenedBefore from frames
@@ -130,4 +115,31 @@ earlier_touched l from to less (f ∷ frames) earlier = (
       let before = earlier.0 item in
       record { start = omega (arith, before.start, less); first = omega (arith, before.first, less) },
   earlier_touched l from to less frames earlier.1,
+)
+
+-- the outermost of some containers were opened as early
+pub earlier_outer : (from : ℕ) (outer inner : List Frame) → AreOpenedBefore from (outer ++ inner)
+    → AreOpenedBefore from outer
+earlier_outer from [] inner earlier = tt
+earlier_outer from (f ∷ outer) inner earlier = (earlier.0, earlier_outer from outer inner earlier.1)
+
+pub earlier_taken : (from n : ℕ) (frames : List Frame) → AreOpenedBefore from frames
+    → AreOpenedBefore from (take n frames)
+earlier_taken from zero frames earlier = tt
+earlier_taken from (suc n) [] earlier = tt
+earlier_taken from (suc n) (f ∷ frames) earlier = (earlier.0, earlier_taken from n frames earlier.1)
+
+-- items that were opened before a line were not opened in it
+pub not_opened : (line : Line) (frames : List Frame) → line.start < line.next → AreOpenedBefore line.start frames
+    → AreItemsOpenedIn line frames
+not_opened line [] after earlier = tt
+not_opened line (f ∷ frames) after earlier = (
+  λ item.
+      let before = earlier.0 item in
+      let start = before.start in
+      let first = before.first in
+      let not_at : nat_le line.start f.block.start ≡ false = grind (arith, nat_tests, start) in
+      let not_there : (line.next == f.block.first) ≡ false = grind (arith, nat_tests, first, after) in
+      record { same = not_at ∙ sym not_there; before = omega (arith, first, after) },
+  not_opened line frames after earlier.1,
 )

@@ -1,37 +1,25 @@
 -- The turns at the rest of a line: each goes on, and the last of them is over before the range of turns is.
-use Rattle.std.proofs.Common.{◌≡◌, ℕ, ◌+◌, ◌≤◌, Bool, true, false, arith, refl, sym, ap, ◌∙◌, subst}
-use Rattle.std.proofs.Common.{List, None}
+use Rattle.std.proofs.Common.{◌≡◌, ℕ, ◌+◌, ◌≤◌, Bool, true, false, arith, refl, sym, ap, ◌∙◌, subst, List, None}
 use Rattle.std.specs.Prelude.{if◌then◌else◌}
-use Rattle.markdown_scan.specs.LineStart.{LineLeft}
 use Rattle.markdown_base.specs.Forest.{Forest}
+use Rattle.markdown_scan.specs.LineStart.{LineLeft}
 use Rattle.markdown_lines.specs.BlockBeginnings.{Source, is_paragraph}
 use Rattle.markdown_lines.specs.Positions.{left_from}
 use Rattle.markdown_lines.specs.SourceLines.{SourceLine}
 use Rattle.markdown_lines.specs.declared.block_start.BlockStart.{BlockStart}
 use Rattle.markdown_lines.specs.declared.line.Line.{Line}
 use Rattle.markdown_block_rules.specs.BlockGrowth.{Block}
-use Rattle.markdown_plain.specs.declared.block_pass.LineRest.{LineRest}
+use Rattle.markdown_plain.specs.declared.beginnings.LineRest.{LineRest}
 use Rattle.markdown_plain.specs.declared.pass.Pass.{Pass}
-use Rattle.markdown_plain.specs.Beginning.{FoundFits, HasBegun, IsFound, IsHere, IsLeft, Turn, first, later}
+use Rattle.markdown_plain.specs.Beginning.{FoundFits, HasBegun, IsFound, IsHere, Turn}
 use Rattle.markdown_plain.specs.Fitting.{AllFitted, FittedBefore, IfFitted}
 use Rattle.markdown_plain.specs.Standing.{PlacesFor}
 use Rattle.markdown_plain.specs.TextLines.{IsTextFrom}
 use Rattle.markdown_plain.specs.Turns.{KeepsFitting, KeepsReading}
-use Rattle.markdown_plain.proofs.FoundPlacesLemmas.{found_fits}
+use Rattle.markdown_plain.proofs.FoundBlocksLemmas.{here_left}
+use Rattle.markdown_plain.proofs.FoundPlacesLemmas.{found_fits, here_text}
 use Rattle.markdown_plain.proofs.TextHereLemmas.{text_fits, text_here}
 use Rattle.markdown_plain.proofs.TextStepsLemmas.{AddsText}
-
--- at either turn, this is left of the line
-pub here_left : (s : Source) (pass : Pass) (rest : LineRest) (turn : Turn) (source : SourceLine) (blocks : Forest Block)
-    → IsHere s pass rest turn source blocks → IsLeft s rest source
-here_left s pass rest (first before line) source blocks here = here.left
-here_left s pass rest (later frames) source blocks here = here.left
-
--- of the text that the pass reads
-here_text : (s : Source) (pass : Pass) (rest : LineRest) (turn : Turn) (source : SourceLine) (blocks : Forest Block)
-    → IsHere s pass rest turn source blocks → pass.placing.builder.text ≡ s.text
-here_text s pass rest (first before line) source blocks here = ap (λ (s : Source). s.text) here.holds.source
-here_text s pass rest (later frames) source blocks here = ap (λ (s : Source). s.text) here.opened.source
 
 -- before the first turn
 pub before_turns : (pass : Pass) (rest : LineRest) → KeepsReading pass pass rest rest rest.line.start

@@ -1,26 +1,22 @@
 -- A line that underlines the paragraph that it reaches: this becomes a heading, or, where it holds definitions alone,
 -- ends, and the line is read once more.
-use Rattle.std.proofs.Common.{◌≡◌, ℕ, ◌<◌, ◌==◌, Bool, true, false, not, List, [], Option, Some, None}
-use Rattle.std.proofs.Common.{map, length, refl, sym, ap, ◌∙◌, subst, arith}
+use Rattle.std.proofs.Common.{◌≡◌, ℕ, ◌<◌, ◌==◌, Bool, true, false, not, List, [], Option, Some, None, map, length}
+use Rattle.std.proofs.Common.{refl, sym, ap, ◌∙◌, subst, arith}
 use Rattle.std.proofs.lemmas.Bool.{true≢false}
 use Rattle.std.proofs.lemmas.Option.{none-some}
 use Rattle.std.specs.Prelude.{◌&&◌, if◌then◌else◌, unwrap_or}
-use Rattle.std.specs.Option.{option_and_then, option_map}
+use Rattle.std.specs.Option.{option_map}
 use Rattle.std.specs.Str.{IsCharBoundary, IsUtf8}
 use Rattle.markdown_base.specs.Forest.{Forest, nil}
 use Rattle.markdown_base.specs.declared.tag.HeadingLevel.{HeadingLevel}
-use Rattle.markdown_base.specs.declared.tag.MetadataBlockKind.{MetadataBlockKind}
-use Rattle.markdown_base.specs.declared.tag.MetadataBlockKind.TheVariants as metadata
-use Rattle.markdown_scan.specs.Entity.{entity_names}
-use Rattle.markdown_scan.specs.LineStart.{Space, leading_space}
 use Rattle.markdown_builder.specs.BuilderView.{BuilderView}
 use Rattle.markdown_builder.specs.TreeLevels.{followed_by}
+use Rattle.markdown_scan.specs.Entity.{entity_names}
+use Rattle.markdown_scan.specs.LineStart.{Space, leading_space}
 use Rattle.markdown_lines.specs.BlockBeginnings as line
 use Rattle.markdown_lines.specs.BlockBeginnings.{Beginning, Source, begins, begins_after, is_paragraph, is_reached}
-use Rattle.markdown_lines.specs.BlockBeginnings.{metadata_begun, metadata_in_line}
 use Rattle.markdown_lines.specs.DefinitionRules.{divided}
 use Rattle.markdown_lines.specs.Lines.{IsLineFrom}
-use Rattle.markdown_lines.specs.MetadataBlocks.{metadata_opened}
 use Rattle.markdown_lines.specs.SourceLines.{SourceLine, is_blank_rest}
 use Rattle.markdown_lines.specs.declared.block_start.Before as block_start
 use Rattle.markdown_lines.specs.declared.block_start.Before.TheVariants as paragraph
@@ -30,8 +26,7 @@ use Rattle.markdown_block_rules.specs.BlockGrowth as was
 use Rattle.markdown_block_rules.specs.BlockGrowth.{Block, goes_on, with_line}
 use Rattle.markdown_block_rules.specs.BlockRules.{is_blank_block}
 use Rattle.markdown_block_rules.specs.TableLines.{reads_tables}
-use Rattle.markdown_block_rules.proofs.BlockBeginningsLemmas.{either}
-use Rattle.markdown_plain.specs.declared.block_pass.LineRest.{LineRest}
+use Rattle.markdown_plain.specs.declared.beginnings.LineRest.{LineRest}
 use Rattle.markdown_plain.specs.declared.looseness.Looseness.{Looseness}
 use Rattle.markdown_plain.specs.declared.pass.Pass.{Pass}
 use Rattle.markdown_plain.specs.Beginning.{HasBegun, IsFirst, IsFound, IsHere, IsLeft, Turn, first, later}
@@ -51,14 +46,15 @@ use Rattle.markdown_plain.proofs.AddedLinesLemmas.{has_held, no_leaf_open}
 use Rattle.markdown_plain.proofs.AddedTextLemmas.{around_text, loose_as_leaf}
 use Rattle.markdown_plain.proofs.BegunBlocksLemmas.{source_kept}
 use Rattle.markdown_plain.proofs.BegunLeavesLemmas.{none_held}
-use Rattle.markdown_plain.proofs.BegunTextsLemmas.{none_open}
-use Rattle.markdown_plain.proofs.BlanksKnownLemmas.{same_touched}
 use Rattle.markdown_plain.proofs.BlankStandingLemmas.{next_after, none_inside}
+use Rattle.markdown_plain.proofs.BlanksKnownLemmas.{same_touched}
+use Rattle.markdown_plain.proofs.ClosableLemmas.{no_paragraph}
 use Rattle.markdown_plain.proofs.FramesLemmas.{goes_on_last}
 use Rattle.markdown_plain.proofs.GrownLeavesLemmas.{placed_touched}
 use Rattle.markdown_plain.proofs.InnerBeginningsLemmas.{BeginsInside, after_inside}
 use Rattle.markdown_plain.proofs.ItemsInListsLemmas.{line_keeps}
 use Rattle.markdown_plain.proofs.LastBlocksLemmas.{leaf_is_over, open_are_containers}
+use Rattle.markdown_plain.proofs.LineBeginningsLemmas.{begins_holds}
 use Rattle.markdown_plain.proofs.LooseFramesLemmas.{ends_more}
 use Rattle.markdown_plain.proofs.ReachedLemmas.{all_go_on, reached_next}
 use Rattle.markdown_plain.proofs.ReadyPlacesLemmas.{next_between, ready_last}
@@ -72,19 +68,9 @@ abbrev BeginsNone : Beginning → Type 0
 BeginsNone (line.begins_underline level) = ⊥
 BeginsNone other = Unit
 
-abbrev IfNone : Option Beginning → Type 0
-IfNone None = Unit
-IfNone (Some b) = BeginsNone b
-
 inside_none : (b : Beginning) → BeginsInside b → BeginsNone b
 inside_none (line.begins_underline level) inside = inside
 inside_none other inside = tt
-
-metadata_none : (before : block_start.Before) (kind : MetadataBlockKind) → IfNone (metadata_begun before kind)
-metadata_none before metadata.YamlStyle =
-    either IfNone (is_reached before) None (Some (line.begins_metadata metadata.YamlStyle)) tt tt
-metadata_none before metadata.PlusesStyle =
-    either IfNone (is_paragraph before) None (Some (line.begins_metadata metadata.PlusesStyle)) tt tt
 
 -- an underline begins in a line that reaches a paragraph
 underline_reaches : (s : Source) (before : block_start.Before) (l : SourceLine) (level : HeadingLevel)
@@ -94,29 +80,11 @@ underline_reaches s before l level is = decided (is_reached before) refl
     space : Space
     space = leading_space 4 l.left
 
-    after : Beginning
-    after = begins_after s before space.columns space.after
-
-    none_opened : (opened : Option MetadataBlockKind) → IfNone (option_and_then (metadata_begun before) opened)
-    none_opened None = tt
-    none_opened (Some kind) = metadata_none before kind
-
-    none_of : (found : Option Beginning) → IfNone found → BeginsNone after → BeginsNone (unwrap_or found after)
-    none_of None none other = other
-    none_of (Some b) none other = none
-
     none : is_reached before ≡ false → BeginsNone (begins s before l)
     none off =
-        let opened = option_and_then (metadata_begun before)
-        (metadata_opened s.options s.text l.left.bytes l.next) in
-        either BeginsNone (space.columns == 4)
-        (if is_paragraph before then line.begins_text else line.begins_indented space.after)
-        (unwrap_or (metadata_in_line s before l) after)
-        (either BeginsNone (is_paragraph before) line.begins_text (line.begins_indented space.after) tt tt)
-        (none_of (metadata_in_line s before l)
-        (either IfNone l.outermost opened None
-        (none_opened (metadata_opened s.options s.text l.left.bytes l.next)) tt)
-        (inside_none after (after_inside s before space.columns space.after off)))
+        begins_holds BeginsNone s before l tt tt (λ kind. tt)
+        (inside_none (begins_after s before space.columns space.after)
+        (after_inside s before space.columns space.after off))
 
     decided : (test : Bool) → is_reached before ≡ test → is_reached before ≡ true
     decided true reaches = reaches
@@ -380,7 +348,7 @@ module _ (s : Source) (old new : Pass) (rest : LineRest) (level : HeadingLevel) 
         left = left_again;
         depth = here.depth;
         paragraph = ap (λ has. if has then (if are_none (reached s frames now l).inner then paragraph.Reached
-            else paragraph.Lazy) else paragraph.NoParagraph) (sym (none_open new ends.emptied));
+            else paragraph.Lazy) else paragraph.NoParagraph) (sym (no_paragraph new ends.emptied));
         filled = here.filled;
         over = λ free. over_again none;
         whole = here.whole;
@@ -416,7 +384,7 @@ paragraph_underlined : (s : Source) (old new : Pass) (rest : LineRest) (level : 
     → IfFitted old.placing new.placing
     (HasBegun s new rest (record rest { before = paragraph.NoParagraph }) blocks (not some))
 paragraph_underlined s old new rest level some frames inside None l source blocks here underlines reaches has all ends =
-    absurd (true≢false (sym has ∙ none_open old here.holds.unended.1))
+    absurd (true≢false (sym has ∙ no_paragraph old here.holds.unended.1))
 paragraph_underlined s old new rest level some frames inside (Some b) l source blocks here underlines reaches has all
     ends =
     by_held here.holds.unended.0 here.holds.unended.1

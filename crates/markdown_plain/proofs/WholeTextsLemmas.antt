@@ -37,7 +37,7 @@ use Rattle.markdown_plain.proofs.ReadyLinesLemmas.{read_ready, white_at_end}
 -- ---- one line
 
 -- the line at a byte offset, as the pass reads it, is that of the definition
-pub source_at : (pass : Pass) (at : ℕ) (line : Line) → IsLineFrom pass.placing.builder.text at line
+source_at : (pass : Pass) (at : ℕ) (line : Line) → IsLineFrom pass.placing.builder.text at line
     → IsCharBoundary pass.placing.builder.text at → IsUtf8 pass.placing.builder.text
     → IsSource pass line (first_line at (drop at pass.placing.builder.text))
 source_at pass at line is boundary utf8 =

@@ -21,7 +21,7 @@ use Rattle.markdown_plain.specs.Fitting.{BracesStand}
 use Rattle.markdown_plain.specs.Standing.{AreOpenedBefore, IsSource, PlacesFor, with_last}
 use Rattle.markdown_lines.specs.declared.line.Line.{Line}
 use Rattle.markdown_block_rules.specs.BlockGrowth.{Block, begun_by, content_of, goes_on, with_line}
-use Rattle.markdown_plain.specs.declared.block_pass.LineRest.{LineRest}
+use Rattle.markdown_plain.specs.declared.beginnings.LineRest.{LineRest}
 use Rattle.markdown_plain.specs.declared.pass.Pass.{Pass}
 use Rattle.markdown_block_rules.specs.TableLines.{reads_tables}
 use Rattle.markdown_lines.specs.declared.atx_heading.AtxHeading.{AtxHeading}

@@ -1,6 +1,5 @@
 -- What the pass stands for between two lines, where no table is open: the blocks of the lines so far. And what it
--- stands
--- for once a line that is not blank is placed, before that is recorded.
+-- stands for once a line that is not blank is placed, before that is recorded.
 use Rattle.std.specs.Prelude.{◌≡◌, ℕ, ◌<◌, ◌≤◌, Bool, true, false, List, [], ◌∷◌, ◌++◌, Option, Some, None}
 use Rattle.std.specs.Str.{IsCharBoundary, IsUtf8}
 use Rattle.markdown_base.specs.Forest.{Forest}
@@ -11,7 +10,7 @@ use Rattle.markdown_lines.specs.SourceLines.{SourceLine, stop_of}
 use Rattle.markdown_lines.specs.declared.held_line.HeldLine.{HeldLine}
 use Rattle.markdown_lines.specs.declared.line.Line.{Line}
 use Rattle.markdown_block_rules.specs.BlockGrowth as was
-use Rattle.markdown_block_rules.specs.BlockGrowth.{Block, Kind, with_line}
+use Rattle.markdown_block_rules.specs.BlockGrowth.{Block, Kind}
 use Rattle.markdown_block_rules.specs.BlockRules.{code_lines, ends_blank}
 use Rattle.markdown_plain.specs.declared.pass.LeafKind.{LeafKind}
 use Rattle.markdown_plain.specs.declared.pass.LeafKind.TheVariants as leaf

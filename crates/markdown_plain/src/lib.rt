@@ -1,6 +1,7 @@
 //! The block pass: from a text to the tree of its blocks, with open inline items.
 #![tactic(auto)]
 
+mod beginnings;
 mod block_pass;
 mod containers;
 mod leaves;

@@ -10,13 +10,13 @@ use Rattle.markdown_lines.specs.declared.definition.Definition.{Definition}
 use Rattle.markdown_plain.specs.Fitting.{AllFitted, IsAhead, IsWhiteOutside}
 use Rattle.markdown_plain.specs.HeldSources.{IsParagraph}
 use Rattle.markdown_plain.specs.TakenDefinitions.{TakesDefinitions}
-use Rattle.markdown_plain.proofs.DividedLemmas.{as_many, filled_of, first_read, no_bracket, no_bracket_byte}
-use Rattle.markdown_plain.proofs.DividedLemmas.{no_line, none_there, takes_empty, takes_first}
-use Rattle.markdown_plain.proofs.ParagraphsLemmas.{end_of_last}
-use Rattle.markdown_plain.proofs.ClosableLemmas.{MayDefine, ahead_after, ahead_of, bracket_there, cuts_of, may_define}
-use Rattle.markdown_plain.proofs.ClosableLemmas.{last_next, may_pass, white_ahead}
-use Rattle.markdown_plain.proofs.DefinitionEndsLemmas.{IsSpanIn, are_sources, definition_span, sources_of}
 use Rattle.markdown_plain.specs.Closable.{AreAhead}
+use Rattle.markdown_plain.proofs.ClosableLemmas.{MayDefine, ahead_after, ahead_of, cuts_of, may_define, last_next}
+use Rattle.markdown_plain.proofs.ClosableLemmas.{may_pass, white_ahead}
+use Rattle.markdown_plain.proofs.DefinitionEndsLemmas.{IsSpanIn, are_sources, definition_span, sources_of}
+use Rattle.markdown_plain.proofs.DividedLemmas.{as_many, bracket_byte, filled_of, first_read, no_bracket}
+use Rattle.markdown_plain.proofs.DividedLemmas.{no_bracket_byte, no_line, none_there, takes_empty, takes_first}
+use Rattle.markdown_plain.proofs.ParagraphsLemmas.{end_of_last}
 use Rattle.markdown_plain.proofs.paragraph.take_definition.Goals as goal
 
 pub returns-in_default-clause-over : goal.returns-in_default-clause-over
@@ -168,7 +168,7 @@ returns-clause-fits c = λ is fitted.
     let stepped = (c.step_to-2.ensures.steps first).1 in
     let bracket : slice_get old.text line.start ≡ Some 91 =
     sym (c.byte_at.ensures ∙ ap (λ (t : List ℕ). slice_get t line.start) c.text-text.ensures)
-    ∙ bracket_there c.byte_at.result (sym c.ne.ensures ∙ c.if-ne.false) in
+    ∙ bracket_byte c.byte_at.result (sym c.ne.ensures ∙ c.if-ne.false) in
     let second = c.in_ok-add_definition.ensures.fits
     (ahead_of old.text line.start end c.step_to-2.new.self.builder c.step_to-2.ensures.text
     (ap (λ (b : BuilderView). b.at) stepped) d.low d.boundary)

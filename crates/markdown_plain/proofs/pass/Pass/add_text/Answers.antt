@@ -1,17 +1,17 @@
 -- The line is added to the paragraph that is held back, or one begins with it where room was made.
 use Rattle.std.proofs.Common.{◌≡◌, ◌∙◌, ◌++◌, ◌∷◌, [], ap, refl, rules, subst, sym, true, false, true≢false, None}
+use Rattle.markdown_base.specs.Forest.{nil}
 use Rattle.markdown_lines.specs.declared.held_line.HeldLine.{HeldLine}
-use Rattle.markdown_plain.proofs.AddedLinesLemmas.{has_held, line_added, no_leaf_open, paragraph_begun}
-use Rattle.markdown_plain.proofs.ClosedFramesLemmas.{stands_on}
 use Rattle.markdown_plain.specs.Closable.{AreClosable}
 use Rattle.markdown_plain.specs.Fitting.{AllFitted}
 use Rattle.markdown_plain.specs.declared.placing.Placing.{Placing}
 use Rattle.markdown_plain.specs.Paragraphs.{has_paragraph, task_at}
-use Rattle.markdown_base.specs.Forest.{nil}
-use Rattle.markdown_plain.proofs.BegunTextsLemmas.{none_open}
 use Rattle.markdown_plain.specs.Settled.{IsLooseBefore}
 use Rattle.markdown_plain.specs.declared.looseness.Looseness.{Looseness}
 use Rattle.markdown_plain.specs.declared.pass.Pass.{Pass}
+use Rattle.markdown_plain.proofs.AddedLinesLemmas.{has_held, line_added, no_leaf_open, paragraph_begun}
+use Rattle.markdown_plain.proofs.ClosableLemmas.{no_paragraph}
+use Rattle.markdown_plain.proofs.ClosedFramesLemmas.{stands_on}
 use Rattle.markdown_plain.proofs.pass.Pass.add_text.Goals.{then-not-has_paragraph+in_ok-make_room}
 use Rattle.markdown_plain.proofs.pass.Pass.add_text.Goals.{else-not-has_paragraph}
 use Rattle.markdown_plain.proofs.pass.Pass.add_text.Goals as goal
@@ -74,7 +74,7 @@ returns-clause-inside c = λ s frames may deep loose.
           )
       | else-not-has_paragraph w ↦
           let held : has_paragraph c.args.self.now ≡ true = search rules in
-          absurd (true≢false (sym held ∙ none_open c.args.self.now may.lines))
+          absurd (true≢false (sym held ∙ no_paragraph c.args.self.now may.lines))
     ]
 
 -- what was closed may be, where room was made

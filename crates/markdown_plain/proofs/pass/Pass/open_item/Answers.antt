@@ -16,13 +16,14 @@ use Rattle.markdown_plain.specs.OpenedFrames.{with_frame}
 use Rattle.markdown_plain.specs.Settled.{BlanksKnown, IsBuilt, IsLooseAs}
 use Rattle.markdown_plain.specs.declared.looseness.Looseness.{Looseness}
 use Rattle.markdown_plain.specs.declared.pass.Pass.{Pass}
-use Rattle.markdown_plain.proofs.RoomForBlocksLemmas.{last_open}
-use Rattle.markdown_plain.proofs.ClosedListsLemmas.{known_of_outermost}
-use Rattle.markdown_plain.proofs.OpenedFramesLemmas.{as_many_containers, innermost_of_more, item_is, item_placed}
-use Rattle.markdown_plain.proofs.OpenedFramesLemmas.{list_for_item, plain_is_built}
-use Rattle.markdown_plain.proofs.ClosableLemmas.{item_ahead, item_outside, item_white, listed_ahead}
 use Rattle.markdown_plain.specs.Closable.{AreClosable, IsWhiteBefore}
 use Rattle.markdown_plain.specs.OpenBlocks as own
+use Rattle.markdown_plain.proofs.ClosableLemmas.{item_ahead, item_outside, item_white, listed_ahead}
+use Rattle.markdown_plain.proofs.ClosedListsLemmas.{known_of_outermost}
+use Rattle.markdown_plain.proofs.FramesInsideLemmas.{inner_last}
+use Rattle.markdown_plain.proofs.OpenedFramesLemmas.{as_many_containers, item_is, item_placed, list_for_item}
+use Rattle.markdown_plain.proofs.OpenedFramesLemmas.{plain_is_built}
+use Rattle.markdown_plain.proofs.RoomLemmas.{last_open}
 use Rattle.markdown_plain.proofs.pass.Pass.open_item.Goals as goal
 
 -- once its list is the innermost open container
@@ -51,7 +52,7 @@ returns-clause-begins c =
     in (
       subst (λ (p : Pass). AllFitted p.placing) kept listed.0,
       item_in c s (with_frame frames inside list) nil b last.1 first.1 start same
-          (innermost_of_more is_list frames (record { before = inside; block = list }) ∙ ap is_list is) listed.1,
+          (inner_last is_list frames (record { before = inside; block = list }) ∙ ap is_list is) listed.1,
     )) c.open_block.ensures.opens
 
 -- nothing is closed inside a container that was opened last
@@ -96,7 +97,7 @@ returns-clause-frame c =
     → IsBuilt s c.open_list.new.self.placing.builder (with_frame fs before list) nil
     → IsBuilt s c.open_block.new.self.builder (with_frame (with_frame fs before list) nil b) nil =
     λ fs before built. put (with_frame fs before list) nil
-    (innermost_of_more is_list fs (record { before = before; block = list }) ∙ ap is_list is) built in (
+    (inner_last is_list fs (record { before = before; block = list }) ∙ ap is_list is) built in (
       down.0,
       item_placed (λ fs. IsBuilt s c.open_block.new.self.builder fs nil) c.args.item.marker list b outer below
           (λ goes_on. put outer below (list_for_item c.args.item.marker outer goes_on)

@@ -4,29 +4,28 @@ use Rattle.std.proofs.Common.{List, sym, subst, rules, true, false}
 use Rattle.std.proofs.lemmas.Bool.{true≢false}
 use Rattle.std.proofs.lemmas.Result.{IfOk-weaker}
 use Rattle.markdown_base.specs.declared.item.ItemBody.TheVariants as body
-use Rattle.markdown_builder.specs.BuilderView.{BuilderView, Opens}
-use Rattle.markdown_block_rules.specs.BlockGrowth.{Block, list_container}
 use Rattle.markdown_base.specs.Forest.{Forest, nil}
+use Rattle.markdown_builder.specs.BuilderView.{BuilderView, Opens}
 use Rattle.markdown_builder.specs.declared.open_block.OpenBlock.{OpenBlock}
 use Rattle.markdown_lines.specs.BlockBeginnings.{Source}
+use Rattle.markdown_block_rules.specs.BlockGrowth.{Block, list_container}
 use Rattle.markdown_plain.specs.Closing.{MayClose}
-use Rattle.markdown_plain.specs.Fitting.{AllFitted, IfFitted, stepped}
+use Rattle.markdown_plain.specs.Fitting.{AllFitted, IfFitted, stepped, IsAhead}
 use Rattle.markdown_plain.specs.Frames.{Frame, forgotten, is_list, rebuilt, room_depth}
 use Rattle.markdown_plain.specs.OpenedFrames.{is_list_for, with_frame, with_list}
 use Rattle.markdown_plain.specs.NewContainers.{is_list_of}
 use Rattle.markdown_plain.specs.OpenBlocks as own
 use Rattle.markdown_plain.specs.declared.pass.Pass.{Pass}
 use Rattle.markdown_plain.specs.Settled.{AreOpen, BlanksKnown, IsLooseAs}
+use Rattle.markdown_plain.specs.Closable.{AreClosable, IsWhiteBefore}
+use Rattle.markdown_plain.proofs.ClosableLemmas.{MayBeginList, begins_list, begins_list_after, some_innermost}
 use Rattle.markdown_plain.proofs.ClosedListsLemmas.{AddsBlock, AreClosedTo, IsRoom, room_left, room_made, room_there}
 use Rattle.markdown_plain.proofs.ClosedListsLemmas.{none_closed as none_closed_so_far}
-use Rattle.markdown_plain.proofs.OpenedFramesLemmas.{as_many_containers, innermost_of_more, list_for_item}
-use Rattle.markdown_plain.proofs.OpenedFramesLemmas.{list_goes_on, list_innermost, list_is, list_outside}
-use Rattle.markdown_plain.proofs.OpenedFramesLemmas.{plain_is_built}
+use Rattle.markdown_plain.proofs.FramesInsideLemmas.{inner_last}
+use Rattle.markdown_plain.proofs.OpenedFramesLemmas.{as_many_containers, list_for_item, list_goes_on, list_innermost}
+use Rattle.markdown_plain.proofs.OpenedFramesLemmas.{list_is, list_outside, plain_is_built}
 use Rattle.markdown_plain.proofs.pass.Pass.open_list.Goals.{in-Some-List+else-character-marker}
 use Rattle.markdown_plain.proofs.pass.Pass.open_list.Goals.{in-Some+in-MaybeEmphasis-1, in-None-1}
-use Rattle.markdown_plain.proofs.ClosableLemmas.{MayBeginList, begins_list, begins_list_after, some_innermost}
-use Rattle.markdown_plain.specs.Closable.{AreClosable, IsWhiteBefore}
-use Rattle.markdown_plain.specs.Fitting.{IsAhead}
 use Rattle.markdown_plain.proofs.pass.Pass.open_list.Goals as goal
 
 pub returns-then-character-marker-clause-begins : goal.returns-then-character-marker-clause-begins
@@ -72,7 +71,7 @@ returns-then-character-marker-clause-changes c = λ s frames f inside b may list
     search rules in
     absurd (true≢false (sym goes_on
     ∙ (list_goes_on c.args.marker s c.args.self.now.placing.builder (frames ++ f ∷ []) inside may.stands.built
-    ∙ (innermost_of_more (is_list_for c.args.marker) frames f ∙ other))))
+    ∙ (inner_last (is_list_for c.args.marker) frames f ∙ other))))
 
 -- another list is closed
 list_closed : (c : goal.After-open_list)
@@ -98,7 +97,7 @@ returns-clause-changes c =
     let last = c.in_ok-open_block.ensures.opens fitted in
     let first = c.step_to.ensures.steps last.0 in
     let innermost = list_innermost s c.args.self.now.placing.builder (frames ++ f ∷ []) inside may.stands.built
-    ∙ (innermost_of_more is_list frames f ∙ is) in
+    ∙ (inner_last is_list frames f ∙ is) in
     let closed = list_closed c innermost s frames f inside may first.0 in (
       closed.0,
       plain_is_built s c.match-innermost.self.placing.builder now frames (forgotten f inside) b c.args.at

@@ -16,10 +16,12 @@ use Rattle.markdown_plain.specs.OpenedFrames.{with_frame}
 use Rattle.markdown_plain.specs.Settled.{IsBuilt, IsLooseBefore}
 use Rattle.markdown_plain.specs.declared.pass.Pass.{Pass}
 use Rattle.markdown_plain.proofs.BegunBlocksLemmas.{begun_block, begun_in_room, keeps_leaf, source_kept, still_may}
-use Rattle.markdown_plain.proofs.BegunContainersLemmas.{fitted_before, in_line_more, line_in_room, loose_inside}
-use Rattle.markdown_plain.proofs.BegunTextsLemmas.{end_begins, end_block, held_from, none_open, text_inside}
+use Rattle.markdown_plain.proofs.BegunContainersLemmas.{fitted_before_line, in_line_more, line_in_room, loose_inside}
+use Rattle.markdown_plain.proofs.BegunTextsLemmas.{end_begins, end_block, held_from, text_inside}
+use Rattle.markdown_plain.proofs.ClosableLemmas.{no_paragraph}
+use Rattle.markdown_plain.proofs.FramesInsideLemmas.{inner_last}
 use Rattle.markdown_plain.proofs.FramesLemmas.{rebuilt_more}
-use Rattle.markdown_plain.proofs.OpenedFramesLemmas.{as_many_containers, innermost_of_more}
+use Rattle.markdown_plain.proofs.OpenedFramesLemmas.{as_many_containers}
 use Rattle.markdown_plain.proofs.ReadyContainersLemmas.{end_ready}
 use Rattle.markdown_plain.proofs.pass.Pass.read_alert.Goals as goal
 
@@ -61,7 +63,7 @@ is_alert c s turn source blocks state found fitted before =
       may = after;
       built = opens;
       same = c.in_ok-add_text.ensures.inside s inner
-          (record { built = opens; lines = after.lines; free = innermost_of_more is_list room.frames f })
+          (record { built = opens; lines = after.lines; free = inner_last is_list room.frames f })
           (c.depth.ensures ∙ as_many_containers s quote.placing.builder inner nil opens)
           (loose_inside quote.looseness room.frames room.inside a
           (record { filled = refl; free = refl; empty = refl }) after.loose);
@@ -78,7 +80,7 @@ returns-clause-places c = λ s turn source blocks state found fitted.
     let b = end_block source in
     let held = held_from rest.line rest.line.stop in
     let begins = line.begins_alert c.args.kind in
-    let there = fitted_before quote now _ c.add_text.ensures.goes_on c.in_ok-add_text.ensures.begins fitted in
+    let there = fitted_before_line quote now _ c.add_text.ensures.goes_on c.in_ok-add_text.ensures.begins fitted in
     let opens = c.in_ok-open_quote.ensures.opens there in
     let first = c.in_ok-make_room_for.ensures.room s turn source c.args.at (start.Alert c.args.kind) begins blocks
     state found refl tt opens.0 in
@@ -91,7 +93,7 @@ returns-clause-places c = λ s turn source blocks state found fitted.
     let texts = ap (λ (r : Source). r.text) after.source in
     let more = in_line_more s rest source kind room.frames room.inside room.left room.filled
     (line_in_room s made rest source begins blocks room) in
-    let none = none_open quote after.lines in
+    let none = no_paragraph quote after.lines in
     let bytes = ap (λ (p : Pass). p.placing.builder.text) same.0 in
     let options = ap (λ (p : Pass). p.options) same.0 in
     let built = subst (λ (p : Pass). IsBuilt s p.placing.builder inner nil) (sym same.0) alert.built in

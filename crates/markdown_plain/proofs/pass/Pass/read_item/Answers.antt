@@ -2,7 +2,8 @@
 use Rattle.std.proofs.Common.{ap, subst}
 use Rattle.std.specs.Str.{IsCharBoundary}
 use Rattle.markdown_plain.specs.declared.pass.Pass.{Pass}
-use Rattle.markdown_plain.proofs.BegunItemsLemmas.{item_reads_on, text_here}
+use Rattle.markdown_plain.proofs.BegunItemsLemmas.{item_reads_on}
+use Rattle.markdown_plain.proofs.FoundPlacesLemmas.{here_text}
 use Rattle.markdown_plain.proofs.ReadyContainersLemmas.{item_fits}
 use Rattle.markdown_plain.proofs.pass.Pass.read_item.Goals as goal
 
@@ -13,7 +14,7 @@ returns-clause-reads_on c = λ s turn source blocks state found boundary fitted.
     let rest = c.args.rest.now in
     let opens = c.in_ok-open_item.ensures in
     item_reads_on s old now rest c.go_inside.new.rest turn source blocks c.args.item c.args.at state found
-    (subst (λ text. IsCharBoundary text c.args.item.inside.at) (text_here s old rest turn source blocks state) boundary)
+    (subst (λ text. IsCharBoundary text c.args.item.inside.at) (here_text s old rest turn source blocks state) boundary)
     c.go_inside.ensures.goes
     (record {
       text = opens.text;

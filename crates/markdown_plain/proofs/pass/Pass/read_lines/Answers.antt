@@ -6,7 +6,7 @@ use Rattle.std.proofs.lemmas.Str.{IsCharBoundary-start}
 use Rattle.markdown_lines.specs.BlockBeginnings.{Source}
 use Rattle.markdown_lines.specs.Lines.{IsLineFrom}
 use Rattle.markdown_plain.proofs.OpenedFramesLemmas.{both_ok}
-use Rattle.markdown_plain.proofs.ReadyLinesLemmas.{boundary_after}
+use Rattle.markdown_plain.proofs.ReadyPlacesLemmas.{next_between}
 use Rattle.markdown_plain.proofs.WholeTextsLemmas.{fits_next, stands_first, stands_next, white_left, whole_text}
 use Rattle.markdown_plain.proofs.pass.Pass.read_lines.Goals as goal
 
@@ -37,7 +37,7 @@ lines-preserved c =
       same = search rules;
       text = search rules;
       ahead = search rules;
-      boundary = boundary_after c.text-text.result.now c.lines.from c.line_from-line.result c.text-text.utf8 line.1;
+      boundary = next_between c.text-text.result.now c.lines.from c.line_from-line.result c.text-text.utf8 line.1;
       fitted = λ fitted. loop.fitted (c.in_ok-read_line.ensures.fitted fitted);
       made = λ s tables stands fitted.
           let so_far = loop.made s tables stands (c.in_ok-read_line.ensures.fitted fitted) in

@@ -1,0 +1,542 @@
+//! What begins in a line: the rest of a line, which block its first bytes begin, and how each of these is opened, until
+//! the line is placed or the rest of it is inside a new container. `block_pass` goes on with that, turn by turn.
+//! Functions that return a `Result` fail only where memory is refused.
+ghost use Rattle.std.specs.Prelude.{◌≡◌, ◌≤◌, ℕ, true, false, Some, None, IfOk, length};
+ghost use Rattle.std.specs.Str.{IsCharBoundary};
+ghost use Rattle.markdown_base.specs.Forest.{Forest};
+ghost use Rattle.markdown_block_rules.specs.BlockGrowth.{Block};
+ghost use Rattle.markdown_block_rules.specs.TableLines.{reads_tables};
+ghost use Rattle.markdown_lines.specs.BlockBeginnings.{Beginning, Source};
+ghost use Rattle.markdown_lines.specs.BlockStarts.{beginning_found};
+ghost use Rattle.markdown_lines.specs.HeldLines.{IsHeldLine};
+ghost use Rattle.markdown_lines.specs.SourceLines.{SourceLine};
+ghost use Rattle.markdown_lines.specs.declared.block_start.Before.TheVariants as before;
+ghost use Rattle.markdown_lines.specs.declared.block_start.BlockStart.{BlockStart};
+ghost use Rattle.markdown_lines.specs.declared.block_start.BlockStart.TheVariants as start;
+ghost use Rattle.markdown_plain.specs.Beginning.{HasBegun, HasRoom, IsFound, IsHeadingIn, IsHere, NeedsRoom};
+ghost use Rattle.markdown_plain.specs.Beginning.{ReadsOn, Turn};
+ghost use Rattle.markdown_plain.specs.Fitting.{AllFitted, BracesStand, FittedBefore, IfFitted};
+ghost use Rattle.markdown_plain.specs.OpenLeaves.{InfoStands};
+ghost use Rattle.markdown_plain.specs.Paragraphs.{source_of};
+ghost use Rattle.markdown_plain.specs.Standing.{PlacesFor};
+ghost use Rattle.markdown_plain.specs.TextLines.{paragraph_before};
+ghost use Rattle.markdown_plain.specs.declared.beginnings.LineRest.{LineRest};
+
+use crate::pass::Pass;
+use markdown_base::cow_str::CowStr;
+use markdown_base::options::Options;
+use markdown_base::tag::{BlockQuoteKind, HeadingLevel, MetadataBlockKind};
+use markdown_lines::atx_heading::AtxHeading;
+use markdown_lines::block_start::{Before, BlockStart, ItemStart};
+use markdown_lines::extended_only::is_read;
+use markdown_lines::fence::OpeningFence;
+use markdown_lines::html_kind::HtmlKind;
+use markdown_lines::line::Line;
+use markdown_lines::line_reader::LineReader;
+use markdown_lines::position::Position;
+use std::alloc::AllocError;
+
+/// The rest of a line.
+#[derive(Clone, Copy, Drop)]
+pub struct LineRest<'a> {
+    pub line: Line,
+    pub reader: LineReader<'a>,
+    /// where it begins
+    pub position: Position,
+    /// the number of open blocks that continue, or were opened in this line
+    pub depth: usize,
+    /// the paragraph that it may go on with
+    pub before: Before,
+    /// where it begins if it is no row of the open table, as long as that is not known
+    pub unless_row: Option<Position>,
+}
+
+/// Returns whether what a line begins is text.
+fn is_text(start: &BlockStart<'_>) -> bool {
+    match start {
+        BlockStart::Text => true,
+        _ => false,
+    }
+}
+
+/// Has the rest of a line be read first as a row, from its first byte after white space on: what ends a table is what
+/// would end a paragraph that the line continued lazily.
+pub fn try_as_row(rest: &mut LineRest<'_>, content: usize) {
+    rest.unless_row = Some(rest.position);
+    rest.position = Position::new(content);
+    rest.before = Before::Lazy;
+}
+
+impl<'a> Pass<'a> {
+    /// Returns the paragraph that a line may go on with, where all open containers continue in it, or not.
+    pub fn paragraph_before(&self, all: bool) -> Before
+        ensures { result ≡ paragraph_before self.now all }
+    {
+        if !self.has_paragraph() {
+            Before::NoParagraph
+        } else if all {
+            Before::Reached
+        } else {
+            Before::Lazy
+        }
+    }
+
+    /// Reads the block that begins here. Returns whether the rest of the line is still to be read: inside a container,
+    /// or once more.
+    pub fn read_block(&mut self, rest: &mut LineRest<'a>) -> Result<bool, AllocError>
+        ensures text { IfOk result (λ _. self.new.placing.builder.text
+            ≡ self.old.placing.builder.text) }
+        ensures fitted { IfOk result (λ _. FittedBefore self.old.placing self.new.placing) }
+        ensures begins { IfOk result (λ more. (s : Source) (turn : Turn) (source : SourceLine)
+            (blocks : Forest Block) → IsHere s self.old rest.old turn source blocks
+            → rest.old.unless_row ≡ None
+            → IfFitted self.old.placing self.new.placing
+            (HasBegun s self.new rest.old rest.new blocks more)) }
+        ensures fits { IfOk result (λ more. (s : Source) (turn : Turn) (source : SourceLine)
+            (blocks : Forest Block) → IsHere s self.old rest.old turn source blocks
+            → rest.old.unless_row ≡ None
+            → AllFitted self.old.placing → AllFitted self.new.placing) }
+    {
+        if self.reads_table(rest)? {
+            return Ok(false);
+        }
+        let begun = rest.reader.beginning(rest.position, rest.before)?;
+        let at = begun.at;
+        if let Some(outside) = rest.unless_row {
+            // what begins nothing but text is a row, or else the line is read once more, from outside the table on
+            if is_text(&begun.start) && self.add_row(rest.line, at)? {
+                return Ok(false);
+            }
+            rest.unless_row = None;
+            rest.position = outside;
+            rest.before = self.paragraph_before(true);
+            return Ok(true);
+        }
+        match begun.start {
+            BlockStart::Nothing => self.skip_blank(rest.line),
+            BlockStart::Text => self.read_text(rest, at),
+            BlockStart::IndentedCode(code) => self.read_indented(rest, code),
+            BlockStart::Quote(inside) => self.read_quote(rest, at, inside),
+            BlockStart::Alert(kind) => self.read_alert(rest, at, kind),
+            BlockStart::Heading(heading) => self.read_heading(rest, at, heading),
+            BlockStart::Fence(opening) => self.read_fence(rest, at, opening),
+            BlockStart::Html(kind) => self.read_html(rest, kind),
+            BlockStart::Footnote(label, inside) => self.read_footnote(rest, at, label, inside),
+            BlockStart::Underline(level) => self.read_underline(rest, level),
+            BlockStart::ThematicBreak => self.read_break(rest, at),
+            BlockStart::Item(item) => self.read_item(rest, at, item),
+            BlockStart::Metadata(kind) => self.read_metadata(rest, kind),
+        }
+    }
+
+    /// Reads the delimiter row of a table, where tables are read, and returns whether the rest of the line is one.
+    fn reads_table(&mut self, rest: &LineRest<'a>) -> Result<bool, AllocError>
+        ensures text { IfOk result (λ _. self.new.placing.builder.text
+            ≡ self.old.placing.builder.text) }
+        ensures fitted { IfOk result (λ _. FittedBefore self.old.placing self.new.placing) }
+        ensures none { IfOk result (λ is. rest.now.before ≡ before.NoParagraph → (is ≡ false)
+            × (self.new ≡ self.old)) }
+        ensures off { IfOk result (λ is. reads_tables (source_of self.old) ≡ false → (is ≡ false)
+            × (self.new ≡ self.old)) }
+    {
+        match rest.before {
+            Before::Reached if is_read(Options::ENABLE_TABLES, self.options) => {
+                self.begin_table(rest.line, rest.position)
+            }
+            _ => Ok(false),
+        }
+    }
+
+    /// Makes room for the block that the rest of a line begins, which is no item: ends the open leaf, and closes the
+    /// containers that it is not in.
+    #[inline(always)]
+    fn make_room_for(&mut self, rest: &LineRest<'a>) -> Result<(), AllocError>
+        ensures text { IfOk result (λ _. self.new.placing.builder.text
+            ≡ self.old.placing.builder.text) }
+        ensures fitted { IfOk result (λ _. FittedBefore self.old.placing self.new.placing) }
+        ensures room { IfOk result (λ _. (s : Source) (turn : Turn) (source : SourceLine)
+            (at : ℕ) (start : BlockStart) (b : Beginning) (blocks : Forest Block)
+            → IsHere s self.old rest.now turn source blocks → IsFound s rest.now source at start
+            → beginning_found rest.now.reader start ≡ Some b → NeedsRoom b
+            → IfFitted self.old.placing self.new.placing
+            (HasRoom s self.new rest.now source b blocks)) }
+        ensures fits { IfOk result (λ _. (s : Source) (turn : Turn) (source : SourceLine)
+            (at : ℕ) (start : BlockStart) (b : Beginning) (blocks : Forest Block)
+            → IsHere s self.old rest.now turn source blocks → IsFound s rest.now source at start
+            → beginning_found rest.now.reader start ≡ Some b → NeedsRoom b
+            → AllFitted self.old.placing → AllFitted self.new.placing) }
+        ensures same { self.new ≡ record self.old {
+          placing = self.new.placing;
+          lines = self.new.lines;
+          blanks = self.new.blanks;
+          looseness = self.new.looseness;
+        } }
+    {
+        self.make_room(rest.depth)
+    }
+
+    /// Moves to a place inside the container that was opened last, and returns true.
+    fn go_inside(&self, rest: &mut LineRest<'a>, inside: Position) -> bool
+        ensures more { result ≡ true }
+        ensures goes { rest.new ≡ record rest.old {
+          position = inside;
+          depth = length self.now.placing.builder.blocks;
+          before = before.NoParagraph;
+        } }
+    {
+        rest.position = inside;
+        rest.depth = self.depth();
+        rest.before = Before::NoParagraph;
+        true
+    }
+
+    /// Passes over the rest of a line that is blank. Returns false, as for all blocks that are not containers.
+    fn skip_blank(&mut self, line: Line) -> Result<bool, AllocError>
+        ensures text { IfOk result (λ _. self.new.placing.builder.text
+            ≡ self.old.placing.builder.text) }
+        ensures fitted { IfOk result (λ _. FittedBefore self.old.placing self.new.placing) }
+        ensures more { IfOk result (λ more. more ≡ false) }
+        ensures places { IfOk result (λ _. (s : Source) (rest : LineRest) (turn : Turn)
+            (source : SourceLine) (at : ℕ) (blocks : Forest Block)
+            → IsHere s self.old rest turn source blocks → rest.line ≡ line
+            → IsFound s rest source at start.Nothing → IfFitted self.old.placing self.new.placing
+            (PlacesFor s self.new line.next blocks)) }
+        ensures fits { IfOk result (λ _. (s : Source) (rest : LineRest) (turn : Turn)
+            (source : SourceLine) (at : ℕ) (blocks : Forest Block)
+            → IsHere s self.old rest turn source blocks → rest.line ≡ line
+            → IsFound s rest source at start.Nothing
+            → AllFitted self.old.placing → AllFitted self.new.placing) }
+    {
+        self.placing.step_to(line.next);
+        Ok(false)
+    }
+
+    /// Reads text, from its first byte on. Returns false.
+    fn read_text(&mut self, rest: &LineRest<'a>, at: usize) -> Result<bool, AllocError>
+        ensures text { IfOk result (λ _. self.new.placing.builder.text
+            ≡ self.old.placing.builder.text) }
+        ensures fitted { IfOk result (λ _. FittedBefore self.old.placing self.new.placing) }
+        ensures more { IfOk result (λ more. more ≡ false) }
+        ensures places { IfOk result (λ _. (s : Source) (turn : Turn) (source : SourceLine)
+            (blocks : Forest Block) → IsHere s self.old rest.now turn source blocks
+            → IsFound s rest.now source at start.Text
+            → IsHeldLine self.old.placing.builder.text (record {
+              start = at;
+              stop = rest.now.line.stop;
+              next = rest.now.line.next;
+              owed = 0;
+            })
+            → IfFitted self.old.placing self.new.placing
+            (PlacesFor s self.new rest.now.line.next blocks)) }
+        ensures fits { IfOk result (λ _. (s : Source) (turn : Turn) (source : SourceLine)
+            (blocks : Forest Block) → IsHere s self.old rest.now turn source blocks
+            → IsFound s rest.now source at start.Text
+            → IsHeldLine self.old.placing.builder.text (record {
+              start = at;
+              stop = rest.now.line.stop;
+              next = rest.now.line.next;
+              owed = 0;
+            })
+            → AllFitted self.old.placing → AllFitted self.new.placing) }
+    {
+        self.add_text(rest.line, at, rest.depth)?;
+        Ok(false)
+    }
+
+    /// Reads the first line of indented code, from a place on. Returns false.
+    fn read_indented(&mut self, rest: &LineRest<'a>, code: Position) -> Result<bool, AllocError>
+        ensures text { IfOk result (λ _. self.new.placing.builder.text
+            ≡ self.old.placing.builder.text) }
+        ensures fitted { IfOk result (λ _. FittedBefore self.old.placing self.new.placing) }
+        ensures more { IfOk result (λ more. more ≡ false) }
+        ensures places { IfOk result (λ _. (s : Source) (turn : Turn) (source : SourceLine)
+            (at : ℕ) (blocks : Forest Block) → IsHere s self.old rest.now turn source blocks
+            → IsFound s rest.now source at (start.IndentedCode code)
+            → IfFitted self.old.placing self.new.placing
+            (PlacesFor s self.new rest.now.line.next blocks)) }
+        ensures fits { IfOk result (λ _. (s : Source) (turn : Turn) (source : SourceLine)
+            (at : ℕ) (blocks : Forest Block) → IsHere s self.old rest.now turn source blocks
+            → IsFound s rest.now source at (start.IndentedCode code)
+            → IsCharBoundary self.old.placing.builder.text code.at → code.at ≤ rest.now.line.stop
+            → AllFitted self.old.placing → AllFitted self.new.placing) }
+    {
+        self.make_room_for(rest)?;
+        self.open_indented(rest.line, code)?;
+        Ok(false)
+    }
+
+    /// Reads the marker of a block quote. Returns true.
+    fn read_quote(
+        &mut self,
+        rest: &mut LineRest<'a>,
+        at: usize,
+        inside: Position,
+    ) -> Result<bool, AllocError>
+        ensures text { IfOk result (λ _. self.new.placing.builder.text
+            ≡ self.old.placing.builder.text) }
+        ensures fitted { IfOk result (λ _. FittedBefore self.old.placing self.new.placing) }
+        ensures more { IfOk result (λ more. more ≡ true) }
+        ensures reads_on { IfOk result (λ _. (s : Source) (turn : Turn) (source : SourceLine)
+            (blocks : Forest Block) → IsHere s self.old rest.old turn source blocks
+            → IsFound s rest.old source at (start.Quote inside)
+            → IsCharBoundary self.old.placing.builder.text inside.at
+            → IfFitted self.old.placing self.new.placing
+            (ReadsOn s self.new rest.old rest.new blocks)) }
+        ensures fits { IfOk result (λ _. (s : Source) (turn : Turn) (source : SourceLine)
+            (blocks : Forest Block) → IsHere s self.old rest.old turn source blocks
+            → IsFound s rest.old source at (start.Quote inside)
+            → IsCharBoundary self.old.placing.builder.text inside.at
+            → AllFitted self.old.placing → AllFitted self.new.placing) }
+    {
+        self.make_room_for(rest)?;
+        self.open_quote(at, None)?;
+        Ok(self.go_inside(rest, inside))
+    }
+
+    /// Reads the marker of an alert, which takes the whole line, and begins the paragraph that may follow it. Returns
+    /// false.
+    fn read_alert(
+        &mut self,
+        rest: &LineRest<'a>,
+        at: usize,
+        kind: BlockQuoteKind,
+    ) -> Result<bool, AllocError>
+        ensures text { IfOk result (λ _. self.new.placing.builder.text
+            ≡ self.old.placing.builder.text) }
+        ensures fitted { IfOk result (λ _. FittedBefore self.old.placing self.new.placing) }
+        ensures more { IfOk result (λ more. more ≡ false) }
+        ensures places { IfOk result (λ _. (s : Source) (turn : Turn) (source : SourceLine)
+            (blocks : Forest Block) → IsHere s self.old rest.now turn source blocks
+            → IsFound s rest.now source at (start.Alert kind)
+            → IfFitted self.old.placing self.new.placing
+            (PlacesFor s self.new rest.now.line.next blocks)) }
+        ensures fits { IfOk result (λ _. (s : Source) (turn : Turn) (source : SourceLine)
+            (blocks : Forest Block) → IsHere s self.old rest.now turn source blocks
+            → IsFound s rest.now source at (start.Alert kind)
+            → AllFitted self.old.placing → AllFitted self.new.placing) }
+    {
+        self.make_room_for(rest)?;
+        self.open_quote(at, Some(kind))?;
+        self.add_text(rest.line, rest.line.stop, self.depth())?;
+        Ok(false)
+    }
+
+    /// Reads an ATX heading. Returns false.
+    fn read_heading(
+        &mut self,
+        rest: &LineRest<'a>,
+        at: usize,
+        heading: AtxHeading,
+    ) -> Result<bool, AllocError>
+        ensures text { IfOk result (λ _. self.new.placing.builder.text
+            ≡ self.old.placing.builder.text) }
+        ensures fitted { IfOk result (λ _. FittedBefore self.old.placing self.new.placing) }
+        ensures more { IfOk result (λ more. more ≡ false) }
+        ensures places { IfOk result (λ _. (s : Source) (turn : Turn) (source : SourceLine)
+            (blocks : Forest Block) → IsHere s self.old rest.now turn source blocks
+            → IsFound s rest.now source at (start.Heading heading)
+            → BracesStand self.old.placing.builder.text heading.braces
+            → IfFitted self.old.placing self.new.placing
+            (PlacesFor s self.new rest.now.line.next blocks)) }
+        ensures fits { IfOk result (λ _. (s : Source) (turn : Turn) (source : SourceLine)
+            (blocks : Forest Block) → IsHere s self.old rest.now turn source blocks
+            → IsFound s rest.now source at (start.Heading heading)
+            → BracesStand self.old.placing.builder.text heading.braces
+            → IsHeadingIn self.old.placing.builder.text rest.now.line at heading
+            → AllFitted self.old.placing → AllFitted self.new.placing) }
+    {
+        self.make_room_for(rest)?;
+        self.placing.step_to(at);
+        self.add_heading(rest.line, heading)?;
+        Ok(false)
+    }
+
+    /// Reads an opening code fence. Returns false.
+    fn read_fence(
+        &mut self,
+        rest: &LineRest<'a>,
+        at: usize,
+        opening: OpeningFence,
+    ) -> Result<bool, AllocError>
+        ensures text { IfOk result (λ _. self.new.placing.builder.text
+            ≡ self.old.placing.builder.text) }
+        ensures fitted { IfOk result (λ _. FittedBefore self.old.placing self.new.placing) }
+        ensures more { IfOk result (λ more. more ≡ false) }
+        ensures places { IfOk result (λ _. (s : Source) (turn : Turn) (source : SourceLine)
+            (blocks : Forest Block) → IsHere s self.old rest.now turn source blocks
+            → IsFound s rest.now source at (start.Fence opening)
+            → InfoStands self.old.placing.builder.text opening
+            → IfFitted self.old.placing self.new.placing
+            (PlacesFor s self.new rest.now.line.next blocks)) }
+        ensures fits { IfOk result (λ _. (s : Source) (turn : Turn) (source : SourceLine)
+            (blocks : Forest Block) → IsHere s self.old rest.now turn source blocks
+            → IsFound s rest.now source at (start.Fence opening)
+            → InfoStands self.old.placing.builder.text opening
+            → AllFitted self.old.placing → AllFitted self.new.placing) }
+    {
+        self.make_room_for(rest)?;
+        self.open_fenced(rest.line, at, opening)?;
+        Ok(false)
+    }
+
+    /// Reads the first line of an HTML block. Returns false.
+    fn read_html(&mut self, rest: &LineRest<'a>, kind: HtmlKind) -> Result<bool, AllocError>
+        ensures text { IfOk result (λ _. self.new.placing.builder.text
+            ≡ self.old.placing.builder.text) }
+        ensures fitted { IfOk result (λ _. FittedBefore self.old.placing self.new.placing) }
+        ensures more { IfOk result (λ more. more ≡ false) }
+        ensures places { IfOk result (λ _. (s : Source) (turn : Turn) (source : SourceLine)
+            (at : ℕ) (blocks : Forest Block) → IsHere s self.old rest.now turn source blocks
+            → IsFound s rest.now source at (start.Html kind)
+            → IsHeldLine self.old.placing.builder.text (record {
+              start = at;
+              stop = rest.now.line.stop;
+              next = rest.now.line.next;
+              owed = 0;
+            })
+            → IfFitted self.old.placing self.new.placing
+            (PlacesFor s self.new rest.now.line.next blocks)) }
+        ensures fits { IfOk result (λ _. (s : Source) (turn : Turn) (source : SourceLine)
+            (at : ℕ) (blocks : Forest Block) → IsHere s self.old rest.now turn source blocks
+            → IsFound s rest.now source at (start.Html kind)
+            → IsHeldLine self.old.placing.builder.text (record {
+              start = at;
+              stop = rest.now.line.stop;
+              next = rest.now.line.next;
+              owed = 0;
+            })
+            → AllFitted self.old.placing → AllFitted self.new.placing) }
+    {
+        self.make_room_for(rest)?;
+        self.open_html(rest.line, rest.position, kind)?;
+        Ok(false)
+    }
+
+    /// Reads the marker of a footnote definition. Returns true.
+    fn read_footnote(
+        &mut self,
+        rest: &mut LineRest<'a>,
+        at: usize,
+        label: CowStr<'a>,
+        inside: Position,
+    ) -> Result<bool, AllocError>
+        ensures text { IfOk result (λ _. self.new.placing.builder.text
+            ≡ self.old.placing.builder.text) }
+        ensures fitted { IfOk result (λ _. FittedBefore self.old.placing self.new.placing) }
+        ensures more { IfOk result (λ more. more ≡ true) }
+        ensures reads_on { IfOk result (λ _. (s : Source) (turn : Turn) (source : SourceLine)
+            (blocks : Forest Block) → IsHere s self.old rest.old turn source blocks
+            → IsFound s rest.old source at (start.Footnote label.entry inside)
+            → IsCharBoundary self.old.placing.builder.text inside.at
+            → IfFitted self.old.placing self.new.placing
+            (ReadsOn s self.new rest.old rest.new blocks)) }
+        ensures fits { IfOk result (λ _. (s : Source) (turn : Turn) (source : SourceLine)
+            (blocks : Forest Block) → IsHere s self.old rest.old turn source blocks
+            → IsFound s rest.old source at (start.Footnote label.entry inside)
+            → IsCharBoundary self.old.placing.builder.text inside.at
+            → AllFitted self.old.placing → AllFitted self.new.placing) }
+    {
+        self.make_room_for(rest)?;
+        self.open_footnote(at, label)?;
+        Ok(self.go_inside(rest, inside))
+    }
+
+    /// Reads the underline of the open paragraph, and returns false. Where the paragraph holds definitions alone, it
+    /// ends, and the line, which underlines nothing, is still to be read: then it returns true.
+    fn read_underline(
+        &mut self,
+        rest: &mut LineRest<'a>,
+        level: HeadingLevel,
+    ) -> Result<bool, AllocError>
+        ensures text { IfOk result (λ _. self.new.placing.builder.text
+            ≡ self.old.placing.builder.text) }
+        ensures fitted { IfOk result (λ _. FittedBefore self.old.placing self.new.placing) }
+        ensures begins { IfOk result (λ more. (s : Source) (turn : Turn) (source : SourceLine)
+            (at : ℕ) (blocks : Forest Block) → IsHere s self.old rest.old turn source blocks
+            → IsFound s rest.old source at (start.Underline level)
+            → IfFitted self.old.placing self.new.placing
+            (HasBegun s self.new rest.old rest.new blocks more)) }
+        ensures fits { IfOk result (λ more. (s : Source) (turn : Turn) (source : SourceLine)
+            (at : ℕ) (blocks : Forest Block) → IsHere s self.old rest.old turn source blocks
+            → IsFound s rest.old source at (start.Underline level)
+            → AllFitted self.old.placing → AllFitted self.new.placing) }
+    {
+        rest.before = Before::NoParagraph;
+        let is_heading = self.end_paragraph(Some((level, rest.line)))?;
+        Ok(!is_heading)
+    }
+
+    /// Reads a thematic break. Returns false.
+    fn read_break(&mut self, rest: &LineRest<'a>, at: usize) -> Result<bool, AllocError>
+        ensures text { IfOk result (λ _. self.new.placing.builder.text
+            ≡ self.old.placing.builder.text) }
+        ensures fitted { IfOk result (λ _. FittedBefore self.old.placing self.new.placing) }
+        ensures more { IfOk result (λ more. more ≡ false) }
+        ensures places { IfOk result (λ _. (s : Source) (turn : Turn) (source : SourceLine)
+            (blocks : Forest Block) → IsHere s self.old rest.now turn source blocks
+            → IsFound s rest.now source at start.ThematicBreak
+            → IfFitted self.old.placing self.new.placing
+            (PlacesFor s self.new rest.now.line.next blocks)) }
+        ensures fits { IfOk result (λ _. (s : Source) (turn : Turn) (source : SourceLine)
+            (blocks : Forest Block) → IsHere s self.old rest.now turn source blocks
+            → IsFound s rest.now source at start.ThematicBreak
+            → AllFitted self.old.placing → AllFitted self.new.placing) }
+    {
+        self.make_room_for(rest)?;
+        self.placing.step_to(at);
+        self.add_thematic_break(rest.line)?;
+        Ok(false)
+    }
+
+    /// Reads the marker of a list item. Returns true.
+    fn read_item(
+        &mut self,
+        rest: &mut LineRest<'a>,
+        at: usize,
+        item: ItemStart,
+    ) -> Result<bool, AllocError>
+        ensures text { IfOk result (λ _. self.new.placing.builder.text
+            ≡ self.old.placing.builder.text) }
+        ensures fitted { IfOk result (λ _. FittedBefore self.old.placing self.new.placing) }
+        ensures more { IfOk result (λ more. more ≡ true) }
+        ensures reads_on { IfOk result (λ _. (s : Source) (turn : Turn) (source : SourceLine)
+            (blocks : Forest Block) → IsHere s self.old rest.old turn source blocks
+            → IsFound s rest.old source at (start.Item item)
+            → IsCharBoundary self.old.placing.builder.text item.inside.at
+            → IfFitted self.old.placing self.new.placing
+            (ReadsOn s self.new rest.old rest.new blocks)) }
+        ensures fits { IfOk result (λ _. (s : Source) (turn : Turn) (source : SourceLine)
+            (blocks : Forest Block) → IsHere s self.old rest.old turn source blocks
+            → IsFound s rest.old source at (start.Item item)
+            → IsCharBoundary self.old.placing.builder.text item.inside.at
+            → AllFitted self.old.placing → AllFitted self.new.placing) }
+    {
+        self.open_item(item, at, rest.depth)?;
+        Ok(self.go_inside(rest, item.inside))
+    }
+
+    /// Reads the line that opens metadata. Returns false.
+    fn read_metadata(
+        &mut self,
+        rest: &LineRest<'a>,
+        kind: MetadataBlockKind,
+    ) -> Result<bool, AllocError>
+        ensures text { IfOk result (λ _. self.new.placing.builder.text
+            ≡ self.old.placing.builder.text) }
+        ensures fitted { IfOk result (λ _. FittedBefore self.old.placing self.new.placing) }
+        ensures more { IfOk result (λ more. more ≡ false) }
+        ensures places { IfOk result (λ _. (s : Source) (turn : Turn) (source : SourceLine)
+            (at : ℕ) (blocks : Forest Block) → IsHere s self.old rest.now turn source blocks
+            → IsFound s rest.now source at (start.Metadata kind)
+            → IfFitted self.old.placing self.new.placing
+            (PlacesFor s self.new rest.now.line.next blocks)) }
+        ensures fits { IfOk result (λ _. (s : Source) (turn : Turn) (source : SourceLine)
+            (at : ℕ) (blocks : Forest Block) → IsHere s self.old rest.now turn source blocks
+            → IsFound s rest.now source at (start.Metadata kind)
+            → AllFitted self.old.placing → AllFitted self.new.placing) }
+    {
+        self.make_room_for(rest)?;
+        self.open_metadata(kind, rest.line)?;
+        Ok(false)
+    }
+}
