@@ -12,6 +12,7 @@ pub mod PlacedParagraphsLemmas
 pub mod EndedParagraphsLemmas
 pub mod ParagraphsLemmas
 pub mod DividedLemmas
+pub mod TableHeadsLemmas
 -- on calls that fit
 pub mod ClosableLemmas
 pub mod DefinitionEndsLemmas

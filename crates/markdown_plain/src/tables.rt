@@ -1,12 +1,20 @@
 //! Tables: how one begins at its delimiter row, and its rows. Functions that return a `Result` fail only where memory is
 //! refused.
 ghost use Rattle.std.specs.Prelude.{◌≡◌, ◌≤◌, false, true, length, min, IfOk};
+ghost use Rattle.std.specs.Prelude.{◌==◌, ℕ, None, List, slice_get};
+ghost use Rattle.std.specs.Option.{option_map};
 ghost use Rattle.markdown_builder.specs.Bodies.{is_leaf, is_plain_block};
 ghost use Rattle.markdown_builder.specs.EvenRows.{open_columns};
 ghost use Rattle.markdown_plain.specs.Fitting.{FittedBefore, GoesOn, IfFitted};
 ghost use Rattle.markdown_items.specs.ContentItems.{AddsItems};
 ghost use Rattle.markdown_plain.specs.Paragraphs.{IsPlacedTo};
-ghost use Rattle.markdown_lines.specs.TableRows.{row_cells_at};
+ghost use Rattle.markdown_lines.specs.BlockBeginnings.{Source};
+ghost use Rattle.markdown_lines.specs.DefinitionRules.{divided};
+ghost use Rattle.markdown_lines.specs.SourceLines.{SourceLine};
+ghost use Rattle.markdown_lines.specs.TableRows.{delimiter_row_at, row_cells_at};
+ghost use Rattle.markdown_block_rules.specs.TableLines.{fitting};
+ghost use Rattle.markdown_plain.specs.HeldSources.{IsParagraph, IsTextLine};
+ghost use Rattle.markdown_plain.specs.TableHeads.{IsNearRow, is_white_byte, last_of};
 ghost use Rattle.markdown_plain.specs.OpenBlocks.{innermost_is, is_table};
 ghost use Rattle.markdown_plain.specs.TableRows.{PutsTree, may_be_row};
 
@@ -146,7 +154,11 @@ fn are_definitions(
     text: &str,
     lines: &[HeldLine],
     names: EntityNames,
-) -> Result<bool, AllocError> {
+) -> Result<bool, AllocError>
+    ensures { IfOk result (λ are. (sources : List SourceLine)
+        → IsParagraph text.now lines.now sources
+        → are ≡ (length (divided names text.now sources).lines == 0)) }
+{
     let mut taken: usize = 0;
     'definitions: for _ in 0..lines.len() {
         let Some(first) = lines.get(taken) else {
@@ -175,7 +187,11 @@ fn alignments_for(
     head: HeldLine,
     at: usize,
     stop: usize,
-) -> Result<Option<Vec<Alignment>>, AllocError> {
+) -> Result<Option<Vec<Alignment>>, AllocError>
+    ensures { IfOk result (λ found. (s : Source) (from row : SourceLine) → text.now ≡ s.text
+        → IsTextLine text.now head from → IsNearRow at stop row
+        → option_map (λ alignments. alignments.items) found ≡ fitting s from row) }
+{
     if !has_cut(bytes_of(text, head.start, head.stop)) {
         return Ok(None);
     }
@@ -191,7 +207,10 @@ fn alignments_for(
 }
 
 /// Returns whether a delimiter row may begin with this byte.
-fn begins_delimiter_row(byte: Option<u8>) -> bool {
+fn begins_delimiter_row(byte: Option<u8>) -> bool
+    ensures { result ≡ false → (text : List ℕ) (at stop : ℕ) → byte ≡ slice_get text at
+        → is_white_byte byte ≡ false → delimiter_row_at text at stop ≡ None }
+{
     match byte {
         Some(b'|' | b':' | b'-') => true,
         _ => false,
@@ -238,7 +257,9 @@ impl<'a> Pass<'a> {
     }
 
     /// Returns the last line of the open paragraph.
-    fn last_line(&self) -> Option<HeldLine> {
+    fn last_line(&self) -> Option<HeldLine>
+        ensures { result ≡ last_of self.now.lines.items }
+    {
         match self.lines.last() {
             Some(line) => Some(*line),
             None => None,
