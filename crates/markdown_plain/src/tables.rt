@@ -1,20 +1,21 @@
 //! Tables: how one begins at its delimiter row, and its rows. Functions that return a `Result` fail only where memory is
 //! refused.
 ghost use Rattle.std.specs.Prelude.{◌≡◌, ◌≤◌, false, true, length, min, IfOk};
-ghost use Rattle.std.specs.Prelude.{◌==◌, ℕ, None, List, slice_get};
-ghost use Rattle.std.specs.Option.{option_map};
+ghost use Rattle.std.specs.Prelude.{◌==◌, ◌&&◌, ◌||◌, ℕ, None, List, not, slice_get, take};
+ghost use Rattle.std.specs.Option.{is_some, option_map};
 ghost use Rattle.markdown_builder.specs.Bodies.{is_leaf, is_plain_block};
 ghost use Rattle.markdown_builder.specs.EvenRows.{open_columns};
 ghost use Rattle.markdown_plain.specs.Fitting.{FittedBefore, GoesOn, IfFitted};
 ghost use Rattle.markdown_items.specs.ContentItems.{AddsItems};
-ghost use Rattle.markdown_plain.specs.Paragraphs.{IsPlacedTo};
+ghost use Rattle.markdown_plain.specs.Paragraphs.{IsPlacedTo, divided_of};
 ghost use Rattle.markdown_lines.specs.BlockBeginnings.{Source};
 ghost use Rattle.markdown_lines.specs.DefinitionRules.{divided};
 ghost use Rattle.markdown_lines.specs.SourceLines.{SourceLine};
 ghost use Rattle.markdown_lines.specs.TableRows.{delimiter_row_at, row_cells_at};
-ghost use Rattle.markdown_block_rules.specs.TableLines.{fitting};
+ghost use Rattle.markdown_block_rules.specs.TableLines.{fitting, may_be_head};
 ghost use Rattle.markdown_plain.specs.HeldSources.{IsParagraph, IsTextLine};
-ghost use Rattle.markdown_plain.specs.TableHeads.{IsNearRow, is_white_byte, last_of};
+ghost use Rattle.markdown_plain.specs.TableHeads.{IsLastLine, IsNearRow, first_start, is_white_byte};
+ghost use Rattle.markdown_plain.specs.TableHeads.{last_of, was_tried};
 ghost use Rattle.markdown_plain.specs.OpenBlocks.{innermost_is, is_table};
 ghost use Rattle.markdown_plain.specs.TableRows.{PutsTree, may_be_row};
 
@@ -270,7 +271,14 @@ impl<'a> Pass<'a> {
     /// matter: it is the first, or not lazy and after an alert's marker, or not lazy and begins with a `|`, or not lazy
     /// and after definitions alone. The last is tried once in a paragraph.
     fn may_be_head(&mut self, head: HeldLine) -> Result<bool, AllocError>
-        ensures { self.new ≡ record self.old { tables = self.new.tables } }
+        ensures same { self.new ≡ record self.old { tables = self.new.tables } }
+        ensures tables { self.new.tables ≡ record self.old.tables { tried = self.new.tables.tried } }
+        ensures value { IfOk result (λ is. (s : Source) (before : List SourceLine)
+            (from : SourceLine) → IsLastLine s self.old head before from
+            → is ≡ may_be_head s before from) }
+        ensures tried { IfOk result (λ is. (s : Source) (before : List SourceLine)
+            (from : SourceLine) → IsLastLine s self.old head before from → is ≡ false
+            → was_tried self.new ≡ (was_tried self.old || is_some from.indent)) }
     {
         let before = self.lines.len().saturating_sub(1);
         if before == 0 {
@@ -300,7 +308,13 @@ impl<'a> Pass<'a> {
     /// was tried before.
     fn is_after_definitions(&mut self, before: usize) -> Result<bool, AllocError>
         requires { before ≤ length self.old.lines.items }
-        ensures { self.new ≡ record self.old { tables = self.new.tables } }
+        ensures same { self.new ≡ record self.old { tables = self.new.tables } }
+        ensures tables { self.new.tables
+            ≡ record self.old.tables { tried = first_start self.old.lines.items } }
+        ensures value { IfOk result (λ is. (sources : List SourceLine)
+            → IsParagraph self.old.placing.builder.text (take before self.old.lines.items) sources
+            → is ≡ (not (was_tried self.old)
+            && (length (divided_of self.old sources).lines == 0))) }
     {
         let first = match self.lines.first() {
             Some(line) => Some(line.start),
