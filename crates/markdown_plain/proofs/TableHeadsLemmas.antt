@@ -1,18 +1,28 @@
 -- Which line of the open paragraph is the head of a table.
 use Rattle.std.proofs.Common.{◌≡◌, ℕ, zero, suc, ◌+◌, ◌-◌, ◌<◌, ◌≤◌, Bool, true, false, ◌==◌, List, [], ◌∷◌, ◌++◌}
 use Rattle.std.proofs.Common.{Option, Some, None, length, drop, refl, sym, ap, ◌∙◌, arith, subst, nat_eq, not, slice_range}
+use Rattle.std.proofs.Common.{◌&&◌, get_or, if◌then◌else◌, nat_lt, slice_index, take}
 use Rattle.std.proofs.lemmas.Bool.Decides.{nat_tests}
-use Rattle.std.proofs.lemmas.List.{drop-drop, length-drop, take_all}
-use Rattle.std.specs.List.{slice_get}
+use Rattle.std.proofs.lemmas.List.{drop-drop, drop_all, get_or-drop, length-drop, take_all}
+use Rattle.std.proofs.lemmas.Option.{get_or_from_slice_get, slice_get_within}
+use Rattle.std.specs.List.{list_any, slice_get}
 use Rattle.std.specs.Option.{option_eq, option_map}
+use Rattle.markdown_base.specs.Bytes.{colon, hyphen, pipe}
 use Rattle.markdown_base.specs.CowText.{text_of}
+use Rattle.markdown_base.specs.declared.tag.Alignment.{Alignment}
 use Rattle.markdown_builder.specs.BuilderView.{BuilderView, nothing_made}
 use Rattle.markdown_lines.specs.DefinitionRules.{Divided, definition_in, divided, text_of_lines}
 use Rattle.markdown_lines.specs.HeldDefinitions.{IsDefinitionOf, IsFirstDefinition}
 use Rattle.markdown_lines.specs.HeldLines.{AreLinesOfSource, IsBracketPlace}
 use Rattle.markdown_lines.specs.SourceLines.{SourceLine}
 use Rattle.markdown_lines.specs.declared.definition.Definition.{Definition as Found}
+use Rattle.markdown_lines.specs.TableRows.{before_alignments, cell_alignment, cell_alignments, cell_over, cells_over}
+use Rattle.markdown_lines.specs.TableRows.{delimiter_row_at, is_delimiter_mark, is_row_white, onto_first, parts_after}
+use Rattle.markdown_lines.specs.TableRows.{row_cells}
 use Rattle.markdown_lines.specs.declared.held_line.HeldLine.{HeldLine}
+use Rattle.markdown_lines.specs.declared.table_row.Cell.{Cell}
+use Rattle.markdown_lines.proofs.PositionsLemmas.{part_next}
+use Rattle.markdown_lines.proofs.TableRowsLemmas.{first_part}
 use Rattle.markdown_scan.specs.declared.entity.EntityNames.{EntityNames}
 use Rattle.markdown_plain.specs.HeldSources.{AreInOrder, AreTextLines, IsParagraph}
 use Rattle.markdown_plain.specs.TakenDefinitions.{TakesDefinitions, after_definitions}
@@ -196,3 +206,126 @@ pub left_all_at : (names : EntityNames) (text : List ℕ) (lines : List HeldLine
     → true ≡ (length (divided names text sources).lines == 0)
 left_all_at names text lines sources taken none left =
     left_all names text lines sources taken (none_left_at lines taken none) left
+
+-- ---- a byte that begins no delimiter row
+
+differ : (a b : ℕ) → (a == b) ≡ false → nat_eq b a ≡ false
+differ a b is = grind (arith, nat_tests)
+
+-- a cell that begins with neither a hyphen nor a colon stands for no alignment
+no_alignment : (bytes : List ℕ) → (slice_index bytes 0 == hyphen) ≡ false → (slice_index bytes 0 == colon) ≡ false
+    → cell_alignment bytes ≡ None
+no_alignment [] other less = refl
+no_alignment (b ∷ bytes) other less = rw (differ b colon less, other) refl
+
+first_taken : (test : ℕ → Bool) (count : ℕ) (bytes : List ℕ) → test 0 ≡ false → test (slice_index bytes 0) ≡ false
+    → test (slice_index (take count bytes) 0) ≡ false
+first_taken test zero bytes none is = none
+first_taken test (suc count) [] none is = none
+first_taken test (suc count) (b ∷ bytes) none is = is
+
+no_alignment_at : (text : List ℕ) (from to : ℕ) → (get_or text from 0 == hyphen) ≡ false
+    → (get_or text from 0 == colon) ≡ false → cell_alignment (slice_range text from to) ≡ None
+no_alignment_at text from to other less =
+    let here : from + 0 ≡ from = omega arith in
+    let first : slice_index (drop from text) 0 ≡ get_or text from 0 =
+    get_or-drop from text 0 0 ∙ ap (λ n. get_or text n 0) here in
+    no_alignment (slice_range text from to)
+    (first_taken (λ b. b == hyphen) (to - from) (drop from text) refl (ap (λ b. b == hyphen) first ∙ other))
+    (first_taken (λ b. b == colon) (to - from) (drop from text) refl (ap (λ b. b == colon) first ∙ less))
+
+-- there is a first cell, whose content begins at a byte offset
+record HasCellFrom (from : ℕ) (cells : List Cell) : Type 0 where
+  cell : Cell
+  others : List Cell
+  is : cells ≡ cell ∷ others
+  begins : cell.from ≡ from
+
+cell_from_parts : (at b : ℕ) (part : List ℕ) (others : List (List ℕ)) → is_row_white b ≡ false
+    → HasCellFrom at (cells_over at ((b ∷ part) ∷ others))
+cell_from_parts at b part [] black = record {
+  cell = cell_over at (b ∷ part);
+  others = [];
+  is = rw black refl;
+  begins = rw black (omega arith);
+}
+cell_from_parts at b part (next ∷ others) black = record {
+  cell = cell_over at (b ∷ part);
+  others = cells_over (at + length (b ∷ part) + 1) (next ∷ others);
+  is = refl;
+  begins = rw black (omega arith);
+}
+
+cell_from_byte : (at b : ℕ) (bytes : List ℕ) → is_row_white b ≡ false → (b == pipe) ≡ false
+    → HasCellFrom at (row_cells at (b ∷ bytes))
+unfolding parts_after
+cell_from_byte at b bytes black other =
+    let there = first_part b bytes in
+    let parts : parts_after pipe (b ∷ bytes) ≡ (b ∷ there.first) ∷ there.others =
+    rw other (ap (onto_first b) there.is) in
+    let cells : row_cells at (b ∷ bytes) ≡ cells_over at ((b ∷ there.first) ∷ there.others) =
+    rw (differ b pipe other) (ap (cells_over at) parts) in
+    subst (HasCellFrom at) (sym cells) (cell_from_parts at b there.first there.others black)
+
+-- the delimiter row that bytes are
+abbrev row_of : List ℕ → ℕ → List ℕ → Option (List Alignment)
+row_of text at bytes =
+    if list_any is_delimiter_mark bytes && not (length (row_cells at bytes) == 0)
+    then cell_alignments text (row_cells at bytes) else None
+
+either_none : (test : Bool) (found : Option (List Alignment)) → found ≡ None → (if test then found else None) ≡ None
+either_none true found none = none
+either_none false found none = refl
+
+no_row_of : (text : List ℕ) (at : ℕ) (bytes : List ℕ) → HasCellFrom at (row_cells at bytes)
+    → (get_or text at 0 == hyphen) ≡ false → (get_or text at 0 == colon) ≡ false → row_of text at bytes ≡ None
+no_row_of text at bytes has other less =
+    let none : cell_alignment (slice_range text has.cell.from has.cell.to) ≡ None =
+    subst (λ n. cell_alignment (slice_range text n has.cell.to) ≡ None) (sym has.begins)
+    (no_alignment_at text at has.cell.to other less) in
+    either_none (list_any is_delimiter_mark bytes && not (length (row_cells at bytes) == 0))
+    (cell_alignments text (row_cells at bytes))
+    (ap (cell_alignments text) has.is ∙ ap (λ found. before_alignments found (cell_alignments text has.others)) none)
+
+-- a byte that is neither white space, nor a `|`, a colon or a hyphen, begins none
+pub no_row_at : (text : List ℕ) (at stop b : ℕ) → Some b ≡ slice_get text at → is_row_white b ≡ false
+    → (b == pipe) ≡ false → (b == colon) ≡ false → (b == hyphen) ≡ false → delimiter_row_at text at stop ≡ None
+no_row_at text at stop b there black other less more =
+    let within = slice_get_within text at b (sym there) in
+    let is : get_or text at 0 ≡ b = get_or_from_slice_get text at b 0 (sym there) in
+    decided within is (nat_lt at stop) refl
+  where
+    decided : at < length text → get_or text at 0 ≡ b → (some : Bool) → nat_lt at stop ≡ some
+        → delimiter_row_at text at stop ≡ None
+    decided within is true some =
+        let bytes = part_next text at stop (grind (arith, nat_tests)) within
+        ∙ ap (λ x. x ∷ slice_range text (at + 1) stop) is in
+        ap (row_of text at) bytes ∙ no_row_of text at (b ∷ slice_range text (at + 1) stop)
+        (cell_from_byte at b (slice_range text (at + 1) stop) black other) (ap (λ x. x == hyphen) is ∙ more)
+        (ap (λ x. x == colon) is ∙ less)
+    decided within is false none =
+        let over : stop - at ≡ 0 = grind (arith, nat_tests) in
+        ap (row_of text at) (ap (λ n. take n (drop at text)) over)
+
+-- the same, by what it is not
+pub no_row_byte : (text : List ℕ) (at stop b : ℕ) → Some b ≡ slice_get text at → is_row_white b ≡ false
+    → (b ≡ hyphen → ⊥) → (b ≡ colon → ⊥) → (b ≡ pipe → ⊥) → delimiter_row_at text at stop ≡ None
+no_row_byte text at stop b there black more less other =
+    no_row_at text at stop b there black (unlike b pipe other) (unlike b colon less) (unlike b hyphen more)
+  where
+    unlike : (n m : ℕ) → (n ≡ m → ⊥) → (n == m) ≡ false
+    unlike n m differ = grind (arith, nat_tests)
+
+-- nor does the end of the text
+pub no_row_past : (text : List ℕ) (at stop : ℕ) → None ≡ slice_get text at → delimiter_row_at text at stop ≡ None
+no_row_past text at stop none =
+    ap (row_of text at) (ap (take (stop - at)) (drop_all at text (past text at none)) ∙ no_bytes (stop - at))
+  where
+    past : (xs : List ℕ) (n : ℕ) → None ≡ slice_get xs n → length xs ≤ n
+    past [] n none = omega arith
+    past (x ∷ xs) zero none = cc
+    past (x ∷ xs) (suc n) none = let h = past xs n none in omega (arith, h)
+
+    no_bytes : (n : ℕ) → take {A = ℕ} n [] ≡ []
+    no_bytes zero = refl
+    no_bytes (suc n) = refl

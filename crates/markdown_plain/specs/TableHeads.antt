@@ -12,6 +12,7 @@ use Rattle.markdown_lines.specs.declared.line.Line.{Line}
 use Rattle.markdown_block_rules.specs.BlockGrowth.{Block}
 use Rattle.markdown_block_rules.specs.TableLines.{hold_fitting, is_near}
 use Rattle.markdown_plain.specs.declared.pass.Pass.{Pass}
+use Rattle.markdown_plain.specs.declared.table_state.Tables.{Tables}
 use Rattle.markdown_plain.specs.Frames.{Frame, Reached, reached}
 use Rattle.markdown_plain.specs.HeldSources.{IsParagraph}
 use Rattle.markdown_plain.specs.Paragraphs.{end_of, source_of}
@@ -35,6 +36,12 @@ pub record IsNearRow (at stop : ℕ) (row : SourceLine) : Type 0 where
   pub near : is_near row.indent ≡ true
   pub start : at ≡ row.left.scanned
   pub stop_is : stop ≡ stop_of row
+
+-- what is remembered of the cells of tables stays
+pub record KeepsCells (old new : Tables) : Type 0 where
+  pub columns : new.columns ≡ old.columns
+  pub added : new.added ≡ old.added
+  pub most : new.most ≡ old.most
 
 -- in the open paragraph it was tried whether only definitions precede a head
 abbrev pub was_tried : Pass → Bool

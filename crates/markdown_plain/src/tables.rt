@@ -14,8 +14,8 @@ ghost use Rattle.markdown_lines.specs.SourceLines.{SourceLine};
 ghost use Rattle.markdown_lines.specs.TableRows.{delimiter_row_at, row_cells_at};
 ghost use Rattle.markdown_block_rules.specs.TableLines.{fitting, may_be_head};
 ghost use Rattle.markdown_plain.specs.HeldSources.{IsParagraph, IsTextLine};
-ghost use Rattle.markdown_plain.specs.TableHeads.{IsLastLine, IsNearRow, first_start, is_white_byte};
-ghost use Rattle.markdown_plain.specs.TableHeads.{last_of, was_tried};
+ghost use Rattle.markdown_plain.specs.TableHeads.{IsLastLine, IsNearRow, KeepsCells, first_start};
+ghost use Rattle.markdown_plain.specs.TableHeads.{is_white_byte, last_of, was_tried};
 ghost use Rattle.markdown_plain.specs.OpenBlocks.{innermost_is, is_table};
 ghost use Rattle.markdown_plain.specs.TableRows.{PutsTree, may_be_row};
 
@@ -272,7 +272,7 @@ impl<'a> Pass<'a> {
     /// and after definitions alone. The last is tried once in a paragraph.
     fn may_be_head(&mut self, head: HeldLine) -> Result<bool, AllocError>
         ensures same { self.new ≡ record self.old { tables = self.new.tables } }
-        ensures tables { self.new.tables ≡ record self.old.tables { tried = self.new.tables.tried } }
+        ensures tables { KeepsCells self.old.tables self.new.tables }
         ensures value { IfOk result (λ is. (s : Source) (before : List SourceLine)
             (from : SourceLine) → IsLastLine s self.old head before from
             → is ≡ may_be_head s before from) }
@@ -309,8 +309,8 @@ impl<'a> Pass<'a> {
     fn is_after_definitions(&mut self, before: usize) -> Result<bool, AllocError>
         requires { before ≤ length self.old.lines.items }
         ensures same { self.new ≡ record self.old { tables = self.new.tables } }
-        ensures tables { self.new.tables
-            ≡ record self.old.tables { tried = first_start self.old.lines.items } }
+        ensures tables { KeepsCells self.old.tables self.new.tables }
+        ensures tried { self.new.tables.tried ≡ first_start self.old.lines.items }
         ensures value { IfOk result (λ is. (sources : List SourceLine)
             → IsParagraph self.old.placing.builder.text (take before self.old.lines.items) sources
             → is ≡ (not (was_tried self.old)
