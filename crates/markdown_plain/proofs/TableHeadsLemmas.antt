@@ -1,19 +1,20 @@
 -- Which line of the open paragraph is the head of a table.
 use Rattle.std.proofs.Common.{◌≡◌, ℕ, zero, suc, ◌+◌, ◌-◌, ◌<◌, ◌≤◌, Bool, true, false, ◌==◌, List, [], ◌∷◌, ◌++◌}
 use Rattle.std.proofs.Common.{Option, Some, None, length, drop, refl, sym, ap, ◌∙◌, arith, subst, nat_eq, not, slice_range}
-use Rattle.std.proofs.Common.{◌&&◌, get_or, if◌then◌else◌, nat_lt, slice_index, take}
+use Rattle.std.proofs.Common.{◌&&◌, ◌||◌, codes, get_or, if◌then◌else◌, nat_lt, slice_index, take}
 use Rattle.std.proofs.lemmas.Bool.Decides.{nat_tests}
-use Rattle.std.proofs.lemmas.List.{drop-drop, drop_all, get_or-drop, length-drop, take_all}
-use Rattle.std.proofs.lemmas.Option.{get_or_from_slice_get, slice_get_within}
+use Rattle.std.proofs.lemmas.List.{drop-drop, drop_all, get_or-drop, length-append, length-drop, take_all}
+use Rattle.std.proofs.lemmas.Option.{get_or_from_slice_get, slice_get-get_or, slice_get_within}
 use Rattle.std.specs.List.{list_any, slice_get}
 use Rattle.std.specs.Option.{option_eq, option_map}
+use Rattle.markdown_base.proofs.ByteListLemmas.{part_length}
 use Rattle.markdown_base.specs.Bytes.{colon, hyphen, pipe}
 use Rattle.markdown_base.specs.CowText.{text_of}
 use Rattle.markdown_base.specs.declared.tag.Alignment.{Alignment}
 use Rattle.markdown_builder.specs.BuilderView.{BuilderView, nothing_made}
 use Rattle.markdown_lines.specs.DefinitionRules.{Divided, definition_in, divided, text_of_lines}
 use Rattle.markdown_lines.specs.HeldDefinitions.{IsDefinitionOf, IsFirstDefinition}
-use Rattle.markdown_lines.specs.HeldLines.{AreLinesOfSource, IsBracketPlace}
+use Rattle.markdown_lines.specs.HeldLines.{AreHeldFrom, AreLinesOfSource, IsBracketPlace, IsHeldLine}
 use Rattle.markdown_lines.specs.SourceLines.{SourceLine}
 use Rattle.markdown_lines.specs.declared.definition.Definition.{Definition as Found}
 use Rattle.markdown_lines.specs.TableRows.{before_alignments, cell_alignment, cell_alignments, cell_over, cells_over}
@@ -21,10 +22,14 @@ use Rattle.markdown_lines.specs.TableRows.{delimiter_row_at, is_delimiter_mark, 
 use Rattle.markdown_lines.specs.TableRows.{row_cells}
 use Rattle.markdown_lines.specs.declared.held_line.HeldLine.{HeldLine}
 use Rattle.markdown_lines.specs.declared.table_row.Cell.{Cell}
+use Rattle.markdown_lines.proofs.HeldLinesLemmas.{bounds_of}
 use Rattle.markdown_lines.proofs.PositionsLemmas.{part_next}
 use Rattle.markdown_lines.proofs.TableRowsLemmas.{first_part}
+use Rattle.markdown_scan.specs.Beginnings.{begins_with}
 use Rattle.markdown_scan.specs.declared.entity.EntityNames.{EntityNames}
-use Rattle.markdown_plain.specs.HeldSources.{AreInOrder, AreTextLines, IsParagraph}
+use Rattle.markdown_plain.specs.HeldSources.{AreInOrder, AreTextLines, IsParagraph, IsTextLine}
+use Rattle.markdown_block_rules.specs.TableLines.{is_first_after}
+use Rattle.markdown_plain.specs.TableHeads.{last_of}
 use Rattle.markdown_plain.specs.TakenDefinitions.{TakesDefinitions, after_definitions}
 use Rattle.markdown_plain.proofs.DividedLemmas.{as_many, filled_of, first_read, no_bracket, no_bracket_byte}
 use Rattle.markdown_plain.proofs.DividedLemmas.{none_left, none_there, takes_empty, takes_first}
@@ -329,3 +334,157 @@ no_row_past text at stop none =
     no_bytes : (n : ℕ) → take {A = ℕ} n [] ≡ []
     no_bytes zero = refl
     no_bytes (suc n) = refl
+
+-- ---- the lines of a paragraph before its last
+
+held_front : (text : List ℕ) (from count : ℕ) (lines : List HeldLine) → AreHeldFrom text from lines
+    → AreHeldFrom text from (take count lines)
+held_front text from zero lines held = tt
+held_front text from (suc count) [] held = tt
+held_front text from (suc count) (line ∷ lines) held =
+    (held.0, (held.1.0, held_front text line.next count lines held.1.1))
+
+order_front : (text : List ℕ) (line : HeldLine) (count : ℕ) (lines : List HeldLine) (empty : Bool)
+    → AreInOrder empty text line lines → AreInOrder empty text line (take count lines)
+order_front text line count lines true held = held_front text line.next count lines held
+order_front text line count lines false held =
+    (held.0, (held.1.0, held_front text line.next count lines held.1.1))
+
+texts_front : (text : List ℕ) (lines : List HeldLine) (before : List SourceLine) (from : SourceLine)
+    → AreTextLines text lines (before ++ from ∷ []) → AreTextLines text (take (length before) lines) before
+texts_front text lines [] from are = tt
+texts_front text [] (l ∷ before) from are = absurd are
+texts_front text (line ∷ lines) (l ∷ before) from are = (are.0, texts_front text lines before from are.1)
+
+-- the lines before the last are those of a paragraph
+pub front_of : (text : List ℕ) (lines : List HeldLine) (before : List SourceLine) (from : SourceLine)
+    → IsParagraph text lines (before ++ from ∷ []) → IsParagraph text (take (length before) lines) before
+front_of text lines [] from is = record { inside = tt; are = tt }
+front_of text [] (l ∷ before) from is = absurd is.are
+front_of text (line ∷ lines) (l ∷ before) from is = record {
+  inside = order_front text line (length before) lines (line.start == line.stop) is.inside;
+  are = texts_front text (line ∷ lines) (l ∷ before) from is.are;
+}
+
+-- there is one more of them
+pub count_of : (text : List ℕ) (lines : List HeldLine) (before : List SourceLine) (from : SourceLine)
+    → AreTextLines text lines (before ++ from ∷ []) → length lines ≡ length before + 1
+count_of text lines before from are =
+    as_many text lines (before ++ from ∷ []) are ∙ length-append before (from ∷ [])
+
+-- a line of a paragraph that is not its first, and so has some content
+pub record IsFilled (text : List ℕ) (line : HeldLine) (source : SourceLine) : Type 0 where
+  pub held : IsHeldLine text line
+  pub is : IsTextLine text line source
+
+last_after : (text : List ℕ) (at : ℕ) (lines : List HeldLine) (before : List SourceLine) (from : SourceLine)
+    (head : HeldLine) → AreHeldFrom text at lines → AreTextLines text lines (before ++ from ∷ [])
+    → slice_get lines (length before) ≡ Some head → IsFilled text head from
+last_after text at [] [] from head held are there = absurd are
+last_after text at [] (l ∷ before) from head held are there = absurd are
+last_after text at (line ∷ lines) [] from head held are there =
+    let same : line ≡ head = cc in
+    subst (λ (h : HeldLine). IsFilled text h from) same (record { held = held.1.0; is = are.0 })
+last_after text at (line ∷ lines) (l ∷ before) from head held are there =
+    last_after text line.next lines before from head held.1.1 are.1 there
+
+after_first : (text : List ℕ) (line : HeldLine) (lines : List HeldLine) (empty : Bool)
+    → AreInOrder empty text line lines → AreHeldFrom text line.next lines
+after_first text line lines true held = held
+after_first text line lines false held = held.1.1
+
+-- the last line is one, if there are others
+pub last_filled : (text : List ℕ) (lines : List HeldLine) (before : List SourceLine) (from : SourceLine)
+    (head : HeldLine) → IsParagraph text lines (before ++ from ∷ []) → last_of lines ≡ Some head → 0 < length before
+    → IsFilled text head from
+last_filled text lines [] from head is there some = absurd (omega (arith, some))
+last_filled text [] (l ∷ before) from head is there some = absurd is.are
+last_filled text (line ∷ lines) (l ∷ before) from head is there some =
+    let size = count_of text lines before from is.are.1 in
+    let place : length (line ∷ lines) - 1 ≡ suc (length before) = omega (arith, size) in
+    last_after text line.next lines before from head
+    (after_first text line lines (line.start == line.stop) is.inside) is.are.1
+    (ap (slice_get (line ∷ lines)) (sym place) ∙ there)
+
+filled_bytes : (text : List ℕ) (line : HeldLine) (source : SourceLine) → IsFilled text line source
+    → (length source.left.bytes == 0) ≡ false
+filled_bytes text line source filled =
+    let bounds = bounds_of text line filled.held in
+    let size = part_length text line.start line.stop (omega (arith, bounds.next, bounds.within)) in
+    let bytes = ap (λ (xs : List ℕ). length xs) filled.is.bytes in
+    sym (positive (length source.left.bytes) (omega (arith, bounds.stop, size, bytes)))
+
+-- ---- the line that comes after these is the first
+
+-- since of the only one of them nothing is left
+pub first_there : (text : List ℕ) (lines : List HeldLine) (before : List SourceLine) (from : SourceLine)
+    (line : HeldLine) → IsParagraph text lines (before ++ from ∷ []) → slice_get lines 0 ≡ Some line
+    → line.stop ≤ line.start → length before ≡ 1 → is_first_after before ≡ true
+first_there text lines [] from line is there none one = refl
+first_there text [] (l ∷ []) from line is there none one = absurd is.are
+first_there text (first ∷ lines) (l ∷ []) from line is there none one =
+    let same : first ≡ line = cc in
+    let empty = first_empty text (first ∷ lines) (l ∷ from ∷ []) line there none is in
+    let here = subst (λ (h : HeldLine). h.start ≡ h.stop) (sym same) empty in
+    let bytes : l.left.bytes ≡ [] = sym is.are.0.bytes
+    ∙ (ap (λ n. slice_range text n first.stop) here ∙ no_part text first.stop) in
+    rw bytes refl
+  where
+    no_part : (text : List ℕ) (at : ℕ) → slice_range text at at ≡ []
+    no_part text at = let none : at - at ≡ 0 = omega arith in ap (λ n. take n (drop at text)) none
+first_there text lines (l ∷ m ∷ before) from line is there none one = absurd (omega (arith, one))
+
+-- or not, since something is left of the first of them
+pub first_left : (text : List ℕ) (lines : List HeldLine) (before : List SourceLine) (from : SourceLine)
+    (line : HeldLine) → IsParagraph text lines (before ++ from ∷ []) → slice_get lines 0 ≡ Some line
+    → line.start < line.stop → 0 < length before → is_first_after before ≡ false
+first_left text lines [] from line is there less some = absurd (omega (arith, some))
+first_left text [] (l ∷ before) from line is there less some = absurd is.are
+first_left text (first ∷ lines) (l ∷ before) from line is there less some =
+    let same : first ≡ line = cc in
+    let here = subst (λ (h : HeldLine). h.start < h.stop) (sym same) less in
+    let filled = filled_of text (first ∷ lines) (l ∷ before ++ from ∷ []) first refl (less_differs here) is in
+    rw (filled_bytes text first l (record { held = filled.held.1.0; is = is.are.0 })) refl
+
+both_and : (p q : Bool) → q ≡ false → (p && q) ≡ false
+both_and true q none = none
+both_and false q none = refl
+
+-- or of the second
+pub second_left : (text : List ℕ) (lines : List HeldLine) (before : List SourceLine) (from : SourceLine)
+    → IsParagraph text lines (before ++ from ∷ []) → 1 < length before → is_first_after before ≡ false
+second_left text lines [] from is more = absurd (omega (arith, more))
+second_left text lines (l ∷ []) from is more = absurd (omega (arith, more))
+second_left text [] (l ∷ m ∷ before) from is more = absurd is.are
+second_left text (line ∷ []) (l ∷ m ∷ before) from is more = absurd is.are.1
+second_left text (line ∷ next ∷ lines) (l ∷ m ∷ before) from is more =
+    let held = after_first text line (next ∷ lines) (line.start == line.stop) is.inside in
+    both_and (length l.left.bytes == 0) (is_first_after (m ∷ before))
+    (rw (filled_bytes text next m (record { held = held.1.0; is = is.are.1.0 })) refl)
+
+-- ---- a line that begins with a `|`
+
+swapped : (a b : ℕ) → nat_eq a b ≡ nat_eq b a
+swapped a b = decided (nat_eq a b) refl
+  where
+    decided : (test : Bool) → nat_eq a b ≡ test → nat_eq a b ≡ nat_eq b a
+    decided true is = let other : nat_eq b a ≡ true = grind (arith, nat_tests) in is ∙ sym other
+    decided false is = let other : nat_eq b a ≡ false = grind (arith, nat_tests) in is ∙ sym other
+
+pub led_by : (text : List ℕ) (line : HeldLine) (source : SourceLine) → IsFilled text line source
+    → option_eq nat_eq (slice_get text line.start) (Some pipe) ≡ begins_with (codes "|") source.left.bytes
+led_by text line source filled =
+    let bounds = bounds_of text line filled.held in
+    let within : line.start < length text = omega (arith, bounds.stop, bounds.next, bounds.within) in
+    let byte = get_or text line.start 0 in
+    let more = slice_range text (line.start + 1) line.stop in
+    let bytes = sym filled.is.bytes ∙ part_next text line.start line.stop bounds.stop within in
+    ap (λ found. option_eq nat_eq found (Some pipe)) (slice_get-get_or text line.start 0 within)
+    ∙ (swapped byte pipe ∙ (first_tested byte more ∙ ap (begins_with (codes "|")) (sym bytes)))
+  where
+    first_tested : (b : ℕ) (bytes : List ℕ) → nat_eq pipe b ≡ begins_with (codes "|") (b ∷ bytes)
+    first_tested b bytes = decided (nat_eq pipe b) refl
+      where
+        decided : (test : Bool) → nat_eq pipe b ≡ test → nat_eq pipe b ≡ begins_with (codes "|") (b ∷ bytes)
+        decided true is = rw is refl
+        decided false is = rw is refl
