@@ -2,11 +2,12 @@
 use Rattle.std.proofs.Common.{◌≡◌, ℕ, zero, suc, ◌+◌, ◌-◌, ◌<◌, ◌≤◌, Bool, true, false, ◌==◌, List, [], ◌∷◌, ◌++◌}
 use Rattle.std.proofs.Common.{Option, Some, None, length, drop, refl, sym, ap, ◌∙◌, arith, subst, nat_eq, not, slice_range}
 use Rattle.std.proofs.Common.{◌&&◌, ◌||◌, codes, get_or, if◌then◌else◌, nat_lt, slice_index, take}
+use Rattle.std.proofs.lemmas.Bool.{true≢false}
 use Rattle.std.proofs.lemmas.Bool.Decides.{nat_tests}
 use Rattle.std.proofs.lemmas.List.{drop-drop, drop_all, get_or-drop, length-append, length-drop, take_all}
 use Rattle.std.proofs.lemmas.Option.{get_or_from_slice_get, slice_get-get_or, slice_get_within}
 use Rattle.std.specs.List.{list_any, slice_get}
-use Rattle.std.specs.Option.{option_eq, option_map}
+use Rattle.std.specs.Option.{is_some, option_eq, option_map}
 use Rattle.markdown_base.proofs.ByteListLemmas.{part_length}
 use Rattle.markdown_base.specs.Bytes.{colon, hyphen, pipe}
 use Rattle.markdown_base.specs.CowText.{text_of}
@@ -28,10 +29,24 @@ use Rattle.markdown_lines.proofs.TableRowsLemmas.{first_part}
 use Rattle.markdown_scan.specs.Beginnings.{begins_with}
 use Rattle.markdown_scan.specs.declared.entity.EntityNames.{EntityNames}
 use Rattle.markdown_plain.specs.HeldSources.{AreInOrder, AreTextLines, IsParagraph, IsTextLine}
-use Rattle.markdown_block_rules.specs.TableLines.{is_first_after}
-use Rattle.markdown_plain.specs.TableHeads.{last_of}
+use Rattle.markdown_scan.specs.LineStart.{LineLeft, leading_space}
+use Rattle.markdown_lines.specs.BlockBeginnings.{Source}
+use Rattle.markdown_lines.specs.Positions.{left_from}
+use Rattle.markdown_lines.specs.declared.line.Line.{Line}
+use Rattle.markdown_base.specs.Forest.{Forest}
+use Rattle.markdown_scan.specs.Entity.{entity_names}
+use Rattle.markdown_block_rules.specs.BlockGrowth.{Block}
+use Rattle.markdown_block_rules.specs.TableLines.{hold_fitting, is_after_definitions, is_first_after, is_near}
+use Rattle.markdown_block_rules.specs.TableLines.{may_be_head}
+use Rattle.markdown_plain.specs.declared.containers.Reached.{Reached}
+use Rattle.markdown_plain.specs.declared.pass.Pass.{Pass}
+use Rattle.markdown_plain.specs.Frames.{Frame, reached}
+use Rattle.markdown_plain.specs.ReachedFrames.{IsBefore, IsReached}
+use Rattle.markdown_plain.specs.Paragraphs.{divided_of, end_of}
+use Rattle.markdown_plain.specs.TableHeads.{IsFurther, IsLastLine, first_start, last_of, was_tried, whole_head}
 use Rattle.markdown_plain.specs.TakenDefinitions.{TakesDefinitions, after_definitions}
 use Rattle.markdown_plain.proofs.DividedLemmas.{as_many, filled_of, first_read, no_bracket, no_bracket_byte}
+use Rattle.markdown_plain.proofs.ParagraphsLemmas.{end_of_last}
 use Rattle.markdown_plain.proofs.DividedLemmas.{none_left, none_there, takes_empty, takes_first}
 
 -- ---- lines that are definitions alone
@@ -488,3 +503,202 @@ led_by text line source filled =
         decided : (test : Bool) → nat_eq pipe b ≡ test → nat_eq pipe b ≡ begins_with (codes "|") (b ∷ bytes)
         decided true is = rw is refl
         decided false is = rw is refl
+
+-- ---- whether the last line may be a head
+
+some_before : (n : ℕ) → 0 < n → (n == 0) ≡ false
+some_before n some = sym (positive n some)
+
+pub may_first : (s : Source) (before : List SourceLine) (from : SourceLine) → length before ≡ 0
+    → true ≡ may_be_head s before from
+may_first s before from none = rw none refl
+
+-- a line that was lazy may not
+pub may_lazy : (s : Source) (before : List SourceLine) (from : SourceLine) → 0 < length before
+    → from.indent ≡ None → false ≡ may_be_head s before from
+may_lazy s before from some lazy = rw (some_before (length before) some, lazy) refl
+
+-- what decides it of another one
+pub may_else : (s : Source) (before : List SourceLine) (from : SourceLine) (columns : ℕ) → 0 < length before
+    → from.indent ≡ Some columns → may_be_head s before from
+    ≡ ((is_first_after before || (nat_lt columns 4 && begins_with (codes "|") from.left.bytes))
+    || is_after_definitions s before from)
+may_else s before from columns some indent =
+    rw (some_before (length before) some) (ap (λ (found : Option ℕ). is_some found
+    && ((is_first_after before || (is_near found && begins_with (codes "|") from.left.bytes))
+    || is_after_definitions s before from)) indent)
+
+-- the indentation of a further line, as it is found out again
+pub further_indent : (s : Source) (pass : Pass) (line : Line) (from : SourceLine) (result : Reached)
+    (further : IsFurther s pass line from)
+    → IsReached pass.placing.builder.text line further.source result
+    (reached s further.frames further.inside further.source)
+    → from.indent ≡ (if result.all
+    then Some (leading_space 4 (left_from pass.placing.builder.text result.position line.stop)).columns else None)
+further_indent s pass line from result further is =
+    let r = reached s further.frames further.inside further.source in
+    further.indent
+    ∙ (ap (λ (all : Bool). if all then Some (leading_space 4 r.rest.left).columns else None) (sym is.all)
+    ∙ ap (λ (left : LineLeft). if result.all then Some (leading_space 4 left).columns else None) (sym is.rest.left))
+
+-- what is reached of a line, whichever containers are open
+abbrev pub ReachesIn : Pass → Line → Reached → Type 0
+ReachesIn pass line result =
+    (s : Source) (frames : List Frame) (inside : Forest Block) (source : SourceLine)
+    → IsBefore pass line s frames inside source
+    → IsReached pass.placing.builder.text line source result (reached s frames inside source)
+
+-- the indentation of the last line
+indent_again : (s : Source) (pass : Pass) (head : HeldLine) (before : List SourceLine) (from : SourceLine)
+    (number : ℕ) (previous : HeldLine) (result : Reached) → IsLastLine s pass head before from
+    → number ≡ length pass.lines.items - 1 → 0 < number → previous ≡ get_or pass.lines.items (number - 1) previous
+    → ReachesIn pass (record { start = previous.next; stop = head.stop; next = head.next }) result
+    → from.indent ≡ (if result.all
+    then Some (leading_space 4 (left_from pass.placing.builder.text result.position head.stop)).columns else None)
+indent_again s pass head before from number previous result is size some there reaches =
+    let lines = pass.lines.items in
+    let count = count_of pass.placing.builder.text lines before from is.lines.are in
+    let further = is.further (omega (arith, count, size, some)) in
+    let start : previous.next ≡ end_of lines (length lines - 1) =
+    ap (λ (l : HeldLine). l.next) there ∙ (end_of_last lines number previous some (omega (arith, size))
+    ∙ ap (end_of lines) size) in
+    let again : ReachesIn pass (whole_head pass head) result =
+    subst (λ n. ReachesIn pass (record { start = n; stop = head.stop; next = head.next }) result) start reaches in
+    further_indent s pass (whole_head pass head) from result further
+    (again s further.frames further.inside further.source further.before)
+
+-- the last line was lazy
+pub lazy_again : (s : Source) (pass : Pass) (head : HeldLine) (before : List SourceLine) (from : SourceLine)
+    (number : ℕ) (previous : HeldLine) (result : Reached) → IsLastLine s pass head before from
+    → number ≡ length pass.lines.items - 1 → 0 < number → previous ≡ get_or pass.lines.items (number - 1) previous
+    → ReachesIn pass (record { start = previous.next; stop = head.stop; next = head.next }) result
+    → not result.all ≡ true → from.indent ≡ None
+lazy_again s pass head before from number previous result is size some there reaches lazy =
+    indent_again s pass head before from number previous result is size some there reaches
+    ∙ decided result.all lazy (leading_space 4 (left_from pass.placing.builder.text result.position head.stop)).columns
+  where
+    decided : (all : Bool) → not all ≡ true → (columns : ℕ) → (if all then Some columns else None) ≡ None
+    decided true lazy columns = absurd (true≢false (sym lazy))
+    decided false lazy columns = refl
+
+-- or it was not
+pub columns_again : (s : Source) (pass : Pass) (head : HeldLine) (before : List SourceLine) (from : SourceLine)
+    (number : ℕ) (previous : HeldLine) (result : Reached) (columns : ℕ) → IsLastLine s pass head before from
+    → number ≡ length pass.lines.items - 1 → 0 < number → previous ≡ get_or pass.lines.items (number - 1) previous
+    → ReachesIn pass (record { start = previous.next; stop = head.stop; next = head.next }) result
+    → not result.all ≡ false
+    → columns ≡ (leading_space 4 (left_from pass.placing.builder.text result.position head.stop)).columns
+    → from.indent ≡ Some columns
+columns_again s pass head before from number previous result columns is size some there reaches near space =
+    indent_again s pass head before from number previous result is size some there reaches
+    ∙ (decided result.all near (leading_space 4
+    (left_from pass.placing.builder.text result.position head.stop)).columns ∙ ap Some (sym space))
+  where
+    decided : (all : Bool) → not all ≡ false → (columns : ℕ) → (if all then Some columns else None) ≡ Some columns
+    decided true near columns = refl
+    decided false near columns = absurd (true≢false near)
+
+-- the first line, as it is read by its index
+first_read_at : (lines : List HeldLine) (line : HeldLine) → 0 < length lines → line ≡ get_or lines 0 line
+    → slice_get lines 0 ≡ Some line
+first_read_at [] line some is = absurd (omega (arith, some))
+first_read_at (first ∷ lines) line some is = ap Some (sym is)
+
+pub first_by_index : (text : List ℕ) (lines : List HeldLine) (before : List SourceLine) (from : SourceLine)
+    (begins ends : HeldLine) → IsParagraph text lines (before ++ from ∷ []) → begins ≡ get_or lines 0 begins
+    → ends ≡ get_or lines 0 ends → ends.stop ≤ begins.start → length before ≡ 1 → is_first_after before ≡ true
+first_by_index text lines before from begins ends is at_begin at_end none one =
+    let count = count_of text lines before from is.are in
+    let some : 0 < length lines = omega (arith, count) in
+    let there = first_read_at lines begins some at_begin in
+    let same : ends ≡ begins = inside (sym (first_read_at lines ends some at_end) ∙ there) in
+    first_there text lines before from begins is there
+    (subst (λ (l : HeldLine). l.stop ≤ begins.start) same none) one
+  where
+    inside : {a b : HeldLine} → Some a ≡ Some b → a ≡ b
+    inside e = cc
+
+pub left_by_index : (text : List ℕ) (lines : List HeldLine) (before : List SourceLine) (from : SourceLine)
+    (begins ends : HeldLine) → IsParagraph text lines (before ++ from ∷ []) → begins ≡ get_or lines 0 begins
+    → ends ≡ get_or lines 0 ends → begins.start < ends.stop → length before ≡ 1 → is_first_after before ≡ false
+left_by_index text lines before from begins ends is at_begin at_end less one =
+    let count = count_of text lines before from is.are in
+    let some : 0 < length lines = omega (arith, count) in
+    let there = first_read_at lines begins some at_begin in
+    let same : ends ≡ begins = inside (sym (first_read_at lines ends some at_end) ∙ there) in
+    first_left text lines before from begins is there
+    (subst (λ (l : HeldLine). begins.start < l.stop) same less) (omega (arith, one))
+  where
+    inside : {a b : HeldLine} → Some a ≡ Some b → a ≡ b
+    inside e = cc
+
+-- it may where it is the first
+pub may_after_none : (s : Source) (before : List SourceLine) (from : SourceLine) (columns : ℕ) → 0 < length before
+    → from.indent ≡ Some columns → is_first_after before ≡ true → true ≡ may_be_head s before from
+may_after_none s before from columns some indent first =
+    sym (may_else s before from columns some indent ∙ rw first refl)
+
+-- or begins with a `|`
+pub may_led : (s : Source) (text : List ℕ) (before : List SourceLine) (from : SourceLine) (head : HeldLine)
+    (columns : ℕ) → 0 < length before → from.indent ≡ Some columns → IsFilled text head from → columns < 4
+    → option_eq nat_eq (slice_get text head.start) (Some pipe) ≡ true → true ≡ may_be_head s before from
+may_led s text before from head columns some indent filled near led =
+    let less : nat_lt columns 4 ≡ true = grind (arith, nat_tests) in
+    let begins : begins_with (codes "|") from.left.bytes ≡ true = sym (led_by text head from filled) ∙ led in
+    sym (may_else s before from columns some indent
+    ∙ (ap (λ (test : Bool). (is_first_after before || test) || is_after_definitions s before from)
+    (ap (λ (test : Bool). test && begins_with (codes "|") from.left.bytes) less ∙ begins)
+    ∙ any_of (is_first_after before) (is_after_definitions s before from)))
+  where
+    any_of : (p q : Bool) → ((p || true) || q) ≡ true
+    any_of true q = refl
+    any_of false q = refl
+
+-- it does not begin with one, after at most three columns
+pub unled : (text : List ℕ) (from : SourceLine) (head : HeldLine) (columns : ℕ) → IsFilled text head from
+    → option_eq nat_eq (slice_get text head.start) (Some pipe) ≡ false
+    → (nat_lt columns 4 && begins_with (codes "|") from.left.bytes) ≡ false
+unled text from head columns filled other =
+    both_and (nat_lt columns 4) (begins_with (codes "|") from.left.bytes) (sym (led_by text head from filled) ∙ other)
+
+pub not_near : (from : SourceLine) (columns : ℕ) → 4 ≤ columns
+    → (nat_lt columns 4 && begins_with (codes "|") from.left.bytes) ≡ false
+not_near from columns far =
+    let none : nat_lt columns 4 ≡ false = grind (arith, nat_tests) in
+    ap (λ (test : Bool). test && begins_with (codes "|") from.left.bytes) none
+
+-- otherwise it may where only definitions precede it
+pub may_last : (s : Source) (pass : Pass) (head : HeldLine) (before : List SourceLine) (from : SourceLine)
+    (columns : ℕ) → IsLastLine s pass head before from → 0 < length before → from.indent ≡ Some columns
+    → is_first_after before ≡ false → (nat_lt columns 4 && begins_with (codes "|") from.left.bytes) ≡ false
+    → (not (was_tried pass) && (length (divided_of pass before).lines == 0)) ≡ may_be_head s before from
+may_last s pass head before from columns is some indent first led =
+    let defined = ap (λ (now : Source). length (divided (entity_names now.options) now.text before).lines == 0)
+    is.source in
+    ap (λ (tried : Bool). not tried && (length (divided_of pass before).lines == 0)) is.tried
+    ∙ (ap (λ (all : Bool). not (hold_fitting s (before ++ from ∷ [])) && all) defined
+    ∙ sym (may_else s before from columns some indent ∙ rw (first, led) refl))
+
+same_option : (found : Option ℕ) → option_eq nat_eq found found ≡ true
+same_option None = refl
+same_option (Some n) = alike n
+  where
+    alike : (n : ℕ) → nat_eq n n ≡ true
+    alike n = grind (arith, nat_tests)
+
+-- that was tried
+pub tried_now : (old new : Pass) → new ≡ record old { tables = new.tables }
+    → new.tables.tried ≡ first_start old.lines.items → was_tried new ≡ true
+tried_now old new same tried =
+    ap (λ (found : Option ℕ). option_eq nat_eq found (first_start new.lines.items)) tried
+    ∙ (ap (λ (p : Pass). option_eq nat_eq (first_start old.lines.items) (first_start p.lines.items)) same
+    ∙ same_option (first_start old.lines.items))
+
+pub any_tried : (before : Bool) (indent : Option ℕ) (columns : ℕ) → indent ≡ Some columns
+    → true ≡ (before || is_some indent)
+any_tried true indent columns is = refl
+any_tried false indent columns is = sym (ap (λ (found : Option ℕ). is_some found) is)
+
+pub as_tried : (before : Bool) (indent : Option ℕ) → indent ≡ None → before ≡ (before || is_some indent)
+as_tried true indent is = refl
+as_tried false indent is = sym (ap (λ (found : Option ℕ). is_some found) is)
