@@ -1,6 +1,7 @@
 -- Which line of the open paragraph is the head of a table.
 use Rattle.std.proofs.Common.{◌≡◌, ℕ, zero, suc, ◌+◌, ◌-◌, ◌<◌, ◌≤◌, Bool, true, false, ◌==◌, List, [], ◌∷◌, ◌++◌}
 use Rattle.std.proofs.Common.{Option, Some, None, length, drop, refl, sym, ap, ◌∙◌, arith, subst, nat_eq, not, slice_range}
+use Rattle.std.proofs.Common.{Err, IfOk, Ok, Result}
 use Rattle.std.proofs.Common.{◌&&◌, ◌||◌, codes, get_or, if◌then◌else◌, nat_lt, slice_index, take}
 use Rattle.std.proofs.lemmas.Bool.{true≢false}
 use Rattle.std.proofs.lemmas.Bool.Decides.{nat_tests}
@@ -702,3 +703,7 @@ any_tried false indent columns is = sym (ap (λ (found : Option ℕ). is_some fo
 pub as_tried : (before : Bool) (indent : Option ℕ) → indent ≡ None → before ≡ (before || is_some indent)
 as_tried true indent is = refl
 as_tried false indent is = sym (ap (λ (found : Option ℕ). is_some found) is)
+
+pub if_ok : {A E : Type 0} (P Q : A → Type 0) (r : Result A E) → ((x : A) → P x → Q x) → IfOk r P → IfOk r Q
+if_ok P Q (Ok x) on is = on x is
+if_ok P Q (Err e) on is = tt
