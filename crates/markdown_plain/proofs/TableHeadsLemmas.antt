@@ -1,26 +1,27 @@
 -- Which line of the open paragraph is the head of a table.
 use Rattle.std.proofs.Common.{◌≡◌, ℕ, zero, suc, ◌+◌, ◌-◌, ◌<◌, ◌≤◌, Bool, true, false, ◌==◌, List, [], ◌∷◌, ◌++◌}
 use Rattle.std.proofs.Common.{Option, Some, None, length, drop, refl, sym, ap, ◌∙◌, arith, subst, nat_eq, not, slice_range}
-use Rattle.std.proofs.Common.{Err, IfOk, Ok, Result}
+use Rattle.std.proofs.Common.{Err, IfOk, Ok, Result, nat_le, ⊎_elim}
 use Rattle.std.proofs.Common.{◌&&◌, ◌||◌, codes, get_or, if◌then◌else◌, nat_lt, slice_index, take}
-use Rattle.std.proofs.lemmas.Bool.{true≢false}
+use Rattle.std.proofs.lemmas.Bool.{cases_Bool, true≢false}
 use Rattle.std.proofs.lemmas.Bool.Decides.{nat_tests}
 use Rattle.std.proofs.lemmas.List.{drop-drop, drop_all, get_or-drop, length-append, length-drop, take_all}
+use Rattle.std.proofs.lemmas.List.Sums.{prefix_len-le-length}
 use Rattle.std.proofs.lemmas.Option.{get_or_from_slice_get, slice_get-get_or, slice_get_within}
-use Rattle.std.specs.List.{list_any, slice_get}
+use Rattle.std.specs.List.{list_any, prefix_len, slice_get}
 use Rattle.std.specs.Option.{is_some, option_eq, option_map}
 use Rattle.markdown_base.proofs.ByteListLemmas.{part_length}
-use Rattle.markdown_base.specs.Bytes.{colon, hyphen, pipe}
+use Rattle.markdown_base.specs.Bytes.{colon, hyphen, pipe, space, tab}
 use Rattle.markdown_base.specs.CowText.{text_of}
 use Rattle.markdown_base.specs.declared.tag.Alignment.{Alignment}
 use Rattle.markdown_builder.specs.BuilderView.{BuilderView, nothing_made}
 use Rattle.markdown_lines.specs.DefinitionRules.{Divided, definition_in, divided, text_of_lines}
 use Rattle.markdown_lines.specs.HeldDefinitions.{IsDefinitionOf, IsFirstDefinition}
 use Rattle.markdown_lines.specs.HeldLines.{AreHeldFrom, AreLinesOfSource, IsBracketPlace, IsHeldLine}
-use Rattle.markdown_lines.specs.SourceLines.{SourceLine}
+use Rattle.markdown_lines.specs.SourceLines.{SourceLine, past_white, stop_of, text_line}
 use Rattle.markdown_lines.specs.declared.definition.Definition.{Definition as Found}
 use Rattle.markdown_lines.specs.TableRows.{before_alignments, cell_alignment, cell_alignments, cell_over, cells_over}
-use Rattle.markdown_lines.specs.TableRows.{delimiter_row_at, is_delimiter_mark, is_row_white, onto_first, parts_after}
+use Rattle.markdown_lines.specs.TableRows.{delimiter_row_at, has_cut, is_delimiter_mark, is_row_white, onto_first, parts_after}
 use Rattle.markdown_lines.specs.TableRows.{row_cells}
 use Rattle.markdown_lines.specs.declared.held_line.HeldLine.{HeldLine}
 use Rattle.markdown_lines.specs.declared.table_row.Cell.{Cell}
@@ -30,21 +31,29 @@ use Rattle.markdown_lines.proofs.TableRowsLemmas.{first_part}
 use Rattle.markdown_scan.specs.Beginnings.{begins_with}
 use Rattle.markdown_scan.specs.declared.entity.EntityNames.{EntityNames}
 use Rattle.markdown_plain.specs.HeldSources.{AreInOrder, AreTextLines, IsParagraph, IsTextLine}
-use Rattle.markdown_scan.specs.LineStart.{LineLeft, leading_space}
+use Rattle.markdown_scan.specs.LineStart.{LineLeft, Space, column_after, leading_space, next_column, space_from}
+use Rattle.markdown_scan.specs.LineStart.{space_width}
+use Rattle.markdown_lines.specs.Lines.{is_space_or_tab}
+use Rattle.markdown_plain.proofs.LeafTreesLemmas.{on_test}
 use Rattle.markdown_lines.specs.BlockBeginnings.{Source}
-use Rattle.markdown_lines.specs.Positions.{left_from}
+use Rattle.markdown_lines.specs.Positions.{IsSpaceAt, left_from}
 use Rattle.markdown_lines.specs.declared.line.Line.{Line}
 use Rattle.markdown_base.specs.Forest.{Forest}
 use Rattle.markdown_scan.specs.Entity.{entity_names}
 use Rattle.markdown_block_rules.specs.BlockGrowth.{Block}
 use Rattle.markdown_block_rules.specs.TableLines.{hold_fitting, is_after_definitions, is_first_after, is_near}
-use Rattle.markdown_block_rules.specs.TableLines.{may_be_head}
+use Rattle.markdown_block_rules.specs.TableLines.{as_many as as_many_of, alignments_for, cells_of, delimiter_row_of}
+use Rattle.markdown_block_rules.specs.TableLines.{fitting, further_line, may_be_head, reads_tables}
+use Rattle.markdown_lines.specs.declared.position.Position.{Position}
+use Rattle.markdown_lines.specs.declared.space.Space.{Space as Read}
+use Rattle.markdown_plain.proofs.ReachedFramesLemmas.{space_alike}
 use Rattle.markdown_plain.specs.declared.containers.Reached.{Reached}
 use Rattle.markdown_plain.specs.declared.pass.Pass.{Pass}
 use Rattle.markdown_plain.specs.Frames.{Frame, reached}
 use Rattle.markdown_plain.specs.ReachedFrames.{IsBefore, IsReached}
 use Rattle.markdown_plain.specs.Paragraphs.{divided_of, end_of}
-use Rattle.markdown_plain.specs.TableHeads.{IsFurther, IsLastLine, first_start, last_of, was_tried, whole_head}
+use Rattle.markdown_plain.specs.TableHeads.{IsFurther, IsLastLine, IsNearRow, IsRowRest, first_start, last_of}
+use Rattle.markdown_plain.specs.TableHeads.{was_tried, whole_head}
 use Rattle.markdown_plain.specs.TakenDefinitions.{TakesDefinitions, after_definitions}
 use Rattle.markdown_plain.proofs.DividedLemmas.{as_many, filled_of, first_read, no_bracket, no_bracket_byte}
 use Rattle.markdown_plain.proofs.ParagraphsLemmas.{end_of_last}
@@ -707,3 +716,197 @@ as_tried false indent is = sym (ap (λ (found : Option ℕ). is_some found) is)
 pub if_ok : {A E : Type 0} (P Q : A → Type 0) (r : Result A E) → ((x : A) → P x → Q x) → IfOk r P → IfOk r Q
 if_ok P Q (Ok x) on is = on x is
 if_ok P Q (Err e) on is = tt
+
+-- ---- the line after it as a delimiter row
+
+-- a byte of no width is no white space
+no_width : (column b : ℕ) → column < 4 → (space_width column b == 0) ≡ true → is_space_or_tab b ≡ false
+no_width column b less none =
+    ⊎_elim (λ (e : (b == space) ≡ true). absurd (true≢false (sym (rw e at none))))
+    (λ (e : (b == space) ≡ false). ⊎_elim (λ (t : (b == tab) ≡ true). absurd (wide (rw (e, t) at none)))
+    (λ (t : (b == tab) ≡ false). rw (e, t) refl) (cases_Bool (b == tab))) (cases_Bool (b == space))
+  where
+    wide : (4 - column == 0) ≡ true → ⊥
+    wide is = let some : 0 < 4 - column = omega arith in grind (arith, nat_tests)
+
+less_column : (column b : ℕ) → column < 4 → column_after column b < 4
+less_column column b less =
+    on_test (λ n. n < 4) (b == tab) 0 (next_column column) (λ e. omega arith)
+    (λ e. on_test (λ n. n < 4) (column == 3) 0 (column + 1) (λ three. omega arith)
+    (λ other. let differ : column ≡ 3 → ⊥ = not_three column other in omega (arith, less, differ)))
+  where
+    not_three : (n : ℕ) → (n == 3) ≡ false → n ≡ 3 → ⊥
+    not_three n other is = grind (arith, nat_tests)
+
+-- after fewer columns of space than may be read there is another byte
+no_more_space : (n scanned column : ℕ) (bytes : List ℕ) → column < 4 → (space_from n scanned column bytes).columns < n
+    → prefix_len is_space_or_tab (space_from n scanned column bytes).after.bytes ≡ 0
+no_more_space n scanned column [] less = λ few. refl
+no_more_space n scanned column (b ∷ bytes) less =
+    let width = space_width column b in
+    let next = column_after column b in
+    on_test (λ (s : Space). s.columns < n → prefix_len is_space_or_tab s.after.bytes ≡ 0)
+    ((n == 0) || (width == 0)) _ _
+    (λ none few. rw (no_width column b less (second n (width == 0) few none)) refl)
+    (λ some. on_test (λ (s : Space). s.columns < n → prefix_len is_space_or_tab s.after.bytes ≡ 0)
+    (nat_lt n width) _ _
+    (λ more few. absurd (omega (arith, few)))
+    (λ fits few. no_more_space (n - width) (scanned + 1) next bytes (less_column column b less)
+    (omega (arith, few))))
+  where
+    second : (n : ℕ) (other : Bool) → 0 < n → ((n == 0) || other) ≡ true → other ≡ true
+    second n other some is =
+        ap (λ (test : Bool). test || other) (sym (some_before n some)) ∙ is
+
+no_space_after : (n : ℕ) (left : LineLeft) → left.column < 4 → (leading_space n left).columns < n
+    → prefix_len is_space_or_tab (leading_space n left).after.bytes ≡ 0
+no_space_after n left less =
+    on_test (λ (s : Space). s.columns < n → prefix_len is_space_or_tab s.after.bytes ≡ 0) (nat_le n left.owed) _ _
+    (λ all few. absurd (omega (arith, few)))
+    (λ more few. no_more_space (n - left.owed) left.scanned left.column left.bytes less (omega (arith, few)))
+
+-- the row that the rest of a line may be, as it is read
+pub record IsReadRow (s : Source) (text : List ℕ) (line : Line) (position : Position) (l : SourceLine) (read : Read)
+    : Type 0 where
+  pub same : text ≡ s.text
+  pub is : IsRowRest s text line position l
+  pub space : IsSpaceAt text position line.stop 4 read
+
+space_of : (s : Source) (text : List ℕ) (line : Line) (position : Position) (l : SourceLine) (read : Read)
+    → IsReadRow s text line position l read → read.columns ≡ (leading_space 4 l.left).columns
+space_of s text line position l read row =
+    row.space.columns ∙ ap (λ (left : LineLeft). (leading_space 4 left).columns) row.is.rest.left
+
+-- a further line where tables are read
+further_is : (s : Source) (l : SourceLine) → reads_tables s ≡ true
+    → further_line s l ≡ record (text_line l) { indent = Some (leading_space 4 l.left).columns }
+further_is s l reads =
+    ap (λ (test : Bool). if test then record (text_line l) { indent = Some (leading_space 4 l.left).columns }
+    else text_line l) reads
+
+-- it is no delimiter row where four columns of space are before it
+no_row_fits : (s : Source) (from row : SourceLine) → delimiter_row_of s row ≡ None → fitting s from row ≡ None
+no_row_fits s from row none =
+    either_none (has_cut from.left.bytes) (as_many_of (length (cells_of from)) (delimiter_row_of s row))
+    (ap (as_many_of (length (cells_of from))) none)
+
+pub far_row : (s : Source) (text : List ℕ) (line : Line) (position : Position) (l from : SourceLine) (read : Read)
+    → IsReadRow s text line position l read → 4 ≤ read.columns → fitting s from (further_line s l) ≡ None
+far_row s text line position l from read row far =
+    let indent = ap (λ (r : SourceLine). r.indent) (further_is s l row.is.reads)
+    ∙ ap Some (sym (space_of s text line position l read row)) in
+    let none : nat_lt read.columns 4 ≡ false = grind (arith, nat_tests) in
+    no_row_fits s from (further_line s l)
+    (ap (λ (test : Bool). if test then delimiter_row_at s.text (further_line s l).left.scanned
+    (stop_of (further_line s l)) else None) (ap is_near indent ∙ none))
+
+-- otherwise it is read from its first byte that is no white space on
+pub near_row : (s : Source) (text : List ℕ) (line : Line) (position : Position) (l : SourceLine) (read : Read)
+    → IsReadRow s text line position l read → position.column < 4 → read.columns < 4
+    → IsNearRow read.after.at line.stop (further_line s l)
+near_row s text line position l read row column near =
+    let further = further_is s l row.is.reads in
+    let columns = space_of s text line position l read row in
+    let indent = ap (λ (r : SourceLine). r.indent) further ∙ ap Some (sym columns) in
+    let some : nat_lt read.columns 4 ≡ true = grind (arith, nat_tests) in
+    let left = row.is.rest.left in
+    let after : left_from text read.after line.stop ≡ (leading_space 4 l.left).after =
+    row.space.after ∙ ap (λ (left : LineLeft). (leading_space 4 left).after) left in
+    let low : l.left.column < 4 = subst (λ n. n < 4) (ap (λ (left : LineLeft). left.column) left) column in
+    let few : (leading_space 4 l.left).columns < 4 = omega (arith, columns, near) in
+    let alike = space_alike 4 l.left in
+    let scanned = ap (λ (left : LineLeft). left.scanned) after in
+    let content = alike.content in
+    let none = no_space_after 4 l.left low few in
+    let start : read.after.at ≡ (past_white l.left).scanned = omega (arith, scanned, content, none) in
+    record {
+      near = ap is_near indent ∙ some;
+      start = start ∙ ap (λ (r : SourceLine). r.left.scanned) (sym further);
+      stop_is = row.is.stop ∙ (white_end l.left ∙ ap stop_of (sym further));
+    }
+  where
+    white_end : (left : LineLeft) → left.scanned + length left.bytes
+        ≡ (past_white left).scanned + length (past_white left).bytes
+    white_end left =
+        let within = prefix_len-le-length is_space_or_tab left.bytes in
+        let size = length-drop (prefix_len is_space_or_tab left.bytes) left.bytes in
+        omega (arith, within, size)
+
+-- where it is none
+pub other_row : (s : Source) (text : List ℕ) (from row : SourceLine) (at stop : ℕ) → text ≡ s.text
+    → IsNearRow at stop row → delimiter_row_at text at stop ≡ None → fitting s from row ≡ None
+other_row s text from row at stop same near none =
+    no_row_fits s from row
+    (either_none (is_near row.indent) (delimiter_row_at s.text row.left.scanned (stop_of row))
+    (ap (λ (t : List ℕ). delimiter_row_at t row.left.scanned (stop_of row)) (sym same)
+    ∙ (ap (λ n. delimiter_row_at text n (stop_of row)) (sym near.start)
+    ∙ (ap (delimiter_row_at text at) (sym near.stop_is) ∙ none))))
+
+-- ---- whether a table begins
+
+pub begins_none : (s : Source) (before : List SourceLine) (from l : SourceLine)
+    → fitting s from (further_line s l) ≡ None → false ≡ is_some (alignments_for s l before from)
+begins_none s before from l none =
+    sym (ap (λ (found : Option (List Alignment)). is_some found) (either_none (may_be_head s before from)
+    (fitting s from (further_line s l)) none))
+
+pub begins_not : (s : Source) (before : List SourceLine) (from l : SourceLine)
+    → false ≡ may_be_head s before from → false ≡ is_some (alignments_for s l before from)
+begins_not s before from l other = rw (sym other) refl
+
+pub begins_one : (s : Source) (before : List SourceLine) (from l : SourceLine) (found : List Alignment)
+    → Some found ≡ fitting s from (further_line s l) → true ≡ may_be_head s before from
+    → true ≡ is_some (alignments_for s l before from)
+begins_one s before from l found fits head = rw (sym head, sym fits) refl
+
+-- two lines fit that are not the first: the last of them may be the last line
+or_last : (p q r : Bool) → (p || (q || r)) ≡ ((p || q) || r)
+or_last true q r = refl
+or_last false q r = refl
+
+or_none : (p : Bool) → (p || false) ≡ p
+or_none true = refl
+or_none false = refl
+
+pub hold_more : (s : Source) (lines : List SourceLine) (from row : SourceLine)
+    → hold_fitting s (lines ++ from ∷ row ∷ [])
+    ≡ (hold_fitting s (lines ++ from ∷ []) || (is_some from.indent && is_some (fitting s from row)))
+hold_more s [] from row = or_none (is_some from.indent && is_some (fitting s from row))
+hold_more s (l ∷ []) from row =
+    let fits = is_some l.indent && is_some (fitting s l from) in
+    let last = is_some from.indent && is_some (fitting s from row) in
+    ap (λ (later : Bool). fits || later) (hold_more s [] from row) ∙ or_last fits false last
+hold_more s (l ∷ m ∷ lines) from row =
+    let fits = is_some l.indent && is_some (fitting s l m) in
+    ap (λ (later : Bool). fits || later) (hold_more s (m ∷ lines) from row)
+    ∙ or_last fits (hold_fitting s (m ∷ lines ++ from ∷ [])) (is_some from.indent && is_some (fitting s from row))
+
+-- where they do not fit, nothing is tried
+pub tried_none : (s : Source) (pass : Pass) (head : HeldLine) (before : List SourceLine) (from row : SourceLine)
+    → IsLastLine s pass head before from → fitting s from row ≡ None
+    → was_tried pass ≡ hold_fitting s (before ++ from ∷ row ∷ [])
+tried_none s pass head before from row is none =
+    is.tried ∙ sym (hold_more s before from row
+    ∙ (ap (λ (found : Option (List Alignment)). hold_fitting s (before ++ from ∷ [])
+    || (is_some from.indent && is_some found)) none
+    ∙ no_last (hold_fitting s (before ++ from ∷ [])) (is_some from.indent)))
+  where
+    no_last : (p q : Bool) → (p || (q && false)) ≡ p
+    no_last true q = refl
+    no_last false true = refl
+    no_last false false = refl
+
+-- where they do, it is, unless the first of them was lazy
+pub tried_then : (s : Source) (pass : Pass) (head : HeldLine) (before : List SourceLine) (from row : SourceLine)
+    (found : List Alignment) (now : Bool) → IsLastLine s pass head before from → Some found ≡ fitting s from row
+    → now ≡ (was_tried pass || is_some from.indent) → now ≡ hold_fitting s (before ++ from ∷ row ∷ [])
+tried_then s pass head before from row found now is fits tried =
+    tried ∙ (ap (λ (before : Bool). before || is_some from.indent) is.tried
+    ∙ sym (hold_more s before from row
+    ∙ (ap (λ (fitted : Option (List Alignment)). hold_fitting s (before ++ from ∷ [])
+    || (is_some from.indent && is_some fitted)) (sym fits)
+    ∙ ap (λ (last : Bool). hold_fitting s (before ++ from ∷ []) || last) (and_true (is_some from.indent)))))
+  where
+    and_true : (p : Bool) → (p && true) ≡ p
+    and_true true = refl
+    and_true false = refl

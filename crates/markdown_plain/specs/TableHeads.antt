@@ -9,12 +9,13 @@ use Rattle.markdown_lines.specs.SourceLines.{SourceLine, stop_of}
 use Rattle.markdown_lines.specs.TableRows.{is_row_white}
 use Rattle.markdown_lines.specs.declared.held_line.HeldLine.{HeldLine}
 use Rattle.markdown_lines.specs.declared.line.Line.{Line}
-use Rattle.markdown_block_rules.specs.BlockGrowth.{Block}
-use Rattle.markdown_block_rules.specs.TableLines.{hold_fitting, is_near}
+use Rattle.markdown_lines.specs.declared.position.Position.{Position}
+use Rattle.markdown_block_rules.specs.BlockGrowth.{Block, content_of}
+use Rattle.markdown_block_rules.specs.TableLines.{hold_fitting, is_near, reads_tables}
 use Rattle.markdown_plain.specs.declared.pass.Pass.{Pass}
 use Rattle.markdown_plain.specs.declared.table_state.Tables.{Tables}
 use Rattle.markdown_plain.specs.Frames.{Frame, Reached, reached}
-use Rattle.markdown_plain.specs.HeldSources.{IsParagraph}
+use Rattle.markdown_plain.specs.HeldSources.{IsParagraph, IsRest}
 use Rattle.markdown_plain.specs.Paragraphs.{end_of, source_of}
 use Rattle.markdown_plain.specs.ReachedFrames.{IsBefore, are_none}
 
@@ -73,3 +74,11 @@ pub record IsLastLine (s : Source) (pass : Pass) (head : HeldLine) (before : Lis
   pub there : last_of pass.lines.items ≡ Some head
   pub further : 0 < length before → IsFurther s pass (whole_head pass head) from
   pub tried : was_tried pass ≡ hold_fitting s (before ++ from ∷ [])
+
+-- A line that is not lazy comes next, where tables are read, of which this is left. Its first byte that is neither a
+-- space nor a tab is no other white space.
+pub record IsRowRest (s : Source) (text : List ℕ) (line : Line) (position : Position) (l : SourceLine) : Type 0 where
+  pub reads : reads_tables s ≡ true
+  pub rest : IsRest text position line l
+  pub stop : line.stop ≡ stop_of l
+  pub solid : is_white_byte (slice_get text (content_of l)) ≡ false

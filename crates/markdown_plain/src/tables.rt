@@ -1,7 +1,7 @@
 //! Tables: how one begins at its delimiter row, and its rows. Functions that return a `Result` fail only where memory is
 //! refused.
 ghost use Rattle.std.specs.Prelude.{◌≡◌, ◌≤◌, false, true, length, min, IfOk};
-ghost use Rattle.std.specs.Prelude.{◌==◌, ◌&&◌, ◌||◌, ℕ, None, List, not, slice_get, take};
+ghost use Rattle.std.specs.Prelude.{◌==◌, ◌&&◌, ◌||◌, ◌++◌, ◌∷◌, [], ℕ, None, List, not, slice_get, take};
 ghost use Rattle.std.specs.Option.{is_some, option_map};
 ghost use Rattle.markdown_builder.specs.Bodies.{is_leaf, is_plain_block};
 ghost use Rattle.markdown_builder.specs.EvenRows.{open_columns};
@@ -12,9 +12,10 @@ ghost use Rattle.markdown_lines.specs.BlockBeginnings.{Source};
 ghost use Rattle.markdown_lines.specs.DefinitionRules.{divided};
 ghost use Rattle.markdown_lines.specs.SourceLines.{SourceLine};
 ghost use Rattle.markdown_lines.specs.TableRows.{delimiter_row_at, row_cells_at};
+ghost use Rattle.markdown_block_rules.specs.TableLines as rules;
 ghost use Rattle.markdown_block_rules.specs.TableLines.{fitting, may_be_head};
 ghost use Rattle.markdown_plain.specs.HeldSources.{IsParagraph, IsTextLine};
-ghost use Rattle.markdown_plain.specs.TableHeads.{IsLastLine, IsNearRow, KeepsCells, first_start};
+ghost use Rattle.markdown_plain.specs.TableHeads.{IsLastLine, IsNearRow, IsRowRest, KeepsCells, first_start};
 ghost use Rattle.markdown_plain.specs.TableHeads.{is_white_byte, last_of, was_tried};
 ghost use Rattle.markdown_plain.specs.OpenBlocks.{innermost_is, is_table};
 ghost use Rattle.markdown_plain.specs.TableRows.{PutsTree, may_be_row};
@@ -235,6 +236,21 @@ impl<'a> Pass<'a> {
         ensures text { IfOk result (λ _. self.new.placing.builder.text
             ≡ self.old.placing.builder.text) }
         ensures fitted { IfOk result (λ _. FittedBefore self.old.placing self.new.placing) }
+        ensures value { IfOk result (λ is. (s : Source) (head : HeldLine)
+            (before : List SourceLine) (from l : SourceLine)
+            → IsLastLine s self.old head before from
+            → IsRowRest s self.old.placing.builder.text line position l
+            → is ≡ is_some (rules.alignments_for s l before from)) }
+        ensures tried { IfOk result (λ is. (s : Source) (head : HeldLine)
+            (before : List SourceLine) (from l : SourceLine)
+            → IsLastLine s self.old head before from
+            → IsRowRest s self.old.placing.builder.text line position l → is ≡ false
+            → was_tried self.new
+            ≡ rules.hold_fitting s (before ++ from ∷ rules.further_line s l ∷ [])) }
+        ensures same { IfOk result (λ is. is ≡ false
+            → self.new ≡ record self.old { tables = self.new.tables }) }
+        ensures tables { IfOk result (λ is. is ≡ false
+            → KeepsCells self.old.tables self.new.tables) }
     {
         let text = self.placing.text();
         let space = read_space(text, position, line.stop, 4);
