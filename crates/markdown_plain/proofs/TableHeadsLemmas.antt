@@ -53,7 +53,7 @@ use Rattle.markdown_plain.specs.Frames.{Frame, reached}
 use Rattle.markdown_plain.specs.ReachedFrames.{IsBefore, IsReached}
 use Rattle.markdown_plain.specs.Paragraphs.{divided_of, end_of}
 use Rattle.markdown_plain.specs.TableHeads.{IsFurther, IsLastLine, IsNearRow, IsRowRest, first_start, last_of}
-use Rattle.markdown_plain.specs.TableHeads.{was_tried, whole_head}
+use Rattle.markdown_plain.specs.TableHeads.{is_white_byte, was_tried, whole_head}
 use Rattle.markdown_plain.specs.TakenDefinitions.{TakesDefinitions, after_definitions}
 use Rattle.markdown_plain.proofs.DividedLemmas.{as_many, filled_of, first_read, no_bracket, no_bracket_byte}
 use Rattle.markdown_plain.proofs.ParagraphsLemmas.{end_of_last}
@@ -910,3 +910,93 @@ tried_then s pass head before from row found now is fits tried =
     and_true : (p : Bool) → (p && true) ≡ p
     and_true true = refl
     and_true false = refl
+
+-- the last line of the paragraph, as it is read
+pub last_is : (s : Source) (pass : Pass) (head : HeldLine) (before : List SourceLine) (from : SourceLine)
+    (last : Option HeldLine) (read : HeldLine) → IsLastLine s pass head before from → last ≡ last_of pass.lines.items
+    → last ≡ Some read → IsLastLine s pass read before from
+last_is s pass head before from last read is found some =
+    subst (λ (h : HeldLine). IsLastLine s pass h before from) (inside (sym is.there ∙ (sym found ∙ some))) is
+  where
+    inside : {a b : HeldLine} → Some a ≡ Some b → a ≡ b
+    inside e = cc
+
+last_text_at : (text : List ℕ) (lines : List HeldLine) (before : List SourceLine) (from : SourceLine)
+    (head : HeldLine) → AreTextLines text lines (before ++ from ∷ []) → slice_get lines (length before) ≡ Some head
+    → IsTextLine text head from
+last_text_at text [] [] from head are there = absurd are
+last_text_at text [] (l ∷ before) from head are there = absurd are
+last_text_at text (line ∷ lines) [] from head are there =
+    let same : line ≡ head = cc in subst (λ (h : HeldLine). IsTextLine text h from) same are.0
+last_text_at text (line ∷ lines) (l ∷ before) from head are there =
+    last_text_at text lines before from head are.1 there
+
+-- the rest of a line after the open paragraph, with the space that was read before it
+pub record ReadsRow (s : Source) (pass : Pass) (head : HeldLine) (before : List SourceLine) (from l : SourceLine)
+    (line : Line) (position : Position) (read : Read) (text : List ℕ) : Type 0 where
+  pub last : IsLastLine s pass head before from
+  pub rest : IsRowRest s pass.placing.builder.text line position l
+  pub same : text ≡ pass.placing.builder.text
+  pub space : IsSpaceAt text position line.stop 4 read
+
+row_of_reads : (s : Source) (pass : Pass) (head : HeldLine) (before : List SourceLine) (from l : SourceLine)
+    (line : Line) (position : Position) (read : Read) (text : List ℕ)
+    → ReadsRow s pass head before from l line position read text
+    → IsReadRow s pass.placing.builder.text line position l read
+row_of_reads s pass head before from l line position read text reads = record {
+  same = ap (λ (now : Source). now.text) reads.last.source;
+  is = reads.rest;
+  space = subst (λ (t : List ℕ). IsSpaceAt t position line.stop 4 read) reads.same reads.space;
+}
+
+pub far_fits : (s : Source) (pass : Pass) (head : HeldLine) (before : List SourceLine) (from l : SourceLine)
+    (line : Line) (position : Position) (read : Read) (text : List ℕ)
+    → ReadsRow s pass head before from l line position read text → 4 ≤ read.columns
+    → fitting s from (further_line s l) ≡ None
+far_fits s pass head before from l line position read text reads far =
+    far_row s pass.placing.builder.text line position l from read
+    (row_of_reads s pass head before from l line position read text reads) far
+
+pub falsified : (p : Bool) → not p ≡ true → p ≡ false
+falsified true is = absurd (true≢false (sym is))
+falsified false is = refl
+
+pub verified : (p : Bool) → not p ≡ false → p ≡ true
+verified true is = refl
+verified false is = absurd (true≢false is)
+
+pub other_fits : (s : Source) (pass : Pass) (head : HeldLine) (before : List SourceLine) (from l : SourceLine)
+    (line : Line) (position : Position) (read : Read) (text : List ℕ) (byte : Option ℕ) (begins : Bool)
+    → ReadsRow s pass head before from l line position read text → position.column < 4 → read.columns < 4
+    → byte ≡ slice_get text read.after.at → not begins ≡ true
+    → (begins ≡ false → (text : List ℕ) (at stop : ℕ) → byte ≡ slice_get text at → is_white_byte byte ≡ false
+    → delimiter_row_at text at stop ≡ None)
+    → fitting s from (further_line s l) ≡ None
+other_fits s pass head before from l line position read text byte begins reads column near is_byte other none =
+    let now = pass.placing.builder.text in
+    let row = row_of_reads s pass head before from l line position read text reads in
+    let is = near_row s now line position l read row column near in
+    let there = is_byte ∙ ap (λ (t : List ℕ). slice_get t read.after.at) reads.same in
+    let content = is.start ∙ ap (λ (r : SourceLine). r.left.scanned) (further_is s l reads.rest.reads) in
+    let solid : is_white_byte byte ≡ false =
+    ap is_white_byte (there ∙ ap (slice_get now) content) ∙ reads.rest.solid in
+    other_row s now from (further_line s l) read.after.at line.stop row.same is
+    (none (falsified begins other) now read.after.at line.stop there solid)
+
+pub read_fits : (s : Source) (pass : Pass) (head : HeldLine) (before : List SourceLine) (from l : SourceLine)
+    (line : Line) (position : Position) (read : Read) (text : List ℕ) (found : Option (List Alignment))
+    → ReadsRow s pass head before from l line position read text → position.column < 4 → read.columns < 4
+    → ((s : Source) (from row : SourceLine) → text ≡ s.text → IsTextLine text head from
+    → IsNearRow read.after.at line.stop row → found ≡ fitting s from row)
+    → found ≡ fitting s from (further_line s l)
+read_fits s pass head before from l line position read text found reads column near known =
+    let now = pass.placing.builder.text in
+    let lines = pass.lines.items in
+    let row = row_of_reads s pass head before from l line position read text reads in
+    let count = count_of now lines before from reads.last.lines.are in
+    let place : length lines - 1 ≡ length before = omega (arith, count) in
+    let is_text = last_text_at now lines before from head reads.last.lines.are
+    (ap (slice_get lines) (sym place) ∙ reads.last.there) in
+    known s from (further_line s l) (reads.same ∙ row.same)
+    (subst (λ (t : List ℕ). IsTextLine t head from) (sym reads.same) is_text)
+    (near_row s now line position l read row column near)
