@@ -5,7 +5,7 @@ use Rattle.std.proofs.Common.{Err, IfOk, Ok, Result, nat_le, ⊎_elim}
 use Rattle.std.proofs.Common.{◌&&◌, ◌||◌, codes, get_or, if◌then◌else◌, nat_lt, slice_index, take}
 use Rattle.std.proofs.lemmas.Bool.{cases_Bool, true≢false}
 use Rattle.std.proofs.lemmas.Bool.Decides.{nat_tests}
-use Rattle.std.proofs.lemmas.List.{drop-drop, drop_all, get_or-drop, length-append, length-drop, take_all}
+use Rattle.std.proofs.lemmas.List.{append-nil, append_assoc, drop-drop, drop_all, get_or-drop, length-append, length-drop, take_all}
 use Rattle.std.proofs.lemmas.List.Sums.{prefix_len-le-length}
 use Rattle.std.proofs.lemmas.Option.{get_or_from_slice_get, slice_get-get_or, slice_get_within}
 use Rattle.std.specs.List.{list_any, prefix_len, slice_get}
@@ -18,7 +18,7 @@ use Rattle.markdown_builder.specs.BuilderView.{BuilderView, nothing_made}
 use Rattle.markdown_lines.specs.DefinitionRules.{Divided, definition_in, divided, text_of_lines}
 use Rattle.markdown_lines.specs.HeldDefinitions.{IsDefinitionOf, IsFirstDefinition}
 use Rattle.markdown_lines.specs.HeldLines.{AreHeldFrom, AreLinesOfSource, IsBracketPlace, IsHeldLine}
-use Rattle.markdown_lines.specs.SourceLines.{SourceLine, past_white, stop_of, text_line}
+use Rattle.markdown_lines.specs.SourceLines.{SourceLine, is_blank_rest, past_white, stop_of, text_line}
 use Rattle.markdown_lines.specs.declared.definition.Definition.{Definition as Found}
 use Rattle.markdown_lines.specs.TableRows.{before_alignments, cell_alignment, cell_alignments, cell_over, cells_over}
 use Rattle.markdown_lines.specs.TableRows.{delimiter_row_at, has_cut, is_delimiter_mark, is_row_white, onto_first, parts_after}
@@ -40,7 +40,8 @@ use Rattle.markdown_lines.specs.Positions.{IsSpaceAt, left_from}
 use Rattle.markdown_lines.specs.declared.line.Line.{Line}
 use Rattle.markdown_base.specs.Forest.{Forest}
 use Rattle.markdown_scan.specs.Entity.{entity_names}
-use Rattle.markdown_block_rules.specs.BlockGrowth.{Block}
+use Rattle.markdown_block_rules.specs.BlockGrowth.{Block, cut_paragraph, paragraph_leaf, table_after, table_of_lines}
+use Rattle.markdown_block_rules.specs.BlockGrowth.{table_with}
 use Rattle.markdown_block_rules.specs.TableLines.{hold_fitting, is_after_definitions, is_first_after, is_near}
 use Rattle.markdown_block_rules.specs.TableLines.{as_many as as_many_of, alignments_for, cells_of, delimiter_row_of}
 use Rattle.markdown_block_rules.specs.TableLines.{fitting, further_line, may_be_head, reads_tables}
@@ -957,18 +958,10 @@ far_fits s pass head before from l line position read text reads far =
     far_row s pass.placing.builder.text line position l from read
     (row_of_reads s pass head before from l line position read text reads) far
 
-pub falsified : (p : Bool) → not p ≡ true → p ≡ false
-falsified true is = absurd (true≢false (sym is))
-falsified false is = refl
-
-pub verified : (p : Bool) → not p ≡ false → p ≡ true
-verified true is = refl
-verified false is = absurd (true≢false is)
-
 pub other_fits : (s : Source) (pass : Pass) (head : HeldLine) (before : List SourceLine) (from l : SourceLine)
     (line : Line) (position : Position) (read : Read) (text : List ℕ) (byte : Option ℕ) (begins : Bool)
     → ReadsRow s pass head before from l line position read text → position.column < 4 → read.columns < 4
-    → byte ≡ slice_get text read.after.at → not begins ≡ true
+    → byte ≡ slice_get text read.after.at → begins ≡ false
     → (begins ≡ false → (text : List ℕ) (at stop : ℕ) → byte ≡ slice_get text at → is_white_byte byte ≡ false
     → delimiter_row_at text at stop ≡ None)
     → fitting s from (further_line s l) ≡ None
@@ -981,7 +974,7 @@ other_fits s pass head before from l line position read text byte begins reads c
     let solid : is_white_byte byte ≡ false =
     ap is_white_byte (there ∙ ap (slice_get now) content) ∙ reads.rest.solid in
     other_row s now from (further_line s l) read.after.at line.stop row.same is
-    (none (falsified begins other) now read.after.at line.stop there solid)
+    (none other now read.after.at line.stop there solid)
 
 pub read_fits : (s : Source) (pass : Pass) (head : HeldLine) (before : List SourceLine) (from l : SourceLine)
     (line : Line) (position : Position) (read : Read) (text : List ℕ) (found : Option (List Alignment))
@@ -1000,3 +993,54 @@ read_fits s pass head before from l line position read text found reads column n
     known s from (further_line s l) (reads.same ∙ row.same)
     (subst (λ (t : List ℕ). IsTextLine t head from) (sym reads.same) is_text)
     (near_row s now line position l read row column near)
+
+-- ---- the table that a line makes of the last line of a paragraph
+
+-- where the last of these lines ends, or else here
+abbrev pub last_next : ℕ → List SourceLine → ℕ
+last_next end [] = end
+last_next end (l ∷ lines) = last_next l.next lines
+
+table_of_last : (s : Source) (l : SourceLine) (b : Block) (end : ℕ) (first before : List SourceLine)
+    (from : SourceLine) → table_of_lines s l b end first (before ++ from ∷ [])
+    ≡ table_after l (cut_paragraph b (last_next end before) (first ++ before)) from
+    (alignments_for s l (first ++ before) from)
+table_of_last s l b end first [] from =
+    ap (λ (lines : List SourceLine). table_after l (cut_paragraph b end lines) from (alignments_for s l lines from))
+    (sym (append-nil first))
+table_of_last s l b end first (m ∷ []) from =
+    table_of_last s l b m.next (first ++ m ∷ []) [] from
+    ∙ ap (λ (lines : List SourceLine). table_after l (cut_paragraph b m.next lines) from
+    (alignments_for s l lines from)) (append-nil (first ++ m ∷ []))
+table_of_last s l b end first (m ∷ n ∷ before) from =
+    table_of_last s l b m.next (first ++ m ∷ []) (n ∷ before) from
+    ∙ ap (λ (lines : List SourceLine). table_after l (cut_paragraph b (last_next m.next (n ∷ before)) lines) from
+    (alignments_for s l lines from)) (append_assoc first (m ∷ []) (n ∷ before))
+
+-- none where it is no head
+pub table_none : (s : Source) (l from : SourceLine) (b : Block) (before : List SourceLine)
+    → is_some (alignments_for s l before from) ≡ false
+    → table_with s l b (paragraph_leaf (before ++ from ∷ [])) ≡ None
+table_none s l from b before none =
+    on_test (λ (found : Option (Forest Block)). found ≡ None) (is_blank_rest l || not (reads_tables s)) None
+    (table_of_lines s l b b.first [] (before ++ from ∷ [])) (λ e. refl)
+    (λ e. table_of_last s l b b.first [] before from
+    ∙ none_after (alignments_for s l before from) none (cut_paragraph b (last_next b.first before) before))
+  where
+    none_after : (found : Option (List Alignment)) → is_some found ≡ false → (first : Forest Block)
+        → table_after l first from found ≡ None
+    none_after None none first = refl
+    none_after (Some alignments) none first = absurd (true≢false none)
+
+-- or after the lines before it, with these alignments
+pub table_some : (s : Source) (l from : SourceLine) (b : Block) (before : List SourceLine)
+    (found : List Alignment) → is_blank_rest l ≡ false → reads_tables s ≡ true
+    → alignments_for s l before from ≡ Some found
+    → table_with s l b (paragraph_leaf (before ++ from ∷ []))
+    ≡ table_after l (cut_paragraph b (last_next b.first before) before) from (Some found)
+table_some s l from b before found filled reads is =
+    ap (λ (test : Bool). if test || not (reads_tables s) then None
+    else table_of_lines s l b b.first [] (before ++ from ∷ [])) filled
+    ∙ (ap (λ (test : Bool). if not test then None else table_of_lines s l b b.first [] (before ++ from ∷ [])) reads
+    ∙ (table_of_last s l b b.first [] before from
+    ∙ ap (table_after l (cut_paragraph b (last_next b.first before) before) from) is))

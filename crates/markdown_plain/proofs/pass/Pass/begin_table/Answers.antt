@@ -1,14 +1,16 @@
 -- No delimiter row; no head; both.
 use Rattle.std.proofs.Common.{◌≡◌, ◌<◌, ◌++◌, ◌∷◌, [], ℕ, List, Option, Some, None, ap, arith, false, sym, subst, ◌∙◌}
 use Rattle.std.specs.Option.{is_some, option_map}
+use Rattle.std.specs.declared.vec.Vec.{Vec}
+use Rattle.std.specs.declared.alloc.Global.{Global}
 use Rattle.markdown_base.specs.declared.tag.Alignment.{Alignment}
 use Rattle.markdown_lines.specs.BlockBeginnings.{Source}
 use Rattle.markdown_lines.specs.SourceLines.{SourceLine}
 use Rattle.markdown_lines.specs.declared.held_line.HeldLine.{HeldLine}
 use Rattle.markdown_block_rules.specs.TableLines.{fitting, further_line}
 use Rattle.markdown_plain.specs.TableHeads.{IsLastLine, IsRowRest, was_tried}
-use Rattle.markdown_plain.proofs.TableHeadsLemmas.{ReadsRow, begins_none, begins_one, falsified, far_fits}
-use Rattle.markdown_plain.proofs.TableHeadsLemmas.{last_is, other_fits, read_fits, tried_none, tried_then, verified}
+use Rattle.markdown_plain.proofs.TableHeadsLemmas.{ReadsRow, begins_none, begins_one, far_fits}
+use Rattle.markdown_plain.proofs.TableHeadsLemmas.{last_is, other_fits, read_fits, tried_none, tried_then}
 use Rattle.markdown_plain.proofs.pass.Pass.begin_table.Goals.{then-space-ge4-via-then-space-ge4}
 use Rattle.markdown_plain.proofs.pass.Pass.begin_table.Goals.{then-space-ge4-via-else-space-ge4+then-not-begins_delimiter_row}
 use Rattle.markdown_plain.proofs.pass.Pass.begin_table.Goals as goal
@@ -62,10 +64,10 @@ returns-in_default-2-clause-value c = λ (s : Source) (head : HeldLine) (before 
     let reads : ReadsRow s pass c.in-Some.head before from l c.args.line c.args.position read text =
     record { last = last; rest = rest; same = c.text-text.ensures; space = c.read_space-space.ensures.value } in
     let fits = read_fits s pass c.in-Some.head before from l c.args.line c.args.position read text
-    (option_map (λ (alignments : Vec Alignment). alignments.items) c.in_ok-alignments.field-0) reads
+    (option_map (λ (alignments : Vec Alignment Global). alignments.items) c.in_ok-alignments.field-0) reads
     c.args.position.before_stop (omega (arith, c.if-space-ge4.false)) c.in_ok-alignments.ensures in
     begins_none s before from l (sym fits
-    ∙ ap (option_map (λ (alignments : Vec Alignment). alignments.items)) c.in_default-2.is)
+    ∙ ap (option_map (λ (alignments : Vec Alignment Global). alignments.items)) c.in_default-2.is)
 
 pub returns-in_default-2-clause-tried : goal.returns-in_default-2-clause-tried
 returns-in_default-2-clause-tried c = λ (s : Source) (head : HeldLine) (before : List SourceLine) (from l : SourceLine)
@@ -78,10 +80,10 @@ returns-in_default-2-clause-tried c = λ (s : Source) (head : HeldLine) (before 
     let reads : ReadsRow s pass c.in-Some.head before from l c.args.line c.args.position read text =
     record { last = last; rest = rest; same = c.text-text.ensures; space = c.read_space-space.ensures.value } in
     let fits = read_fits s pass c.in-Some.head before from l c.args.line c.args.position read text
-    (option_map (λ (alignments : Vec Alignment). alignments.items) c.in_ok-alignments.field-0) reads
+    (option_map (λ (alignments : Vec Alignment Global). alignments.items) c.in_ok-alignments.field-0) reads
     c.args.position.before_stop (omega (arith, c.if-space-ge4.false)) c.in_ok-alignments.ensures in
     tried_none s pass head before from (further_line s l) is (sym fits
-    ∙ ap (option_map (λ (alignments : Vec Alignment). alignments.items)) c.in_default-2.is)
+    ∙ ap (option_map (λ (alignments : Vec Alignment Global). alignments.items)) c.in_default-2.is)
 
 pub returns-then-not-branch-clause-tried : goal.returns-then-not-branch-clause-tried
 returns-then-not-branch-clause-tried c = λ (s : Source) (head : HeldLine) (before : List SourceLine) (from l : SourceLine)
@@ -94,12 +96,12 @@ returns-then-not-branch-clause-tried c = λ (s : Source) (head : HeldLine) (befo
     let reads : ReadsRow s pass c.in-Some.head before from l c.args.line c.args.position read text =
     record { last = last; rest = rest; same = c.text-text.ensures; space = c.read_space-space.ensures.value } in
     let fits = read_fits s pass c.in-Some.head before from l c.args.line c.args.position read text
-    (option_map (λ (alignments : Vec Alignment). alignments.items) c.in_ok-alignments.field-0) reads
+    (option_map (λ (alignments : Vec Alignment Global). alignments.items) c.in_ok-alignments.field-0) reads
     c.args.position.before_stop (omega (arith, c.if-space-ge4.false)) c.in_ok-alignments.ensures in
     tried_then s pass head before from (further_line s l) c.in-Some-2.alignments.items
     (was_tried c.may_be_head.new.self) is
-    (sym (ap (option_map (λ (alignments : Vec Alignment). alignments.items)) c.in-Some-2.is) ∙ fits)
-    (c.in_ok-may_be_head.ensures.tried s before from last (falsified c.in_ok-may_be_head.field-0 c.if-not-branch.true))
+    (sym (ap (option_map (λ (alignments : Vec Alignment Global). alignments.items)) c.in-Some-2.is) ∙ fits)
+    (c.in_ok-may_be_head.ensures.tried s before from last c.if-not-branch.true)
 
 pub returns-clause-value : goal.returns-clause-value
 returns-clause-value c = λ (s : Source) (head : HeldLine) (before : List SourceLine) (from l : SourceLine)
@@ -112,9 +114,9 @@ returns-clause-value c = λ (s : Source) (head : HeldLine) (before : List Source
     let reads : ReadsRow s pass c.in-Some.head before from l c.args.line c.args.position read text =
     record { last = last; rest = rest; same = c.text-text.ensures; space = c.read_space-space.ensures.value } in
     let fits = read_fits s pass c.in-Some.head before from l c.args.line c.args.position read text
-    (option_map (λ (alignments : Vec Alignment). alignments.items) c.in_ok-alignments.field-0) reads
+    (option_map (λ (alignments : Vec Alignment Global). alignments.items) c.in_ok-alignments.field-0) reads
     c.args.position.before_stop (omega (arith, c.if-space-ge4.false)) c.in_ok-alignments.ensures in
     begins_one s before from l c.in-Some-2.alignments.items
-    (sym (ap (option_map (λ (alignments : Vec Alignment). alignments.items)) c.in-Some-2.is) ∙ fits)
-    (sym (verified c.in_ok-may_be_head.field-0 c.if-not-branch.false)
+    (sym (ap (option_map (λ (alignments : Vec Alignment Global). alignments.items)) c.in-Some-2.is) ∙ fits)
+    (sym c.if-not-branch.false
     ∙ c.in_ok-may_be_head.ensures.value s before from last)
