@@ -1044,3 +1044,9 @@ table_some s l from b before found filled reads is =
     ∙ (ap (λ (test : Bool). if not test then None else table_of_lines s l b b.first [] (before ++ from ∷ [])) reads
     ∙ (table_of_last s l b b.first [] before from
     ∙ ap (table_after l (cut_paragraph b (last_next b.first before) before) from) is))
+
+-- it has as many columns as the delimiter row has cells
+pub begins_columns : (s : Source) (before : List SourceLine) (from l : SourceLine) (found : List Alignment) (columns : ℕ)
+    → Some found ≡ fitting s from (further_line s l) → true ≡ may_be_head s before from → columns ≡ length found
+    → option_map (λ (alignments : List Alignment). length alignments) (alignments_for s l before from) ≡ Some columns
+begins_columns s before from l found columns fits head size = rw (sym head, sym fits) (ap Some (sym size))

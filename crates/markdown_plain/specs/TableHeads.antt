@@ -38,7 +38,12 @@ pub record IsNearRow (at stop : ℕ) (row : SourceLine) : Type 0 where
   pub start : at ≡ row.left.scanned
   pub stop_is : stop ≡ stop_of row
 
--- what is remembered of the cells of tables stays
+-- the number of cells that were added to rows stays, and that of those that may be
+pub record KeepsCount (old new : Tables) : Type 0 where
+  pub added : new.added ≡ old.added
+  pub most : new.most ≡ old.most
+
+-- and so does the number of columns
 pub record KeepsCells (old new : Tables) : Type 0 where
   pub columns : new.columns ≡ old.columns
   pub added : new.added ≡ old.added

@@ -1,7 +1,7 @@
 //! Tables: how one begins at its delimiter row, and its rows. Functions that return a `Result` fail only where memory is
 //! refused.
 ghost use Rattle.std.specs.Prelude.{◌≡◌, ◌≤◌, false, true, length, min, IfOk};
-ghost use Rattle.std.specs.Prelude.{◌==◌, ◌&&◌, ◌||◌, ◌++◌, ◌∷◌, [], ℕ, None, List, not, slice_get, take};
+ghost use Rattle.std.specs.Prelude.{◌==◌, ◌&&◌, ◌||◌, ◌++◌, ◌∷◌, [], ℕ, None, Some, List, not, slice_get, take};
 ghost use Rattle.std.specs.Option.{is_some, option_map};
 ghost use Rattle.markdown_builder.specs.Bodies.{is_leaf, is_plain_block};
 ghost use Rattle.markdown_builder.specs.EvenRows.{open_columns};
@@ -15,8 +15,8 @@ ghost use Rattle.markdown_lines.specs.TableRows.{delimiter_row_at, row_cells_at}
 ghost use Rattle.markdown_block_rules.specs.TableLines as rules;
 ghost use Rattle.markdown_block_rules.specs.TableLines.{fitting, may_be_head};
 ghost use Rattle.markdown_plain.specs.HeldSources.{IsParagraph, IsTextLine};
-ghost use Rattle.markdown_plain.specs.TableHeads.{IsLastLine, IsNearRow, IsRowRest, KeepsCells, first_start};
-ghost use Rattle.markdown_plain.specs.TableHeads.{is_white_byte, last_of, was_tried};
+ghost use Rattle.markdown_plain.specs.TableHeads.{IsLastLine, IsNearRow, IsRowRest, KeepsCells, KeepsCount};
+ghost use Rattle.markdown_plain.specs.TableHeads.{first_start, is_white_byte, last_of, was_tried};
 ghost use Rattle.markdown_plain.specs.OpenBlocks.{innermost_is, is_table};
 ghost use Rattle.markdown_plain.specs.TableRows.{PutsTree, may_be_row};
 
@@ -247,6 +247,14 @@ impl<'a> Pass<'a> {
             → IsRowRest s self.old.placing.builder.text line position l → is ≡ false
             → was_tried self.new
             ≡ rules.hold_fitting s (before ++ from ∷ rules.further_line s l ∷ [])) }
+        ensures columns { IfOk result (λ is. (s : Source) (head : HeldLine)
+            (before : List SourceLine) (from l : SourceLine)
+            → IsLastLine s self.old head before from
+            → IsRowRest s self.old.placing.builder.text line position l → is ≡ true
+            → option_map (λ alignments. length alignments) (rules.alignments_for s l before from)
+            ≡ Some self.new.tables.columns) }
+        ensures counted { IfOk result (λ _. KeepsCount self.old.tables self.new.tables) }
+        ensures ended { IfOk result (λ is. is ≡ true → self.new.lines.items ≡ []) }
         ensures same { IfOk result (λ is. is ≡ false
             → self.new ≡ record self.old { tables = self.new.tables }) }
         ensures tables { IfOk result (λ is. is ≡ false
@@ -354,6 +362,9 @@ impl<'a> Pass<'a> {
         ensures text { IfOk result (λ _. self.new.placing.builder.text
             ≡ self.old.placing.builder.text) }
         ensures fitted { IfOk result (λ _. FittedBefore self.old.placing self.new.placing) }
+        ensures columns { IfOk result (λ _. self.new.tables.columns ≡ length alignments.items) }
+        ensures counted { IfOk result (λ _. KeepsCount self.old.tables self.new.tables) }
+        ensures ended { IfOk result (λ _. self.new.lines.items ≡ []) }
     {
         let _head = self.lines.pop();
         self.end_leaf()?;

@@ -9,7 +9,7 @@ use Rattle.markdown_lines.specs.SourceLines.{SourceLine}
 use Rattle.markdown_lines.specs.declared.held_line.HeldLine.{HeldLine}
 use Rattle.markdown_block_rules.specs.TableLines.{fitting, further_line}
 use Rattle.markdown_plain.specs.TableHeads.{IsLastLine, IsRowRest, was_tried}
-use Rattle.markdown_plain.proofs.TableHeadsLemmas.{ReadsRow, begins_none, begins_one, far_fits}
+use Rattle.markdown_plain.proofs.TableHeadsLemmas.{ReadsRow, begins_columns, begins_none, begins_one, far_fits}
 use Rattle.markdown_plain.proofs.TableHeadsLemmas.{last_is, other_fits, read_fits, tried_none, tried_then}
 use Rattle.markdown_plain.proofs.pass.Pass.begin_table.Goals.{then-space-ge4-via-then-space-ge4}
 use Rattle.markdown_plain.proofs.pass.Pass.begin_table.Goals.{then-space-ge4-via-else-space-ge4+then-not-begins_delimiter_row}
@@ -120,3 +120,21 @@ returns-clause-value c = λ (s : Source) (head : HeldLine) (before : List Source
     (sym (ap (option_map (λ (alignments : Vec Alignment Global). alignments.items)) c.in-Some-2.is) ∙ fits)
     (sym c.if-not-branch.false
     ∙ c.in_ok-may_be_head.ensures.value s before from last)
+
+pub returns-clause-columns : goal.returns-clause-columns
+returns-clause-columns c = λ (s : Source) (head : HeldLine) (before : List SourceLine) (from l : SourceLine)
+    (is : IsLastLine s c.args.self.now head before from)
+    (rest : IsRowRest s c.args.self.now.placing.builder.text c.args.line c.args.position l) _.
+    let pass = c.args.self.now in
+    let read = c.read_space-space.result in
+    let text = c.text-text.result.now in
+    let last = last_is s pass head before from c.last_line.result c.in-Some.head is c.last_line.ensures c.in-Some.is in
+    let reads : ReadsRow s pass c.in-Some.head before from l c.args.line c.args.position read text =
+    record { last = last; rest = rest; same = c.text-text.ensures; space = c.read_space-space.ensures.value } in
+    let fits = read_fits s pass c.in-Some.head before from l c.args.line c.args.position read text
+    (option_map (λ (alignments : Vec Alignment Global). alignments.items) c.in_ok-alignments.field-0) reads
+    c.args.position.before_stop (omega (arith, c.if-space-ge4.false)) c.in_ok-alignments.ensures in
+    begins_columns s before from l c.in-Some-2.alignments.items _
+    (sym (ap (option_map (λ (alignments : Vec Alignment Global). alignments.items)) c.in-Some-2.is) ∙ fits)
+    (sym c.if-not-branch.false
+    ∙ c.in_ok-may_be_head.ensures.value s before from last) c.in_ok-open_table.ensures.columns
