@@ -55,7 +55,7 @@ use Rattle.markdown_plain.specs.ReachedFrames.{IsBefore, IsReached}
 use Rattle.markdown_plain.specs.Paragraphs.{divided_of, end_of}
 use Rattle.markdown_plain.specs.TableHeads.{IsFurther, IsLastLine, IsNearRow, IsRowRest, first_start, last_of}
 use Rattle.markdown_plain.specs.TableHeads.{is_white_byte, was_tried, whole_head}
-use Rattle.markdown_plain.specs.TakenDefinitions.{TakesDefinitions, after_definitions}
+use Rattle.markdown_plain.specs.TakenDefinitions.{TakesDefinitions}
 use Rattle.markdown_plain.proofs.DividedLemmas.{as_many, filled_of, first_read, no_bracket, no_bracket_byte}
 use Rattle.markdown_plain.proofs.ParagraphsLemmas.{end_of_last}
 use Rattle.markdown_plain.proofs.DividedLemmas.{none_left, none_there, takes_empty, takes_first}

@@ -1,13 +1,10 @@
 -- A line that is taken, and a line that is none of a definition.
-use Rattle.std.proofs.Common.{◌≡◌, ◌+◌, ◌-◌, ◌≤◌, ◌<◌, Option, Some, None, List, ap, arith, drop, length, refl, slice_range, sym}
+use Rattle.std.proofs.Common.{◌≡◌, ◌+◌, Option, List, arith, drop, refl, sym}
 use Rattle.std.proofs.Common.{subst, ◌∙◌}
-use Rattle.std.proofs.lemmas.List.{length-drop, take_all}
 use Rattle.std.proofs.lemmas.Option.{slice_get_read}
-use Rattle.std.specs.List.{slice_get}
 use Rattle.markdown_lines.specs.HeldDefinitions.{IsFirstDefinition}
 use Rattle.markdown_lines.specs.SourceLines.{SourceLine}
 use Rattle.markdown_lines.specs.declared.definition.Definition.{Definition}
-use Rattle.markdown_lines.specs.declared.held_line.HeldLine.{HeldLine}
 use Rattle.markdown_plain.specs.HeldSources.{IsParagraph}
 use Rattle.markdown_plain.proofs.TableHeadsLemmas.{IsLeftOf, left_after, left_all, left_empty, left_none, left_other}
 use Rattle.markdown_plain.proofs.TableHeadsLemmas.{read_next}
@@ -16,10 +13,12 @@ use Rattle.markdown_plain.proofs.tables.are_definitions.Goals as goal
 pub definitions-preserved-then-first : goal.definitions-preserved-then-first
 definitions-preserved-then-first c =
     λ (sources : List SourceLine) (is : IsParagraph c.args.text.now c.args.lines.now sources).
-    let now = c.definitions.invariant sources is in
-    (omega (arith, now.0), left_empty c.args.names c.args.text.now c.args.lines.now sources c.definitions.taken
-    c.in-Some.first.now (slice_get_read c.args.lines.now _ c.definitions.taken c.in-Some.first.now refl
-    c.in-Some.ensures.lookup.3.0 c.in-Some.ensures.lookup.1) (omega (arith, c.if-first.true)) now.1)
+    let now = c.definitions.invariant sources is in (
+      omega (arith, now.0),
+      left_empty c.args.names c.args.text.now c.args.lines.now sources c.definitions.taken
+          c.in-Some.first.now (slice_get_read c.args.lines.now _ c.definitions.taken c.in-Some.first.now refl
+          c.in-Some.ensures.lookup.3.0 c.in-Some.ensures.lookup.1) (omega (arith, c.if-first.true)) now.1,
+    )
 
 pub returns-then-ne : goal.returns-then-ne
 returns-then-ne c = λ (sources : List SourceLine) (is : IsParagraph c.args.text.now c.args.lines.now sources).

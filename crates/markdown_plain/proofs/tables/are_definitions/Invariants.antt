@@ -1,5 +1,5 @@
 -- Where the lines are those of a paragraph, as many were taken as there were turns, or more.
-use Rattle.std.proofs.Common.{◌≡◌, ◌≤◌, List}
+use Rattle.std.proofs.Common.{◌≤◌, List}
 use Rattle.markdown_lines.specs.SourceLines.{SourceLine}
 use Rattle.markdown_plain.specs.HeldSources.{IsParagraph}
 use Rattle.markdown_plain.proofs.TableHeadsLemmas.{IsLeftOf}

@@ -1,5 +1,5 @@
 -- Another byte, and none.
-use Rattle.std.proofs.Common.{◌≡◌, ℕ, List, Option, ap, false, inl, inr, subst, sym, ◌∙◌}
+use Rattle.std.proofs.Common.{◌≡◌, ℕ, List, Option, false, inl, inr, subst, sym, ◌∙◌}
 use Rattle.markdown_plain.specs.TableHeads.{is_white_byte}
 use Rattle.markdown_plain.proofs.TableHeadsLemmas.{no_row_byte, no_row_past}
 use Rattle.markdown_plain.proofs.tables.begins_delimiter_row.Goals as goal

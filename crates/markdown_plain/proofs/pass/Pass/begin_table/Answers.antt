@@ -1,6 +1,6 @@
 -- No delimiter row; no head; both.
-use Rattle.std.proofs.Common.{◌≡◌, ◌<◌, ◌++◌, ◌∷◌, [], ℕ, List, Option, Some, None, ap, arith, false, sym, subst, ◌∙◌}
-use Rattle.std.specs.Option.{is_some, option_map}
+use Rattle.std.proofs.Common.{◌≡◌, List, None, ap, arith, sym, ◌∙◌}
+use Rattle.std.specs.Option.{option_map}
 use Rattle.std.specs.declared.vec.Vec.{Vec}
 use Rattle.std.specs.declared.alloc.Global.{Global}
 use Rattle.markdown_base.specs.declared.tag.Alignment.{Alignment}
@@ -25,9 +25,9 @@ returns-then-space-ge4-clause-value c = λ (s : Source) (head : HeldLine) (befor
     let reads : ReadsRow s pass head before from l c.args.line c.args.position read text =
     record { last = is; rest = rest; same = c.text-text.ensures; space = c.read_space-space.ensures.value } in
     let none : fitting s from (further_line s l) ≡ None = elim c.then-space-ge4.branch [
-      then-space-ge4-via-then-space-ge4 w ↦ far_fits s pass head before from l c.args.line c.args.position read text reads
+      | then-space-ge4-via-then-space-ge4 w ↦ far_fits s pass head before from l c.args.line c.args.position read text reads
           w.if-space-ge4.true
-    | then-space-ge4-via-else-space-ge4+then-not-begins_delimiter_row w ↦ other_fits s pass head before from l
+      | then-space-ge4-via-else-space-ge4+then-not-begins_delimiter_row w ↦ other_fits s pass head before from l
           c.args.line c.args.position read text w.byte_at.result w.begins_delimiter_row.result reads
           c.args.position.before_stop (omega (arith, w.if-space-ge4.false)) w.byte_at.ensures
           w.if-not-begins_delimiter_row.true w.begins_delimiter_row.ensures
@@ -44,9 +44,9 @@ returns-then-space-ge4-clause-tried c = λ (s : Source) (head : HeldLine) (befor
     let reads : ReadsRow s pass head before from l c.args.line c.args.position read text =
     record { last = is; rest = rest; same = c.text-text.ensures; space = c.read_space-space.ensures.value } in
     let none : fitting s from (further_line s l) ≡ None = elim c.then-space-ge4.branch [
-      then-space-ge4-via-then-space-ge4 w ↦ far_fits s pass head before from l c.args.line c.args.position read text reads
+      | then-space-ge4-via-then-space-ge4 w ↦ far_fits s pass head before from l c.args.line c.args.position read text reads
           w.if-space-ge4.true
-    | then-space-ge4-via-else-space-ge4+then-not-begins_delimiter_row w ↦ other_fits s pass head before from l
+      | then-space-ge4-via-else-space-ge4+then-not-begins_delimiter_row w ↦ other_fits s pass head before from l
           c.args.line c.args.position read text w.byte_at.result w.begins_delimiter_row.result reads
           c.args.position.before_stop (omega (arith, w.if-space-ge4.false)) w.byte_at.ensures
           w.if-not-begins_delimiter_row.true w.begins_delimiter_row.ensures

@@ -1,5 +1,5 @@
 -- The first line of a paragraph, a lazy one, one after an alert's marker, one with a `|`, and one after definitions.
-use Rattle.std.proofs.Common.{◌≡◌, ◌+◌, ◌-◌, ◌<◌, ◌≤◌, ◌++◌, ◌∷◌, [], ℕ, List, length, ap, arith, sym, subst, ◌∙◌}
+use Rattle.std.proofs.Common.{◌≡◌, ◌-◌, ◌<◌, ℕ, List, length, ap, arith, sym, subst, ◌∙◌}
 use Rattle.std.proofs.Common.{◌&&◌, ◌||◌, ◌==◌, Option, Some, codes, false, nat_eq, nat_lt, not, refl, take}
 use Rattle.std.specs.List.{slice_get}
 use Rattle.std.specs.Option.{is_some, option_eq}
@@ -118,19 +118,19 @@ returns-clause-value c = if_ok
     c.if-not-reached.false space in
     let filled = last_filled text lines before from c.args.head is.lines is.there more in
     let first : is_first_after before ≡ false = elim c.else-before-eq1.branch [
-      else-before-eq1-via-then-before-eq1+else-index w ↦ left_by_index text lines before from
+      | else-before-eq1-via-then-before-eq1+else-index w ↦ left_by_index text lines before from
           w.index-then-before-eq1.result.now w.index-then-before-eq1-2.result.now is.lines
           w.index-then-before-eq1.ensures w.index-then-before-eq1-2.ensures (omega (arith, w.if-index.false))
           (omega (arith, count, size, w.if-before-eq1.true))
-    | else-before-eq1-via-else-before-eq1 w ↦ second_left text lines before from is.lines
+      | else-before-eq1-via-else-before-eq1 w ↦ second_left text lines before from is.lines
           (omega (arith, count, size, some, w.if-before-eq1.false))
     ] in
     let led : (nat_lt columns 4 && begins_with (codes "|") from.left.bytes) ≡ false = elim c.else-columns-lt4.branch [
-      else-columns-lt4-via-then-columns-lt4+else-eq w ↦ unled text from c.args.head columns filled
+      | else-columns-lt4-via-then-columns-lt4+else-eq w ↦ unled text from c.args.head columns filled
           (ap (λ (found : Option ℕ). option_eq nat_eq found (Some pipe))
           (ap (λ (t : List ℕ). slice_get t c.args.head.start) (sym c.text-text.ensures) ∙ sym w.byte_at.ensures)
           ∙ (sym w.eq.ensures ∙ w.if-eq.false))
-    | else-columns-lt4-via-else-columns-lt4 w ↦ not_near from columns (omega (arith, w.if-columns-lt4.false))
+      | else-columns-lt4-via-else-columns-lt4 w ↦ not_near from columns (omega (arith, w.if-columns-lt4.false))
     ] in
     let front = subst (λ n. IsParagraph text (take n lines) before) (omega (arith, count, size))
     (front_of text lines before from is.lines) in
