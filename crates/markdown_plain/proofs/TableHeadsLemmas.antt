@@ -38,10 +38,11 @@ use Rattle.markdown_plain.proofs.LeafTreesLemmas.{on_test}
 use Rattle.markdown_lines.specs.BlockBeginnings.{Source}
 use Rattle.markdown_lines.specs.Positions.{IsSpaceAt, left_from}
 use Rattle.markdown_lines.specs.declared.line.Line.{Line}
-use Rattle.markdown_base.specs.Forest.{Forest}
+use Rattle.markdown_base.specs.Forest.{Forest, nil, node}
+use Rattle.markdown_builder.specs.TreeLevels.{followed_by}
 use Rattle.markdown_scan.specs.Entity.{entity_names}
 use Rattle.markdown_block_rules.specs.BlockGrowth.{Block, cut_paragraph, paragraph_leaf, table_after, table_of_lines}
-use Rattle.markdown_block_rules.specs.BlockGrowth.{table_with}
+use Rattle.markdown_block_rules.specs.BlockGrowth.{Kind, is_nil, table_with}
 use Rattle.markdown_block_rules.specs.TableLines.{hold_fitting, is_after_definitions, is_first_after, is_near}
 use Rattle.markdown_block_rules.specs.TableLines.{as_many as as_many_of, alignments_for, cells_of, delimiter_row_of}
 use Rattle.markdown_block_rules.specs.TableLines.{fitting, further_line, may_be_head, reads_tables}
@@ -50,11 +51,11 @@ use Rattle.markdown_lines.specs.declared.space.Space.{Space as Read}
 use Rattle.markdown_plain.proofs.ReachedFramesLemmas.{space_alike}
 use Rattle.markdown_plain.specs.declared.containers.Reached.{Reached}
 use Rattle.markdown_plain.specs.declared.pass.Pass.{Pass}
-use Rattle.markdown_plain.specs.Frames.{Frame, reached}
-use Rattle.markdown_plain.specs.ReachedFrames.{IsBefore, IsReached}
+use Rattle.markdown_plain.specs.Frames.{Frame, Reached as Kept, inside_container, reached, reached_past, rebuilt}
+use Rattle.markdown_plain.specs.ReachedFrames.{IsBefore, IsReached, are_none}
 use Rattle.markdown_plain.specs.Paragraphs.{divided_of, end_of}
 use Rattle.markdown_plain.specs.TableHeads.{IsFurther, IsLastLine, IsNearRow, IsRowRest, first_start, last_of}
-use Rattle.markdown_plain.specs.TableHeads.{is_white_byte, was_tried, whole_head}
+use Rattle.markdown_plain.specs.TableHeads.{indent_of, is_white_byte, was_tried, whole_head}
 use Rattle.markdown_plain.specs.TakenDefinitions.{TakesDefinitions}
 use Rattle.markdown_plain.proofs.DividedLemmas.{as_many, filled_of, first_read, no_bracket, no_bracket_byte}
 use Rattle.markdown_plain.proofs.ParagraphsLemmas.{end_of_last}
@@ -1050,3 +1051,64 @@ pub begins_columns : (s : Source) (before : List SourceLine) (from l : SourceLin
     → Some found ≡ fitting s from (further_line s l) → true ≡ may_be_head s before from → columns ≡ length found
     → option_map (λ (alignments : List Alignment). length alignments) (alignments_for s l before from) ≡ Some columns
 begins_columns s before from l found columns fits head size = rw (sym head, sym fits) (ap Some (sym size))
+
+-- ---- the indentation of a line is found out again as it was, since the containers that are open are the same
+
+abbrev pub AreKindred : List Frame → List Frame → Type 0
+AreKindred [] [] = Unit
+AreKindred [] (g ∷ others) = ⊥
+AreKindred (f ∷ frames) [] = ⊥
+AreKindred (f ∷ frames) (g ∷ others) = (f.block.kind ≡ g.block.kind) × AreKindred frames others
+
+pub record ReachAlike (one other : Kept) : Type 0 where
+  pub none : are_none one.inner ≡ are_none other.inner
+  pub rest : one.rest ≡ other.rest
+
+not_nil : (before : Forest Block) (b : Block) (below : Forest Block)
+    → is_nil (followed_by before (node b below nil)) ≡ false
+not_nil nil b below = refl
+not_nil (node a inside after) b below = refl
+
+empty_alike : (frames others : List Frame) (inside other : Forest Block) → AreKindred frames others
+    → is_nil inside ≡ is_nil other → is_nil (rebuilt frames inside) ≡ is_nil (rebuilt others other)
+empty_alike [] [] inside other are empty = empty
+empty_alike [] (g ∷ others) inside other are empty = absurd are
+empty_alike (f ∷ frames) [] inside other are empty = absurd are
+empty_alike (f ∷ frames) (g ∷ others) inside other are empty =
+    not_nil f.before f.block (rebuilt frames inside) ∙ sym (not_nil g.before g.block (rebuilt others other))
+
+past_alike : (f g : Frame) (frames others : List Frame) (l : SourceLine) (one other : SourceLine → Kept)
+    → ((rest : SourceLine) → ReachAlike (one rest) (other rest)) → (inside : Option SourceLine)
+    → ReachAlike (reached_past f frames l one inside) (reached_past g others l other inside)
+past_alike f g frames others l one other alike None = record { none = refl; rest = refl }
+past_alike f g frames others l one other alike (Some rest) =
+    record { none = (alike rest).none; rest = (alike rest).rest }
+
+pub reach_alike : (s : Source) (frames others : List Frame) (inside other : Forest Block) (l : SourceLine)
+    → AreKindred frames others → is_nil inside ≡ is_nil other
+    → ReachAlike (reached s frames inside l) (reached s others other l)
+unfolding reached
+reach_alike s [] [] inside other l are empty = record { none = refl; rest = refl }
+reach_alike s [] (g ∷ others) inside other l are empty = absurd are
+reach_alike s (f ∷ frames) [] inside other l are empty = absurd are
+reach_alike s (f ∷ frames) (g ∷ others) inside other l are empty =
+    let same : inside_container s l (is_nil (rebuilt frames inside)) f.block.kind
+    ≡ inside_container s l (is_nil (rebuilt others other)) g.block.kind =
+    ap (λ (test : Bool). inside_container s l test f.block.kind) (empty_alike frames others inside other are.1 empty)
+    ∙ ap (λ (k : Kind). inside_container s l (is_nil (rebuilt others other)) k) are.0 in
+    subst (λ (found : Option SourceLine). ReachAlike (reached s (f ∷ frames) inside l)
+    (reached_past g others l (reached s others other) found)) same
+    (past_alike f g frames others l (reached s frames inside) (reached s others other)
+    (λ (rest : SourceLine). reach_alike s frames others inside other rest are.1 empty)
+    (inside_container s l (is_nil (rebuilt frames inside)) f.block.kind))
+
+pub indent_alike : (s : Source) (frames others : List Frame) (inside other : Forest Block) (l : SourceLine)
+    → AreKindred frames others → is_nil inside ≡ is_nil other
+    → indent_of (reached s frames inside l) ≡ indent_of (reached s others other l)
+indent_alike s frames others inside other l are empty =
+    let alike = reach_alike s frames others inside other l are empty in
+    let one = reached s frames inside l in
+    let two = reached s others other l in
+    ap (λ (none : Bool). if none then Some (leading_space 4 one.rest.left).columns else None) alike.none
+    ∙ ap (λ (rest : SourceLine). if are_none two.inner then Some (leading_space 4 rest.left).columns else None)
+    alike.rest
