@@ -1112,3 +1112,10 @@ indent_alike s frames others inside other l are empty =
     ap (λ (none : Bool). if none then Some (leading_space 4 one.rest.left).columns else None) alike.none
     ∙ ap (λ (rest : SourceLine). if are_none two.inner then Some (leading_space 4 rest.left).columns else None)
     alike.rest
+
+-- a line that was lazy is no delimiter row
+pub lazy_row : (s : Source) (from row : SourceLine) → row.indent ≡ None → fitting s from row ≡ None
+lazy_row s from row lazy =
+    no_row_fits s from row
+    (ap (λ (test : Bool). if test then delimiter_row_at s.text row.left.scanned (stop_of row) else None)
+    (ap is_near lazy))
