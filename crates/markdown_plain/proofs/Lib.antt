@@ -13,6 +13,7 @@ pub mod PlacedParagraphsLemmas
 pub mod EndedParagraphsLemmas
 pub mod ParagraphsLemmas
 pub mod DividedLemmas
+pub mod TableHeadsLemmas
 pub mod ListLoosenessLemmas
 -- on what a line makes of blocks, some of which are open
 pub mod FramesLemmas

@@ -27,3 +27,4 @@ pub mod ReachedLines
 pub mod TextLines
 pub mod Beginning
 pub mod Turns
+pub mod TableHeads

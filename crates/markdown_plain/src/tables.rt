@@ -1,21 +1,29 @@
 //! Tables: how one begins at its delimiter row, and its rows. Functions that return a `Result` fail only where memory is
 //! refused.
-ghost use Rattle.std.specs.Prelude.{◌≡◌, ◌≤◌, ◌+◌, ◌-◌, ◌∷◌, [], None, false, true, length, min, IfOk};
+ghost use Rattle.std.specs.Prelude.{◌≡◌, ◌≤◌, ◌+◌, ◌-◌, ◌==◌, ◌&&◌, ◌||◌, ◌++◌, ◌∷◌, [], ℕ, None, Some, List};
+ghost use Rattle.std.specs.Prelude.{false, true, not, length, min, slice_get, take, IfOk};
+ghost use Rattle.std.specs.Option.{is_some, option_map};
 ghost use Rattle.markdown_builder.specs.Bodies.{is_leaf, is_plain_block};
 ghost use Rattle.markdown_builder.specs.EvenRows.{is_table_row, open_columns};
 ghost use Rattle.markdown_plain.specs.Fitting.{AllFitted, FittedBefore, GoesOn, IfFitted};
 ghost use Rattle.markdown_items.specs.ContentItems.{AddsItems};
 ghost use Rattle.markdown_items.specs.LineItems.{item_extensions};
+ghost use Rattle.markdown_lines.specs.BlockBeginnings.{Source};
+ghost use Rattle.markdown_lines.specs.DefinitionRules.{divided};
 ghost use Rattle.markdown_lines.specs.SourceLines.{SourceLine};
+ghost use Rattle.markdown_lines.specs.TableRows.{delimiter_row_at, row_cells_at};
 ghost use Rattle.markdown_block_rules.specs.BlockRules.{empty_cells, shown_cells, shown_row};
 ghost use Rattle.markdown_block_rules.specs.LineContents.{cell_items};
+ghost use Rattle.markdown_block_rules.specs.TableLines as rules;
+ghost use Rattle.markdown_block_rules.specs.TableLines.{fitting, may_be_head};
 ghost use Rattle.markdown_plain.specs.Closable.{IsInText, IsLeafOpen};
-ghost use Rattle.markdown_plain.specs.HeldSources.{IsTextLine};
+ghost use Rattle.markdown_plain.specs.HeldSources.{IsParagraph, IsTextLine};
 ghost use Rattle.markdown_plain.specs.LeafTrees.{HasItems, HasTrees};
-ghost use Rattle.markdown_plain.specs.Paragraphs.{IsPlacedTo, source_of};
+ghost use Rattle.markdown_plain.specs.Paragraphs.{IsPlacedTo, divided_of, source_of};
+ghost use Rattle.markdown_plain.specs.TableHeads.{IsLastLine, IsNearRow, IsRowRest, KeepsCells, KeepsCount};
+ghost use Rattle.markdown_plain.specs.TableHeads.{first_start, is_white_byte, last_of, was_tried};
 ghost use Rattle.markdown_plain.specs.TextLines.{held_line};
 ghost use Rattle.markdown_base.specs.declared.item.ItemBody.TheVariants as body;
-ghost use Rattle.markdown_lines.specs.TableRows.{row_cells_at};
 ghost use Rattle.markdown_plain.specs.OpenBlocks.{innermost_is, is_table};
 ghost use Rattle.markdown_plain.specs.TableRows.{IsCellIn, IsOnePiece, MayAddCell, MayAddRow, PutsTree, may_be_row};
 
@@ -182,7 +190,11 @@ fn are_definitions(
     text: &str,
     lines: &[HeldLine],
     names: EntityNames,
-) -> Result<bool, AllocError> {
+) -> Result<bool, AllocError>
+    ensures { IfOk result (λ are. (sources : List SourceLine)
+        → IsParagraph text.now lines.now sources
+        → are ≡ (length (divided names text.now sources).lines == 0)) }
+{
     let mut taken: usize = 0;
     'definitions: for _ in 0..lines.len() {
         let Some(first) = lines.get(taken) else {
@@ -211,7 +223,11 @@ fn alignments_for(
     head: HeldLine,
     at: usize,
     stop: usize,
-) -> Result<Option<Vec<Alignment>>, AllocError> {
+) -> Result<Option<Vec<Alignment>>, AllocError>
+    ensures { IfOk result (λ found. (s : Source) (from row : SourceLine) → text.now ≡ s.text
+        → IsTextLine text.now head from → IsNearRow at stop row
+        → option_map (λ alignments. alignments.items) found ≡ fitting s from row) }
+{
     if !has_cut(bytes_of(text, head.start, head.stop)) {
         return Ok(None);
     }
@@ -227,7 +243,10 @@ fn alignments_for(
 }
 
 /// Returns whether a delimiter row may begin with this byte.
-fn begins_delimiter_row(byte: Option<u8>) -> bool {
+fn begins_delimiter_row(byte: Option<u8>) -> bool
+    ensures { result ≡ false → (text : List ℕ) (at stop : ℕ) → byte ≡ slice_get text at
+        → is_white_byte byte ≡ false → delimiter_row_at text at stop ≡ None }
+{
     match byte {
         Some(b'|' | b':' | b'-') => true,
         _ => false,
@@ -251,6 +270,29 @@ impl<'a> Pass<'a> {
         ensures text { IfOk result (λ _. self.new.placing.builder.text
             ≡ self.old.placing.builder.text) }
         ensures fitted { IfOk result (λ _. FittedBefore self.old.placing self.new.placing) }
+        ensures value { IfOk result (λ is. (s : Source) (head : HeldLine)
+            (before : List SourceLine) (from l : SourceLine)
+            → IsLastLine s self.old head before from
+            → IsRowRest s self.old.placing.builder.text line position l
+            → is ≡ is_some (rules.alignments_for s l before from)) }
+        ensures tried { IfOk result (λ is. (s : Source) (head : HeldLine)
+            (before : List SourceLine) (from l : SourceLine)
+            → IsLastLine s self.old head before from
+            → IsRowRest s self.old.placing.builder.text line position l → is ≡ false
+            → was_tried self.new
+            ≡ rules.hold_fitting s (before ++ from ∷ rules.further_line s l ∷ [])) }
+        ensures columns { IfOk result (λ is. (s : Source) (head : HeldLine)
+            (before : List SourceLine) (from l : SourceLine)
+            → IsLastLine s self.old head before from
+            → IsRowRest s self.old.placing.builder.text line position l → is ≡ true
+            → option_map (λ alignments. length alignments) (rules.alignments_for s l before from)
+            ≡ Some self.new.tables.columns) }
+        ensures counted { IfOk result (λ _. KeepsCount self.old.tables self.new.tables) }
+        ensures ended { IfOk result (λ is. is ≡ true → self.new.lines.items ≡ []) }
+        ensures same { IfOk result (λ is. is ≡ false
+            → self.new ≡ record self.old { tables = self.new.tables }) }
+        ensures tables { IfOk result (λ is. is ≡ false
+            → KeepsCells self.old.tables self.new.tables) }
     {
         let text = self.placing.text();
         let space = read_space(text, position, line.stop, 4);
@@ -274,7 +316,9 @@ impl<'a> Pass<'a> {
     }
 
     /// Returns the last line of the open paragraph.
-    fn last_line(&self) -> Option<HeldLine> {
+    fn last_line(&self) -> Option<HeldLine>
+        ensures { result ≡ last_of self.now.lines.items }
+    {
         match self.lines.last() {
             Some(line) => Some(*line),
             None => None,
@@ -285,7 +329,14 @@ impl<'a> Pass<'a> {
     /// matter: it is the first, or not lazy and after an alert's marker, or not lazy and begins with a `|`, or not lazy
     /// and after definitions alone. The last is tried once in a paragraph.
     fn may_be_head(&mut self, head: HeldLine) -> Result<bool, AllocError>
-        ensures { self.new ≡ record self.old { tables = self.new.tables } }
+        ensures same { self.new ≡ record self.old { tables = self.new.tables } }
+        ensures tables { KeepsCells self.old.tables self.new.tables }
+        ensures value { IfOk result (λ is. (s : Source) (before : List SourceLine)
+            (from : SourceLine) → IsLastLine s self.old head before from
+            → is ≡ may_be_head s before from) }
+        ensures tried { IfOk result (λ is. (s : Source) (before : List SourceLine)
+            (from : SourceLine) → IsLastLine s self.old head before from → is ≡ false
+            → was_tried self.new ≡ (was_tried self.old || is_some from.indent)) }
     {
         let before = self.lines.len().saturating_sub(1);
         if before == 0 {
@@ -315,7 +366,13 @@ impl<'a> Pass<'a> {
     /// was tried before.
     fn is_after_definitions(&mut self, before: usize) -> Result<bool, AllocError>
         requires { before ≤ length self.old.lines.items }
-        ensures { self.new ≡ record self.old { tables = self.new.tables } }
+        ensures same { self.new ≡ record self.old { tables = self.new.tables } }
+        ensures tables { KeepsCells self.old.tables self.new.tables }
+        ensures tried { self.new.tables.tried ≡ first_start self.old.lines.items }
+        ensures value { IfOk result (λ is. (sources : List SourceLine)
+            → IsParagraph self.old.placing.builder.text (take before self.old.lines.items) sources
+            → is ≡ (not (was_tried self.old)
+            && (length (divided_of self.old sources).lines == 0))) }
     {
         let first = match self.lines.first() {
             Some(line) => Some(line.start),
@@ -339,6 +396,9 @@ impl<'a> Pass<'a> {
         ensures text { IfOk result (λ _. self.new.placing.builder.text
             ≡ self.old.placing.builder.text) }
         ensures fitted { IfOk result (λ _. FittedBefore self.old.placing self.new.placing) }
+        ensures columns { IfOk result (λ _. self.new.tables.columns ≡ length alignments.items) }
+        ensures counted { IfOk result (λ _. KeepsCount self.old.tables self.new.tables) }
+        ensures ended { IfOk result (λ _. self.new.lines.items ≡ []) }
     {
         let _head = self.lines.pop();
         self.end_leaf()?;

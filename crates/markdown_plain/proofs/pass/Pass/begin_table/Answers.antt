@@ -1,0 +1,140 @@
+-- No delimiter row; no head; both.
+use Rattle.std.proofs.Common.{◌≡◌, List, None, ap, arith, sym, ◌∙◌}
+use Rattle.std.specs.Option.{option_map}
+use Rattle.std.specs.declared.vec.Vec.{Vec}
+use Rattle.std.specs.declared.alloc.Global.{Global}
+use Rattle.markdown_base.specs.declared.tag.Alignment.{Alignment}
+use Rattle.markdown_lines.specs.BlockBeginnings.{Source}
+use Rattle.markdown_lines.specs.SourceLines.{SourceLine}
+use Rattle.markdown_lines.specs.declared.held_line.HeldLine.{HeldLine}
+use Rattle.markdown_block_rules.specs.TableLines.{fitting, further_line}
+use Rattle.markdown_plain.specs.TableHeads.{IsLastLine, IsRowRest, was_tried}
+use Rattle.markdown_plain.proofs.TableHeadsLemmas.{ReadsRow, begins_columns, begins_none, begins_one, far_fits}
+use Rattle.markdown_plain.proofs.TableHeadsLemmas.{last_is, other_fits, read_fits, tried_none, tried_then}
+use Rattle.markdown_plain.proofs.pass.Pass.begin_table.Goals.{then-space-ge4-via-then-space-ge4}
+use Rattle.markdown_plain.proofs.pass.Pass.begin_table.Goals.{then-space-ge4-via-else-space-ge4+then-not-begins_delimiter_row}
+use Rattle.markdown_plain.proofs.pass.Pass.begin_table.Goals as goal
+
+pub returns-then-space-ge4-clause-value : goal.returns-then-space-ge4-clause-value
+returns-then-space-ge4-clause-value c = λ (s : Source) (head : HeldLine) (before : List SourceLine) (from l : SourceLine)
+    (is : IsLastLine s c.args.self.now head before from)
+    (rest : IsRowRest s c.args.self.now.placing.builder.text c.args.line c.args.position l).
+    let pass = c.args.self.now in
+    let read = c.read_space-space.result in
+    let text = c.text-text.result.now in
+    let reads : ReadsRow s pass head before from l c.args.line c.args.position read text =
+    record { last = is; rest = rest; same = c.text-text.ensures; space = c.read_space-space.ensures.value } in
+    let none : fitting s from (further_line s l) ≡ None = elim c.then-space-ge4.branch [
+      | then-space-ge4-via-then-space-ge4 w ↦ far_fits s pass head before from l c.args.line c.args.position read text reads
+          w.if-space-ge4.true
+      | then-space-ge4-via-else-space-ge4+then-not-begins_delimiter_row w ↦ other_fits s pass head before from l
+          c.args.line c.args.position read text w.byte_at.result w.begins_delimiter_row.result reads
+          c.args.position.before_stop (omega (arith, w.if-space-ge4.false)) w.byte_at.ensures
+          w.if-not-begins_delimiter_row.true w.begins_delimiter_row.ensures
+    ] in
+    begins_none s before from l none
+
+pub returns-then-space-ge4-clause-tried : goal.returns-then-space-ge4-clause-tried
+returns-then-space-ge4-clause-tried c = λ (s : Source) (head : HeldLine) (before : List SourceLine) (from l : SourceLine)
+    (is : IsLastLine s c.args.self.now head before from)
+    (rest : IsRowRest s c.args.self.now.placing.builder.text c.args.line c.args.position l) _.
+    let pass = c.args.self.now in
+    let read = c.read_space-space.result in
+    let text = c.text-text.result.now in
+    let reads : ReadsRow s pass head before from l c.args.line c.args.position read text =
+    record { last = is; rest = rest; same = c.text-text.ensures; space = c.read_space-space.ensures.value } in
+    let none : fitting s from (further_line s l) ≡ None = elim c.then-space-ge4.branch [
+      | then-space-ge4-via-then-space-ge4 w ↦ far_fits s pass head before from l c.args.line c.args.position read text reads
+          w.if-space-ge4.true
+      | then-space-ge4-via-else-space-ge4+then-not-begins_delimiter_row w ↦ other_fits s pass head before from l
+          c.args.line c.args.position read text w.byte_at.result w.begins_delimiter_row.result reads
+          c.args.position.before_stop (omega (arith, w.if-space-ge4.false)) w.byte_at.ensures
+          w.if-not-begins_delimiter_row.true w.begins_delimiter_row.ensures
+    ] in
+    tried_none s pass head before from (further_line s l) is none
+
+pub returns-in_default-2-clause-value : goal.returns-in_default-2-clause-value
+returns-in_default-2-clause-value c = λ (s : Source) (head : HeldLine) (before : List SourceLine) (from l : SourceLine)
+    (is : IsLastLine s c.args.self.now head before from)
+    (rest : IsRowRest s c.args.self.now.placing.builder.text c.args.line c.args.position l).
+    let pass = c.args.self.now in
+    let read = c.read_space-space.result in
+    let text = c.text-text.result.now in
+    let last = last_is s pass head before from c.last_line.result c.in-Some.head is c.last_line.ensures c.in-Some.is in
+    let reads : ReadsRow s pass c.in-Some.head before from l c.args.line c.args.position read text =
+    record { last = last; rest = rest; same = c.text-text.ensures; space = c.read_space-space.ensures.value } in
+    let fits = read_fits s pass c.in-Some.head before from l c.args.line c.args.position read text
+    (option_map (λ (alignments : Vec Alignment Global). alignments.items) c.in_ok-alignments.field-0) reads
+    c.args.position.before_stop (omega (arith, c.if-space-ge4.false)) c.in_ok-alignments.ensures in
+    begins_none s before from l (sym fits
+    ∙ ap (option_map (λ (alignments : Vec Alignment Global). alignments.items)) c.in_default-2.is)
+
+pub returns-in_default-2-clause-tried : goal.returns-in_default-2-clause-tried
+returns-in_default-2-clause-tried c = λ (s : Source) (head : HeldLine) (before : List SourceLine) (from l : SourceLine)
+    (is : IsLastLine s c.args.self.now head before from)
+    (rest : IsRowRest s c.args.self.now.placing.builder.text c.args.line c.args.position l) _.
+    let pass = c.args.self.now in
+    let read = c.read_space-space.result in
+    let text = c.text-text.result.now in
+    let last = last_is s pass head before from c.last_line.result c.in-Some.head is c.last_line.ensures c.in-Some.is in
+    let reads : ReadsRow s pass c.in-Some.head before from l c.args.line c.args.position read text =
+    record { last = last; rest = rest; same = c.text-text.ensures; space = c.read_space-space.ensures.value } in
+    let fits = read_fits s pass c.in-Some.head before from l c.args.line c.args.position read text
+    (option_map (λ (alignments : Vec Alignment Global). alignments.items) c.in_ok-alignments.field-0) reads
+    c.args.position.before_stop (omega (arith, c.if-space-ge4.false)) c.in_ok-alignments.ensures in
+    tried_none s pass head before from (further_line s l) is (sym fits
+    ∙ ap (option_map (λ (alignments : Vec Alignment Global). alignments.items)) c.in_default-2.is)
+
+pub returns-then-not-branch-clause-tried : goal.returns-then-not-branch-clause-tried
+returns-then-not-branch-clause-tried c = λ (s : Source) (head : HeldLine) (before : List SourceLine) (from l : SourceLine)
+    (is : IsLastLine s c.args.self.now head before from)
+    (rest : IsRowRest s c.args.self.now.placing.builder.text c.args.line c.args.position l) _.
+    let pass = c.args.self.now in
+    let read = c.read_space-space.result in
+    let text = c.text-text.result.now in
+    let last = last_is s pass head before from c.last_line.result c.in-Some.head is c.last_line.ensures c.in-Some.is in
+    let reads : ReadsRow s pass c.in-Some.head before from l c.args.line c.args.position read text =
+    record { last = last; rest = rest; same = c.text-text.ensures; space = c.read_space-space.ensures.value } in
+    let fits = read_fits s pass c.in-Some.head before from l c.args.line c.args.position read text
+    (option_map (λ (alignments : Vec Alignment Global). alignments.items) c.in_ok-alignments.field-0) reads
+    c.args.position.before_stop (omega (arith, c.if-space-ge4.false)) c.in_ok-alignments.ensures in
+    tried_then s pass head before from (further_line s l) c.in-Some-2.alignments.items
+    (was_tried c.may_be_head.new.self) is
+    (sym (ap (option_map (λ (alignments : Vec Alignment Global). alignments.items)) c.in-Some-2.is) ∙ fits)
+    (c.in_ok-may_be_head.ensures.tried s before from last c.if-not-branch.true)
+
+pub returns-clause-value : goal.returns-clause-value
+returns-clause-value c = λ (s : Source) (head : HeldLine) (before : List SourceLine) (from l : SourceLine)
+    (is : IsLastLine s c.args.self.now head before from)
+    (rest : IsRowRest s c.args.self.now.placing.builder.text c.args.line c.args.position l).
+    let pass = c.args.self.now in
+    let read = c.read_space-space.result in
+    let text = c.text-text.result.now in
+    let last = last_is s pass head before from c.last_line.result c.in-Some.head is c.last_line.ensures c.in-Some.is in
+    let reads : ReadsRow s pass c.in-Some.head before from l c.args.line c.args.position read text =
+    record { last = last; rest = rest; same = c.text-text.ensures; space = c.read_space-space.ensures.value } in
+    let fits = read_fits s pass c.in-Some.head before from l c.args.line c.args.position read text
+    (option_map (λ (alignments : Vec Alignment Global). alignments.items) c.in_ok-alignments.field-0) reads
+    c.args.position.before_stop (omega (arith, c.if-space-ge4.false)) c.in_ok-alignments.ensures in
+    begins_one s before from l c.in-Some-2.alignments.items
+    (sym (ap (option_map (λ (alignments : Vec Alignment Global). alignments.items)) c.in-Some-2.is) ∙ fits)
+    (sym c.if-not-branch.false
+    ∙ c.in_ok-may_be_head.ensures.value s before from last)
+
+pub returns-clause-columns : goal.returns-clause-columns
+returns-clause-columns c = λ (s : Source) (head : HeldLine) (before : List SourceLine) (from l : SourceLine)
+    (is : IsLastLine s c.args.self.now head before from)
+    (rest : IsRowRest s c.args.self.now.placing.builder.text c.args.line c.args.position l) _.
+    let pass = c.args.self.now in
+    let read = c.read_space-space.result in
+    let text = c.text-text.result.now in
+    let last = last_is s pass head before from c.last_line.result c.in-Some.head is c.last_line.ensures c.in-Some.is in
+    let reads : ReadsRow s pass c.in-Some.head before from l c.args.line c.args.position read text =
+    record { last = last; rest = rest; same = c.text-text.ensures; space = c.read_space-space.ensures.value } in
+    let fits = read_fits s pass c.in-Some.head before from l c.args.line c.args.position read text
+    (option_map (λ (alignments : Vec Alignment Global). alignments.items) c.in_ok-alignments.field-0) reads
+    c.args.position.before_stop (omega (arith, c.if-space-ge4.false)) c.in_ok-alignments.ensures in
+    begins_columns s before from l c.in-Some-2.alignments.items _
+    (sym (ap (option_map (λ (alignments : Vec Alignment Global). alignments.items)) c.in-Some-2.is) ∙ fits)
+    (sym c.if-not-branch.false
+    ∙ c.in_ok-may_be_head.ensures.value s before from last) c.in_ok-open_table.ensures.columns
