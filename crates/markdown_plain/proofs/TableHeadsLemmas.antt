@@ -1,11 +1,13 @@
 -- Which line of the open paragraph is the head of a table.
 use Rattle.std.proofs.Common.{◌≡◌, ℕ, zero, suc, ◌+◌, ◌-◌, ◌<◌, ◌≤◌, Bool, true, false, ◌==◌, List, [], ◌∷◌, ◌++◌}
-use Rattle.std.proofs.Common.{Option, Some, None, length, drop, refl, sym, ap, ◌∙◌, arith, subst, nat_eq, not, slice_range}
+use Rattle.std.proofs.Common.{Option, Some, None, length, drop, refl, sym, ap, ◌∙◌, arith, subst, nat_eq, not}
+use Rattle.std.proofs.Common.{slice_range}
 use Rattle.std.proofs.Common.{Err, IfOk, Ok, Result, nat_le, ⊎_elim}
 use Rattle.std.proofs.Common.{◌&&◌, ◌||◌, codes, get_or, if◌then◌else◌, nat_lt, slice_index, take}
 use Rattle.std.proofs.lemmas.Bool.{cases_Bool, true≢false}
 use Rattle.std.proofs.lemmas.Bool.Decides.{nat_tests}
-use Rattle.std.proofs.lemmas.List.{append-nil, append_assoc, drop-drop, drop_all, get_or-drop, length-append, length-drop, take_all}
+use Rattle.std.proofs.lemmas.List.{append-nil, append_assoc, drop-drop, drop_all, get_or-drop, length-append}
+use Rattle.std.proofs.lemmas.List.{length-drop, take_all}
 use Rattle.std.proofs.lemmas.List.Sums.{prefix_len-le-length}
 use Rattle.std.proofs.lemmas.Option.{get_or_from_slice_get, slice_get-get_or, slice_get_within}
 use Rattle.std.specs.List.{list_any, prefix_len, slice_get}
@@ -21,7 +23,8 @@ use Rattle.markdown_lines.specs.HeldLines.{AreHeldFrom, AreLinesOfSource, IsBrac
 use Rattle.markdown_lines.specs.SourceLines.{SourceLine, is_blank_rest, past_white, stop_of, text_line}
 use Rattle.markdown_lines.specs.declared.definition.Definition.{Definition as Found}
 use Rattle.markdown_lines.specs.TableRows.{before_alignments, cell_alignment, cell_alignments, cell_over, cells_over}
-use Rattle.markdown_lines.specs.TableRows.{delimiter_row_at, has_cut, is_delimiter_mark, is_row_white, onto_first, parts_after}
+use Rattle.markdown_lines.specs.TableRows.{delimiter_row_at, has_cut, is_delimiter_mark, is_row_white}
+use Rattle.markdown_lines.specs.TableRows.{onto_first, parts_after}
 use Rattle.markdown_lines.specs.TableRows.{row_cells}
 use Rattle.markdown_lines.specs.declared.held_line.HeldLine.{HeldLine}
 use Rattle.markdown_lines.specs.declared.table_row.Cell.{Cell}
@@ -1047,8 +1050,8 @@ table_some s l from b before found filled reads is =
     ∙ ap (table_after l (cut_paragraph b (last_next b.first before) before) from) is))
 
 -- it has as many columns as the delimiter row has cells
-pub begins_columns : (s : Source) (before : List SourceLine) (from l : SourceLine) (found : List Alignment) (columns : ℕ)
-    → Some found ≡ fitting s from (further_line s l) → true ≡ may_be_head s before from → columns ≡ length found
+pub begins_columns : (s : Source) (before : List SourceLine) (from l : SourceLine) (found : List Alignment)
+    (columns : ℕ) → Some found ≡ fitting s from (further_line s l) → true ≡ may_be_head s before from → columns ≡ length found
     → option_map (λ (alignments : List Alignment). length alignments) (alignments_for s l before from) ≡ Some columns
 begins_columns s before from l found columns fits head size = rw (sym head, sym fits) (ap Some (sym size))
 

@@ -58,7 +58,8 @@ abbrev pub whole_head : Pass → HeldLine → Line
 whole_head pass head =
     record { start = end_of pass.lines.items (length pass.lines.items - 1); stop = head.stop; next = head.next }
 
--- the columns of space before what is left of a line that the open containers go on in, at most 4; none where some do not
+-- the columns of space before what is left of a line that the open containers go on in, at most 4; none where some do
+-- not
 abbrev pub indent_of : Reached → Option ℕ
 indent_of r = if are_none r.inner then Some (leading_space 4 r.rest.left).columns else None
 

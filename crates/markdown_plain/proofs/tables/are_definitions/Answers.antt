@@ -24,17 +24,17 @@ pub returns-then-ne : goal.returns-then-ne
 returns-then-ne c = λ (sources : List SourceLine) (is : IsParagraph c.args.text.now c.args.lines.now sources).
     left_other c.args.names c.args.text.now c.args.lines.now sources c.definitions.taken c.in-Some.first.now
     c.byte_at.result (slice_get_read c.args.lines.now _ c.definitions.taken c.in-Some.first.now refl
-    c.in-Some.ensures.lookup.3.0 c.in-Some.ensures.lookup.1) (omega (arith, c.if-first.false)) (c.definitions.invariant sources is).1
-    c.byte_at.ensures (sym c.ne.ensures ∙ c.if-ne.true)
+    c.in-Some.ensures.lookup.3.0 c.in-Some.ensures.lookup.1) (omega (arith, c.if-first.false))
+    (c.definitions.invariant sources is).1 c.byte_at.ensures (sym c.ne.ensures ∙ c.if-ne.true)
 
 pub returns-in-None : goal.returns-in-None
 returns-in-None c = λ (sources : List SourceLine) (is : IsParagraph c.args.text.now c.args.lines.now sources).
     left_none c.args.names c.args.text.now c.args.lines.now sources c.definitions.taken c.in-Some.first.now
     (slice_get_read c.args.lines.now _ c.definitions.taken c.in-Some.first.now refl
-    c.in-Some.ensures.lookup.3.0 c.in-Some.ensures.lookup.1) (omega (arith, c.if-first.false)) (c.definitions.invariant sources is).1
-    (subst (λ (found : Option Definition). IsFirstDefinition c.args.names c.args.text.now
-    (drop c.definitions.taken sources) c.in-Some.first.now.start found) c.in-None.is (read_next c.args.names c.args.text.now c.args.lines.now sources
-    c.definitions.taken c.in-Some.first.now c.byte_at.result c.in_ok-found.field-0
+    c.in-Some.ensures.lookup.3.0 c.in-Some.ensures.lookup.1) (omega (arith, c.if-first.false))
+    (c.definitions.invariant sources is).1 (subst (λ (found : Option Definition). IsFirstDefinition c.args.names c.args.text.now
+    (drop c.definitions.taken sources) c.in-Some.first.now.start found) c.in-None.is
+    (read_next c.args.names c.args.text.now c.args.lines.now sources c.definitions.taken c.in-Some.first.now c.byte_at.result c.in_ok-found.field-0
     (slice_get_read c.args.lines.now _ c.definitions.taken c.in-Some.first.now refl
     c.in-Some.ensures.lookup.3.0 c.in-Some.ensures.lookup.1) (omega (arith, c.if-first.false))
     (c.definitions.invariant sources is).1 c.byte_at.ensures (sym c.ne.ensures ∙ c.if-ne.false)
@@ -57,7 +57,8 @@ definitions-preserved c =
     c.in-Some.ensures.lookup.3.0 c.in-Some.ensures.lookup.1) (omega (arith, c.if-first.false))
     (c.definitions.invariant sources is).1 c.byte_at.ensures (sym c.ne.ensures ∙ c.if-ne.false)
     c.in_ok-found.ensures) in
-    let after = left_after names text lines sources taken line found (slice_get_read c.args.lines.now _ c.definitions.taken c.in-Some.first.now refl
+    let after = left_after names text lines sources taken line found
+    (slice_get_read c.args.lines.now _ c.definitions.taken c.in-Some.first.now refl
     c.in-Some.ensures.lookup.3.0 c.in-Some.ensures.lookup.1)
     (omega (arith, c.if-first.false)) now.1 is_first in
     let some = is_first.lines.0 in

@@ -16,8 +16,8 @@ use Rattle.markdown_plain.proofs.pass.Pass.begin_table.Goals.{then-space-ge4-via
 use Rattle.markdown_plain.proofs.pass.Pass.begin_table.Goals as goal
 
 pub returns-then-space-ge4-clause-value : goal.returns-then-space-ge4-clause-value
-returns-then-space-ge4-clause-value c = λ (s : Source) (head : HeldLine) (before : List SourceLine) (from l : SourceLine)
-    (is : IsLastLine s c.args.self.now head before from)
+returns-then-space-ge4-clause-value c = λ (s : Source) (head : HeldLine) (before : List SourceLine)
+    (from l : SourceLine) (is : IsLastLine s c.args.self.now head before from)
     (rest : IsRowRest s c.args.self.now.placing.builder.text c.args.line c.args.position l).
     let pass = c.args.self.now in
     let read = c.read_space-space.result in
@@ -25,8 +25,8 @@ returns-then-space-ge4-clause-value c = λ (s : Source) (head : HeldLine) (befor
     let reads : ReadsRow s pass head before from l c.args.line c.args.position read text =
     record { last = is; rest = rest; same = c.text-text.ensures; space = c.read_space-space.ensures.value } in
     let none : fitting s from (further_line s l) ≡ None = elim c.then-space-ge4.branch [
-      | then-space-ge4-via-then-space-ge4 w ↦ far_fits s pass head before from l c.args.line c.args.position read text reads
-          w.if-space-ge4.true
+      | then-space-ge4-via-then-space-ge4 w ↦ far_fits s pass head before from l c.args.line c.args.position
+          read text reads w.if-space-ge4.true
       | then-space-ge4-via-else-space-ge4+then-not-begins_delimiter_row w ↦ other_fits s pass head before from l
           c.args.line c.args.position read text w.byte_at.result w.begins_delimiter_row.result reads
           c.args.position.before_stop (omega (arith, w.if-space-ge4.false)) w.byte_at.ensures
@@ -35,8 +35,8 @@ returns-then-space-ge4-clause-value c = λ (s : Source) (head : HeldLine) (befor
     begins_none s before from l none
 
 pub returns-then-space-ge4-clause-tried : goal.returns-then-space-ge4-clause-tried
-returns-then-space-ge4-clause-tried c = λ (s : Source) (head : HeldLine) (before : List SourceLine) (from l : SourceLine)
-    (is : IsLastLine s c.args.self.now head before from)
+returns-then-space-ge4-clause-tried c = λ (s : Source) (head : HeldLine) (before : List SourceLine)
+    (from l : SourceLine) (is : IsLastLine s c.args.self.now head before from)
     (rest : IsRowRest s c.args.self.now.placing.builder.text c.args.line c.args.position l) _.
     let pass = c.args.self.now in
     let read = c.read_space-space.result in
@@ -44,8 +44,8 @@ returns-then-space-ge4-clause-tried c = λ (s : Source) (head : HeldLine) (befor
     let reads : ReadsRow s pass head before from l c.args.line c.args.position read text =
     record { last = is; rest = rest; same = c.text-text.ensures; space = c.read_space-space.ensures.value } in
     let none : fitting s from (further_line s l) ≡ None = elim c.then-space-ge4.branch [
-      | then-space-ge4-via-then-space-ge4 w ↦ far_fits s pass head before from l c.args.line c.args.position read text reads
-          w.if-space-ge4.true
+      | then-space-ge4-via-then-space-ge4 w ↦ far_fits s pass head before from l c.args.line c.args.position
+          read text reads w.if-space-ge4.true
       | then-space-ge4-via-else-space-ge4+then-not-begins_delimiter_row w ↦ other_fits s pass head before from l
           c.args.line c.args.position read text w.byte_at.result w.begins_delimiter_row.result reads
           c.args.position.before_stop (omega (arith, w.if-space-ge4.false)) w.byte_at.ensures
@@ -54,8 +54,8 @@ returns-then-space-ge4-clause-tried c = λ (s : Source) (head : HeldLine) (befor
     tried_none s pass head before from (further_line s l) is none
 
 pub returns-in_default-2-clause-value : goal.returns-in_default-2-clause-value
-returns-in_default-2-clause-value c = λ (s : Source) (head : HeldLine) (before : List SourceLine) (from l : SourceLine)
-    (is : IsLastLine s c.args.self.now head before from)
+returns-in_default-2-clause-value c = λ (s : Source) (head : HeldLine) (before : List SourceLine)
+    (from l : SourceLine) (is : IsLastLine s c.args.self.now head before from)
     (rest : IsRowRest s c.args.self.now.placing.builder.text c.args.line c.args.position l).
     let pass = c.args.self.now in
     let read = c.read_space-space.result in
@@ -70,8 +70,8 @@ returns-in_default-2-clause-value c = λ (s : Source) (head : HeldLine) (before 
     ∙ ap (option_map (λ (alignments : Vec Alignment Global). alignments.items)) c.in_default-2.is)
 
 pub returns-in_default-2-clause-tried : goal.returns-in_default-2-clause-tried
-returns-in_default-2-clause-tried c = λ (s : Source) (head : HeldLine) (before : List SourceLine) (from l : SourceLine)
-    (is : IsLastLine s c.args.self.now head before from)
+returns-in_default-2-clause-tried c = λ (s : Source) (head : HeldLine) (before : List SourceLine)
+    (from l : SourceLine) (is : IsLastLine s c.args.self.now head before from)
     (rest : IsRowRest s c.args.self.now.placing.builder.text c.args.line c.args.position l) _.
     let pass = c.args.self.now in
     let read = c.read_space-space.result in
@@ -86,8 +86,8 @@ returns-in_default-2-clause-tried c = λ (s : Source) (head : HeldLine) (before 
     ∙ ap (option_map (λ (alignments : Vec Alignment Global). alignments.items)) c.in_default-2.is)
 
 pub returns-then-not-branch-clause-tried : goal.returns-then-not-branch-clause-tried
-returns-then-not-branch-clause-tried c = λ (s : Source) (head : HeldLine) (before : List SourceLine) (from l : SourceLine)
-    (is : IsLastLine s c.args.self.now head before from)
+returns-then-not-branch-clause-tried c = λ (s : Source) (head : HeldLine) (before : List SourceLine)
+    (from l : SourceLine) (is : IsLastLine s c.args.self.now head before from)
     (rest : IsRowRest s c.args.self.now.placing.builder.text c.args.line c.args.position l) _.
     let pass = c.args.self.now in
     let read = c.read_space-space.result in
@@ -104,8 +104,8 @@ returns-then-not-branch-clause-tried c = λ (s : Source) (head : HeldLine) (befo
     (c.in_ok-may_be_head.ensures.tried s before from last c.if-not-branch.true)
 
 pub returns-clause-value : goal.returns-clause-value
-returns-clause-value c = λ (s : Source) (head : HeldLine) (before : List SourceLine) (from l : SourceLine)
-    (is : IsLastLine s c.args.self.now head before from)
+returns-clause-value c = λ (s : Source) (head : HeldLine) (before : List SourceLine)
+    (from l : SourceLine) (is : IsLastLine s c.args.self.now head before from)
     (rest : IsRowRest s c.args.self.now.placing.builder.text c.args.line c.args.position l).
     let pass = c.args.self.now in
     let read = c.read_space-space.result in
@@ -122,8 +122,8 @@ returns-clause-value c = λ (s : Source) (head : HeldLine) (before : List Source
     ∙ c.in_ok-may_be_head.ensures.value s before from last)
 
 pub returns-clause-columns : goal.returns-clause-columns
-returns-clause-columns c = λ (s : Source) (head : HeldLine) (before : List SourceLine) (from l : SourceLine)
-    (is : IsLastLine s c.args.self.now head before from)
+returns-clause-columns c = λ (s : Source) (head : HeldLine) (before : List SourceLine)
+    (from l : SourceLine) (is : IsLastLine s c.args.self.now head before from)
     (rest : IsRowRest s c.args.self.now.placing.builder.text c.args.line c.args.position l) _.
     let pass = c.args.self.now in
     let read = c.read_space-space.result in
