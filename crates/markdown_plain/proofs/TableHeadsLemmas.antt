@@ -4,7 +4,7 @@ use Rattle.std.proofs.Common.{Option, Some, None, length, drop, refl, sym, ap, �
 use Rattle.std.proofs.Common.{slice_range}
 use Rattle.std.proofs.Common.{Err, IfOk, Ok, Result, nat_le, ⊎_elim}
 use Rattle.std.proofs.Common.{◌&&◌, ◌||◌, codes, get_or, if◌then◌else◌, nat_lt, slice_index, take}
-use Rattle.std.proofs.lemmas.Bool.{cases_Bool, true≢false}
+use Rattle.std.proofs.lemmas.Bool.{cases_Bool, or_from, true≢false}
 use Rattle.std.proofs.lemmas.Bool.Decides.{nat_tests}
 use Rattle.std.proofs.lemmas.List.{append-nil, append_assoc, drop-drop, drop_all, get_or-drop, length-append}
 use Rattle.std.proofs.lemmas.List.{length-drop, take_all}
@@ -58,7 +58,7 @@ use Rattle.markdown_plain.specs.Frames.{Frame, Reached as Kept, inside_container
 use Rattle.markdown_plain.specs.ReachedFrames.{IsBefore, IsReached, are_none}
 use Rattle.markdown_plain.specs.Paragraphs.{divided_of, end_of}
 use Rattle.markdown_plain.specs.TableHeads.{IsFurther, IsLastLine, IsNearRow, IsRowRest, first_start, last_of}
-use Rattle.markdown_plain.specs.TableHeads.{indent_of, is_white_byte, was_tried, whole_head}
+use Rattle.markdown_plain.specs.TableHeads.{indent_of, was_tried, whole_head}
 use Rattle.markdown_plain.specs.TakenDefinitions.{TakesDefinitions}
 use Rattle.markdown_plain.proofs.DividedLemmas.{as_many, filled_of, first_read, no_bracket, no_bracket_byte}
 use Rattle.markdown_plain.proofs.ParagraphsLemmas.{end_of_last}
@@ -347,6 +347,14 @@ pub no_row_byte : (text : List ℕ) (at stop b : ℕ) → Some b ≡ slice_get t
     → (b ≡ hyphen → ⊥) → (b ≡ colon → ⊥) → (b ≡ pipe → ⊥) → delimiter_row_at text at stop ≡ None
 no_row_byte text at stop b there black more less other =
     no_row_at text at stop b there black (unlike b pipe other) (unlike b colon less) (unlike b hyphen more)
+  where
+    unlike : (n m : ℕ) → (n ≡ m → ⊥) → (n == m) ≡ false
+    unlike n m differ = grind (arith, nat_tests)
+
+-- a byte that is none of these is no white space of rows
+pub is_black : (b : ℕ) → is_space_or_tab b ≡ false → (b ≡ 11 → ⊥) → nat_eq b 12 ≡ false → is_row_white b ≡ false
+is_black b space less more =
+    or_from (is_space_or_tab b || (b == 11)) (b == 12) (or_from (is_space_or_tab b) (b == 11) space (unlike b 11 less)) more
   where
     unlike : (n m : ℕ) → (n ≡ m → ⊥) → (n == m) ≡ false
     unlike n m differ = grind (arith, nat_tests)
@@ -966,7 +974,7 @@ pub other_fits : (s : Source) (pass : Pass) (head : HeldLine) (before : List Sou
     (line : Line) (position : Position) (read : Read) (text : List ℕ) (byte : Option ℕ) (begins : Bool)
     → ReadsRow s pass head before from l line position read text → position.column < 4 → read.columns < 4
     → byte ≡ slice_get text read.after.at → begins ≡ false
-    → (begins ≡ false → (text : List ℕ) (at stop : ℕ) → byte ≡ slice_get text at → is_white_byte byte ≡ false
+    → (begins ≡ false → (text : List ℕ) (at stop : ℕ) → byte ≡ slice_get text at
     → delimiter_row_at text at stop ≡ None)
     → fitting s from (further_line s l) ≡ None
 other_fits s pass head before from l line position read text byte begins reads column near is_byte other none =
@@ -974,11 +982,8 @@ other_fits s pass head before from l line position read text byte begins reads c
     let row = row_of_reads s pass head before from l line position read text reads in
     let is = near_row s now line position l read row column near in
     let there = is_byte ∙ ap (λ (t : List ℕ). slice_get t read.after.at) reads.same in
-    let content = is.start ∙ ap (λ (r : SourceLine). r.left.scanned) (further_is s l reads.rest.reads) in
-    let solid : is_white_byte byte ≡ false =
-    ap is_white_byte (there ∙ ap (slice_get now) content) ∙ reads.rest.solid in
     other_row s now from (further_line s l) read.after.at line.stop row.same is
-    (none other now read.after.at line.stop there solid)
+    (none other now read.after.at line.stop there)
 
 pub read_fits : (s : Source) (pass : Pass) (head : HeldLine) (before : List SourceLine) (from l : SourceLine)
     (line : Line) (position : Position) (read : Read) (text : List ℕ) (found : Option (List Alignment))
@@ -1051,7 +1056,8 @@ table_some s l from b before found filled reads is =
 
 -- it has as many columns as the delimiter row has cells
 pub begins_columns : (s : Source) (before : List SourceLine) (from l : SourceLine) (found : List Alignment)
-    (columns : ℕ) → Some found ≡ fitting s from (further_line s l) → true ≡ may_be_head s before from → columns ≡ length found
+    (columns : ℕ) → Some found ≡ fitting s from (further_line s l) → true ≡ may_be_head s before from
+    → columns ≡ length found
     → option_map (λ (alignments : List Alignment). length alignments) (alignments_for s l before from) ≡ Some columns
 begins_columns s before from l found columns fits head size = rw (sym head, sym fits) (ap Some (sym size))
 

@@ -1,6 +1,6 @@
 -- A cell is one tree of its row, and a row with as many cells as the open table has columns may be closed.
 use Rattle.std.proofs.Common.{◌≡◌, ℕ, ◌+◌, List, [], ◌∷◌, ◌++◌, Option, Some, true, false, length, refl, sym, ap}
-use Rattle.std.proofs.Common.{◌∙◌, subst, arith, ◌≤◌, ◌<◌, ◌-◌, take, drop, ⊎_elim}
+use Rattle.std.proofs.Common.{min, ◌∙◌, subst, arith, ◌≤◌, ◌<◌, ◌-◌, take, drop, ⊎_elim}
 use Rattle.std.proofs.lemmas.Bool.{cases_lt}
 use Rattle.std.specs.Option.{option_map_or}
 use Rattle.std.proofs.lemmas.List.{append_assoc, length-append}
@@ -116,6 +116,13 @@ pub none_lacking : (found count left rest : ℕ) → found ≤ count → (found 
 none_lacking found count left rest few lacking more =
     ⊎_elim (λ (less : found < count). let none = lacking less in absurd (omega (arith, none, more)))
     (λ (all : count ≤ found). omega (arith, all, few)) (cases_lt found count)
+
+-- all cells that are read are those of the row, or as many as there are columns
+pub found_is : (found columns left all : ℕ) → found ≤ columns → found + left ≡ all → (found < columns → left ≡ 0)
+    → found ≡ min columns all
+found_is found columns left all few whole lacking =
+    ⊎_elim (λ (less : found < columns). let none = lacking less in omega (arith, none, whole, less))
+    (λ (full : columns ≤ found). omega (arith, full, few, whole)) (cases_lt found columns)
 
 pub none_left : (text : List ℕ) (stop : ℕ) → length (cells_left text stop stop) ≡ 0
 none_left text stop =

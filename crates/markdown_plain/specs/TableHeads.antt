@@ -1,16 +1,15 @@
 -- Which line of the open paragraph is the head of a table, as the pass finds it out.
-use Rattle.std.specs.Prelude.{◌≡◌, ℕ, ◌-◌, ◌<◌, ◌++◌, ◌∷◌, [], Bool, true, false, List, Option, Some, None, length}
+use Rattle.std.specs.Prelude.{◌≡◌, ℕ, ◌-◌, ◌<◌, ◌++◌, ◌∷◌, [], Bool, true, List, Option, Some, None, length}
 use Rattle.std.specs.Prelude.{nat_eq, slice_get, if◌then◌else◌}
-use Rattle.std.specs.Option.{option_eq, option_map, option_map_or}
+use Rattle.std.specs.Option.{option_eq, option_map}
 use Rattle.markdown_base.specs.Forest.{Forest}
 use Rattle.markdown_scan.specs.LineStart.{leading_space}
 use Rattle.markdown_lines.specs.BlockBeginnings.{Source}
 use Rattle.markdown_lines.specs.SourceLines.{SourceLine, stop_of}
-use Rattle.markdown_lines.specs.TableRows.{is_row_white}
 use Rattle.markdown_lines.specs.declared.held_line.HeldLine.{HeldLine}
 use Rattle.markdown_lines.specs.declared.line.Line.{Line}
 use Rattle.markdown_lines.specs.declared.position.Position.{Position}
-use Rattle.markdown_block_rules.specs.BlockGrowth.{Block, content_of}
+use Rattle.markdown_block_rules.specs.BlockGrowth.{Block}
 use Rattle.markdown_block_rules.specs.TableLines.{hold_fitting, is_near, reads_tables}
 use Rattle.markdown_plain.specs.declared.pass.Pass.{Pass}
 use Rattle.markdown_plain.specs.declared.table_state.Tables.{Tables}
@@ -26,10 +25,6 @@ last_of lines = slice_get lines (length lines - 1)
 -- the byte offset at which the first of some lines begins
 abbrev pub first_start : List HeldLine → Option ℕ
 first_start lines = option_map (λ line. line.start) (slice_get lines 0)
-
--- a byte is there, and white space of rows
-abbrev pub is_white_byte : Option ℕ → Bool
-is_white_byte byte = option_map_or is_row_white byte false
 
 -- a further line of a paragraph is not lazy, and begins at this byte offset after at most three columns of space, and
 -- its content ends before the other
@@ -81,10 +76,8 @@ pub record IsLastLine (s : Source) (pass : Pass) (head : HeldLine) (before : Lis
   pub further : 0 < length before → IsFurther s pass (whole_head pass head) from
   pub tried : was_tried pass ≡ hold_fitting s (before ++ from ∷ [])
 
--- A line that is not lazy comes next, where tables are read, of which this is left. Its first byte that is neither a
--- space nor a tab is no other white space.
+-- a line that is not lazy comes next, where tables are read, of which this is left
 pub record IsRowRest (s : Source) (text : List ℕ) (line : Line) (position : Position) (l : SourceLine) : Type 0 where
   pub reads : reads_tables s ≡ true
   pub rest : IsRest text position line l
   pub stop : line.stop ≡ stop_of l
-  pub solid : is_white_byte (slice_get text (content_of l)) ≡ false

@@ -56,7 +56,7 @@ fn may_begin_block(byte: u8) -> bool
     match byte {
         b'>' | b'#' | b'`' | b'~' | b'<' | b'[' => true,
         b'=' | b'-' | b'_' | b'*' | b'+' | b'0'..=b'9' => true,
-        b'|' | b':' => true,
+        b'|' | b':' | b'\x0b' | b'\x0c' => true,
         _ => false,
     }
 }

@@ -21,7 +21,7 @@ ghost use Rattle.markdown_plain.specs.HeldSources.{IsParagraph, IsTextLine};
 ghost use Rattle.markdown_plain.specs.LeafTrees.{HasItems, HasTrees};
 ghost use Rattle.markdown_plain.specs.Paragraphs.{IsPlacedTo, divided_of, source_of};
 ghost use Rattle.markdown_plain.specs.TableHeads.{IsLastLine, IsNearRow, IsRowRest, KeepsCells, KeepsCount};
-ghost use Rattle.markdown_plain.specs.TableHeads.{first_start, is_white_byte, last_of, was_tried};
+ghost use Rattle.markdown_plain.specs.TableHeads.{first_start, last_of, was_tried};
 ghost use Rattle.markdown_plain.specs.TextLines.{held_line};
 ghost use Rattle.markdown_base.specs.declared.item.ItemBody.TheVariants as body;
 ghost use Rattle.markdown_plain.specs.OpenBlocks.{innermost_is, is_table};
@@ -38,7 +38,7 @@ use markdown_lines::bytes::{byte_at, bytes_of};
 use markdown_lines::definition::read_definition;
 use markdown_lines::extended_only::is_read;
 use markdown_lines::held_line::HeldLine;
-use markdown_lines::line::Line;
+use markdown_lines::line::{Line, is_space_or_tab};
 use markdown_lines::position::Position;
 use markdown_lines::space::read_space;
 use markdown_lines::table_row::{
@@ -242,15 +242,18 @@ fn alignments_for(
     }
 }
 
-/// Returns whether a delimiter row may begin with this byte.
+/// Returns whether a delimiter row may begin with this byte. White space may precede its first cut.
 fn begins_delimiter_row(byte: Option<u8>) -> bool
     ensures { result ≡ false → (text : List ℕ) (at stop : ℕ) → byte ≡ slice_get text at
-        → is_white_byte byte ≡ false → delimiter_row_at text at stop ≡ None }
+        → delimiter_row_at text at stop ≡ None }
 {
-    match byte {
-        Some(b'|' | b':' | b'-') => true,
-        _ => false,
+    let Some(byte) = byte else {
+        return false;
+    };
+    if byte == b'|' || byte == b':' || byte == b'-' {
+        return true;
     }
+    is_space_or_tab(byte) || byte == b'\x0b' || byte == b'\x0c'
 }
 
 impl<'a> Pass<'a> {

@@ -32,9 +32,11 @@ returns-in-None c = λ (sources : List SourceLine) (is : IsParagraph c.args.text
     left_none c.args.names c.args.text.now c.args.lines.now sources c.definitions.taken c.in-Some.first.now
     (slice_get_read c.args.lines.now _ c.definitions.taken c.in-Some.first.now refl
     c.in-Some.ensures.lookup.3.0 c.in-Some.ensures.lookup.1) (omega (arith, c.if-first.false))
-    (c.definitions.invariant sources is).1 (subst (λ (found : Option Definition). IsFirstDefinition c.args.names c.args.text.now
+    (c.definitions.invariant sources is).1
+    (subst (λ (found : Option Definition). IsFirstDefinition c.args.names c.args.text.now
     (drop c.definitions.taken sources) c.in-Some.first.now.start found) c.in-None.is
-    (read_next c.args.names c.args.text.now c.args.lines.now sources c.definitions.taken c.in-Some.first.now c.byte_at.result c.in_ok-found.field-0
+    (read_next c.args.names c.args.text.now c.args.lines.now sources c.definitions.taken c.in-Some.first.now
+    c.byte_at.result c.in_ok-found.field-0
     (slice_get_read c.args.lines.now _ c.definitions.taken c.in-Some.first.now refl
     c.in-Some.ensures.lookup.3.0 c.in-Some.ensures.lookup.1) (omega (arith, c.if-first.false))
     (c.definitions.invariant sources is).1 c.byte_at.ensures (sym c.ne.ensures ∙ c.if-ne.false)
