@@ -354,7 +354,8 @@ no_row_byte text at stop b there black more less other =
 -- a byte that is none of these is no white space of rows
 pub is_black : (b : ℕ) → is_space_or_tab b ≡ false → (b ≡ 11 → ⊥) → nat_eq b 12 ≡ false → is_row_white b ≡ false
 is_black b space less more =
-    or_from (is_space_or_tab b || (b == 11)) (b == 12) (or_from (is_space_or_tab b) (b == 11) space (unlike b 11 less)) more
+    or_from (is_space_or_tab b || (b == 11)) (b == 12)
+    (or_from (is_space_or_tab b) (b == 11) space (unlike b 11 less)) more
   where
     unlike : (n m : ℕ) → (n ≡ m → ⊥) → (n == m) ≡ false
     unlike n m differ = grind (arith, nat_tests)

@@ -81,6 +81,11 @@ const HEADS: Rows = &[
         "<table><thead><tr><th style=\"text-align: center\">a</th></tr></thead><tbody>\n</tbody>\
         </table>\n",
     ),
+    (
+        "| a |\n\x0c:-: \x0b\n",
+        "<table><thead><tr><th style=\"text-align: center\">a</th></tr></thead><tbody>\n</tbody>\
+        </table>\n",
+    ),
     ("| a |\n---\n", "<h2>| a |</h2>\n"),
     ("a\n-|\n", "<p>a\n-|</p>\n"),
     ("a \\| b\n-|\n", "<p>a | b\n-|</p>\n"),

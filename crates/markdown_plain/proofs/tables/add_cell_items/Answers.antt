@@ -103,7 +103,7 @@ pieces-preserved c =
                 ∙ ap (λ t. piece_length (slice_range t from to)) (w.text.ensures ∙ same))))))
                 (piece_in text from to (omega (arith, less)) is.to.0)
             | else-escapes w ↦ whole_piece text from to stop (omega (arith, less))
-            (omega (arith, w.length-is, there, less))
+                (omega (arith, w.length-is, there, less))
           ] in
           let cut = piece_cut text from to stop next is.to piece after past in
           piece_added text c.args.placing.now c.pieces.placing c.step_to.new.self c.add_items.new.self from to stop

@@ -12,7 +12,9 @@ use Rattle.markdown_plain.specs.TableHeads.{IsLastLine, IsRowRest, was_tried}
 use Rattle.markdown_plain.proofs.TableHeadsLemmas.{ReadsRow, begins_columns, begins_none, begins_one, far_fits}
 use Rattle.markdown_plain.proofs.TableHeadsLemmas.{last_is, other_fits, read_fits, tried_none, tried_then}
 use Rattle.markdown_plain.proofs.pass.Pass.begin_table.Goals.{then-space-ge4-via-then-space-ge4}
-use Rattle.markdown_plain.proofs.pass.Pass.begin_table.Goals.{then-space-ge4-via-else-space-ge4+then-not-begins_delimiter_row}
+use Rattle.markdown_plain.proofs.pass.Pass.begin_table.Goals.{
+  then-space-ge4-via-else-space-ge4+then-not-begins_delimiter_row,
+}
 use Rattle.markdown_plain.proofs.pass.Pass.begin_table.Goals as goal
 
 pub returns-then-space-ge4-clause-value : goal.returns-then-space-ge4-clause-value
