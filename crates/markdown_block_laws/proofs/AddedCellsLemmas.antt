@@ -1,6 +1,6 @@
 -- How many cells are added to the rows of a text.
 use Rattle.std.proofs.Common.{◌≡◌, ℕ, ◌≤◌, Bool, true, false, ◌==◌, List, [], ◌∷◌, ◌++◌, Option, Some, None}
-use Rattle.std.proofs.Common.{IfSome, refl, sym, ap, ◌∙◌, subst, arith, fold, length, nat_le, sum_by}
+use Rattle.std.proofs.Common.{IfSome, refl, sym, ◌∙◌, subst, arith, fold, length, nat_le, sum_by}
 use Rattle.std.proofs.lemmas.Bool.{true≢false}
 use Rattle.std.proofs.lemmas.Bool.Decides.{nat_tests}
 use Rattle.std.proofs.lemmas.List.Sums.{sum_by-append}
@@ -16,22 +16,11 @@ use Rattle.markdown_block_rules.specs.BlockGrowth.{with_ended_table, with_line, 
 use Rattle.markdown_block_laws.specs.TableLaws.{FewCellsAreAdded, cells_lacking, lacking_in, lacking_in_rows}
 use Rattle.markdown_block_rules.specs.TableLines.{all_added, as_many, cells_of, delimiter_row_of, fitting, most_added}
 use Rattle.markdown_block_rules.specs.TableLines.{reads_tables}
-use Rattle.markdown_block_rules.proofs.GrowthLemmas.{Fresh, Grown, Held, KindGrows, all_begun, inside_grown}
-use Rattle.markdown_block_rules.proofs.GrowthLemmas.{later_grown}
-use Rattle.markdown_block_rules.proofs.GrowthLemmas.{leaf_grown, line_grows, table_made, table_made_behind}
+use Rattle.markdown_block_rules.proofs.AddedCellsLemmas.{EndsEnded, IsEnded, ended_same, grown_adds}
+use Rattle.markdown_block_rules.proofs.GrowthLemmas.{Fresh, Held, KindGrows, line_grows}
 use Rattle.markdown_block_rules.proofs.GrowthLemmas.{fenced_more, html_more, indented_more, metadata_closed}
 use Rattle.markdown_block_rules.proofs.GrowthLemmas.{metadata_more, row_more, text_more, underlined}
 use Rattle.markdown_block_laws.proofs.KeptLemmas.{IsKept, IsWhole, text_held, text_whole}
-
--- the last block, at any depth, is ended where it is a table
-abbrev IsEnded : Kind → Type 0
-IsEnded (was.table_leaf ended head alignments rows) = ended ≡ true
-IsEnded other = ⊤
-
-abbrev EndsEnded : Forest Block → Type 0
-EndsEnded nil = ⊤
-EndsEnded (node b below nil) = IsEnded b.kind × EndsEnded below
-EndsEnded (node b below (node c others after)) = EndsEnded (node c others after)
 
 kind_ended : (kind : Kind) → IsEnded (table_ended kind)
 kind_ended (was.table_leaf ended head alignments rows) = refl
@@ -43,61 +32,7 @@ ended_ends (node b below nil) = (kind_ended b.kind, ended_ends below)
 ended_ends (node b below (node c others nil)) = ended_ends (node c others nil)
 ended_ends (node b below (node c others (node d inner after))) = ended_ends (node c others (node d inner after))
 
--- ending a table adds nothing
-kind_same : (kind : Kind) → added_in_block (table_ended kind) ≡ added_in_block kind
-kind_same (was.table_leaf ended head alignments rows) = refl
-kind_same other = refl
-
-ended_same : (blocks : Forest Block) → added_in (with_ended_table blocks) ≡ added_in blocks
-ended_same nil = refl
-ended_same (node b below nil) = omega (arith, kind_same b.kind, ended_same below)
-ended_same (node b below (node c others after)) = omega (arith, ended_same (node c others after))
-
--- nor does a line where the last block is no open table
-fresh_none : (next : ℕ) (top : Bool) (kind : Kind) → Fresh next top kind → added_in_block kind ≡ 0
-fresh_none next top (was.table_leaf ended head alignments rows) fresh = absurd fresh
-fresh_none next top other fresh = refl
-
-begun_none : (next : ℕ) (top : Bool) (new : Forest Block) → Held (Fresh next) top new → added_in new ≡ 0
-begun_none next top nil fresh = refl
-begun_none next top (node b below after) fresh =
-    omega (
-      arith,
-      fresh_none next top b.kind fresh.0,
-      begun_none next false below fresh.1,
-      begun_none next top after fresh.2,
-    )
-
-kind_adds : (l : SourceLine) (top : Bool) (kind grown : Kind) → KindGrows l top kind grown → IsEnded kind
-    → added_in_block grown ≡ added_in_block kind
-kind_adds l top _ _ (text_more lines m next) ended = refl
-kind_adds l top _ _ (underlined level lines) ended = refl
-kind_adds l top _ _ (indented_more lines more) ended = refl
-kind_adds l top _ _ (fenced_more opening closed after lines more) ended = refl
-kind_adds l top _ _ (html_more html closed after lines more) ended = refl
-kind_adds l top _ _ (metadata_more kind closed lines m same) ended = refl
-kind_adds l top _ _ (metadata_closed kind closed lines) ended = refl
-kind_adds l top _ _ (row_more head alignments rows row) ended = absurd (true≢false (sym ended))
-
-later_ends : (b : Block) (below after : Forest Block) → EndsEnded (node b below after) → EndsEnded after
-later_ends b below nil ends = tt
-later_ends b below (node c others after) ends = ends
-
-grown_adds : (s : Source) (l : SourceLine) (top : Bool) (blocks grown : Forest Block) → Grown s l top blocks grown
-    → EndsEnded blocks → added_in grown ≤ added_in blocks
-grown_adds s l _ _ _ (all_begun top new fresh) ends = omega (arith, begun_none l.next top new fresh)
-grown_adds s l _ _ _ (later_grown top b below after grown more) ends =
-    omega (arith, grown_adds s l top after grown more (later_ends b below after ends))
-grown_adds s l _ _ _ (inside_grown top b c below grown same more) ends =
-    omega (arith, ap added_in_block same, grown_adds s l false below grown more ends.1)
-grown_adds s l _ _ _ (leaf_grown top b c below kind is more) ends =
-    omega (arith, ap added_in_block is, kind_adds l top kind c.kind more (subst IsEnded is ends.0))
-grown_adds s l _ _ _ (table_made top b c below head row alignments reads is fits made) ends =
-    omega (arith, ap added_in_block made)
-grown_adds s l _ _ _ (table_made_behind top b c d below before head row alignments reads is fits rest made) ends =
-    omega (arith, ap added_in_block made, ap added_in_block rest)
-
--- so no line adds more than may be added
+-- no line adds more than may be added
 next_few : (s : Source) → reads_tables s ≡ true → (blocks : Forest Block) (l : SourceLine)
     → added_in blocks ≤ most_added s.text → added_in (with_next_line s blocks l) ≤ most_added s.text
 next_few s reads blocks l few =

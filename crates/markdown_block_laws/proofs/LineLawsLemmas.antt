@@ -1,16 +1,11 @@
 -- Lines and their endings.
-use Rattle.std.proofs.Common.{◌≡◌, ℕ, zero, suc, ◌+◌, Bool, true, false, List, [], ◌∷◌, ◌++◌, Option, Some, None}
-use Rattle.std.proofs.Common.{take, drop}
-use Rattle.std.proofs.Common.{refl, sym, ap, ◌∙◌, arith, length, not, ◌&&◌, ◌||◌, ◌==◌}
-use Rattle.std.specs.Prelude.{if◌then◌else◌}
+use Rattle.std.proofs.Common.{◌≡◌, ℕ, Bool, true, false, List, [], ◌∷◌, ◌++◌, Some}
+use Rattle.std.proofs.Common.{refl, sym, ap, arith, length, ◌&&◌, ◌==◌}
 use Rattle.std.specs.List.{list_all, prefix_len}
 use Rattle.std.specs.Option.{is_some}
 use Rattle.std.proofs.Math.Seq.{take-append_seam, drop-append_seam}
 use Rattle.std.proofs.lemmas.Bool.{true≢false}
-use Rattle.markdown_scan.specs.LineEnd.{line_ending, begins_line_feed}
-use Rattle.markdown_scan.specs.LineStart.{LineLeft}
-use Rattle.markdown_lines.specs.Lines.{is_line_ending, length_of_ending, ending_length}
-use Rattle.markdown_lines.specs.SourceLines.{first_line}
+use Rattle.markdown_scan.specs.LineEnd.{line_ending}
 use Rattle.markdown_block_laws.specs.LineLaws.{LineIsItsContent, is_in_line}
 
 head_true : (p q : Bool) → (p && q) ≡ true → p ≡ true

@@ -161,7 +161,7 @@ block_inside s l inner =
     either (Held (Fresh l.next) false) (is_blank_rest l) (was.new_block l.left.scanned l was.blank_line nil)
     (begun_by s l) (tt, tt, tt) (by_inside s l inner)
 
-block_outermost : (s : Source) (l : SourceLine) → Held (Fresh l.next) true (line_block s l)
+pub block_outermost : (s : Source) (l : SourceLine) → Held (Fresh l.next) true (line_block s l)
 block_outermost s l =
     either (Held (Fresh l.next) true) (is_blank_rest l) (was.new_block l.left.scanned l was.blank_line nil)
     (begun_by s l) (tt, tt, tt) (begun_outermost (suc (length l.left.bytes)) s l)
@@ -314,7 +314,7 @@ item_fresh s m marker (line.begins_item found indent rest) =
     (tt, inside_fresh (begun_by s) m (λ l inner. by_inside s l inner) rest, tt) tt
 item_fresh s m marker other = tt
 
-next_fresh : (s : Source) (m : SourceLine) (marker : ListMarker)
+pub next_fresh : (s : Source) (m : SourceLine) (marker : ListMarker)
     → IfSome (next_item s m marker) (Held (Fresh m.next) false)
 next_fresh s m marker = decided (is_blank_rest m)
   where

@@ -1,3 +1,4 @@
 pub mod BlockBeginningsLemmas
 pub mod OpeningLemmas
 pub mod GrowthLemmas
+pub mod AddedCellsLemmas
