@@ -1,23 +1,25 @@
 -- A paragraph with one more line of text, which it reaches or continues lazily, as the definition of blocks says.
-use Rattle.std.proofs.Common.{◌≡◌, ℕ, Bool, false, List, [], ◌∷◌, Some, map, refl, sym, ap, ◌∙◌}
+use Rattle.std.proofs.Common.{◌≡◌, ℕ, Bool, false, List, [], ◌∷◌, Option, Some, None, map, refl, sym, ap, ◌∙◌}
 use Rattle.std.specs.Prelude.{unwrap_or, if◌then◌else◌}
-use Rattle.std.specs.Option.{option_map}
+use Rattle.std.specs.Option.{option_map, option_or}
 use Rattle.markdown_base.specs.Forest.{Forest, nil, node}
 use Rattle.markdown_builder.specs.TreeLevels.{followed_by}
 use Rattle.markdown_lines.specs.declared.block_start.Before.TheVariants as paragraph
 use Rattle.markdown_lines.specs.BlockBeginnings as line
 use Rattle.markdown_lines.specs.BlockBeginnings.{Source, begins}
-use Rattle.markdown_lines.specs.SourceLines.{SourceLine, is_blank_rest}
+use Rattle.markdown_lines.specs.SourceLines.{SourceLine, is_blank_rest, text_line}
 use Rattle.markdown_block_rules.specs.BlockGrowth as was
-use Rattle.markdown_block_rules.specs.BlockGrowth.{Block, Kind, goes_on, is_nil, is_text, with_lazy, with_line}
+use Rattle.markdown_block_rules.specs.BlockGrowth.{Block, Kind, goes_on, is_nil, is_text, table_with, with_lazy, with_line}
 use Rattle.markdown_block_rules.specs.BlockRules.{are_separated, is_blank_block, is_loose}
-use Rattle.markdown_block_rules.specs.TableLines.{reads_tables}
+use Rattle.markdown_block_rules.specs.TableLines.{further_line}
 use Rattle.markdown_plain.specs.declared.looseness.Looseness.{Looseness}
 use Rattle.markdown_plain.specs.Closing.{AreItemsInLists}
 use Rattle.markdown_plain.specs.Frames.{AreContainers, AreNested, Frame, Reached, innermost_is, is_item, is_list}
 use Rattle.markdown_plain.specs.Frames.{reached, rebuilt, touched}
 use Rattle.markdown_plain.specs.OpenLeaves.{leaf_block}
 use Rattle.markdown_plain.specs.Settled.{EmptyKnown, EmptyKnownIn, IsLooseAs, IsLooseBefore, are_loose}
+use Rattle.markdown_plain.specs.ReachedFrames.{are_none}
+use Rattle.markdown_plain.specs.TableHeads.{next_line}
 use Rattle.markdown_plain.specs.TextLines.{with_text}
 use Rattle.markdown_plain.proofs.ClosedFramesLemmas.{last_items}
 use Rattle.markdown_plain.proofs.FramesLemmas.{goes_on_last, innermost_inner, with_lazy_last}
@@ -25,24 +27,31 @@ use Rattle.markdown_plain.proofs.LastBlocksLemmas.{line_goes_lazily}
 use Rattle.markdown_plain.proofs.LeafLinesLemmas.{empty_alike}
 use Rattle.markdown_plain.proofs.LooseFramesLemmas.{closed_separated, loose_with_item, one_separated, same_last}
 use Rattle.markdown_plain.proofs.ReachedLemmas.{all_go_on}
+use Rattle.markdown_plain.proofs.RememberedTextLemmas.{MakesNoTable}
 
 -- ---- the definition
 
 paragraph_grows : (s : Source) (l : SourceLine) (start first last : ℕ) (lines : List SourceLine)
-    → reads_tables s ≡ false → is_blank_rest l ≡ false → begins s paragraph.Reached l ≡ line.begins_text
+    → table_with s l (record { start = start; first = first; last = last; kind = was.paragraph_leaf lines })
+    (was.paragraph_leaf lines) ≡ None
+    → is_blank_rest l ≡ false → begins s paragraph.Reached l ≡ line.begins_text
     → goes_on s (leaf_block (record { start = start; first = first; last = last; kind = was.paragraph_leaf lines })) l
-    ≡ Some (leaf_block (with_text l (record {
+    ≡ Some (leaf_block (with_text l (further_line s l) (record {
       start = start;
       first = first;
       last = last;
       kind = was.paragraph_leaf lines;
     }) lines))
 unfolding goes_on
-paragraph_grows s l start first last lines tables filled text = rw (filled, tables, text, tables) refl
+paragraph_grows s l start first last lines untabled filled text =
+    ap (λ (made : Option (Forest Block)). option_or made (option_or
+    (option_map (λ kind. node (record { start = start; first = first; last = l.next; kind = kind }) nil nil)
+    (was.leaf_with s l (was.paragraph_leaf lines))) None)) untabled
+    ∙ rw (filled, text) refl
 
 paragraph_grows_lazily : (l : SourceLine) (start first last : ℕ) (lines : List SourceLine)
     → with_lazy l (leaf_block (record { start = start; first = first; last = last; kind = was.paragraph_leaf lines }))
-    ≡ Some (leaf_block (with_text l (record {
+    ≡ Some (leaf_block (with_text l (text_line l) (record {
       start = start;
       first = first;
       last = last;
@@ -53,19 +62,22 @@ paragraph_grows_lazily l start first last lines = refl
 
 -- a line is the next one of the last paragraph, which it reaches
 text_reaches : (s : Source) (l : SourceLine) (before : Forest Block) (b : Block) (lines : List SourceLine)
-    → reads_tables s ≡ false → b.kind ≡ was.paragraph_leaf lines → is_blank_rest l ≡ false
-    → begins s paragraph.Reached l ≡ line.begins_text
-    → with_line s (followed_by before (leaf_block b)) l ≡ followed_by before (leaf_block (with_text l b lines))
-text_reaches s l before b lines tables is filled text =
+    → ((b : Block) → table_with s l b (was.paragraph_leaf lines) ≡ None) → b.kind ≡ was.paragraph_leaf lines
+    → is_blank_rest l ≡ false → begins s paragraph.Reached l ≡ line.begins_text
+    → with_line s (followed_by before (leaf_block b)) l
+    ≡ followed_by before (leaf_block (with_text l (further_line s l) b lines))
+text_reaches s l before b lines untabled is filled text =
     let same = ap (λ kind. goes_on s (leaf_block (record b { kind = kind })) l) is
-    ∙ paragraph_grows s l b.start b.first b.last lines tables filled text in
+    ∙ paragraph_grows s l b.start b.first b.last lines (untabled (record b { kind = was.paragraph_leaf lines })) filled
+    text in
     ap (λ grown. unwrap_or grown (followed_by (followed_by before (leaf_block b)) (was.line_block s l)))
     (goes_on_last s before b nil l ∙ ap (option_map (followed_by before)) same)
 
 -- or continues it lazily
 text_continues : (l : SourceLine) (before : Forest Block) (b : Block) (lines : List SourceLine)
     → b.kind ≡ was.paragraph_leaf lines
-    → with_lazy l (followed_by before (leaf_block b)) ≡ Some (followed_by before (leaf_block (with_text l b lines)))
+    → with_lazy l (followed_by before (leaf_block b))
+    ≡ Some (followed_by before (leaf_block (with_text l (text_line l) b lines)))
 text_continues l before b lines is =
     with_lazy_last before b nil l
     ∙ ap (option_map (followed_by before)) (ap (λ kind. with_lazy l (leaf_block (record b { kind = kind }))) is
@@ -164,21 +176,30 @@ pub data GoesAs (s : Source) (r : Reached) : Type 0 where
       → begins s paragraph.Lazy r.rest ≡ line.begins_text → GoesAs s r
 
 pub paragraph_line : (s : Source) (frames : List Frame) (inside : Forest Block) (b : Block) (lines : List SourceLine)
-    (l : SourceLine) → reads_tables s ≡ false → AreContainers frames → AreNested frames
+    (l : SourceLine) → MakesNoTable s (reached s frames (followed_by inside (leaf_block b)) l) lines
+    → AreContainers frames → AreNested frames
     → AreItemsInLists false (rebuilt frames (followed_by inside (leaf_block b)))
     → b.kind ≡ was.paragraph_leaf lines
     → is_blank_rest (reached s frames (followed_by inside (leaf_block b)) l).rest ≡ false
     → GoesAs s (reached s frames (followed_by inside (leaf_block b)) l)
     → with_line s (rebuilt frames (followed_by inside (leaf_block b))) l
     ≡ rebuilt (map (touched l) frames) (followed_by inside (leaf_block
-    (with_text (reached s frames (followed_by inside (leaf_block b)) l).rest b lines)))
-paragraph_line s frames inside b lines l tables are nested items is filled (reaches all text) =
-    let rest = (reached s frames (followed_by inside (leaf_block b)) l).rest in
+    (with_text (reached s frames (followed_by inside (leaf_block b)) l).rest
+    (next_line s (reached s frames (followed_by inside (leaf_block b)) l)) b lines)))
+paragraph_line s frames inside b lines l untabled are nested items is filled (reaches all text) =
+    let r = reached s frames (followed_by inside (leaf_block b)) l in
+    let here = ap (λ (fs : List Frame). if are_none fs then further_line s r.rest else text_line r.rest) all in
     all_go_on s frames (followed_by inside (leaf_block b)) l are nested all
     (around_text false frames inside b (ap is_item is) (ap is_blank_block is) items)
-    ∙ ap (rebuilt (map (touched l) frames)) (text_reaches s rest inside b lines tables is filled text)
-paragraph_line s frames inside b lines l tables are nested items is filled (continues f others some text) =
-    let rest = (reached s frames (followed_by inside (leaf_block b)) l).rest in
+    ∙ (ap (rebuilt (map (touched l) frames))
+    (text_reaches s r.rest inside b lines (untabled (ap are_none all)) is filled text)
+    ∙ ap (λ (next : SourceLine). rebuilt (map (touched l) frames) (followed_by inside (leaf_block
+    (with_text r.rest next b lines)))) (sym here))
+paragraph_line s frames inside b lines l untabled are nested items is filled (continues f others some text) =
+    let r = reached s frames (followed_by inside (leaf_block b)) l in
+    let here = ap (λ (fs : List Frame). if are_none fs then further_line s r.rest else text_line r.rest) some in
     line_goes_lazily s frames (followed_by inside (leaf_block b)) l are nested f others
-    (followed_by inside (leaf_block (with_text rest b lines))) some filled (ap is_text text)
-    (text_continues rest inside b lines is)
+    (followed_by inside (leaf_block (with_text r.rest (text_line r.rest) b lines))) some filled (ap is_text text)
+    (text_continues r.rest inside b lines is)
+    ∙ ap (λ (next : SourceLine). rebuilt (map (touched l) frames) (followed_by inside (leaf_block
+    (with_text r.rest next b lines)))) (sym here)

@@ -266,7 +266,6 @@ container_inside s now rest next outer before source blocks inside kind left fil
       };
       later = inside_later s rest source inside deep left is;
       line = refl;
-      row = refl;
     })
 
 -- ---- where there is room for it

@@ -274,7 +274,8 @@ module _ (s : Source) (old now : Pass) (rest next : LineRest) (before : Before) 
       let r = reached_of s before l in
       let b = line.begins_item item.marker item.indent (left_at rest.reader item.inside) in
       let same = state.reached in
-      none_goes_on s old before.frames before.inside before.last l b state.tables are state.holds.unended
+      none_goes_on s old before.frames before.inside before.last l b rest.line.start state.untabled are
+      state.holds.unended
       (subst (λ (m : SourceLine). is_blank_rest m ≡ false) same state.filled)
       (subst (λ (m : SourceLine). begins s (paragraph_before old (are_none r.inner)) m ≡ b) same
       (ap (λ p. begins s p source) (sym state.paragraph) ∙ begins_it.found)) tt

@@ -1,7 +1,7 @@
 -- Leaves that begin with the rest of a line, in the containers where there is room for them, and a rest that begins
 -- nothing.
 use Rattle.std.proofs.Common.{◌≡◌, ℕ, ◌≤◌, Bool, true, false, List, [], ◌∷◌, Option, Some, None, refl, sym, ap, ◌∙◌}
-use Rattle.std.proofs.Common.{subst, arith, ◌++◌, ◌<◌, ◌+◌, ◌-◌, ◌||◌, drop, slice_range}
+use Rattle.std.proofs.Common.{subst, arith, not, ◌++◌, ◌<◌, ◌+◌, ◌-◌, ◌||◌, drop, slice_range}
 use Rattle.markdown_base.specs.Forest.{Forest, nil}
 use Rattle.markdown_builder.specs.BuilderView.{BuilderView}
 use Rattle.std.proofs.lemmas.Option.{none-some}
@@ -21,6 +21,8 @@ use Rattle.markdown_block_rules.specs.BlockRules.{lines_end as source_lines_end}
 use Rattle.markdown_lines.specs.Positions.{left_from}
 use Rattle.markdown_plain.specs.HeldSources.{AreHeld}
 use Rattle.markdown_plain.specs.Beginning.{HasRoom, IsFound, IsHere, IsInside, IsLeft, MayBegin, Turn, first, later}
+use Rattle.markdown_plain.specs.TableHeads.{IfParagraphLast, Remembers}
+use Rattle.markdown_plain.proofs.OpenTablesLemmas.{leaf_goes_by, nothing_remembered}
 use Rattle.markdown_plain.proofs.ReachedFramesLemmas.{AreAlike}
 use Rattle.std.proofs.lemmas.List.{get_or-drop, get_or-take}
 use Rattle.std.proofs.lemmas.List.Sums.{prefix_len-le-length, prefix_len_passes}
@@ -41,7 +43,7 @@ use Rattle.markdown_plain.specs.Closable.{IsReadyAfter}
 use Rattle.markdown_plain.specs.Closing.{AreItemsInLists}
 use Rattle.markdown_plain.specs.Fitting.{AllFitted, IfFitted, stepped}
 use Rattle.markdown_plain.specs.Frames.{Frame, rebuilt}
-use Rattle.markdown_plain.specs.OpenLeaves.{IsLeafIn, IsLineRest, IsOpenIn, IsPlaced, is_leaf, leaf_block}
+use Rattle.markdown_plain.specs.OpenLeaves.{IsLeafIn, IsLineRest, IsOpenIn, IsPlaced, is_leaf, is_table, leaf_block}
 use Rattle.markdown_plain.specs.Paragraphs.{lines_end, source_of}
 use Rattle.markdown_plain.specs.Settled.{IsBuilt, IsLooseAs, IsLooseBefore, QuotesEnd, placed_end}
 use Rattle.markdown_plain.specs.Standing.{AreOpenedBefore, HoldsBlanks, IsLeafKind, MetadataAlone, PlacesFor}
@@ -77,18 +79,18 @@ pub record IsLeafOf (b : Block) : Type 0 where
   pub filled : is_blank_block b.kind ≡ false
   pub ends : block_ends_blank false b.kind ≡ false
 
-pub none_held : (lines : List HeldLine) (to : ℕ) → lines ≡ [] → lines_end lines ≤ to
-none_held lines to none = subst (λ (ls : List HeldLine). lines_end ls ≤ to) (sym none) (omega arith)
+pub no_paragraph : (lines : List HeldLine) (to : ℕ) → lines ≡ [] → lines_end lines ≤ to
+no_paragraph lines to none = subst (λ (ls : List HeldLine). lines_end ls ≤ to) (sym none) (omega arith)
 
 -- the line is placed, by a block that is the last, ended or not
 pub line_places : (s : Source) (now : Pass) (to : ℕ) (frames : List Frame) (before blocks : Forest Block) (b : Block)
     (inside : Forest Block) (last : Option Block) → with_last inside last ≡ followed_by before (leaf_block b)
     → IsLeafOf b → source_of now ≡ s → PlacesLast s now frames inside last → MetadataAlone last frames
-    → QuotesEnd to frames → AreOpenedBefore to frames → IsLooseBefore now.looseness frames before
+    → IfParagraphLast s (Remembers s now to) last → QuotesEnd to frames → AreOpenedBefore to frames → IsLooseBefore now.looseness frames before
     → now.blanks.items ≡ [] → lines_end now.lines.items ≤ to
     → blocks ≡ rebuilt frames (followed_by before (leaf_block b)) → AreItemsInLists false blocks
     → IsReadyAfter now to → PlacesFor s now to blocks
-line_places s now to frames before blocks b inside last is leaf source unended alone quotes earlier loose blanks ends
+line_places s now to frames before blocks b inside last is leaf source unended alone remembers quotes earlier loose blanks ends
     begins items ready =
     let whole : blocks ≡ rebuilt frames (with_last inside last) = begins ∙ ap (rebuilt frames) (sym is) in
     record {
@@ -107,6 +109,7 @@ line_places s now to frames before blocks b inside last is leaf source unended a
         unheld = λ e. blanks;
         earlier = earlier;
         alone = alone;
+        remembers = remembers;
         ready = ready;
       };
       whole = whole;
@@ -117,11 +120,11 @@ leaf_in_room : (s : Source) (room now : Pass) (rest : LineRest) (source : Source
     (blocks : Forest Block) (b : Block) (inside : Forest Block) (last : Option Block)
     (has : HasRoom s room rest source begun blocks) → MayBegin s now rest.line has.frames has.inside → IsLeafOf b
     → with_last inside last ≡ followed_by has.inside (leaf_block b) → PlacesLast s now has.frames inside last
-    → MetadataAlone last has.frames → new_blocks (inside_of (begun_by s) source) source begun ≡ leaf_block b
+    → MetadataAlone last has.frames → IfParagraphLast s (Remembers s now rest.line.next) last → new_blocks (inside_of (begun_by s) source) source begun ≡ leaf_block b
     → now.placing.builder.at ≡ rest.line.next → PlacesFor s now rest.line.next blocks
-leaf_in_room s room now rest source begun blocks b inside last has may leaf is unended alone begins here =
-    line_places s now rest.line.next has.frames has.inside blocks b inside last is leaf may.source unended alone
-    may.quotes may.earlier may.loose may.blanks (none_held now.lines.items rest.line.next may.lines)
+leaf_in_room s room now rest source begun blocks b inside last has may leaf is unended alone remembers begins here =
+    line_places s now rest.line.next has.frames has.inside blocks b inside last is leaf may.source unended alone remembers
+    may.quotes may.earlier may.loose may.blanks (no_paragraph now.lines.items rest.line.next may.lines)
     (begun_in_room s room rest source begun blocks has
     ∙ ap (λ made. rebuilt has.frames (followed_by has.inside made)) begins)
     has.items
@@ -145,22 +148,28 @@ pub ended_in_room : (s : Source) (room now : Pass) (rest : LineRest) (source : S
 ended_in_room s room now rest source begun blocks b has keeps leaf over kind ends placed begins =
     let may = still_may s room now rest.line has.frames has.inside has.may keeps in
     leaf_in_room s room now rest source begun blocks b (followed_by has.inside (leaf_block b)) None has may leaf refl
-    (placed, may.lines, leaf_is_over s has.inside b over) tt begins
+    (placed, may.lines, leaf_is_over s has.inside b over) tt tt begins
     (ends_here s now.placing.builder has.frames has.inside b rest.line.next kind ends placed.at)
 
 -- by one that is open
 pub open_in_room : (s : Source) (room now : Pass) (rest : LineRest) (source : SourceLine) (begun : Beginning)
     (blocks : Forest Block) (b : Block) (has : HasRoom s room rest source begun blocks) → KeepsRest room now
-    → IsLeafOf b → is_leaf b.kind ≡ true → block_end b b.first b.kind ≡ rest.line.next
+    → IsLeafOf b → is_leaf b.kind ≡ true → is_table b.kind ≡ false → block_end b b.first b.kind ≡ rest.line.next
     → (is_metadata b.kind ≡ true → has.frames ≡ [])
     → IsOpenIn s now.placing.builder has.frames has.inside true b → IsLeafKind now.leaf b.kind
     → HoldsBlanks now.blanks.items b.kind
     → new_blocks (inside_of (begun_by s) source) source begun ≡ leaf_block b
     → PlacesFor s now rest.line.next blocks
-open_in_room s room now rest source begun blocks b has keeps leaf kind ends alone opens known held begins =
+open_in_room s room now rest source begun blocks b has keeps leaf kind plain ends alone opens known held begins =
     let may = still_may s room now rest.line has.frames has.inside has.may keeps in
-    leaf_in_room s room now rest source begun blocks b has.inside (Some b) has may leaf refl
-    (None, (kind, opens), (known, held, may.lines)) alone begins
+    leaf_in_room s room now rest source begun blocks b has.inside (Some b) has may leaf refl (
+      None,
+      (
+        kind,
+        subst (λ in_leaf. IsOpenIn s now.placing.builder has.frames has.inside in_leaf b) (sym (ap not plain)) opens,
+      ),
+      (leaf_goes_by now.leaf b.kind plain known, held, may.lines),
+    ) alone (nothing_remembered s (Remembers s now rest.line.next) b.kind kind) begins
     (ends_here s now.placing.builder has.frames has.inside b rest.line.next kind ends opens.end)
 
 -- a leaf that is no metadata may be open in any container
@@ -211,10 +220,11 @@ nothing_inside s old now rest frames source at blocks state found same steps =
         loose = subst (λ (n : Looseness). IsLooseAs n frames nil) (sym (ap (λ (p : Pass). p.looseness) same))
             opened.loose;
         filled = refl;
-        before = none_held now.lines.items rest.line.next lines;
+        before = no_paragraph now.lines.items rest.line.next lines;
         unheld = λ e. blanks;
         earlier = opened.earlier;
         alone = tt;
+        remembers = tt;
         ready = ready_last s now frames nil None rest.line.next placed lines blanks
             (ap (λ (v : BuilderView). v.at) steps)
             (subst (λ text. IsCharBoundary text rest.line.next) (sym (ap (λ (r : Source). r.text) source_is))
@@ -252,7 +262,7 @@ html_places s room now rest source blocks kind true b has is last keeps placed k
     (ap (block_end b b.first) is ∙ last) placed begins
 html_places s room now rest source blocks kind false b has is last keeps opens known begins =
     open_in_room s room now rest source (line.begins_html kind) blocks b has keeps
-    (record { filled = ap is_blank_block is; ends = ap (block_ends_blank false) is }) (ap is_leaf is)
+    (record { filled = ap is_blank_block is; ends = ap (block_ends_blank false) is }) (ap is_leaf is) (ap is_table is)
     (ap (block_end b b.first) is ∙ last) (other_alone b.kind has.frames (ap is_metadata is)) opens
     (subst (λ how. IsLeafKind how b.kind) (sym known) (subst (IsLeafKind (leaf.Html kind)) (sym is) refl))
     (subst (HoldsBlanks now.blanks.items) (sym is) (keeps.blanks ∙ has.may.blanks)) begins

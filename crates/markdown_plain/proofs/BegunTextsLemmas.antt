@@ -28,7 +28,9 @@ use Rattle.markdown_plain.specs.Paragraphs.{lines_end, source_of}
 use Rattle.markdown_plain.specs.Settled.{IsLooseBefore, QuotesEnd}
 use Rattle.markdown_plain.specs.Standing.{AreOpenedBefore, PlacesFor, is_metadata}
 use Rattle.markdown_plain.proofs.BegunBlocksLemmas.{begun_block}
+use Rattle.markdown_plain.specs.TableHeads.{Remembers}
 use Rattle.markdown_plain.proofs.BegunLeavesLemmas.{line_places}
+use Rattle.markdown_plain.proofs.RememberedTextLemmas.{first_remembered, kind_remembered}
 
 -- the rest of a line, from a byte offset on
 abbrev pub held_from : Line → ℕ → HeldLine
@@ -94,14 +96,16 @@ pub text_inside : (s : Source) (now : Pass) (line : Line) (at : ℕ) (frames : L
     → HoldsParagraph s now frames before b (source ∷ []) → QuotesEnd line.next frames
     → AreOpenedBefore line.next frames → IsLooseBefore now.looseness frames before → now.blanks.items ≡ []
     → now.lines.items ≡ held_from line at ∷ []
-    → blocks ≡ rebuilt frames (followed_by before (leaf_block b)) → AreItemsInLists false blocks
+    → blocks ≡ rebuilt frames (followed_by before (leaf_block b)) → AreItemsInLists false blocks → now.tried ≡ false
     → IsReadyAfter now line.next → PlacesFor s now line.next blocks
 text_inside s now line at frames before blocks b source kind same holds quotes earlier loose blanks lines begins
-    items ready =
+    items untried ready =
     line_places s now line.next frames before blocks b before (Some b) refl
     (record {
       filled = ap is_blank_block kind;
       ends = ap (block_ends_blank false) kind;
     }) same (Some (source ∷ []), holds, tt)
-    (λ is. absurd (true≢false (sym is ∙ ap is_metadata kind))) quotes earlier loose blanks
+    (λ is. absurd (true≢false (sym is ∙ ap is_metadata kind)))
+    (kind_remembered s (Remembers s now line.next) b.kind (source ∷ []) kind
+    (λ reads. first_remembered s now line.next (held_from line at) source lines refl untried)) quotes earlier loose blanks
     (subst (λ (ls : List HeldLine). lines_end ls ≤ line.next) (sym lines) (omega arith)) begins items ready

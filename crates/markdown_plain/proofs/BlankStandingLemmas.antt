@@ -1,6 +1,6 @@
 -- What the pass stands for after a blank line: the containers that the line does not reach are closed, and the line
 -- follows in the innermost one that it reaches; or it goes on with indented code.
-use Rattle.std.proofs.Common.{◌≡◌, ℕ, ◌≤◌, Bool, true, false, ◌&&◌, List, [], ◌∷◌, ◌++◌, Option, Some, None, drop}
+use Rattle.std.proofs.Common.{◌≡◌, ℕ, ◌≤◌, Bool, true, false, not, ◌&&◌, List, [], ◌∷◌, ◌++◌, Option, Some, None, drop}
 use Rattle.std.proofs.Common.{take, length, map, refl, sym, ap, ◌∙◌, subst, true≢false, arith, append_assoc}
 use Rattle.std.proofs.Common.{append-nil}
 use Rattle.std.specs.Prelude.{if◌then◌else◌}
@@ -26,7 +26,7 @@ use Rattle.markdown_plain.specs.Frames.{AreContainers, AreNested, Frame, innermo
 use Rattle.markdown_plain.specs.Frames.{touched}
 use Rattle.markdown_plain.specs.HeldSources.{AreHeld}
 use Rattle.markdown_plain.specs.ListLooseness.{blank_from}
-use Rattle.markdown_plain.specs.OpenLeaves.{is_leaf, leaf_block}
+use Rattle.markdown_plain.specs.OpenLeaves.{is_leaf, is_table, leaf_block}
 use Rattle.markdown_plain.specs.Paragraphs.{lines_end, source_of}
 use Rattle.markdown_plain.specs.ReachedFrames.{are_none, quote_depth}
 use Rattle.markdown_plain.specs.Closable.{AreClosable, IsClosable}
@@ -38,7 +38,7 @@ use Rattle.markdown_plain.specs.Settled.{AreOpen, BlanksKnown, IsLooseAs, Quotes
 use Rattle.markdown_plain.specs.ReachedLines.{Before, IsReachedBy, LeavesOff, blocks_before, blocks_in, is_indented}
 use Rattle.markdown_plain.specs.ReachedLines.{reached_of}
 use Rattle.markdown_plain.specs.declared.containers.Reached as code
-use Rattle.markdown_plain.specs.Standing.{AreOpenedBefore, HasLast, HoldsBlanks, IsLeafKind, IsSource, KnowsLast}
+use Rattle.markdown_plain.specs.Standing.{AreOpenedBefore, GoesOnBy, HasLast, HoldsBlanks, IsLeafKind, IsSource, KnowsLast}
 use Rattle.markdown_plain.specs.Standing.{StandsFor, with_last}
 use Rattle.markdown_plain.proofs.AppendedBlocksLemmas.{blank_is_at_end, blank_is_built}
 use Rattle.markdown_plain.proofs.BlankLinesLemmas.{blank_quotes, empty_blank, item_reached}
@@ -48,6 +48,7 @@ use Rattle.markdown_plain.proofs.FramesLemmas.{HasMarker, Innermost, goes_on_las
 use Rattle.markdown_plain.proofs.IndentedLeavesLemmas.{blank_cut, blank_held, code_before_blank}
 use Rattle.markdown_plain.proofs.ItemsInListsLemmas.{line_keeps}
 use Rattle.markdown_plain.proofs.LastBlocksLemmas.{leaf_is_over, open_are_containers}
+use Rattle.markdown_plain.proofs.OpenTablesLemmas.{in_leaf_open, leaf_known}
 use Rattle.markdown_plain.proofs.LeafLinesLemmas.{end_touched, leaf_grows, leaf_leaves_off, lists_before_blank}
 use Rattle.markdown_plain.proofs.LeafLinesLemmas.{loose_grown, open_leaf_touched, open_parts}
 use Rattle.markdown_plain.proofs.LinedLeavesLemmas.{grown_to}
@@ -257,6 +258,7 @@ blank_stands s old mid line reached before source placed by blank off closed quo
             (blank_at_end inside b refl));
         before = subst (λ (ls : List HeldLine). lines_end ls ≤ line.next) (sym closed.lines) (omega arith);
         unheld = λ outside. closed.blanks;
+        remembers = tt;
         earlier = earlier_touched source line.start line.next (next_after old line source by.is) r.outer
             (earlier_outer line.start r.outer r.inner
             (subst (AreOpenedBefore line.start) (sym (reached_parts s before.frames now source)) stands.earlier));
@@ -312,12 +314,13 @@ code_stands_for : (s : Source) (old mid : Pass) (line : Line) (found : code.Reac
     → IsReachedBy s old line found (last_of frames inside b) source
     → (reached_of s (last_of frames inside b) source).inner ≡ []
     → HoldsBlank s old mid b lines (reached_of s (last_of frames inside b) source).rest
-    → (may : MayEnd s old frames inside b None) → old.lines.items ≡ []
+    → (may : MayEnd s old frames inside b None) → old.placing.builder.leaf ≡ true → old.lines.items ≡ []
     → QuotesEnd placed (map (touched source) (reached_of s (last_of frames inside b) source).outer)
     → SeesBlank old line source placed → MayAddBefore old.placing.builder mid.blanks.items line.next
     → StandsFor s (blank_seen (record old { blanks = mid.blanks }) found.quoted placed) line.next
     (with_line s (blocks_before (last_of frames inside b)) source)
-code_stands_for s old mid line found frames inside b source lines placed by none held may empty quotes sees fits =
+code_stands_for s old mid line found frames inside b source lines placed by none held may open_leaf empty quotes sees
+    fits =
     let before = last_of frames inside b in
     let now = followed_by inside (leaf_block b) in
     let r = reached_of s before source in
@@ -350,7 +353,8 @@ code_stands_for s old mid line found frames inside b source lines placed by none
             unended = (
               refl,
               open_leaf_touched source s old.placing.builder frames inside true c
-                  (blank_held s old.placing.builder frames inside b lines r.rest may.unended.1 held.kind held.blank),
+                  (blank_held s old.placing.builder frames inside b lines r.rest
+                  (in_leaf_open s old frames inside b may open_leaf) held.kind held.blank),
             );
             options = may.options;
             quotes = subst (λ (fs : List Frame). QuotesEnd placed (map (touched source) fs)) all quotes;
@@ -368,10 +372,11 @@ code_stands_for s old mid line found frames inside b source lines placed by none
             let last = by.stands.before in
             let next = next_after old line source by.is in
             omega (arith, last, next);
-        unheld = λ outside. absurd (true≢false (sym may.unended.1.leaf ∙ outside));
+        unheld = λ outside. absurd (true≢false (sym open_leaf ∙ outside));
         earlier = earlier_touched source line.start line.next (next_after old line source by.is) frames
             by.stands.earlier;
         alone = λ metadata. absurd (true≢false (sym metadata));
+        remembers = tt;
         ready =
             let parts = open_parts s old frames inside (Some b) by.stands.unended by.stands.loose in
             held_ready old new line.start line.next by.stands.ready fits
@@ -415,14 +420,16 @@ code_stands s old mid line found frames inside (Some b) source placed by blank n
           blank = blank;
           holds = more_blank mid.blanks.items lines knows.0 (cut 4 (reached_of s (last_of frames inside b) source).rest)
               (blank_cut 4 (reached_of s (last_of frames inside b) source).rest blank) knows.1 (holds knows.0 knows.2);
-        }) may empty quotes sees fits
+        }) may open_leaf empty quotes sees fits
     by_kind other kind may is knows empty = absurd is
 
     by_held : (held : Option (List SourceLine)) → MayEnd s old frames inside b held → KnowsLast old b held
         → StandsFor s (blank_seen (record old { blanks = mid.blanks }) found.quoted placed) line.next
         (with_line s (rebuilt frames (followed_by inside (leaf_block b))) source)
     by_held None may knows =
-        by_kind b.kind refl may (subst (λ how. IsLeafKind how b.kind) how knows.0) knows.1 knows.2
+        by_kind b.kind refl may
+        (subst (λ how. IsLeafKind how b.kind) how
+        (leaf_known old.leaf b.kind (sym may.unended.1.leaf ∙ open_leaf) knows.0)) knows.1 knows.2
     by_held (Some sources) may knows = absurd (true≢false (sym open_leaf ∙ may.unended.built.outside))
 
 -- ---- the containers that a line does not reach are closed
@@ -452,11 +459,11 @@ may_close : (s : Source) (old mid : Pass) (depth : ℕ) (frames : List Frame) (i
 may_close s old mid depth frames inside None closes has = closes.forgets frames inside has.1 has.0
 may_close s old mid depth frames inside (Some b) closes has = closes.finishes frames inside b has.0 has.1
 
-none_held : (s : Source) (old mid : Pass) (depth : ℕ) (leaf : Bool) → ClosesDown s old mid depth
+no_paragraph : (s : Source) (old mid : Pass) (depth : ℕ) (leaf : Bool) → ClosesDown s old mid depth
     → old.placing.builder.leaf ≡ leaf → (old.placing.builder.leaf ≡ false → old.blanks.items ≡ [])
     → mid.blanks.items ≡ []
-none_held s old mid depth true closes is unheld = closes.dropped is
-none_held s old mid depth false closes is unheld = closes.unheld (unheld is)
+no_paragraph s old mid depth true closes is unheld = closes.dropped is
+no_paragraph s old mid depth false closes is unheld = closes.unheld (unheld is)
 
 -- those that it reaches are left
 pub closed_to_reached : (s : Source) (old mid : Pass) (line : Line) (found : code.Reached) (before : Before)
@@ -485,7 +492,7 @@ closed_to_reached s old mid line found before source by closes fitted =
             (subst (λ (fs : List Frame). IsLooseAs mid.looseness fs (rebuilt (drop found.depth before.frames) now))
             outer loose.1);
         lines = closes.lines;
-        blanks = none_held s old mid found.depth old.placing.builder.leaf closes refl stands.unheld;
+        blanks = no_paragraph s old mid found.depth old.placing.builder.leaf closes refl stands.unheld;
         source = closes.source ∙ stands.source;
         from = closes.from;
         closable = closes.here stands.ready.closable fitted;
@@ -494,13 +501,11 @@ closed_to_reached s old mid line found before source by closes fitted =
 
 -- ---- whether the open leaf is indented code
 
-indented_is : (how : LeafKind) (kind : Kind) → IsLeafKind how kind → (how ≡ leaf.Indented → ⊥)
+indented_is : (how : LeafKind) (kind : Kind) → GoesOnBy how kind → (how ≡ leaf.Indented → not (is_table kind) ≡ true → ⊥)
     → is_indented kind ≡ false
-indented_is leaf.Indented kind is other = absurd (other refl)
-indented_is (leaf.Fenced fence) (was.fenced_leaf opening false lines) is other = refl
-indented_is (leaf.Html found) (was.html_leaf kind false lines) is other = refl
-indented_is (leaf.Metadata found) (was.metadata_leaf kind false lines) is other = refl
-indented_is how kind is other = absurd is
+indented_is leaf.Indented (was.indented_leaf lines) is other = absurd (other refl refl)
+indented_is how (was.indented_leaf lines) is other = absurd is
+indented_is how kind is other = refl
 
 pub goes_not : (s : Source) (pass : Pass) (frames : List Frame) (inside : Forest Block) (last : Option Block)
     (rest : SourceLine) → HasLast s pass frames inside last → LeavesOff s rest last
@@ -512,7 +517,7 @@ goes_not s pass frames inside (Some b) rest has off other = λ is.
     by_held : (held : Option (List SourceLine)) → MayEnd s pass frames inside b held → KnowsLast pass b held
         → is_leaf b.kind ≡ true → is_indented b.kind ≡ false
     by_held None may knows is =
-        indented_is pass.leaf b.kind knows.0 (λ how. other how may.unended.1.leaf)
+        indented_is pass.leaf b.kind knows.0 (λ how plain. other how (may.unended.1.leaf ∙ plain))
     by_held (Some sources) may knows is = absurd (true≢false (sym is ∙ ap is_leaf may.unended.kind))
 
 pub none_inside : (frames : List Frame) → are_none frames ≡ true → frames ≡ []

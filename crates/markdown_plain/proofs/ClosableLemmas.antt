@@ -773,6 +773,7 @@ ended_definitions old new definitions is has none placed e =
       held = λ outside. none_ahead now new.lines.items none;
       task = no_task now.text new.task new.lines.items none;
       containers = subst AreContainers (sym inner) is.containers;
+      alone = λ held. absurd (true≢false (sym held ∙ no_paragraph new none));
       low = subst (λ n. n ≤ new.placed) (sym end) (subst (λ n. leaf_end old ≤ n) (sym placed) is.low);
       boundary = subst (λ t. IsCharBoundary t new.placed) (sym text)
           (subst (IsCharBoundary was.text) (sym placed) is.boundary);

@@ -10,25 +10,21 @@ use Rattle.markdown_scan.specs.LineStart.{LineLeft}
 use Rattle.markdown_lines.specs.BlockBeginnings.{Source}
 use Rattle.markdown_lines.specs.Lines.{IsLineFrom}
 use Rattle.markdown_lines.specs.SourceLines.{SourceLine, is_blank_rest}
-use Rattle.markdown_lines.specs.declared.line.Line.{Line}
 use Rattle.markdown_lines.specs.declared.position.Position.{Position}
 use Rattle.markdown_block_rules.specs.BlockGrowth as was
 use Rattle.markdown_block_rules.specs.BlockGrowth.{Block, Kind, is_nil, leaf_with, with_line}
-use Rattle.markdown_block_rules.specs.TableLines.{reads_tables}
+use Rattle.markdown_plain.specs.TableHeads.{IfParagraphLast, IsUntabled}
 use Rattle.markdown_plain.specs.declared.beginnings.LineRest.{LineRest}
 use Rattle.markdown_plain.specs.declared.containers.Reached as code
 use Rattle.markdown_plain.specs.declared.pass.Pass.{Pass}
-use Rattle.markdown_plain.specs.Beginning.{IsFirst, IsLeft, reads_metadata}
-use Rattle.markdown_plain.specs.Closing.{MayEnd}
+use Rattle.markdown_plain.specs.Beginning.{IsFirst, IsLeft, IsMadeOf, reads_metadata}
 use Rattle.markdown_plain.specs.Frames.{Frame, inside_container, is_list, reached, reached_past, rebuilt}
 use Rattle.markdown_plain.specs.HeldSources.{IsRest}
 use Rattle.markdown_plain.specs.OpenBlocks as by_body
-use Rattle.markdown_plain.specs.OpenLeaves.{is_leaf}
-use Rattle.markdown_plain.specs.ReachedFrames.{are_none}
 use Rattle.markdown_plain.specs.ReachedLines.{Before, IsReachedBy, LeavesOff, blocks_before, blocks_in, reached_of}
 use Rattle.markdown_plain.specs.Settled.{AreOpen, IsBodyOf}
-use Rattle.markdown_plain.specs.Standing.{HasLast}
 use Rattle.markdown_plain.specs.TextLines.{paragraph_before}
+use Rattle.markdown_plain.proofs.TriedLemmas.{holds_all_tried, made_untried, source_tried}
 use Rattle.markdown_plain.proofs.LeafLinesLemmas.{open_parts}
 use Rattle.markdown_plain.proofs.ReachedLemmas.{outer_taken, reached_parts}
 use Rattle.markdown_plain.proofs.TextReachedLemmas.{nothing_left, reached_within, whole_within}
@@ -40,55 +36,6 @@ use Rattle.markdown_plain.proofs.TextStepsLemmas.{stands_holds}
 abbrev pub LeafLeavesOff : Source → Before → SourceLine → Type 0
 LeafLeavesOff s before source =
     (reached_of s before source).inner ≡ [] → LeavesOff s (reached_of s before source).rest before.last
-
--- so it is where the line does not reach all of them
-some_unreached : (s : Source) (pass : Pass) (line : Line) (found : code.Reached) (before : Before)
-    (source : SourceLine) → IsReachedBy s pass line found before source → found.all ≡ false
-    → LeafLeavesOff s before source
-some_unreached s pass line found before source by some all =
-    absurd (true≢false (sym (ap are_none all) ∙ (sym by.reaches.all ∙ some)))
-
--- or where no leaf is open
-none_leaves_off : (s : Source) (pass : Pass) (frames : List Frame) (inside : Forest Block) (last : Option Block)
-    (rest : SourceLine) → HasLast s pass frames inside last → pass.placing.builder.leaf ≡ false
-    → LeavesOff s rest last
-none_leaves_off s pass frames inside None rest has outside = tt
-none_leaves_off s pass frames inside (Some b) rest has outside = λ leaf blank. by_held has.0 has.1 leaf
-  where
-    by_held : (held : Option (List SourceLine)) → MayEnd s pass frames inside b held
-        → is_leaf b.kind ≡ true → leaf_with s rest b.kind ≡ None
-    by_held None may leaf = absurd (true≢false (sym may.unended.1.leaf ∙ outside))
-    by_held (Some sources) may leaf = absurd (true≢false (sym leaf ∙ ap is_leaf may.unended.kind))
-
--- the pass is as it was, and the open leaf leaves off, whichever blocks it stands for
-pub record LeavesAll (old new : Pass) (line : Line) (found : code.Reached) : Type 0 where
-  pub same : new ≡ old
-  pub off : (s : Source) (before : Before) (source : SourceLine) → IsReachedBy s old line found before source
-      → LeafLeavesOff s before source
-
-pub unreached_leaves : (old new : Pass) (line : Line) (found : code.Reached) → new ≡ old → found.all ≡ false
-    → LeavesAll old new line found
-unreached_leaves old new line found same some = record {
-  same = same;
-  off = λ s before source by. some_unreached s old line found before source by some;
-}
-
-pub outside_leaves : (old new : Pass) (line : Line) (found : code.Reached) → new ≡ old
-    → old.placing.builder.leaf ≡ false → LeavesAll old new line found
-outside_leaves old new line found same outside = record {
-  same = same;
-  off = λ s before source by all. none_leaves_off s old before.frames before.inside before.last
-      (reached_of s before source).rest by.stands.unended outside;
-}
-
-pub leaf_leaves : (old now new : Pass) (line : Line) (found : code.Reached) → new ≡ now
-    → (now ≡ old) × ((s : Source) (before : Before) (source : SourceLine) → IsReachedBy s old line found before source
-    → old.placing.builder.leaf ≡ true → LeavesOff s (reached_of s before source).rest before.last)
-    → old.placing.builder.leaf ≡ true → LeavesAll old new line found
-leaf_leaves old now new line found same told leaf = record {
-  same = same ∙ told.0;
-  off = λ s before source by all. told.1 s before source by leaf;
-}
 
 -- ---- what is directly under the root
 
@@ -154,19 +101,6 @@ outer_few s frames inside l =
     omega (arith, all, length-append r.outer r.inner)
 
 -- ---- the rest of a line, as it is read first
-
--- the rest of a line was made of what the line reaches
-pub record IsMadeOf (s : Source) (pass : Pass) (found : code.Reached) (rest : LineRest) : Type 0 where
-  pub text : rest.reader.text.now ≡ s.text
-  pub options : rest.reader.options ≡ pass.options
-  pub start : rest.reader.start ≡ rest.line.start
-  pub stop : rest.reader.stop ≡ rest.line.stop
-  pub next : rest.reader.next ≡ rest.line.next
-  pub outermost : rest.reader.outermost ≡ (reads_metadata pass.options
-      && list_all (λ block. by_body.is_list block.body) (take found.depth pass.placing.builder.blocks))
-  pub position : rest.position ≡ found.position
-  pub depth : rest.depth ≡ found.depth
-  pub before : rest.before ≡ paragraph_before pass found.all
 
 first_left : (s : Source) (pass : Pass) (found : code.Reached) (before : Before) (source : SourceLine)
     (rest : LineRest) → IsUtf8 pass.placing.builder.text → IsReachedBy s pass rest.line found before source
@@ -241,20 +175,26 @@ first_left s pass found before source rest utf8 by made =
         ∙ (by_lists lists refl
         ∙ (sym (ap (λ t. t && lists) by.is.outermost) ∙ sym by.reaches.outermost))
 
-pub first_turn : (s : Source) (pass : Pass) (found : code.Reached) (before : Before) (source : SourceLine)
-    (rest : LineRest) → IsUtf8 pass.placing.builder.text → reads_tables s ≡ false
-    → IsReachedBy s pass rest.line found before source → IsMadeOf s pass found rest
+pub first_turn : (s : Source) (old now : Pass) (found : code.Reached) (before : Before) (source : SourceLine)
+    (rest : LineRest) → now ≡ record old { tried = now.tried } → IsUtf8 old.placing.builder.text
+    → IfParagraphLast s (IsUntabled s now rest.line.start (reached_of s before source)) before.last
+    → IsReachedBy s old rest.line found before source → IsMadeOf s now found rest
     → is_blank_rest (reached_of s before source).rest ≡ false → LeafLeavesOff s before source
-    → IsFirst s pass rest before source (reached_of s before source).rest (with_line s (blocks_before before) source)
-first_turn s pass found before source rest utf8 tables by made filled off = record {
-  tables = tables;
-  holds = stands_holds s pass before.frames before.inside before.last rest.line.start by.stands;
-  is = by.is;
-  reached = refl;
-  left = first_left s pass found before source rest utf8 by made;
-  depth = made.depth ∙ by.reaches.depth;
-  paragraph = made.before ∙ ap (paragraph_before pass) by.reaches.all;
-  filled = filled;
-  over = nothing_left s pass rest.line.start before.frames before.inside before.last source by.stands filled off;
-  whole = refl;
-}
+    → IsFirst s now rest before source (reached_of s before source).rest (with_line s (blocks_before before) source)
+first_turn s old now found before source rest same utf8 untabled by made filled off =
+    let r = reached_of s before source in
+    let was = made_untried old now.tried s found rest (subst (λ (p : Pass). IsMadeOf s p found rest) same made) in
+    subst (λ (p : Pass). IsFirst s p rest before source r.rest (with_line s (blocks_before before) source)) (sym same)
+    (record {
+      untabled = subst (λ (p : Pass). IfParagraphLast s (IsUntabled s p rest.line.start r) before.last) same untabled;
+      holds = holds_all_tried old now.tried s before.frames before.inside before.last rest.line.start
+          (stands_holds s old before.frames before.inside before.last rest.line.start by.stands);
+      is = source_tried old now.tried rest.line source by.is;
+      reached = refl;
+      left = first_left s old found before source rest utf8 by was;
+      depth = was.depth ∙ by.reaches.depth;
+      paragraph = was.before ∙ ap (paragraph_before old) by.reaches.all;
+      filled = filled;
+      over = nothing_left s old rest.line.start before.frames before.inside before.last source by.stands filled off;
+      whole = refl;
+    })

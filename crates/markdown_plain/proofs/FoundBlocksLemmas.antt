@@ -1,6 +1,6 @@
 -- What a reader of the rest of a line finds is what the line begins, as the definition says.
 use Rattle.std.proofs.Common.{◌≡◌, ℕ, ◌+◌, ◌&&◌, ◌||◌, ◌==◌, Bool, true, false, List, Option, Some, None, refl}
-use Rattle.std.proofs.Common.{sym, ap, ◌∙◌, subst}
+use Rattle.std.proofs.Common.{sym, ap, ◌∙◌}
 use Rattle.std.proofs.lemmas.Option.{none-some}
 use Rattle.std.specs.Prelude.{if◌then◌else◌, unwrap_or}
 use Rattle.std.specs.List.{list_all, prefix_len}
@@ -82,7 +82,7 @@ first_same : (s : Source) (pass : Pass) (rest : LineRest) (new : LineReader) (be
     → IsFirst s pass rest before line source blocks
     → IsFirst s pass (record rest { reader = new }) before line source blocks
 first_same s pass rest new before line source blocks same state = record {
-  tables = state.tables;
+  untabled = state.untabled;
   holds = state.holds;
   is = state.is;
   reached = state.reached;
@@ -208,19 +208,18 @@ is_found s rest new source at start left same found place =
     }
 
 -- both, where nothing else has changed
-pub here_found : (s : Source) (old now : Pass) (rest : LineRest) (new : LineReader) (turn : Turn)
-    (source : SourceLine) (blocks : Forest Block) (at : ℕ) (begun start : BlockStart) → now ≡ old → begun ≡ start
+pub here_found : (s : Source) (pass : Pass) (rest : LineRest) (new : LineReader) (turn : Turn)
+    (source : SourceLine) (blocks : Forest Block) (at : ℕ) (begun start : BlockStart) → begun ≡ start
     → IsSameLine rest.reader new
     → beginning_found rest.reader begun
     ≡ begins_unless_blank (source_read rest.reader) rest.before (line_at rest.reader rest.position)
     → at ≡ rest.position.at + prefix_len is_space_or_tab (left_at rest.reader rest.position).bytes
-    → IsHere s old rest turn source blocks
-    → IsHere s now (record rest { reader = new }) turn source blocks
+    → IsHere s pass rest turn source blocks
+    → IsHere s pass (record rest { reader = new }) turn source blocks
     × IsFound s (record rest { reader = new }) source at start
-here_found s old now rest new turn source blocks at begun start kept is same found place state = (
-  subst (λ (p : Pass). IsHere s p (record rest { reader = new }) turn source blocks) (sym kept)
-      (here_same s old rest new turn source blocks same state),
-  is_found s rest new source at start (here_left s old rest turn source blocks state) same
+here_found s pass rest new turn source blocks at begun start is same found place state = (
+  here_same s pass rest new turn source blocks same state,
+  is_found s rest new source at start (here_left s pass rest turn source blocks state) same
       (ap (beginning_found rest.reader) (sym is) ∙ found) place,
 )
 

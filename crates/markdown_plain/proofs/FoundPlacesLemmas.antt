@@ -47,7 +47,6 @@ use Rattle.markdown_lines.specs.SourceLines.{SourceLine, is_blank_rest}
 use Rattle.markdown_lines.specs.ThematicBreaks.{is_thematic_break, setext_level}
 use Rattle.markdown_lines.specs.declared.atx_heading.AtxHeading.{AtxHeading}
 use Rattle.markdown_lines.specs.declared.block_start.Before.{Before}
-use Rattle.markdown_lines.specs.declared.block_start.Before.TheVariants as paragraph
 use Rattle.markdown_lines.specs.declared.block_start.BlockStart.{BlockStart}
 use Rattle.markdown_lines.specs.declared.block_start.BlockStart.TheVariants as start
 use Rattle.markdown_lines.specs.declared.braces.Braces.{Braces}
@@ -59,7 +58,6 @@ use Rattle.markdown_lines.proofs.BlockStartsLemmas.{slice_same}
 use Rattle.markdown_lines.proofs.LineBytesLemmas.{trimmed_is}
 use Rattle.markdown_lines.proofs.PositionsLemmas.{in_part, rest_of_part}
 use Rattle.markdown_block_rules.specs.BlockGrowth.{Block, content_of}
-use Rattle.markdown_block_rules.specs.TableLines.{reads_tables}
 use Rattle.markdown_block_rules.proofs.BlockBeginningsLemmas.{either}
 use Rattle.markdown_plain.specs.declared.beginnings.LineRest.{LineRest}
 use Rattle.markdown_plain.specs.declared.pass.Pass.{Pass}
@@ -67,7 +65,6 @@ use Rattle.markdown_plain.specs.Beginning.{FoundFits, FoundStands, HasBegun, IsF
 use Rattle.markdown_plain.specs.Beginning.{ReadsOn, StandsAsText, Turn, first, later}
 use Rattle.markdown_plain.specs.Fitting.{AllFitted, BracesStand}
 use Rattle.markdown_plain.specs.OpenLeaves.{InfoStands}
-use Rattle.markdown_plain.specs.Paragraphs.{source_of}
 use Rattle.markdown_plain.specs.Standing.{PlacesFor}
 use Rattle.markdown_plain.specs.TextLines.{IsContentAt}
 use Rattle.markdown_plain.proofs.FoundBlocksLemmas.{found_begins, here_found, here_left}
@@ -816,23 +813,19 @@ found_fits s rest source at other left found = tt
 
 -- ---- where nothing else has changed
 
--- what a reader says of the rest of a line, where no delimiter row was read in it, which would begin a table
-pub record Finds (old now : Pass) (rest : LineRest) (is_row : Bool) (new : LineReader) (at : ℕ) (start : BlockStart)
-    : Type 0 where
-  pub none : rest.before ≡ paragraph.NoParagraph → (is_row ≡ false) × (now ≡ old)
-  pub off : reads_tables (source_of old) ≡ false → (is_row ≡ false) × (now ≡ old)
+-- what a reader says of the rest of a line
+pub record Finds (rest : LineRest) (new : LineReader) (at : ℕ) (start : BlockStart) : Type 0 where
   pub begins : beginning_found rest.reader start
       ≡ begins_unless_blank (source_read rest.reader) rest.before (line_at rest.reader rest.position)
   pub place : at ≡ rest.position.at + prefix_len is_space_or_tab (left_at rest.reader rest.position).bytes
   pub same : IsSameLine rest.reader new
 
 -- this is still to be read, as it was, and was found to begin so
-pub record Meets (s : Source) (old now : Pass) (rest : LineRest) (turn : Turn) (source : SourceLine)
+pub record Meets (s : Source) (pass : Pass) (rest : LineRest) (turn : Turn) (source : SourceLine)
     (blocks : Forest Block) (at : ℕ) (start : BlockStart) : Type 0 where
-  pub kept : now ≡ old
-  pub here : IsHere s now rest turn source blocks
+  pub here : IsHere s pass rest turn source blocks
   pub found : IsFound s rest source at start
-  pub stands : FoundStands now.placing.builder.text rest.line at start
+  pub stands : FoundStands pass.placing.builder.text rest.line at start
 
 -- the pass reads the text of which it stands for blocks
 pub here_text : (s : Source) (pass : Pass) (rest : LineRest) (turn : Turn) (source : SourceLine) (blocks : Forest Block)
@@ -840,32 +833,20 @@ pub here_text : (s : Source) (pass : Pass) (rest : LineRest) (turn : Turn) (sour
 here_text s pass rest (first before line) source blocks state = ap (λ (s : Source). s.text) state.holds.source
 here_text s pass rest (later frames) source blocks state = ap (λ (s : Source). s.text) state.opened.source
 
--- no row is read at either turn
-no_row : (s : Source) (old now : Pass) (rest : LineRest) (is_row : Bool) (turn : Turn) (source : SourceLine)
-    (blocks : Forest Block) → (rest.before ≡ paragraph.NoParagraph → (is_row ≡ false) × (now ≡ old))
-    → (reads_tables (source_of old) ≡ false → (is_row ≡ false) × (now ≡ old))
-    → IsHere s old rest turn source blocks → (is_row ≡ false) × (now ≡ old)
-no_row s old now rest is_row (first before line) source blocks none off state =
-    off (ap reads_tables state.holds.source ∙ state.tables)
-no_row s old now rest is_row (later frames) source blocks none off state = none state.before
-
 -- what an arm needs
-pub meets : (s : Source) (old now : Pass) (rest : LineRest) (is_row : Bool) (new : LineReader) (turn : Turn)
-    (source : SourceLine) (blocks : Forest Block) (at : ℕ) (begun start : BlockStart)
-    → Finds old now rest is_row new at begun → begun ≡ start → IsHere s old rest turn source blocks
-    → Meets s old now (record rest { reader = new }) turn source blocks at start
-meets s old now rest is_row new turn source blocks at begun start finds is state =
-    let kept = (no_row s old now rest is_row turn source blocks finds.none finds.off state).1 in
-    let both = here_found s old now rest new turn source blocks at begun start kept is finds.same finds.begins
+pub meets : (s : Source) (pass : Pass) (rest : LineRest) (new : LineReader) (turn : Turn) (source : SourceLine)
+    (blocks : Forest Block) (at : ℕ) (begun start : BlockStart) → Finds rest new at begun → begun ≡ start
+    → IsHere s pass rest turn source blocks → Meets s pass (record rest { reader = new }) turn source blocks at start
+meets s pass rest new turn source blocks at begun start finds is state =
+    let both = here_found s pass rest new turn source blocks at begun start is finds.same finds.begins
     finds.place state in
     record {
-      kept = kept;
       here = both.0;
       found = both.1;
       stands = subst (λ text. FoundStands text rest.line at start)
-          (sym (here_text s now (record rest { reader = new }) turn source blocks both.0))
+          (sym (here_text s pass (record rest { reader = new }) turn source blocks both.0))
           (found_stands s (record rest { reader = new }) source at start
-          (here_left s now (record rest { reader = new }) turn source blocks both.0) both.1);
+          (here_left s pass (record rest { reader = new }) turn source blocks both.0) both.1);
     }
 
 -- what was begun does not depend on what the reader has kept of the line
@@ -878,26 +859,22 @@ begun_old s pass old new reader blocks true reads = record {
   here = reads.here;
   later = reads.later;
   line = reads.line;
-  row = reads.row;
 }
 begun_old s pass old new reader blocks false places = places
 
 -- by an arm that places the line, or that leaves more of it
-pub begun_places : (s : Source) (old now pass : Pass) (rest new : LineRest) (blocks : Forest Block) (more : Bool)
-    → now ≡ old → more ≡ false
-    → AllFitted now.placing × PlacesFor s pass rest.line.next blocks
+pub begun_places : (s : Source) (old pass : Pass) (rest new : LineRest) (blocks : Forest Block) (more : Bool)
+    → more ≡ false → AllFitted old.placing × PlacesFor s pass rest.line.next blocks
     → AllFitted old.placing × HasBegun s pass rest new blocks more
-begun_places s old now pass rest new blocks more kept is done = (
-  subst (λ (p : Pass). AllFitted p.placing) kept done.0,
-  subst (HasBegun s pass rest new blocks) (sym is) done.1,
-)
+begun_places s old pass rest new blocks more is done =
+    (done.0, subst (HasBegun s pass rest new blocks) (sym is) done.1)
 
-pub begun_reads : (s : Source) (old now pass : Pass) (rest new : LineRest) (reader : LineReader)
-    (blocks : Forest Block) (more : Bool) → now ≡ old → more ≡ true
-    → AllFitted now.placing × ReadsOn s pass (record rest { reader = reader }) new blocks
+pub begun_reads : (s : Source) (old pass : Pass) (rest new : LineRest) (reader : LineReader)
+    (blocks : Forest Block) (more : Bool) → more ≡ true
+    → AllFitted old.placing × ReadsOn s pass (record rest { reader = reader }) new blocks
     → AllFitted old.placing × HasBegun s pass rest new blocks more
-begun_reads s old now pass rest new reader blocks more kept is done = (
-  subst (λ (p : Pass). AllFitted p.placing) kept done.0,
+begun_reads s old pass rest new reader blocks more is done = (
+  done.0,
   begun_old s pass rest new reader blocks more
       (subst (HasBegun s pass (record rest { reader = reader }) new blocks) (sym is) done.1),
 )

@@ -246,24 +246,33 @@ list_grows s below grown l (was.list_container marker) list goes = rw goes refl
 list_grows s below grown l other list goes = absurd (true≢false (sym list))
 
 -- what is left of a line in a container ends where the line does
-left_next : (l rest : SourceLine) (left : Option LineLeft) → option_map (λ left. rest_inside left l) left ≡ Some rest
-    → rest.next ≡ l.next
-left_next l rest None takes = absurd (none-some rest takes)
-left_next l rest (Some left) takes = ap (λ (r : SourceLine). r.next) (sym (same_Some (rest_inside left l) rest takes))
+module _ {A : Type 0} (part : SourceLine → A) (same : (left : LineLeft) (l : SourceLine)
+    → part (rest_inside left l) ≡ part l) where
+  left_kept : (l rest : SourceLine) (left : Option LineLeft) → option_map (λ left. rest_inside left l) left ≡ Some rest
+      → part rest ≡ part l
+  left_kept l rest None takes = absurd (none-some rest takes)
+  left_kept l rest (Some left) takes =
+      ap part (sym (same_Some (rest_inside left l) rest takes)) ∙ same left l
 
+  -- what a container leaves of a line has the same part, where it has not to do with what is left
+  pub rest_kept : (s : Source) (empty : Bool) (l rest : SourceLine) (kind : Kind)
+      → inside_container s l empty kind ≡ Some rest → part rest ≡ part l
+  rest_kept s empty l rest was.quote_container takes = left_kept l rest (past_quote l.left) takes
+  rest_kept s empty l rest (was.alert_container kind) takes = left_kept l rest (past_quote l.left) takes
+  rest_kept s empty l rest (was.footnote_container label) takes = left_kept l rest (past_footnote s l) takes
+  rest_kept s empty l rest (was.item_container indent) takes = decided (is_blank_rest l && empty) takes
+    where
+      decided : (ends : Bool)
+          → (if ends then None else option_map (λ left. rest_inside left l) (past_indentation indent l)) ≡ Some rest
+          → part rest ≡ part l
+      decided true takes = absurd (none-some rest takes)
+      decided false takes = left_kept l rest (past_indentation indent l) takes
+  rest_kept s empty l rest other takes = ap part (sym (same_Some l rest takes))
+
+-- such as where the line ends
 pub rest_next : (s : Source) (empty : Bool) (l rest : SourceLine) (kind : Kind)
     → inside_container s l empty kind ≡ Some rest → rest.next ≡ l.next
-rest_next s empty l rest was.quote_container takes = left_next l rest (past_quote l.left) takes
-rest_next s empty l rest (was.alert_container kind) takes = left_next l rest (past_quote l.left) takes
-rest_next s empty l rest (was.footnote_container label) takes = left_next l rest (past_footnote s l) takes
-rest_next s empty l rest (was.item_container indent) takes = decided (is_blank_rest l && empty) takes
-  where
-    decided : (ends : Bool)
-        → (if ends then None else option_map (λ left. rest_inside left l) (past_indentation indent l)) ≡ Some rest
-        → rest.next ≡ l.next
-    decided true takes = absurd (none-some rest takes)
-    decided false takes = left_next l rest (past_indentation indent l) takes
-rest_next s empty l rest other takes = ap (λ (r : SourceLine). r.next) (sym (same_Some l rest takes))
+rest_next s empty l rest kind takes = rest_kept (λ (l : SourceLine). l.next) (λ left l. refl) s empty l rest kind takes
 
 -- ---- the containers that go on
 

@@ -1,5 +1,5 @@
 -- An open leaf with one more line: what the pass has placed then.
-use Rattle.std.proofs.Common.{◌≡◌, ℕ, ◌≤◌, Bool, true, false, ◌&&◌, List, [], ◌∷◌, ◌++◌, Option, Some, None, map}
+use Rattle.std.proofs.Common.{◌≡◌, ℕ, ◌≤◌, Bool, true, false, not, ◌&&◌, List, [], ◌∷◌, ◌++◌, Option, Some, None, map}
 use Rattle.std.proofs.Common.{refl, sym, ap, ◌∙◌, subst, append-nil, true≢false, arith}
 use Rattle.std.specs.Prelude.{◌==◌, nat_le}
 use Rattle.std.specs.Str.{IsCharBoundary}
@@ -33,12 +33,14 @@ use Rattle.markdown_plain.specs.declared.pass.Pass.{Pass}
 use Rattle.markdown_plain.specs.Closable.{IsReadyAfter}
 use Rattle.markdown_plain.specs.Closing.{AreItemsInLists, MayEnd}
 use Rattle.markdown_plain.specs.Frames.{Frame, reached, rebuilt, touched}
-use Rattle.markdown_plain.specs.OpenLeaves.{IsLeafIn, IsLineRest, IsPlaced, has_ended, is_leaf, leaf_block}
+use Rattle.markdown_plain.specs.OpenLeaves.{IsLeafIn, IsLineRest, IsOpenIn, IsPlaced, has_ended, is_leaf, is_table, leaf_block}
 use Rattle.markdown_plain.specs.Paragraphs.{lines_end, source_of}
 use Rattle.markdown_plain.specs.ReachedLines.{Before, IsReachedBy, LeavesOff, blocks_before, is_indented, reached_of}
 use Rattle.markdown_plain.specs.Settled.{IsLooseAs}
 use Rattle.markdown_plain.specs.Standing.{HasLast, HoldsBlanks, IsLeafKind, KnowsLast, PlacesFor, is_metadata}
 use Rattle.markdown_plain.proofs.BlankLinesLemmas.{blank_alike, whole_left}
+use Rattle.markdown_plain.specs.TableHeads.{Remembers}
+use Rattle.markdown_plain.proofs.OpenTablesLemmas.{in_leaf_open, leaf_goes_by, leaf_known, nothing_remembered}
 use Rattle.markdown_plain.proofs.BlankStandingLemmas.{all_reached, last_of, next_after}
 use Rattle.markdown_plain.proofs.IndentedLeavesLemmas.{code_to_end, end_of_last}
 use Rattle.markdown_plain.proofs.ItemsInListsLemmas.{line_keeps}
@@ -66,6 +68,7 @@ no_blank_line other leaf = refl
 -- what a leaf may be that has grown from one of another kind with a line that ends at a byte offset
 pub record MayGrow (kind now : Kind) (next : ℕ) : Type 0 where
   pub leaf : is_leaf now ≡ true
+  pub plain : is_table now ≡ false
   pub over : has_ended now ≡ true → is_over now ≡ true
   pub filled : block_ends_blank false now ≡ false
   pub alone : is_metadata now ≡ true → is_metadata kind ≡ true
@@ -160,6 +163,7 @@ grown_places s old new line found frames inside b source now by none may empty g
         earlier = earlier_touched source line.start line.next (next_after old line source by.is) frames
             by.stands.earlier;
         alone = tt;
+        remembers = tt;
         ready = ready;
       };
       whole = whole;
@@ -174,10 +178,12 @@ grown_places s old new line found frames inside b source now by none may empty g
           None,
           (
             grows.leaf,
-            open_leaf_touched source s new.placing.builder frames inside true
-                (grown_to b (reached_of s (last_of frames inside b) source).rest.next now) is,
+            subst (λ in_leaf. IsOpenIn s new.placing.builder (map (touched source) frames) inside in_leaf
+                (grown_to b (reached_of s (last_of frames inside b) source).rest.next now)) (sym (ap not grows.plain))
+                (open_leaf_touched source s new.placing.builder frames inside true
+                (grown_to b (reached_of s (last_of frames inside b) source).rest.next now) is),
           ),
-          ((adds.knows ends).0, (adds.knows ends).1, adds.lines ∙ empty),
+          (leaf_goes_by new.leaf now grows.plain (adds.knows ends).0, (adds.knows ends).1, adds.lines ∙ empty),
         );
         quotes = quotes_touched source line.next (sym by.is.next) frames;
         items = items;
@@ -189,6 +195,7 @@ grown_places s old new line found frames inside b source now by none may empty g
         earlier = earlier_touched source line.start line.next (next_after old line source by.is) frames
             by.stands.earlier;
         alone = λ metadata. ap (map (touched source)) (by.stands.alone (grows.alone metadata));
+        remembers = nothing_remembered s (Remembers s new line.next) now grows.leaf;
         ready = ready;
       };
       whole = whole;
@@ -202,15 +209,20 @@ last_filled (m ∷ n ∷ lines) l some = last_filled (n ∷ lines) l some
 
 -- ---- the open leaf, by its kind
 
+-- how an open leaf of the builder goes on is known
+abbrev KnowsLeaf : Pass → Block → Type 0
+KnowsLeaf pass b =
+    IsLeafKind pass.leaf b.kind × HoldsBlanks pass.blanks.items b.kind × (pass.lines.items ≡ [])
+
 -- the last block before a line is a leaf, where one is open
 leaf_case : (P : Before → Type 0) (s : Source) (pass : Pass) (before : Before)
     → HasLast s pass before.frames before.inside before.last → pass.placing.builder.leaf ≡ true
-    → ((b : Block) → MayEnd s pass before.frames before.inside b None → KnowsLast pass b None
+    → ((b : Block) → MayEnd s pass before.frames before.inside b None → KnowsLeaf pass b
     → P (last_of before.frames before.inside b)) → P before
 leaf_case P s pass before has leaf some = by_last before.last has some
   where
     by_last : (last : Option Block) → HasLast s pass before.frames before.inside last
-        → ((b : Block) → MayEnd s pass before.frames before.inside b None → KnowsLast pass b None
+        → ((b : Block) → MayEnd s pass before.frames before.inside b None → KnowsLeaf pass b
         → P (last_of before.frames before.inside b))
         → P (record { frames = before.frames; inside = before.inside; last = last })
     by_last None has some = absurd (true≢false (sym leaf ∙ has.0.stands.built.outside))
@@ -218,7 +230,8 @@ leaf_case P s pass before has leaf some = by_last before.last has some
       where
         by_held : (held : Option (List SourceLine)) → MayEnd s pass before.frames before.inside b held
             → KnowsLast pass b held → P (last_of before.frames before.inside b)
-        by_held None may knows = some b may knows
+        by_held None may knows =
+            some b may (leaf_known pass.leaf b.kind (sym may.unended.1.leaf ∙ leaf) knows.0, knows.1, knows.2)
         by_held (Some sources) may knows = absurd (true≢false (sym leaf ∙ may.unended.built.outside))
 
 -- the rest of the line
@@ -250,6 +263,7 @@ fenced_grown s rest opening lines = by_test (closes s rest opening.fence) refl
       is = rw is refl;
       grows = record {
         leaf = refl;
+        plain = refl;
         over = λ e. e;
         filled = refl;
         alone = λ e. absurd (true≢false (sym e));
@@ -263,6 +277,7 @@ fenced_grown s rest opening lines = by_test (closes s rest opening.fence) refl
       is = rw is refl;
       grows = record {
         leaf = refl;
+        plain = refl;
         over = λ e. e;
         filled = refl;
         alone = λ e. absurd (true≢false (sym e));
@@ -281,14 +296,14 @@ metadata_grown s rest kind lines = by_test (closes_metadata kind rest.left.bytes
     by_test true is = record {
       now = was.metadata_leaf kind true lines;
       is = rw is refl;
-      grows = record { leaf = refl; over = λ e. e; filled = refl; alone = λ e. refl; end = λ b e. e };
+      grows = record { leaf = refl; plain = refl; over = λ e. e; filled = refl; alone = λ e. refl; end = λ b e. e };
       knows = λ e. absurd (true≢false e);
       none = λ held e. e;
     }
     by_test false is = record {
       now = was.metadata_leaf kind false (lines ++ rest ∷ []);
       is = rw is refl;
-      grows = record { leaf = refl; over = λ e. e; filled = refl; alone = λ e. refl; end = λ b e. e };
+      grows = record { leaf = refl; plain = refl; over = λ e. e; filled = refl; alone = λ e. refl; end = λ b e. e };
       knows = λ e. refl;
       none = λ held e. e;
     }
@@ -301,6 +316,7 @@ html_grown s rest kind lines more = record {
   is = rw more refl;
   grows = record {
     leaf = refl;
+    plain = refl;
     over = λ e. e;
     filled = refl;
     alone = λ e. absurd (true≢false (sym e));
@@ -371,7 +387,8 @@ fenced_places s old new line found before source fence how open_leaf same text a
         subst (λ k. GrownFrom s rest old.leaf k) (sym kind)
         (subst (λ h. GrownFrom s rest h (was.fenced_leaf opening false lines)) (sym known)
         (fenced_grown s rest opening lines)) in
-        let added = adds before.frames before.inside b opening lines rest grown.now may.unended.1 kind is
+        let added = adds before.frames before.inside b opening lines rest grown.now
+        (in_leaf_open s old before.frames before.inside b may open_leaf) kind is
         (line_rest s old line found (last_of before.frames before.inside b) source by) grown.is fits in (
           added.0,
           kept_places s old new line found before.frames before.inside b source by none may empty unheld same text
@@ -410,7 +427,8 @@ html_places s old new line found before source kind how open_leaf same text adds
         subst (λ k. GrownFrom s rest old.leaf k) (sym kind_is)
         (subst (λ h. GrownFrom s rest h (was.html_leaf kind false lines)) (sym how)
         (html_grown s rest kind lines (ap (λ t. t && ends_at_blank kind) (sym by.reaches.blank) ∙ more))) in
-        let added = adds before.frames before.inside b lines rest grown.now may.unended.1 kind_is
+        let added = adds before.frames before.inside b lines rest grown.now
+        (in_leaf_open s old before.frames before.inside b may open_leaf) kind_is
         (line_rest s old line found (last_of before.frames before.inside b) source by) grown.is fits in (
           added.0,
           kept_places s old new line found before.frames before.inside b source by none may empty unheld same text
@@ -459,7 +477,8 @@ metadata_places s old new line found before source kind how open_leaf same text 
         let left = by.reaches.rest.left
         ∙ (ap (λ (l : SourceLine). l.left) (whole_rest s before.frames open_blocks source alone none)
         ∙ sym by.is.left) in
-        let added = adds before.frames before.inside b lines found.position rest grown.now may.unended.1 kind_is
+        let added = adds before.frames before.inside b lines found.position rest grown.now
+        (in_leaf_open s old before.frames before.inside b may open_leaf) kind_is
         (ap (λ (l : LineLeft). l.scanned) left) (ap (λ (l : LineLeft). l.owed) left)
         (line_rest s old line found (last_of before.frames before.inside b) source by) grown.is fits in (
           added.0,
@@ -531,13 +550,15 @@ indented_places s old new line found before source after how open_leaf same empt
         blank_alike 4 rest.left ∙ (sym by.reaches.blank ∙ some) in
         let enough = sym (ap (λ left. (leading_space 4 left).columns == 4) by.reaches.rest.left) ∙ four in
         let all = code_to_end lines (cut 4 rest) filled in
-        let added = adds before.frames before.inside b code blank (cut 4 rest) may.unended.1
+        let added = adds before.frames before.inside b code blank (cut 4 rest)
+        (in_leaf_open s old before.frames before.inside b may open_leaf)
         (kind ∙ ap was.indented_leaf unheld.1) (ap code_lines (sym unheld.1)) unheld.2
         (rest_cut old.placing.builder.text found.position after line rest read
         (line_rest s old line found (last_of before.frames before.inside b) source by)) filled fits in (
           added.0,
           grown_places s old new line found before.frames before.inside b source now by none may empty (record {
             leaf = refl;
+            plain = refl;
             over = λ e. absurd (true≢false (sym e));
             filled = last_filled lines (cut 4 rest) filled;
             alone = λ e. absurd (true≢false (sym e));

@@ -1,14 +1,11 @@
 -- What is open before a line; and an open leaf that goes on in the line, or leaves off.
 use Rattle.std.proofs.Common.{◌≡◌, ℕ, Bool, true, false, not, ◌&&◌, ◌||◌, List, [], ◌∷◌, ◌++◌, Option, Some, None}
-use Rattle.std.proofs.Common.{suc, ◌-◌, arith, length, map, refl, sym, ap, ◌∙◌, append-nil, true≢false}
+use Rattle.std.proofs.Common.{map, refl, sym, ap, ◌∙◌, append-nil, true≢false}
 use Rattle.std.proofs.Math.Bool.{and-false, or-false}
-use Rattle.std.specs.Prelude.{slice_get, if◌then◌else◌}
-use Rattle.std.specs.Option.{option_map, option_map_or}
-use Rattle.markdown_base.specs.Forest.{Forest, nil, node}
-use Rattle.markdown_base.specs.declared.item.ItemBody.{ItemBody}
-use Rattle.markdown_base.specs.declared.item.ItemBody.TheVariants as body
-use Rattle.markdown_builder.specs.BuilderView.{BuilderView, innermost_block}
-use Rattle.markdown_builder.specs.Shown.{Shown, unnumbered}
+use Rattle.std.specs.Prelude.{if◌then◌else◌}
+use Rattle.std.specs.Option.{option_map}
+use Rattle.markdown_base.specs.Forest.{Forest, nil}
+use Rattle.markdown_builder.specs.BuilderView.{BuilderView}
 use Rattle.markdown_builder.specs.TreeLevels.{followed_by}
 use Rattle.markdown_builder.specs.declared.open_block.OpenBlock.{OpenBlock}
 use Rattle.markdown_lines.specs.BlockBeginnings.{Source}
@@ -20,70 +17,28 @@ use Rattle.markdown_block_rules.specs.BlockGrowth.{table_with, with_line}
 use Rattle.markdown_block_rules.specs.BlockRules.{are_separated, ends_blank, hold_separated, in_no_item}
 use Rattle.markdown_block_rules.specs.BlockRules.{is_blank_block, is_loose, shown_blocks}
 use Rattle.markdown_plain.specs.declared.looseness.Looseness.{Looseness}
-use Rattle.markdown_plain.specs.declared.pass.LeafKind.{LeafKind}
-use Rattle.markdown_plain.specs.declared.pass.LeafKind.TheVariants as leaf
 use Rattle.markdown_plain.specs.declared.pass.Pass.{Pass}
 use Rattle.markdown_plain.specs.Closing.{MayEnd}
-use Rattle.markdown_plain.specs.Containers.{is_container, is_innermost}
+use Rattle.markdown_plain.specs.Containers.{is_innermost}
 use Rattle.markdown_plain.specs.Frames.{AreContainers, AreNested, Frame, is_list, reached, rebuilt, touched}
-use Rattle.markdown_plain.specs.OpenBlocks.{innermost_is, is_table, without_leaf}
+use Rattle.markdown_plain.specs.OpenBlocks.{without_leaf}
+use Rattle.markdown_plain.specs.OpenLeaves as leaves
 use Rattle.markdown_plain.specs.OpenLeaves.{IsOpenIn, is_leaf, leaf_block}
-use Rattle.markdown_plain.specs.OpenedFrames.{around_innermost}
 use Rattle.markdown_plain.specs.ReachedFrames.{IsAtMostLeaf, IsBefore, IsReached}
 use Rattle.markdown_plain.specs.ReachedLines.{Before, IsReachedBy, blocks_in}
 use Rattle.markdown_plain.specs.declared.containers.Reached as code
-use Rattle.markdown_plain.specs.Settled.{AreOpen, EmptyKnown, EmptyKnownIn, IsBodyOf, IsLooseAs, are_loose}
+use Rattle.markdown_plain.specs.Settled.{AreOpen, EmptyKnown, EmptyKnownIn, IsLooseAs, are_loose}
 use Rattle.markdown_plain.specs.Settled.{placed_end}
-use Rattle.markdown_plain.specs.Standing.{HasLast, IsLeafKind, IsSource, KnowsLast, Stands, with_last}
+use Rattle.markdown_plain.specs.Standing.{HasLast, IsSource, KnowsLast, Stands, with_last}
 use Rattle.markdown_plain.proofs.BlanksKnownLemmas.{same_touched}
 use Rattle.markdown_plain.proofs.FramesLemmas.{ends_in_block, goes_on_last}
-use Rattle.markdown_plain.proofs.LeavesInPlaceLemmas.{shown_alone, shown_leaf}
 use Rattle.markdown_plain.proofs.LinedLeavesLemmas.{grown_to}
 use Rattle.markdown_plain.proofs.LooseFramesLemmas.{closed_separated, loose_by_last, same_last}
-use Rattle.markdown_plain.proofs.OpenBlocksLemmas.{around_leaf, innermost_of_opened, outside_leaf}
+use Rattle.markdown_plain.proofs.OpenTablesLemmas.{leaf_alone, without_built, without_open}
 use Rattle.markdown_plain.proofs.ReachedLemmas.{last_goes_on, reached_parts}
 use Rattle.markdown_plain.proofs.TouchedFramesLemmas.{around_touched, built_touched}
 
 -- ---- what is open before a line
-
--- a leaf is no container, and no table
-abbrev holds_blocks : ItemBody → Bool
-holds_blocks b = is_container b || is_table b
-
-abbrev root_holds_blocks : Forest Shown → Bool
-root_holds_blocks nil = false
-root_holds_blocks (node a below after) = holds_blocks a.item.body
-
-number_alike : (b : ItemBody) → holds_blocks (unnumbered b) ≡ holds_blocks b
-number_alike (body.Heading level None) = refl
-number_alike (body.Heading level (Some ix)) = refl
-number_alike other = refl
-
-leaf_shown : (s : Source) (frames : List Frame) (b : Block) (how : LeafKind) (kind : Kind) → b.kind ≡ kind
-    → IsLeafKind how kind → root_holds_blocks (shown_leaf s frames b) ≡ false
-leaf_shown s frames b leaf.Indented (was.indented_leaf lines) same is =
-    ap root_holds_blocks (shown_alone s (around_innermost in_no_item frames) b (was.indented_leaf lines) same)
-leaf_shown s frames b (leaf.Fenced fence) (was.fenced_leaf opening false lines) same is =
-    ap root_holds_blocks
-    (shown_alone s (around_innermost in_no_item frames) b (was.fenced_leaf opening false lines) same)
-leaf_shown s frames b (leaf.Html found) (was.html_leaf kind false lines) same is =
-    ap root_holds_blocks (shown_alone s (around_innermost in_no_item frames) b (was.html_leaf kind false lines) same)
-leaf_shown s frames b (leaf.Metadata found) (was.metadata_leaf kind false lines) same is =
-    ap root_holds_blocks
-    (shown_alone s (around_innermost in_no_item frames) b (was.metadata_leaf kind false lines) same)
-leaf_shown s frames b other kind same is = absurd is
-
-leaf_alone : (s : Source) (view : BuilderView) (frames : List Frame) (inside : Forest Block) (b : Block)
-    (how : LeafKind) → IsLeafKind how b.kind → (is : IsOpenIn s view frames inside true b)
-    → (is_container is.block.body ≡ false) × (is_table is.block.body ≡ false)
-leaf_alone s view frames inside b how known is =
-    neither (is_container is.block.body) (is_table is.block.body)
-    (sym (number_alike is.block.body)
-    ∙ (ap root_holds_blocks is.shown ∙ leaf_shown s frames b how b.kind refl known))
-  where
-    neither : (one other : Bool) → (one || other) ≡ false → (one ≡ false) × (other ≡ false)
-    neither true other none = absurd (true≢false none)
-    neither false other none = (refl, none)
 
 -- the innermost container is no empty item where there is a block in it
 none_empty : (frames : List Frame) (inside : Forest Block) → is_nil inside ≡ false → EmptyKnown false frames inside
@@ -114,7 +69,7 @@ open_parts s pass frames inside None has loose = record {
   containers = pass.placing.builder.blocks;
   leaf = [];
   blocks = sym (append-nil pass.placing.builder.blocks);
-  without = outside_leaf pass.placing.builder has.0.stands.built.outside;
+  without = without_built s pass.placing.builder frames inside has.0.stands.built;
   alone = tt;
   are = has.0.stands.built.blocks;
   nested = has.0.stands.built.nested;
@@ -131,8 +86,8 @@ open_parts s pass frames inside (Some b) has loose = by_held has.0 has.1 has.2
           containers = is.outer;
           leaf = is.block ∷ [];
           blocks = is.blocks;
-          without = around_leaf view is.outer is.block is.leaf is.blocks;
-          alone = (leaf_alone s view frames inside b pass.leaf knows.0 is).0;
+          without = without_open s view frames inside b is;
+          alone = (leaf_alone s view frames inside b (not (leaves.is_table b.kind)) pass.leaf knows.0 is).0;
           are = is.around.blocks;
           nested = is.around.nested;
           empty = none_empty frames (followed_by inside (leaf_block b)) (ends_in_block inside b nil);
@@ -141,48 +96,12 @@ open_parts s pass frames inside (Some b) has loose = by_held has.0 has.1 has.2
       containers = pass.placing.builder.blocks;
       leaf = [];
       blocks = sym (append-nil pass.placing.builder.blocks);
-      without = outside_leaf pass.placing.builder may.unended.built.outside;
+      without = without_built s pass.placing.builder frames inside may.unended.built;
       alone = tt;
       are = may.unended.built.blocks;
       nested = may.unended.built.nested;
       empty = loose.empty;
     }
-
-no_table_among : (texts : List (List ℕ)) (blocks : List OpenBlock) (frames : List Frame) → AreOpen texts blocks frames
-    → innermost_is is_table blocks ≡ false
-no_table_among texts [] [] are = refl
-no_table_among texts [] (f ∷ frames) are = absurd are
-no_table_among texts (block ∷ blocks) [] are = absurd are
-no_table_among texts (block ∷ []) (f ∷ frames) are = by_kind f.block.kind are.0.body
-  where
-    by_kind : (kind : Kind) → IsBodyOf texts kind block.body → is_table block.body ≡ false
-    by_kind was.quote_container is = ap is_table is
-    by_kind (was.alert_container kind) is = ap is_table is
-    by_kind (was.list_container marker) is = ap is_table is
-    by_kind (was.item_container indent) is = ap is_table is
-    by_kind (was.footnote_container label) is = ap is_table is.1
-    by_kind other is = absurd is
-no_table_among texts (block ∷ other ∷ blocks) (f ∷ frames) are =
-    let last : length (block ∷ other ∷ blocks) - 1 ≡ suc (length (other ∷ blocks) - 1) = omega arith in
-    ap (λ n. option_map_or (λ b. is_table b.body) (slice_get (block ∷ other ∷ blocks) n) false) last
-    ∙ no_table_among texts (other ∷ blocks) frames are.1
-
--- no table is open
-pub no_table_open : (s : Source) (pass : Pass) (frames : List Frame) (inside : Forest Block) (last : Option Block)
-    → HasLast s pass frames inside last → innermost_is is_table pass.placing.builder.blocks ≡ false
-no_table_open s pass frames inside None has =
-    no_table_among pass.placing.builder.texts pass.placing.builder.blocks frames has.0.stands.built.blocks
-no_table_open s pass frames inside (Some b) has = by_held has.0 has.1 has.2
-  where
-    by_held : (held : Option (List SourceLine)) → MayEnd s pass frames inside b held → KnowsLast pass b held
-        → innermost_is is_table pass.placing.builder.blocks ≡ false
-    by_held None may knows =
-        let is = may.unended.1 in
-        ap (λ found. option_map_or (λ b. is_table b.body) found false)
-        (ap innermost_block is.blocks ∙ innermost_of_opened is.outer is.block)
-        ∙ (leaf_alone s pass.placing.builder frames inside b pass.leaf knows.0 is).1
-    by_held (Some sources) may knows =
-        no_table_among pass.placing.builder.texts pass.placing.builder.blocks frames may.unended.built.blocks
 
 -- so it is known how far a line reaches
 pub before_line : (s : Source) (pass : Pass) (line : Line) (frames : List Frame) (inside : Forest Block)

@@ -13,7 +13,10 @@ pub mod PlacedParagraphsLemmas
 pub mod EndedParagraphsLemmas
 pub mod ParagraphsLemmas
 pub mod DividedLemmas
+pub mod DefinitionLinesLemmas
 pub mod TableHeadsLemmas
+pub mod DelimiterRowsLemmas
+pub mod TableBeginningsLemmas
 pub mod ListLoosenessLemmas
 -- on what a line makes of blocks, some of which are open
 pub mod FramesLemmas
@@ -22,6 +25,7 @@ pub mod BegunLemmas
 pub mod BegunAloneLemmas
 pub mod LastBlocksLemmas
 pub mod ReachedFramesLemmas
+pub mod AddedCellsLemmas
 -- on open containers, and on blocks that are appended inside them
 pub mod AppendedBlocksLemmas
 pub mod OpenedFramesLemmas
@@ -38,6 +42,9 @@ pub mod ClosedListsLemmas
 pub mod BlanksKnownLemmas
 -- on leaves in open containers
 pub mod LeavesInPlaceLemmas
+pub mod OpenTablesLemmas
+pub mod RememberedTextLemmas
+pub mod TriedLemmas
 pub mod LinedLeavesLemmas
 pub mod LeafKindsLemmas
 pub mod ParagraphsInPlaceLemmas
@@ -51,6 +58,11 @@ pub mod LeafLinesLemmas
 pub mod BlankLinesLemmas
 pub mod BlankStandingLemmas
 pub mod GrownLeavesLemmas
+pub mod GrownTablesLemmas
+pub mod EndedTablesLemmas
+pub mod ReadRowsLemmas
+pub mod AddedRowsLemmas
+pub mod EndedLinesLemmas
 -- on lines that are text
 pub mod HeldTextLemmas
 pub mod AddedTextLemmas
@@ -88,6 +100,12 @@ pub mod ReadyPlacesLemmas
 pub mod ReadyTextsLemmas
 pub mod ReadyContainersLemmas
 pub mod ReadyLinesLemmas
+-- on a table that begins at its delimiter row
+pub mod TableFrontsLemmas
+pub mod BegunTablesLemmas
+pub mod UntabledLinesLemmas
+pub mod UntabledTextsLemmas
+pub mod PlacedTablesLemmas
 -- on a whole text
 pub mod WholeTextsLemmas
 pub mod BlockResultsLemmas

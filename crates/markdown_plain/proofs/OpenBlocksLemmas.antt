@@ -1,11 +1,11 @@
 -- The open blocks, where one was opened and where the innermost is closed or replaced.
-use Rattle.std.proofs.Common.{◌≡◌, ℕ, zero, suc, ◌-◌, ◌<◌, true, false, List, [], ◌∷◌, ◌++◌, Some, length, take, refl}
+use Rattle.std.proofs.Common.{◌≡◌, ℕ, zero, suc, ◌-◌, ◌<◌, Bool, true, false, ◌||◌, List, [], ◌∷◌, ◌++◌, Some, length, take, refl}
 use Rattle.std.proofs.Common.{ap, ◌∙◌, arith}
 use Rattle.std.specs.Prelude.{if◌then◌else◌}
 use native.Mathlib.Numerals.{unary_clauses}
 use Rattle.markdown_builder.specs.declared.open_block.OpenBlock.{OpenBlock}
 use Rattle.markdown_builder.specs.BuilderView.{BuilderView, innermost_block}
-use Rattle.markdown_plain.specs.OpenBlocks.{outer_of, without_leaf}
+use Rattle.markdown_plain.specs.OpenBlocks.{has_leaf, innermost_is, is_table, outer_of, without_leaf}
 
 -- the blocks before the last one are those outside it
 pub outer_of_opened : (outer : List OpenBlock) (block : OpenBlock) → outer_of (outer ++ block ∷ []) ≡ outer
@@ -19,12 +19,19 @@ pub outer_of_these : (blocks outer : List OpenBlock) (block : OpenBlock) → blo
     → outer_of blocks ≡ outer
 outer_of_these blocks outer block e = rw e (outer_of_opened outer block)
 
--- no leaf is open, so that the open blocks are those without one
-pub outside_leaf : (view : BuilderView) → view.leaf ≡ false → without_leaf view ≡ view.blocks
+-- no leaf block is open, so that the open blocks are those without one
+pub outside_leaf : (view : BuilderView) → has_leaf view ≡ false → without_leaf view ≡ view.blocks
 outside_leaf view outside = ap (λ leaf. if leaf then outer_of view.blocks else view.blocks) outside
 
--- those around an open leaf
-pub around_leaf : (view : BuilderView) (outer : List OpenBlock) (block : OpenBlock) → view.leaf ≡ true
+pub no_leaf_there : (view : BuilderView) → has_leaf view ≡ false → view.leaf ≡ false
+no_leaf_there view outside = first view.leaf (innermost_is is_table view.blocks) outside
+  where
+    first : (one other : Bool) → (one || other) ≡ false → one ≡ false
+    first true other none = none
+    first false other none = refl
+
+-- those around an open leaf block
+pub around_leaf : (view : BuilderView) (outer : List OpenBlock) (block : OpenBlock) → has_leaf view ≡ true
     → view.blocks ≡ outer ++ block ∷ [] → without_leaf view ≡ outer
 around_leaf view outer block leaf is =
     ap (λ leaf. if leaf then outer_of view.blocks else view.blocks) leaf ∙ outer_of_these view.blocks outer block is

@@ -1,5 +1,5 @@
 -- What the pass has placed with a line of text: a paragraph with one more line, or one that begins.
-use Rattle.std.proofs.Common.{◌≡◌, ℕ, ◌≤◌, false, List, [], ◌∷◌, ◌++◌, Some, None, arith, length, map, take, drop}
+use Rattle.std.proofs.Common.{◌≡◌, ℕ, ◌≤◌, true, false, List, [], ◌∷◌, ◌++◌, Some, None, arith, length, map, take, drop}
 use Rattle.std.proofs.Common.{refl, sym, ap, ◌∙◌, subst, true≢false}
 use Rattle.std.specs.Prelude.{slice_range}
 use Rattle.markdown_base.specs.Forest.{Forest}
@@ -21,13 +21,16 @@ use Rattle.markdown_plain.specs.Beginning.{Holds}
 use Rattle.markdown_plain.specs.Closable.{IsReadyAfter}
 use Rattle.markdown_plain.specs.Closing as closing
 use Rattle.markdown_plain.specs.Closing.{AreItemsInLists, MayEnd}
-use Rattle.markdown_plain.specs.Frames.{AreContainers, AreNested, Frame, reached, rebuilt, room_depth, touched}
+use Rattle.markdown_plain.specs.Frames.{AreContainers, AreNested, Frame, reached, rebuilt, room_depth}
+use Rattle.markdown_plain.specs.Frames.{touched}
 use Rattle.markdown_plain.specs.OpenLeaves.{AreItemsOpenedIn, BeginsText, ComesAfter, HoldsParagraph, leaf_block}
 use Rattle.markdown_plain.specs.Paragraphs.{source_of}
 use Rattle.markdown_plain.specs.Settled.{IsLooseAs, IsLooseBefore}
 use Rattle.markdown_plain.specs.Standing.{AreOpenedBefore, IsSource, PlacesFor, is_metadata}
+use Rattle.markdown_plain.specs.TableHeads.{IsUntabled, Remembers, next_line}
 use Rattle.markdown_plain.specs.TextLines.{IsContentAt, held_line, text_block, with_text}
-use Rattle.markdown_plain.proofs.AddedTextLemmas.{GoesAs, loose_as_leaf, loose_with_leaf, paragraph_line}
+use Rattle.markdown_plain.proofs.AddedTextLemmas.{GoesAs, loose_as_leaf, loose_with_leaf}
+use Rattle.markdown_plain.proofs.AddedTextLemmas.{paragraph_line}
 use Rattle.markdown_plain.proofs.BegunLemmas.{IsLeftOf, block_begun, item_begun}
 use Rattle.markdown_plain.proofs.BlanksKnownLemmas.{same_touched}
 use Rattle.markdown_plain.proofs.HeldTextLemmas.{begins_block, comes_after, ends_after}
@@ -36,6 +39,9 @@ use Rattle.markdown_plain.proofs.LastBlocksLemmas.{open_are_containers}
 use Rattle.markdown_plain.proofs.LooseFramesLemmas.{ends_more}
 use Rattle.markdown_plain.proofs.ReadyPlacesLemmas.{no_frames}
 use Rattle.markdown_plain.proofs.ReadyTextsLemmas.{BeginsReady, begun_ready, further_ready, none_left}
+use Rattle.markdown_plain.proofs.ReachedLemmas.{reached_indent}
+use Rattle.markdown_plain.proofs.RememberedTextLemmas.{first_remembered, held_before, kind_remembered, makes_no_table}
+use Rattle.markdown_plain.proofs.RememberedTextLemmas.{more_remembered, next_comes, next_of}
 use Rattle.markdown_plain.proofs.RoomLemmas.{begins_in_room}
 use Rattle.markdown_plain.proofs.RoomReadyLemmas.{nothing_taken}
 use Rattle.markdown_plain.proofs.TouchedFramesLemmas.{earlier_taken, not_opened, earlier_touched, holds_touched}
@@ -52,9 +58,10 @@ placed_text : (s : Source) (pass : Pass) (source : SourceLine) (line : Line) (fr
     → line.start ≤ line.next → AreOpenedBefore line.start frames → IsUnheld pass
     → IsLooseAs pass.looseness frames (followed_by inside (leaf_block b)) → AreItemsInLists false blocks
     → with_line s blocks source ≡ rebuilt (map (touched source) frames) (followed_by inside (leaf_block b))
+    → (reads_tables s ≡ true → Remembers s pass line.next sources)
     → IsReadyAfter pass line.next → PlacesFor s pass line.next (with_line s blocks source)
 placed_text s pass source line frames inside b sources blocks of holds next last low earlier unheld loose items whole
-    ready =
+    remembers ready =
     record {
       frames = map (touched source) frames;
       inside = inside;
@@ -71,6 +78,7 @@ placed_text s pass source line frames inside b sources blocks of holds next last
         unheld = unheld;
         earlier = earlier_touched source line.start line.next low frames earlier;
         alone = λ metadata. absurd (true≢false (sym metadata ∙ ap is_metadata holds.kind));
+        remembers = kind_remembered s (Remembers s pass line.next) b.kind sources holds.kind remembers;
         ready = ready;
       };
       whole = whole;
@@ -91,33 +99,46 @@ pub record AddsLine (old new : Pass) (line : Line) (start : ℕ) : Type 0 where
       }) (sources ++ source ∷ [])
 
 pub text_added : (s : Source) (old new : Pass) (line : Line) (start : ℕ) (frames : List Frame) (inside : Forest Block)
-    (b : Block) (sources : List SourceLine) (source : SourceLine) → reads_tables s ≡ false
+    (b : Block) (sources : List SourceLine) (source : SourceLine)
+    → (reads_tables s ≡ true
+    → IsUntabled s old line.start (reached s frames (followed_by inside (leaf_block b)) source) sources)
     → Holds s old frames inside (Some b) line.start → MayEnd s old frames inside b (Some sources)
     → IsSource old line source → AddsLine old new line start
     → IsContentAt old.placing.builder.text line
     (reached s frames (followed_by inside (leaf_block b)) source).rest start
     → GoesAs s (reached s frames (followed_by inside (leaf_block b)) source)
     → PlacesFor s new line.next (with_line s (rebuilt frames (followed_by inside (leaf_block b))) source)
-text_added s old new line start frames inside b sources source tables stands may is adds at goes =
+text_added s old new line start frames inside b sources source untabled stands may is adds at goes =
     let text = old.placing.builder.text in
     let blocks = followed_by inside (leaf_block b) in
-    let rest = (reached s frames blocks source).rest in
+    let r = reached s frames blocks source in
+    let rest = r.rest in
+    let next = next_line s r in
     let holds = may.unended in
-    let grown = with_text rest b sources in
+    let grown = with_text rest next b sources in
     let kind = holds.kind in
     let loose = loose_as_leaf old.looseness frames inside b grown (ap is_blank_block kind) refl stands.loose in
     let containers = open_are_containers old.placing.builder.texts old.placing.builder.blocks frames
     holds.built.blocks in
     let after = ends_after text line rest start at is.from in
-    let now = adds.further s frames inside b sources (text_line rest) holds
-    (comes_after text line rest start at is.from old.lines.items stands.before) in
-    placed_text s new source line frames inside grown (sources ++ text_line rest ∷ []) (rebuilt frames blocks)
+    let added = adds.further s frames inside b sources next holds
+    (next_comes s r text old.lines.items (held_line line start)
+    (comes_after text line rest start at is.from old.lines.items stands.before)) in
+    let now : HoldsParagraph s new frames inside grown (sources ++ next ∷ []) =
+    subst (λ n. HoldsParagraph s new frames inside
+    (record b { last = n; kind = was.paragraph_leaf (sources ++ next ∷ []) }) (sources ++ next ∷ [])) (next_of s r)
+    added in
+    placed_text s new source line frames inside grown (sources ++ next ∷ []) (rebuilt frames blocks)
     (ap source_of adds.same ∙ stands.source) now
     is.next (sym at.next) (omega (arith, after)) stands.earlier (subst IsUnheld (sym adds.same) stands.unheld)
     (subst (λ (now : Looseness). IsLooseAs now frames (followed_by inside (leaf_block grown)))
     (sym (ap (λ (p : Pass). p.looseness) adds.same)) loose)
     may.items
-    (paragraph_line s frames inside b sources source tables containers holds.built.nested may.items kind at.filled goes)
+    (paragraph_line s frames inside b sources source (makes_no_table s old line.start r sources untabled) containers
+    holds.built.nested may.items kind at.filled goes)
+    (λ reads. more_remembered s old new line start frames blocks source sources adds.same adds.lines holds.some
+    (held_before s old line frames inside b sources source stands may is)
+    (reached_indent s frames blocks source ∙ is.indent) reads (untabled reads))
     (further_ready old new line start rest source adds.same adds.lines holds.built.outside holds.some stands.ready is at
     (λ none. none_left s frames blocks source
     (no_frames old.placing.builder.texts old.placing.builder.blocks frames holds.built.blocks none))
@@ -129,6 +150,8 @@ text_added s old new line start frames inside b sources source tables stands may
 pub record BeginsLine (s : Source) (new : Pass) (line : Line) (start : ℕ) (outer : List Frame) (inside : Forest Block)
     : Type 0 where
   pub stands : closing.StandsFor s new outer inside
+  pub untried : new.tried ≡ false
+  pub lines : new.lines.items ≡ held_line line start ∷ []
   pub unheld : IsUnheld new
   pub loose : IsLooseBefore new.looseness outer inside
   pub first : (b : Block) (source : SourceLine)
@@ -181,6 +204,7 @@ text_begun s old new line start frames inside source of same is are nested items
     (begins_in_room s frames inside source are nested none
     (λ marker. text_no_item s r.rest marker own at.filled text)
     ∙ ap (λ made. rebuilt (map (touched source) outer) (followed_by now made)) (text_made s r.rest at.filled text))
+    (λ reads. first_remembered s new line.next (held_line line start) (text_line r.rest) begun.lines refl begun.untried)
     (begun_ready old new line start r.rest source ready is at
     (λ closed. nothing_taken s frames inside source
     (no_frames new.placing.builder.texts new.placing.builder.blocks outer begun.stands.built.blocks closed))

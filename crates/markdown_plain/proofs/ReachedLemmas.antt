@@ -9,7 +9,8 @@ use Rattle.markdown_base.specs.Forest.{Forest}
 use Rattle.markdown_lines.specs.declared.block_start.Before.TheVariants as paragraph
 use Rattle.markdown_lines.specs.declared.list_marker.ListMarker.{ListMarker}
 use Rattle.markdown_lines.specs.BlockBeginnings.{Source, begins}
-use Rattle.markdown_lines.specs.SourceLines.{SourceLine, is_blank_rest}
+use Rattle.markdown_scan.specs.LineStart.{LineLeft}
+use Rattle.markdown_lines.specs.SourceLines.{SourceLine, is_blank_rest, rest_inside}
 use Rattle.markdown_builder.specs.TreeLevels.{followed_by}
 use Rattle.markdown_block_rules.specs.BlockGrowth as was
 use Rattle.markdown_block_rules.specs.BlockGrowth.{Block, container_with, goes_on, is_nil, is_text, lazily, line_block}
@@ -20,7 +21,7 @@ use Rattle.markdown_plain.specs.Frames.{touched}
 use Rattle.markdown_plain.proofs.FramesLemmas.{AllGoOn, Innermost, around_list, container_goes_lazily}
 use Rattle.markdown_plain.proofs.FramesLemmas.{container_goes_on, inner_containers, innermost_apart, line_inside}
 use Rattle.markdown_plain.proofs.FramesLemmas.{HasMarker, list_takes, marker_of_list, outer_containers, outer_nested}
-use Rattle.markdown_plain.proofs.FramesLemmas.{rebuilt_in, rebuilt_more, rest_next, takes_nothing}
+use Rattle.markdown_plain.proofs.FramesLemmas.{rebuilt_in, rebuilt_more, rest_kept, takes_nothing}
 
 -- ---- how far a line reaches
 
@@ -61,21 +62,34 @@ reached_same s frames inside l =
     sym (rebuilt_in (reached s frames inside l).outer (reached s frames inside l).inner inside)
     ∙ ap (λ (fs : List Frame). rebuilt fs inside) (reached_parts s frames inside l)
 
--- what is left of the line ends where the line does
+-- what is left of the line has the same parts but what is left
+module _ {A : Type 0} (part : SourceLine → A) (same : (left : LineLeft) (l : SourceLine)
+    → part (rest_inside left l) ≡ part l) where
+  reached_kept : (s : Source) (frames : List Frame) (inside : Forest Block) (l : SourceLine)
+      → part (reached s frames inside l).rest ≡ part l
+  unfolding reached
+  reached_kept s [] inside l = refl
+  reached_kept s (f ∷ frames) inside l =
+      past (inside_container s l (is_nil (rebuilt frames inside)) f.block.kind) refl
+      (λ m. reached_kept s frames inside m)
+    where
+      past : (rest : Option SourceLine)
+          → inside_container s l (is_nil (rebuilt frames inside)) f.block.kind ≡ rest
+          → ((m : SourceLine) → part (reached s frames inside m).rest ≡ part m)
+          → part (reached_past f frames l (reached s frames inside) rest).rest ≡ part l
+      past None takes kept = refl
+      past (Some m) takes kept =
+          kept m ∙ rest_kept part same s (is_nil (rebuilt frames inside)) l m f.block.kind takes
+
+-- it ends where the line does
 pub reached_next : (s : Source) (frames : List Frame) (inside : Forest Block) (l : SourceLine)
     → (reached s frames inside l).rest.next ≡ l.next
-unfolding reached
-reached_next s [] inside l = refl
-reached_next s (f ∷ frames) inside l =
-    past (inside_container s l (is_nil (rebuilt frames inside)) f.block.kind) refl
-    (λ m. reached_next s frames inside m)
-  where
-    past : (rest : Option SourceLine)
-        → inside_container s l (is_nil (rebuilt frames inside)) f.block.kind ≡ rest
-        → ((m : SourceLine) → (reached s frames inside m).rest.next ≡ m.next)
-        → (reached_past f frames l (reached s frames inside) rest).rest.next ≡ l.next
-    past None takes next = refl
-    past (Some m) takes next = next m ∙ rest_next s (is_nil (rebuilt frames inside)) l m f.block.kind takes
+reached_next s frames inside l = reached_kept (λ (l : SourceLine). l.next) (λ left l. refl) s frames inside l
+
+-- and has no indentation of its own
+pub reached_indent : (s : Source) (frames : List Frame) (inside : Forest Block) (l : SourceLine)
+    → (reached s frames inside l).rest.indent ≡ l.indent
+reached_indent s frames inside l = reached_kept (λ (l : SourceLine). l.indent) (λ left l. refl) s frames inside l
 
 -- the outer ones go on
 all_reached : (s : Source) (frames : List Frame) (inside : Forest Block) (l : SourceLine)

@@ -36,6 +36,7 @@ use Rattle.markdown_plain.specs.Paragraphs.{task_at}
 use Rattle.markdown_plain.specs.ReachedLines.{Before, blocks_in, reached_of}
 use Rattle.markdown_plain.specs.Settled.{AreOpen, IsBodyOf, IsBuilt, placed_end}
 use Rattle.markdown_plain.specs.TextLines.{held_line}
+use Rattle.markdown_plain.proofs.OpenTablesLemmas.{built_outside}
 use Rattle.markdown_plain.proofs.BegunContainersLemmas.{content_before}
 use Rattle.markdown_plain.proofs.BegunTextsLemmas.{end_begins}
 use Rattle.markdown_plain.proofs.ClosableLemmas.{white_both}
@@ -107,7 +108,7 @@ pub record FitsItem (old new : Pass) (at depth : ℕ) : Type 0 where
       → (room_in depth (without_leaf old.placing.builder) ≡ []
       → AllPass is_in_blank_line old.placing.builder.text old.placed at)
       → AllFitted old.placing → AllFitted new.placing
-  pub inside : old.placing.builder.leaf ≡ false → old.lines.items ≡ []
+  pub inside : own.has_leaf old.placing.builder ≡ false → old.lines.items ≡ []
       → length old.placing.builder.blocks ≤ depth
       → own.innermost_is own.is_list old.placing.builder.blocks ≡ false
       → IsAhead old.placing.builder at → IsWhiteOutside old.placing.builder at
@@ -166,7 +167,7 @@ later_fits s old new rest frames source blocks at state filled place opens =
     let may = later_may_step s old rest frames source blocks at state filled place in
     let many = as_many_containers s old.placing.builder frames nil free.built in
     let depth = state.depth in
-    opens.inside free.built.outside free.lines (omega (arith, many, depth))
+    opens.inside (built_outside s old.placing.builder frames nil free.built) free.lines (omega (arith, many, depth))
     (list_innermost s old.placing.builder frames nil free.built ∙ free.free) may.ahead may.white
 
 -- in either case

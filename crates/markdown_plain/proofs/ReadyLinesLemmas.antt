@@ -31,18 +31,21 @@ use Rattle.markdown_plain.specs.Closable.{AreClosable, AreContainers, IsReady, I
 use Rattle.markdown_plain.specs.Fits.{IsInLeaf, MayAddAfter, MayAddBefore, MayAddLine}
 use Rattle.markdown_plain.specs.Frames.{Frame, inside_container, is_quote as is_quote_kind, reached, reached_past}
 use Rattle.markdown_plain.specs.Frames.{rebuilt}
-use Rattle.markdown_plain.specs.OpenBlocks.{is_quote, without_leaf}
-use Rattle.markdown_plain.specs.OpenLeaves.{IsLeafIn, is_leaf}
+use Rattle.markdown_plain.specs.OpenBlocks.{innermost_is, is_quote, is_table, without_leaf}
+use Rattle.markdown_plain.specs.OpenLeaves.{IsLeafIn, is_leaf, leaf_block}
+use Rattle.markdown_builder.specs.TreeLevels.{followed_by}
 use Rattle.markdown_plain.specs.Paragraphs.{lines_end}
 use Rattle.markdown_plain.specs.ReachedLines.{Before, IsReachedBy, blocks_in, reached_of}
 use Rattle.markdown_plain.specs.Settled.{AreOpen, IsBodyOf}
 use Rattle.markdown_plain.proofs.BlankLinesLemmas.{indented_alike}
 use Rattle.markdown_plain.proofs.BlanksKnownLemmas.{has_quote as quotes_in}
-use Rattle.markdown_plain.proofs.ClosableLemmas.{innermost_no_row, leaf_end_here, no_task, none_ahead, white_both}
+use Rattle.markdown_plain.proofs.ClosableLemmas.{innermost_no_row, leaf_end_here, no_task, none_ahead, no_paragraph}
+use Rattle.markdown_plain.proofs.ClosableLemmas.{white_both}
 use Rattle.markdown_plain.proofs.FittingLemmas.{open_in_leaf, space_ahead, space_stops}
 use Rattle.markdown_plain.proofs.LeavesInPlaceLemmas.{leaf_end as placed_leaf_end}
-use Rattle.markdown_plain.proofs.OpenBlocksLemmas.{around_leaf, outside_leaf}
-use Rattle.markdown_plain.proofs.ReadyPlacesLemmas.{are_bodies, ending_white, next_between, ready_after}
+use Rattle.markdown_plain.proofs.OpenBlocksLemmas.{around_leaf}
+use Rattle.markdown_plain.proofs.OpenTablesLemmas.{without_built, without_closable}
+use Rattle.markdown_plain.proofs.ReadyPlacesLemmas.{built_plain, are_bodies, ending_white, next_between, ready_after}
 use Rattle.markdown_plain.proofs.TextReachedLemmas.{reached_within, whole_within}
 
 -- ---- a line
@@ -189,13 +192,15 @@ leaf_ready s pass frames inside b true to leaf is lines blanks end boundary =
       boundary = boundary;
       lines = lines;
       blanks = blanks;
-      containers = subst AreContainers (sym (outside_leaf view is.built.outside)) are;
+      containers = subst AreContainers (sym (without_built s view frames (followed_by inside (leaf_block b)) is.built)) are;
       leaf = λ there. absurd (true≢false (sym there ∙ is.built.outside));
+      plain = built_plain s view frames (followed_by inside (leaf_block b)) is.built;
     })
 leaf_ready s pass frames inside b false to leaf is lines blanks end boundary =
     let view = pass.placing.builder in
     let in_it = open_in_leaf s view frames inside b leaf is in
-    let without = around_leaf view is.outer is.block is.leaf is.blocks in
+    let without = around_leaf view is.outer is.block
+    (ap (λ test. test || innermost_is is_table view.blocks) is.leaf) is.blocks in
     ready_after pass to (record {
       at = is.end ∙ (placed_leaf_end frames inside b leaf ∙ end);
       boundary = boundary;
@@ -203,6 +208,7 @@ leaf_ready s pass frames inside b false to leaf is lines blanks end boundary =
       blanks = blanks;
       containers = subst AreContainers (sym without) (are_bodies view.texts is.outer frames is.around.blocks);
       leaf = λ there. in_it;
+      plain = in_it.plain;
     })
 
 -- ---- blank lines
@@ -353,7 +359,7 @@ pub record IsRead (pass : Pass) (to : ℕ) : Type 0 where
 pub read_ready : (pass : Pass) (to : ℕ) → IsRead pass to → IsReady pass to
 read_ready pass to is =
     let view = pass.placing.builder in
-    let without = outside_leaf view is.closable.outside in
+    let without = without_closable view is.closable.outside is.closable.containers in
     let here = leaf_end_here pass is.lines in
     record {
       closable = record {
@@ -362,6 +368,7 @@ read_ready pass to is =
         held = λ outside. none_ahead view pass.lines.items is.lines;
         task = no_task view.text pass.task pass.lines.items is.lines;
         containers = subst AreContainers (sym without) is.closable.containers;
+        alone = λ has. absurd (true≢false (sym has ∙ no_paragraph pass is.lines));
         low = subst (λ n. n ≤ pass.placed) (sym here) is.closable.low;
         boundary = is.closable.boundary;
         white = λ none. subst (λ n. AllPass is_in_blank_line view.text n pass.placed) (sym here)
@@ -412,6 +419,7 @@ held_ready old now from to ready held moves =
         held = ready.closable.held;
         task = ready.closable.task;
         containers = ready.closable.containers;
+        alone = ready.closable.alone;
         low = omega (arith, end, low);
         boundary = moves.boundary;
         white = λ none. white_both text (leaf_end old) old.placed now.placed (ready.closable.white none)
@@ -435,6 +443,7 @@ seen_ready old now to ready = record {
     held = ready.closable.held;
     task = ready.closable.task;
     containers = ready.closable.containers;
+    alone = ready.closable.alone;
     low = ready.closable.low;
     boundary = ready.closable.boundary;
     white = ready.closable.white;

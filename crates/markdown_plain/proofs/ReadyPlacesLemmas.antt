@@ -1,7 +1,7 @@
 -- What a placed line leaves is ready for the next one: a leaf is open, or none, and nothing is held back.
-use Rattle.std.proofs.Common.{◌≡◌, ℕ, zero, suc, ◌+◌, ◌-◌, ◌<◌, ◌≤◌, Bool, true, false, ◌||◌, List, [], ◌∷◌, Option}
+use Rattle.std.proofs.Common.{◌≡◌, ℕ, zero, suc, ◌+◌, ◌-◌, ◌<◌, ◌≤◌, Bool, true, false, not, ◌||◌, List, [], ◌∷◌, Option}
 use Rattle.std.proofs.Common.{Some, None, get_or, length, drop, take, ⊎_elim, refl, sym, ap, ◌∙◌, subst, arith}
-use Rattle.std.specs.Prelude.{if◌then◌else◌, slice_index}
+use Rattle.std.specs.Prelude.{slice_index}
 use Rattle.std.specs.List.{list_all}
 use Rattle.std.specs.Str.{IsCharBoundary, IsUtf8}
 use Rattle.std.proofs.Math.Bool.{or-true}
@@ -11,7 +11,9 @@ use Rattle.std.proofs.lemmas.List.{get_or-drop, get_or-take, length-drop, length
 use Rattle.std.proofs.lemmas.Str.{IsCharBoundary-after_ascii}
 use Rattle.markdown_base.specs.Forest.{Forest}
 use Rattle.markdown_builder.specs.BuilderView.{BuilderView}
-use Rattle.markdown_builder.specs.EvenRows.{is_in_row}
+use Rattle.markdown_builder.specs.EvenRows.{is_in_row, is_table_row}
+use Rattle.markdown_base.specs.declared.item.ItemBody.{ItemBody}
+use Rattle.markdown_base.specs.declared.item.ItemBody.TheVariants as body
 use Rattle.markdown_builder.specs.declared.open_block.OpenBlock.{OpenBlock}
 use Rattle.markdown_lines.specs.BlockBeginnings.{Source}
 use Rattle.markdown_lines.specs.Lines.{AllPass, IsLineEnd, IsLineFrom, ending_length, is_in_blank_line}
@@ -30,14 +32,14 @@ use Rattle.markdown_plain.specs.Closable.{AreContainers, IsReadyAfter, leaf_end}
 use Rattle.markdown_plain.specs.Containers.{is_container}
 use Rattle.markdown_plain.specs.Fits.{IsInLeaf, MayAddBefore}
 use Rattle.markdown_plain.specs.Frames.{Frame}
-use Rattle.markdown_plain.specs.OpenBlocks.{outer_of, without_leaf}
-use Rattle.markdown_plain.specs.OpenLeaves.{IsOpenIn, IsUnended}
+use Rattle.markdown_plain.specs.OpenBlocks.{is_table, without_leaf}
+use Rattle.markdown_plain.specs.OpenLeaves as leaves
+use Rattle.markdown_plain.specs.OpenLeaves.{IsOpenIn, IsUnended, is_leaf}
 use Rattle.markdown_plain.specs.Settled.{AreOpen, IsBodyOf, IsBuilt}
 use Rattle.markdown_plain.specs.Standing.{PlacesLast}
-use Rattle.markdown_plain.proofs.ClosableLemmas.{innermost_no_row, leaf_end_here, no_task, none_ahead}
+use Rattle.markdown_plain.proofs.ClosableLemmas.{innermost_no_row, leaf_end_here, no_task, none_ahead, no_paragraph}
 use Rattle.markdown_plain.proofs.FittingLemmas.{open_in_leaf}
-use Rattle.markdown_plain.proofs.LeafTreesLemmas.{on_test}
-use Rattle.markdown_plain.proofs.OpenBlocksLemmas.{outer_of_these}
+use Rattle.markdown_plain.proofs.OpenTablesLemmas.{body_innermost, table_shown, without_built, without_open}
 
 -- ---- where a line ends
 
@@ -123,18 +125,40 @@ no_frames texts (block ∷ blocks) frames are none = absurd (omega (arith, ap le
 built_containers : (s : Source) (view : BuilderView) (frames : List Frame) (inside : Forest Block)
     → IsBuilt s view frames inside → AreContainers (without_leaf view)
 built_containers s view frames inside built =
-    on_test AreContainers view.leaf (outer_of view.blocks) view.blocks
-    (λ leaf. absurd (true≢false (sym leaf ∙ built.outside)))
-    (λ other. are_bodies view.texts view.blocks frames built.blocks)
+    subst AreContainers (sym (without_built s view frames inside built))
+    (are_bodies view.texts view.blocks frames built.blocks)
 
--- those around an open leaf are
-leaf_containers : (s : Source) (view : BuilderView) (frames : List Frame) (inside : Forest Block) (b : Block)
-    → IsOpenIn s view frames inside true b → AreContainers (without_leaf view)
+-- so the innermost of them is no row
+pub built_plain : (s : Source) (view : BuilderView) (frames : List Frame) (inside : Forest Block)
+    → IsBuilt s view frames inside → is_in_row view.blocks ≡ false
+built_plain s view frames inside built =
+    innermost_no_row view.blocks (are_bodies view.texts view.blocks frames built.blocks)
+
+-- those around an open leaf block are
+pub leaf_containers : (s : Source) (view : BuilderView) (frames : List Frame) (inside : Forest Block) (b : Block)
+    → IsOpenIn s view frames inside (not (leaves.is_table b.kind)) b → AreContainers (without_leaf view)
 leaf_containers s view frames inside b is =
-    on_test AreContainers view.leaf (outer_of view.blocks) view.blocks
-    (λ leaf. subst AreContainers (sym (outer_of_these view.blocks is.outer is.block is.blocks))
-    (are_bodies view.texts is.outer frames is.around.blocks))
-    (λ other. absurd (true≢false (sym is.leaf ∙ other)))
+    subst AreContainers (sym (without_open s view frames inside b is))
+    (are_bodies view.texts is.outer frames is.around.blocks)
+
+-- it is no row
+pub no_row_open : (s : Source) (view : BuilderView) (frames : List Frame) (inside : Forest Block) (b : Block)
+    → is_leaf b.kind ≡ true → IsOpenIn s view frames inside (not (leaves.is_table b.kind)) b
+    → is_in_row view.blocks ≡ false
+no_row_open s view frames inside b leaf is = decided (leaves.is_table b.kind) refl
+  where
+    no_row : (b : ItemBody) → is_table b ≡ true → is_table_row b ≡ false
+    no_row (body.Table ix) table = refl
+    no_row other table = absurd (true≢false (sym table))
+
+    decided : (table : Bool) → leaves.is_table b.kind ≡ table → is_in_row view.blocks ≡ false
+    decided true table =
+        body_innermost s view frames inside b (not (leaves.is_table b.kind)) is_table_row is
+        ∙ no_row is.block.body
+        (table_shown s view frames inside b (not (leaves.is_table b.kind)) b.kind refl table is)
+    decided false other =
+        (open_in_leaf s view frames inside b leaf
+        (subst (λ in_leaf. IsOpenIn s view frames inside in_leaf b) (ap not other) is)).plain
 
 -- ---- nothing is held back
 
@@ -146,6 +170,7 @@ pub record IsLeftAt (pass : Pass) (to : ℕ) : Type 0 where
   pub boundary : IsCharBoundary pass.placing.builder.text to
   pub containers : AreContainers (without_leaf pass.placing.builder)
   pub leaf : pass.placing.builder.leaf ≡ true → IsInLeaf pass.placing.builder
+  pub plain : is_in_row pass.placing.builder.blocks ≡ false
 
 -- the next line may be read
 pub ready_after : (pass : Pass) (to : ℕ) → IsLeftAt pass to → IsReadyAfter pass to
@@ -155,10 +180,11 @@ ready_after pass to is =
     record {
       closable = record {
         some = λ leaf. (is.leaf leaf).some;
-        other = no_row view.leaf refl;
+        other = is.plain;
         held = λ outside. none_ahead view pass.lines.items is.lines;
         task = no_task view.text pass.task pass.lines.items is.lines;
         containers = is.containers;
+        alone = λ has. absurd (true≢false (sym has ∙ no_paragraph pass is.lines));
         low = subst (λ n. n ≤ to) (sym here) (omega arith);
         boundary = is.boundary;
         white = λ e at low high. absurd (omega (arith, here, low, high));
@@ -171,12 +197,6 @@ ready_after pass to is =
         low = let at = is.at in omega (arith, at);
       });
     }
-  where
-    no_row : (leaf : Bool) → pass.placing.builder.leaf ≡ leaf → is_in_row pass.placing.builder.blocks ≡ false
-    no_row true leaf = (is.leaf leaf).plain
-    no_row false leaf = innermost_no_row pass.placing.builder.blocks
-        (subst AreContainers (ap (λ (leaf : Bool). if leaf then outer_of pass.placing.builder.blocks
-        else pass.placing.builder.blocks) leaf) is.containers)
 
 -- so it is where the last block is ended, or is an open leaf
 pub ready_last : (s : Source) (pass : Pass) (frames : List Frame) (inside : Forest Block) (last : Option Block) (to : ℕ)
@@ -189,6 +209,7 @@ ready_last s pass frames inside None to places lines blanks at boundary = ready_
   boundary = boundary;
   containers = built_containers s pass.placing.builder frames inside places.0.built;
   leaf = λ leaf. absurd (true≢false (sym leaf ∙ places.0.built.outside));
+  plain = built_plain s pass.placing.builder frames inside places.0.built;
 })
 ready_last s pass frames inside (Some b) to places lines blanks at boundary = by_held places.0 places.1
   where
@@ -199,6 +220,8 @@ ready_last s pass frames inside (Some b) to places lines blanks at boundary = by
       at = at;
       boundary = boundary;
       containers = leaf_containers s pass.placing.builder frames inside b is.1;
-      leaf = λ leaf. open_in_leaf s pass.placing.builder frames inside b is.0 is.1;
+      leaf = λ leaf. open_in_leaf s pass.placing.builder frames inside b is.0
+          (subst (λ in_leaf. IsOpenIn s pass.placing.builder frames inside in_leaf b) (sym is.1.leaf ∙ leaf) is.1);
+      plain = no_row_open s pass.placing.builder frames inside b is.0 is.1;
     })
     by_held (Some sources) is = absurd (omega (arith, is.some, ap length lines))

@@ -34,9 +34,11 @@ use Rattle.markdown_plain.specs.Paragraphs.{has_paragraph, is_item_in, lines_end
 use Rattle.markdown_plain.specs.Standing.{IsSource}
 use Rattle.markdown_plain.specs.TextLines.{IsContentAt, held_line}
 use Rattle.markdown_plain.proofs.AddedLinesLemmas.{end_after, past, past_is_end}
-use Rattle.markdown_plain.proofs.ClosableLemmas.{innermost_no_row, leaf_end_here, no_task, none_ahead, white_both}
+use Rattle.markdown_plain.proofs.ClosableLemmas.{innermost_no_row, leaf_end_here, no_paragraph, no_task, none_ahead}
+use Rattle.markdown_plain.proofs.ClosableLemmas.{white_both}
 use Rattle.markdown_plain.proofs.HeldTextLemmas.{starts_after, starts_before}
 use Rattle.markdown_plain.proofs.OpenBlocksLemmas.{outside_leaf}
+use Rattle.markdown_plain.proofs.OpenTablesLemmas.{closable_outside, without_closable}
 use Rattle.markdown_plain.proofs.ReadyPlacesLemmas.{ending_white, next_between, stop_between}
 
 -- ---- lines
@@ -72,7 +74,8 @@ held_ready pass to holds =
         other = innermost_no_row view.blocks holds.containers;
         held = λ outside. holds.ahead;
         task = holds.task;
-        containers = subst AreContainers (sym (outside_leaf view holds.outside)) holds.containers;
+        containers = subst AreContainers (sym (without_closable view holds.outside holds.containers)) holds.containers;
+        alone = λ has. closable_outside view holds.outside holds.containers;
         low = omega (arith, end);
         boundary = holds.boundary;
         white = λ none at low high. absurd (omega (arith, end, low, high));
@@ -209,6 +212,7 @@ further_ready old new line start rest source same lines outside some ready is at
     let held = held_line line start in
     let closable = ready.closable in
     let has = some_held old outside some in
+    let none_open = outside_leaf view (closable.alone has) in
     let end : leaf_end old ≡ past view.at old.lines.items =
     ap {B = ℕ} (λ has. if has then lines_end old.lines.items else view.at) has
     ∙ sym (past_end view.at old.lines.items some) in
@@ -222,7 +226,7 @@ further_ready old new line start rest source same lines outside some ready is at
       is = line_in_text view.text line rest start at is.from is.utf8;
       white = λ none.
           let quotes : has_quote (without_leaf view) ≡ false =
-          ap has_quote (outside_leaf view outside ∙ none) in
+          ap has_quote (none_open ∙ none) in
           let scanned = ap (λ (l : SourceLine). l.left.scanned) (alone none)
           ∙ sym (ap (λ (left : LineLeft). left.scanned) is.left) in (
             white_both view.text (past view.at old.lines.items) old.placed start
@@ -236,7 +240,7 @@ further_ready old new line start rest source same lines outside some ready is at
     (record {
       outside = outside;
       some = subst (λ (ls : List HeldLine). 0 < length ls) (sym lines) (some_more old.lines.items);
-      containers = subst AreContainers (outside_leaf view outside) closable.containers;
+      containers = subst AreContainers none_open closable.containers;
       ahead = subst (AreAhead view) (sym lines)
           (ahead_after view old.lines.items held (closable.held outside) within next);
       task = subst (HaveTask view.text old.task) (sym lines)
@@ -348,6 +352,7 @@ again_ready old new from ends ready =
         held = λ outside. none_ahead view new.lines.items ends.emptied;
         task = no_task view.text new.task new.lines.items ends.emptied;
         containers = subst AreContainers (sym outer) closable.containers;
+        alone = λ has. absurd (true≢false (sym has ∙ no_paragraph new ends.emptied));
         low = omega (arith, low, here, placed);
         boundary = subst (IsCharBoundary view.text) (sym placed)
             (subst (λ t. IsCharBoundary t old.placed) (sym text) closable.boundary);

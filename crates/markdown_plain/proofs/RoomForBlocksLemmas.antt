@@ -1,6 +1,6 @@
 -- Room for the block that the rest of a line begins: first what the open containers left of the line, and then what is
 -- left of it inside containers that it opened.
-use Rattle.std.proofs.Common.{◌≡◌, ◌⊎◌, inl, inr, ⊎_elim, ℕ, ◌<◌, ◌≤◌, ◌-◌, Bool, true, false, not, ◌&&◌, ◌==◌, List}
+use Rattle.std.proofs.Common.{◌≡◌, ◌⊎◌, inl, inr, ⊎_elim, ℕ, ◌<◌, ◌≤◌, ◌-◌, Bool, true, false, not, ◌&&◌, List}
 use Rattle.std.proofs.Common.{[], ◌∷◌, Option, Some, None, length, map, take, drop, refl, sym, ap, ◌∙◌, subst, arith}
 use Rattle.std.proofs.Math.Bool.{and-false}
 use Rattle.std.proofs.lemmas.Bool.{true≢false, and_parts}
@@ -8,8 +8,10 @@ use Rattle.std.proofs.lemmas.List.{length-append}
 use Rattle.std.proofs.lemmas.Option.{none-some, same_Some}
 use Rattle.std.specs.Prelude.{if◌then◌else◌}
 use Rattle.std.specs.List.{list_all}
-use Rattle.std.specs.Option.{option_map}
-use Rattle.markdown_base.specs.Forest.{Forest, nil}
+use Rattle.std.specs.Option.{option_map, option_or}
+use Rattle.markdown_block_rules.specs.BlockGrowth.{leaf_with, table_with}
+use Rattle.markdown_plain.specs.Beginning.{HoldsNone}
+use Rattle.markdown_base.specs.Forest.{Forest, nil, node}
 use Rattle.markdown_builder.specs.BuilderView.{BuilderView}
 use Rattle.markdown_builder.specs.TreeLevels.{followed_by}
 use Rattle.markdown_scan.specs.LineStart.{LineLeft}
@@ -25,7 +27,6 @@ use Rattle.markdown_block_rules.specs.BlockGrowth as was
 use Rattle.markdown_block_rules.specs.BlockGrowth.{Block, Kind, another_item, begun_by, goes_on, is_nil, is_text}
 use Rattle.markdown_block_rules.specs.BlockGrowth.{lazily, next_item, paragraph_with, past_footnote, past_indentation}
 use Rattle.markdown_block_rules.specs.BlockGrowth.{past_quote, with_lazy}
-use Rattle.markdown_block_rules.specs.TableLines.{reads_tables}
 use Rattle.markdown_block_rules.proofs.BlockBeginningsLemmas.{either}
 use Rattle.markdown_plain.specs.declared.beginnings.LineRest.{LineRest}
 use Rattle.markdown_plain.specs.declared.looseness.Looseness.{Looseness}
@@ -48,6 +49,8 @@ use Rattle.markdown_plain.specs.ReachedLines.{Before, blocks_in, reached_of}
 use Rattle.markdown_plain.specs.Settled.{AreOpen, BlanksKnown, IsBuilt, IsLooseAs, IsLooseBefore, placed_end}
 use Rattle.markdown_plain.specs.Standing.{with_last}
 use Rattle.markdown_plain.specs.TextLines.{paragraph_before}
+use Rattle.markdown_plain.specs.TableHeads.{IfParagraphLast, IsUntabled}
+use Rattle.markdown_plain.proofs.RememberedTextLemmas.{MakesNoTable, makes_no_table, remembered_kind}
 use Rattle.markdown_plain.proofs.AddedLinesLemmas.{has_held}
 use Rattle.markdown_plain.proofs.BegunAloneLemmas.{BeginsBlock, begins_alone, block_needed, is_no_text}
 use Rattle.markdown_plain.proofs.BegunLemmas.{IsLeftOf, item_begun, left_from_is_of}
@@ -75,21 +78,28 @@ no_paragraph_with s l lines (beginning.begins_underline level) block = absurd bl
 no_paragraph_with s l lines other block = refl
 
 paragraph_stops : (s : Source) (l : SourceLine) (start first last : ℕ) (lines : List SourceLine) (b : Beginning)
-    → reads_tables s ≡ false → is_blank_rest l ≡ false → begins s paragraph.Reached l ≡ b → BeginsBlock b
+    → table_with s l (record { start = start; first = first; last = last; kind = was.paragraph_leaf lines })
+    (was.paragraph_leaf lines) ≡ None
+    → is_blank_rest l ≡ false → begins s paragraph.Reached l ≡ b → BeginsBlock b
     → goes_on s (leaf_block (record { start = start; first = first; last = last; kind = was.paragraph_leaf lines })) l
     ≡ None
 unfolding goes_on
-paragraph_stops s l start first last lines b tables filled is block =
-    rw (filled, tables, is, no_paragraph_with s l lines b block) refl
+paragraph_stops s l start first last lines b untabled filled is block =
+    ap (λ (made : Option (Forest Block)). option_or made (option_or
+    (option_map (λ kind. node (record { start = start; first = first; last = l.next; kind = kind }) nil nil)
+    (leaf_with s l (was.paragraph_leaf lines))) None)) untabled
+    ∙ rw (filled, is, no_paragraph_with s l lines b block) refl
 
 -- the last block, which is a paragraph that the line reaches
 reached_stops : (s : Source) (l : SourceLine) (inside : Forest Block) (b : Block) (lines : List SourceLine)
-    (begun : Beginning) → reads_tables s ≡ false → b.kind ≡ was.paragraph_leaf lines → is_blank_rest l ≡ false
+    (begun : Beginning) → ((b : Block) → table_with s l b (was.paragraph_leaf lines) ≡ None)
+    → b.kind ≡ was.paragraph_leaf lines → is_blank_rest l ≡ false
     → begins s paragraph.Reached l ≡ begun → BeginsBlock begun → goes_on s (followed_by inside (leaf_block b)) l ≡ None
-reached_stops s l inside b lines begun tables kind filled is block =
+reached_stops s l inside b lines begun untabled kind filled is block =
     goes_on_last s inside b nil l
     ∙ ap (option_map (followed_by inside)) (ap (λ k. goes_on s (leaf_block (record b { kind = k })) l) kind
-    ∙ paragraph_stops s l b.start b.first b.last lines begun tables filled is block)
+    ∙ paragraph_stops s l b.start b.first b.last lines begun
+    (untabled (record b { kind = was.paragraph_leaf lines })) filled is block)
 
 -- blocks in a container that the line does not reach
 lazily_stops : (s : Source) (l : SourceLine) (below : Forest Block) (b : Beginning) → begins s paragraph.Lazy l ≡ b
@@ -101,14 +111,15 @@ lazily_stops s l below b is block =
 -- the paragraph that the last block is, reached or not
 module _ (s : Source) (frames : List Frame) (inside : Forest Block) (b : Block) (lines : List SourceLine)
     (l : SourceLine) (begun : Beginning) where
-  paragraph_left : reads_tables s ≡ false → AreContainers frames → b.kind ≡ was.paragraph_leaf lines
+  paragraph_left : MakesNoTable s (reached s frames (followed_by inside (leaf_block b)) l) lines
+      → AreContainers frames → b.kind ≡ was.paragraph_leaf lines
       → is_blank_rest (reached s frames (followed_by inside (leaf_block b)) l).rest ≡ false
       → begins s (if are_none (reached s frames (followed_by inside (leaf_block b)) l).inner then paragraph.Reached
       else paragraph.Lazy) (reached s frames (followed_by inside (leaf_block b)) l).rest ≡ begun
       → BeginsBlock begun
       → goes_on s (rebuilt (reached s frames (followed_by inside (leaf_block b)) l).inner
       (followed_by inside (leaf_block b))) (reached s frames (followed_by inside (leaf_block b)) l).rest ≡ None
-  paragraph_left tables are kind filled is block =
+  paragraph_left untabled are kind filled is block =
       by_inner (reached s frames (followed_by inside (leaf_block b)) l).inner refl
     where
       blocks : Forest Block
@@ -127,7 +138,7 @@ module _ (s : Source) (frames : List Frame) (inside : Forest Block) (b : Block) 
           → goes_on s (rebuilt (reached s frames blocks l).inner blocks) rest ≡ None
       by_inner [] same =
           ap (λ (fs : List Frame). goes_on s (rebuilt fs blocks) rest) same
-          ∙ reached_stops s rest inside b lines begun tables kind filled (begins_where [] same) block
+          ∙ reached_stops s rest inside b lines begun (untabled (ap are_none same)) kind filled (begins_where [] same) block
       by_inner (f ∷ others) same =
           inner_goes_lazily s frames blocks l f others are same
           ∙ lazily_stops s rest (rebuilt (reached s frames blocks l).inner blocks) begun
@@ -266,7 +277,9 @@ line_some s rest source left filled =
 -- none of the blocks that a line does not reach goes on in it, if a block begins and they do not go on where no
 -- paragraph is held back
 pub none_goes_on : (s : Source) (pass : Pass) (frames : List Frame) (inside : Forest Block) (last : Option Block)
-    (l : SourceLine) (begun : Beginning) → reads_tables s ≡ false → AreContainers frames
+    (l : SourceLine) (begun : Beginning) (from : ℕ)
+    → IfParagraphLast s (IsUntabled s pass from (reached s frames (with_last inside last) l)) last
+    → AreContainers frames
     → HoldsLast s pass frames inside last → is_blank_rest (reached s frames (with_last inside last) l).rest ≡ false
     → begins s (paragraph_before pass (are_none (reached s frames (with_last inside last) l).inner))
     (reached s frames (with_last inside last) l).rest ≡ begun
@@ -276,9 +289,10 @@ pub none_goes_on : (s : Source) (pass : Pass) (frames : List Frame) (inside : Fo
     (reached s frames (with_last inside last) l).rest ≡ None)
     → goes_on s (rebuilt (reached s frames (with_last inside last) l).inner (with_last inside last))
     (reached s frames (with_last inside last) l).rest ≡ None
-none_goes_on s pass frames inside None l begun tables are holds filled is block over =
+none_goes_on s pass frames inside None l begun from untabled are holds filled is block over =
     over (no_paragraph pass holds.1)
-none_goes_on s pass frames inside (Some b) l begun tables are holds filled is block over = by_held holds.0 holds.1
+none_goes_on s pass frames inside (Some b) l begun from untabled are holds filled is block over =
+    by_held holds.0 holds.1 holds.2
   where
     blocks : Forest Block
     blocks = followed_by inside (leaf_block b)
@@ -286,10 +300,13 @@ none_goes_on s pass frames inside (Some b) l begun tables are holds filled is bl
     none : Type 0
     none = goes_on s (rebuilt (reached s frames blocks l).inner blocks) (reached s frames blocks l).rest ≡ None
 
-    by_held : (held : Option (List SourceLine)) → MayEnd s pass frames inside b held → none
-    by_held None may = over (ap (λ leaf. not leaf && not (length pass.lines.items == 0)) may.unended.1.leaf)
-    by_held (Some sources) may =
-        paragraph_left s frames inside b sources l begun tables are may.unended.kind filled
+    by_held : (held : Option (List SourceLine)) → MayEnd s pass frames inside b held → HoldsNone pass held → none
+    by_held None may empty = over (no_paragraph pass empty)
+    by_held (Some sources) may other =
+        paragraph_left s frames inside b sources l begun
+        (makes_no_table s pass from (reached s frames blocks l) sources
+        (remembered_kind s (IsUntabled s pass from (reached s frames blocks l)) b.kind sources may.unended.kind
+        untabled)) are may.unended.kind filled
         (ap (λ test. begins s (if test
         then (if are_none (reached s frames blocks l).inner then paragraph.Reached else paragraph.Lazy)
         else paragraph.NoParagraph) (reached s frames blocks l).rest)
@@ -380,7 +397,8 @@ module _ (s : Source) (old new : Pass) (rest : LineRest) (before : Before) (l so
       let begun : begins s (paragraph_before old (are_none r.inner)) r.rest ≡ b =
       subst (λ (m : SourceLine). begins s (paragraph_before old (are_none r.inner)) m ≡ b) same
       (ap (λ p. begins s p source) (sym state.paragraph) ∙ is) in
-      let none = none_goes_on s old before.frames before.inside before.last l b state.tables are state.holds.unended
+      let none = none_goes_on s old before.frames before.inside before.last l b rest.line.start
+      state.untabled are state.holds.unended
       filled begun (block_needed b needs)
       (λ no_paragraph.
       subst (λ (m : SourceLine). goes_on s (rebuilt r.inner (blocks_in before)) m ≡ None) same

@@ -20,7 +20,7 @@ use Rattle.markdown_plain.specs.OpenLeaves.{leaf_block}
 use Rattle.markdown_plain.specs.Settled.{AreOpen, IsBuilt}
 use Rattle.markdown_plain.specs.Standing.{with_last}
 use Rattle.markdown_plain.proofs.FramesLemmas.{HasMarker, Innermost, innermost_apart, marker_of_list}
-use Rattle.markdown_plain.proofs.OpenBlocksLemmas.{around_leaf, outside_leaf}
+use Rattle.markdown_plain.proofs.OpenTablesLemmas.{without_built, without_open}
 use Rattle.markdown_plain.proofs.ReachedLemmas.{block_begins, list_ends, outer_taken, reached_parts}
 
 -- the containers around such a block, of those that a line reaches: all, or all but the list
@@ -109,7 +109,7 @@ built_open s pass frames inside blocks built items =
     let view = pass.placing.builder in
     record {
       texts = view.texts;
-      are = subst (λ blocks. AreOpen view.texts blocks frames) (sym (outside_leaf view built.outside)) built.blocks;
+      are = subst (λ blocks. AreOpen view.texts blocks frames) (sym (without_built s view frames inside built)) built.blocks;
       nested = built.nested;
       items = items;
     }
@@ -122,7 +122,7 @@ leaf_open s pass frames inside b may =
     record {
       texts = view.texts;
       are = subst (λ blocks. AreOpen view.texts blocks frames)
-          (sym (around_leaf view is.outer is.block is.leaf is.blocks)) is.around.blocks;
+          (sym (without_open s view frames inside b is)) is.around.blocks;
       nested = is.around.nested;
       items = may.items;
     }

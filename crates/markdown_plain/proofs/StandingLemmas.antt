@@ -1,5 +1,5 @@
 -- What the pass stands for after a line that was placed.
-use Rattle.std.proofs.Common.{◌≡◌, ℕ, List, Option, Some, None, sym, ap, subst}
+use Rattle.std.proofs.Common.{◌≡◌, ℕ, List, Option, Some, None, refl, sym, ap, subst}
 use Rattle.markdown_base.specs.Forest.{Forest}
 use Rattle.markdown_builder.specs.declared.open_block.OpenBlock.{OpenBlock}
 use Rattle.markdown_lines.specs.BlockBeginnings.{Source}
@@ -13,6 +13,7 @@ use Rattle.markdown_plain.specs.Standing.{HasLast, KnowsLast, Places, PlacesFor,
 use Rattle.markdown_plain.specs.Standing.{with_last}
 use Rattle.markdown_plain.proofs.ReadyLinesLemmas.{seen_ready}
 use Rattle.markdown_plain.proofs.BlanksKnownLemmas.{content_known}
+use Rattle.markdown_plain.proofs.RememberedTextLemmas.{seen_remembered}
 
 -- open blocks are these containers
 pub record Opened (texts : List (List ℕ)) (frames : List Frame) : Type 0 where
@@ -103,6 +104,7 @@ placed_stands s old new to blocks same places =
         unheld = p.unheld;
         earlier = p.earlier;
         alone = p.alone;
+        remembers = seen_remembered s old (content_seen old to) to places.last refl p.remembers;
         ready = seen_ready old (content_seen old to) to p.ready;
       };
       whole = places.whole;

@@ -65,8 +65,8 @@ text_first s old new rest at before line source blocks adds state left fitted =
           ∙ (ap (begins s rest.before) (sym state.reached) ∙ left.text);
       over = λ none. ap (goes_on s (rebuilt r.inner (blocks_in before))) (sym state.reached) ∙ state.over none;
     } in
-    let placed = text_places s old new rest.line at rest.depth line adds state.is state.tables before.frames
-    before.inside before.last state.holds there fitted in
+    let placed = text_places s old new rest.line at rest.depth line adds state.is before.frames before.inside
+    before.last state.untabled state.holds there fitted in
     (placed.0, subst (PlacesFor s new rest.line.next) (sym state.whole) placed.1)
 
 -- it may be placed where it is the first line of a paragraph inside containers that the line opened
@@ -89,7 +89,8 @@ later_ready s old new rest at frames source blocks adds state left =
     let started = starts_before s.text rest.line source at content in
     let ends = state.left.is.ends in
     let first = opened.first in
-    let now : Pass = record old { lines = new.lines; task = new.task; looseness = new.looseness } in
+    let now : Pass =
+    record old { lines = new.lines; task = new.task; tried = new.tried; looseness = new.looseness } in
     subst (λ (p : Pass). IsReadyAfter p rest.line.next) (sym same)
     (first_ready now rest.line at (record {
       outside = opened.free.built.outside;
@@ -141,7 +142,7 @@ text_later s old new rest at frames source blocks adds state left fitted =
           ∙ (ap (λ (blank : Bool). rebuilt frames (if blank then nil else begun_by s source)) left.filled
           ∙ (ap (rebuilt frames) (begun_once s source)
           ∙ ap (λ found. rebuilt frames (new_blocks (inside_of (begun_by s) source) source found)) made)))
-          state.items (later_ready s old new rest at frames source blocks adds state left),
+          state.items (adds.untried none) (later_ready s old new rest at frames source blocks adds state left),
     )
 
 -- the line is placed at either turn

@@ -18,7 +18,9 @@ use Rattle.markdown_lines.specs.Positions.{left_from}
 use Rattle.markdown_lines.specs.SourceLines.{SourceLine}
 use Rattle.markdown_lines.proofs.BlockStartsLemmas.{BeginsNoFirst, after_other, begins_few, is_mark, slice_same}
 use Rattle.markdown_lines.proofs.PositionsLemmas.{part_next}
+use Rattle.markdown_lines.specs.TableRows.{delimiter_row_at}
 use Rattle.markdown_plain.specs.TextLines.{BeginsNoBlock, IsTextFrom}
+use Rattle.markdown_plain.proofs.DelimiterRowsLemmas.{no_row_at}
 
 -- ---- the byte
 
@@ -33,6 +35,8 @@ letter_begins_none byte letter = record {
   break = grind (arith, nat_tests, letter);
   bullet = grind (arith, nat_tests, letter);
   digit = grind (arith, nat_tests, letter);
+  cut = grind (arith, nat_tests, letter);
+  white = grind (arith, nat_tests, letter);
 }
 
 pub letter_no_space : (byte : ℕ) → is_ascii_alphabetic byte ≡ true → is_space_or_tab byte ≡ false
@@ -145,4 +149,11 @@ module _ (text : List ℕ) (at stop byte : ℕ) (low : at < stop) (there : slice
           ∙ (ap (λ found. unwrap_or found (begins_after s before 0 from_byte))
           (opens_none s before l byte more (ap (λ (left : LineLeft). left.bytes) (is_left l is)) none)
           ∙ begins_after_it s before same);
+      no_row = λ end.
+          let cut = none.cut in
+          let white = none.white in
+          let break = none.break in
+          subst (λ n. delimiter_row_at text n end ≡ None) (sym here)
+          (no_row_at text at end byte (sym there) (rw other white) (grind (arith, nat_tests, cut))
+          (grind (arith, nat_tests, cut)) (grind (arith, nat_tests, break)));
     }

@@ -214,7 +214,7 @@ behind_none s l frames inside b leaf are =
     either_none true none = none
     either_none false none = refl
 
-leaf_ends : (s : Source) (frames : List Frame) (inside : Forest Block) (b : Block) (l : SourceLine)
+pub leaf_ends : (s : Source) (frames : List Frame) (inside : Forest Block) (b : Block) (l : SourceLine)
     → is_leaf b.kind ≡ true → AreContainers frames
     → ((reached s frames (followed_by inside (leaf_block b)) l).inner ≡ []
     → leaf_with s (reached s frames (followed_by inside (leaf_block b)) l).rest b.kind ≡ None)

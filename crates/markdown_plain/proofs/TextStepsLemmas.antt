@@ -1,7 +1,7 @@
 -- A step of the pass that adds a line of text: what it has placed then, whether a paragraph was open or not.
-use Rattle.std.proofs.Common.{◌≡◌, ℕ, ◌≤◌, Bool, true, false, not, List, [], ◌∷◌, ◌++◌, Option, Some, None, arith}
+use Rattle.std.proofs.Common.{◌≡◌, ℕ, ◌≤◌, Bool, true, false, List, [], ◌∷◌, ◌++◌, Option, Some, None, arith}
 use Rattle.std.proofs.Common.{length, take, drop, refl, sym, ap, ◌∙◌, subst}
-use Rattle.std.specs.Prelude.{◌==◌, ◌&&◌, if◌then◌else◌}
+use Rattle.std.specs.Prelude.{if◌then◌else◌}
 use Rattle.std.proofs.lemmas.List.{length-append}
 use Rattle.markdown_base.specs.Forest.{Forest, nil}
 use Rattle.markdown_builder.specs.TreeLevels.{followed_by}
@@ -12,9 +12,8 @@ use Rattle.markdown_lines.specs.BlockBeginnings.{Source, begins}
 use Rattle.markdown_lines.specs.SourceLines.{SourceLine}
 use Rattle.markdown_block_rules.specs.BlockGrowth as was
 use Rattle.markdown_block_rules.specs.BlockGrowth.{Block, goes_on, is_nil, with_line}
-use Rattle.markdown_block_rules.specs.TableLines.{reads_tables}
 use Rattle.markdown_plain.specs.declared.pass.Pass.{Pass}
-use Rattle.markdown_plain.specs.Beginning.{Holds, HoldsLast}
+use Rattle.markdown_plain.specs.Beginning.{Holds, HoldsLast, HoldsNone}
 use Rattle.markdown_plain.specs.Closable.{AreClosable, IsClosable}
 use Rattle.markdown_plain.specs.Closing as closing
 use Rattle.markdown_plain.specs.Closing.{MayClose, MayEnd}
@@ -26,7 +25,8 @@ use Rattle.markdown_plain.specs.OpenedFrames.{MayOpen}
 use Rattle.markdown_plain.specs.Paragraphs.{has_paragraph, source_of, task_at}
 use Rattle.markdown_plain.specs.ReachedFrames.{are_none}
 use Rattle.markdown_plain.specs.Settled.{AreOpen, BlanksKnown, IsBuilt, IsLooseAs, IsLooseBefore}
-use Rattle.markdown_plain.specs.Standing.{HasLast, IsSource, PlacesFor, Stands, with_last}
+use Rattle.markdown_plain.specs.Standing.{HasLast, IsSource, KnowsLast, PlacesFor, Stands, with_last}
+use Rattle.markdown_plain.specs.TableHeads.{IfParagraphLast, IsUntabled}
 use Rattle.markdown_plain.specs.TextLines.{IsTextHere, held_line, paragraph_before}
 use Rattle.markdown_plain.proofs.AddedLinesLemmas.{has_held}
 use Rattle.markdown_plain.proofs.AddedTextLemmas.{GoesAs, continues, reaches}
@@ -34,6 +34,7 @@ use Rattle.markdown_plain.proofs.ClosableLemmas.{no_paragraph}
 use Rattle.markdown_plain.proofs.LastBlocksLemmas.{open_are_containers}
 use Rattle.markdown_plain.proofs.PlacedTextLemmas.{BeginsLine, text_added, text_begun}
 use Rattle.markdown_plain.proofs.ReachedLemmas.{reached_parts}
+use Rattle.markdown_plain.proofs.RememberedTextLemmas.{remembered_kind}
 use Rattle.markdown_plain.proofs.RoomLemmas.{last_open}
 
 -- a line was added from a byte offset on, inside the outermost `depth` of the open blocks
@@ -47,7 +48,8 @@ pub record AddsText (old new : Pass) (line : Line) (start depth : ℕ) : Type 0 
       → depth ≤ length frames → MayClose s old frames inside → IfFitted old.placing new.placing
       (closing.StandsFor s new (take (room_depth depth frames) frames)
       (rebuilt (drop (room_depth depth frames) frames) inside))
-  pub finishes : (s : Source) (frames : List Frame) (inside : Forest Block) (b : Block) → depth ≤ length frames
+  pub finishes : (s : Source) (frames : List Frame) (inside : Forest Block) (b : Block) → old.lines.items ≡ []
+      → depth ≤ length frames
       → MayEnd s old frames inside b None → IfFitted old.placing new.placing
       (closing.StandsFor s new (take (room_depth depth frames) frames)
       (rebuilt (drop (room_depth depth frames) frames) (followed_by inside (leaf_block b))))
@@ -71,6 +73,7 @@ pub record AddsText (old new : Pass) (line : Line) (start depth : ℕ) : Type 0 
       }) (sources ++ source ∷ [])
   -- what is closed, and that the calls fit
   pub task : has_paragraph old ≡ false → new.task ≡ task_at new line start
+  pub untried : has_paragraph old ≡ false → new.tried ≡ false
   pub here : has_paragraph old ≡ false → IsClosable old → AllFitted new.placing
       → AreClosable new.placing.builder old.placed
   pub fits : IsClosable old → AllFitted old.placing → AllFitted new.placing
@@ -78,7 +81,7 @@ pub record AddsText (old new : Pass) (line : Line) (start depth : ℕ) : Type 0 
   pub lines : new.lines.items ≡ (if has_paragraph old then old.lines.items else []) ++ held_line line start ∷ []
   pub inside : (s : Source) (frames : List Frame) → MayOpen s old frames nil → depth ≡ length frames
       → IsLooseAs old.looseness frames nil
-      → (new ≡ record old { lines = new.lines; task = new.task; looseness = new.looseness })
+      → (new ≡ record old { lines = new.lines; task = new.task; tried = new.tried; looseness = new.looseness })
       × IsLooseBefore new.looseness frames nil
 
 -- ---- what the pass stands for before the line
@@ -86,7 +89,11 @@ pub record AddsText (old new : Pass) (line : Line) (start depth : ℕ) : Type 0 
 holds_last : (s : Source) (pass : Pass) (frames : List Frame) (inside : Forest Block) (last : Option Block)
     → HasLast s pass frames inside last → HoldsLast s pass frames inside last
 holds_last s pass frames inside None has = (has.0, has.1)
-holds_last s pass frames inside (Some b) has = (has.0, has.1)
+holds_last s pass frames inside (Some b) has = (has.0, has.1, none has.0 has.2)
+  where
+    none : (held : Option (List SourceLine)) → KnowsLast pass b held → HoldsNone pass held
+    none None knows = knows.2
+    none (Some sources) knows = tt
 
 -- whether or not the last block goes on in the line
 pub stands_holds : (s : Source) (pass : Pass) (frames : List Frame) (inside : Forest Block) (last : Option Block)
@@ -164,6 +171,8 @@ module _ (s : Source) (old new : Pass) (line : Line) (start depth : ℕ) (source
       let begun : BeginsLine s new line start (take (room_depth depth frames) frames)
       (rebuilt (drop (room_depth depth frames) frames) blocks) = record {
         stands = there.1;
+        untried = adds.untried none;
+        lines = held_then false none;
         unheld = λ outside. none_kept old.placing.builder.leaf refl stands.unheld;
         loose = loose.1;
         first = λ b first begins opened.
@@ -188,29 +197,34 @@ module _ (s : Source) (old new : Pass) (line : Line) (start depth : ℕ) (source
       )
 
   -- the pass has placed the line
-  pub text_places : reads_tables s ≡ false → (frames : List Frame) (inside : Forest Block) (last : Option Block)
+  pub text_places : (frames : List Frame) (inside : Forest Block) (last : Option Block)
+      → IfParagraphLast s (IsUntabled s old line.start (reached s frames (with_last inside last) source)) last
       → Holds s old frames inside last line.start
       → IsTextHere s old line start depth (with_last inside last) (reached s frames (with_last inside last) source)
       → IfFitted old.placing new.placing
       (PlacesFor s new line.next (with_line s (rebuilt frames (with_last inside last)) source))
-  text_places tables frames inside None stands here fitted =
+  text_places frames inside None untabled stands here fitted =
       let may = stands.unended in
       begins_there frames inside None stands (no_paragraph old may.1) here
       (λ few. adds.forgets s frames inside may.1 few may.0) fitted
-  text_places tables frames inside (Some b) stands here fitted = by_held stands.unended.0 stands.unended.1
+  text_places frames inside (Some b) untabled stands here fitted =
+      by_held stands.unended.0 stands.unended.1 stands.unended.2
     where
-      by_held : (held : Option (List SourceLine)) → MayEnd s old frames inside b held
+      by_held : (held : Option (List SourceLine)) → MayEnd s old frames inside b held → HoldsNone old held
           → AllFitted old.placing
           × PlacesFor s new line.next (with_line s (rebuilt frames (followed_by inside (leaf_block b))) source)
-      by_held None may =
+      by_held None may empty =
           begins_there frames inside (Some b) stands
-          (ap (λ leaf. not leaf && not (length old.lines.items == 0)) may.unended.1.leaf) here
-          (λ few. adds.finishes s frames inside b few may) fitted
-      by_held (Some sources) may =
+          (no_paragraph old empty) here
+          (λ few. adds.finishes s frames inside b empty few may) fitted
+      by_held (Some sources) may none =
           let some = has_held s old frames inside b sources may.unended in
           let same = adds.goes_on some in (
             subst AllFitted (ap (λ (p : Pass). p.placing) same) fitted,
-            text_added s old new line start frames inside b sources source tables stands may is
+            text_added s old new line start frames inside b sources source
+                (remembered_kind s (IsUntabled s old line.start
+                (reached s frames (followed_by inside (leaf_block b)) source)) b.kind sources may.unended.kind untabled)
+                stands may is
                 (record { same = same; lines = held_then true some; further = adds.further }) here.content
                 (goes_as s old (reached s frames (followed_by inside (leaf_block b)) source) some here.text),
           )

@@ -1,5 +1,5 @@
 -- The turns at the rest of a line: each goes on, and the last of them is over before the range of turns is.
-use Rattle.std.proofs.Common.{◌≡◌, ℕ, ◌+◌, ◌≤◌, Bool, true, false, arith, refl, sym, ap, ◌∙◌, subst, List, None}
+use Rattle.std.proofs.Common.{◌≡◌, ℕ, ◌+◌, ◌≤◌, Bool, true, false, arith, refl, sym, ap, ◌∙◌, subst, List}
 use Rattle.std.specs.Prelude.{if◌then◌else◌}
 use Rattle.markdown_base.specs.Forest.{Forest}
 use Rattle.markdown_scan.specs.LineStart.{LineLeft}
@@ -23,14 +23,13 @@ use Rattle.markdown_plain.proofs.TextStepsLemmas.{AddsText}
 
 -- before the first turn
 pub before_turns : (pass : Pass) (rest : LineRest) → KeepsReading pass pass rest rest rest.line.start
-before_turns pass rest s turn source blocks here row fitted = (
+before_turns pass rest s turn source blocks here fitted = (
   fitted,
   record {
     turn = turn;
     source = source;
     here = here;
     line = refl;
-    row = row;
     far =
         let after : rest.line.start ≤ rest.position.at = (here_left s pass rest turn source blocks here).after in
         omega (arith, after);
@@ -41,22 +40,21 @@ before_turns pass rest s turn source blocks here row fitted = (
 abbrev pub BeginsThere : Pass → Pass → (old new : LineRest) → Bool → Type 0
 BeginsThere before now old new more =
     (s : Source) (turn : Turn) (source : SourceLine) (blocks : Forest Block) → IsHere s before old turn source blocks
-    → old.unless_row ≡ None → IfFitted before.placing now.placing (HasBegun s now old new blocks more)
+    → IfFitted before.placing now.placing (HasBegun s now old new blocks more)
 
 -- after a turn that left more of the line
 pub next_turn : (before now new : Pass) (old rest next : LineRest) (place : ℕ)
     → KeepsReading before now old rest place → FittedBefore now.placing new.placing
     → BeginsThere now new rest next true → KeepsReading before new old next (place + 1)
-next_turn before now new old rest next place keeps back begins s turn source blocks here row fitted =
-    let still = keeps s turn source blocks here row (back fitted) in
-    let begun = begins s still.1.turn still.1.source blocks still.1.here still.1.row fitted in (
+next_turn before now new old rest next place keeps back begins s turn source blocks here fitted =
+    let still = keeps s turn source blocks here (back fitted) in
+    let begun = begins s still.1.turn still.1.source blocks still.1.here fitted in (
       still.0,
       record {
         turn = begun.1.turn;
         source = begun.1.source;
         here = begun.1.here;
         line = begun.1.line ∙ still.1.line;
-        row = begun.1.row ∙ still.1.row;
         far = let far = still.1.far in let more = begun.1.later in omega (arith, far, more);
       },
     )
@@ -64,21 +62,21 @@ next_turn before now new old rest next place keeps back begins s turn source blo
 -- after one that left nothing
 pub last_turn : (before now new : Pass) (old rest next : LineRest) (place : ℕ) → KeepsReading before now old rest place
     → FittedBefore now.placing new.placing → BeginsThere now new rest next false → (s : Source) (turn : Turn)
-    (source : SourceLine) (blocks : Forest Block) → IsHere s before old turn source blocks → old.unless_row ≡ None
+    (source : SourceLine) (blocks : Forest Block) → IsHere s before old turn source blocks
     → IfFitted before.placing new.placing (PlacesFor s new old.line.next blocks)
-last_turn before now new old rest next place keeps back begins s turn source blocks here row fitted =
-    let still = keeps s turn source blocks here row (back fitted) in
-    let begun = begins s still.1.turn still.1.source blocks still.1.here still.1.row fitted in
+last_turn before now new old rest next place keeps back begins s turn source blocks here fitted =
+    let still = keeps s turn source blocks here (back fitted) in
+    let begun = begins s still.1.turn still.1.source blocks still.1.here fitted in
     (still.0, subst (λ (line : Line). PlacesFor s new line.next blocks) still.1.line begun.1)
 
 -- what is left is text
 pub text_turn : (before now new : Pass) (old rest : LineRest) (place : ℕ) → KeepsReading before now old rest place
     → FittedBefore now.placing new.placing → AddsText now new rest.line rest.position.at rest.depth
     → IsTextFrom now.placing.builder.text rest.position rest.line.stop → (s : Source) (turn : Turn)
-    (source : SourceLine) (blocks : Forest Block) → IsHere s before old turn source blocks → old.unless_row ≡ None
+    (source : SourceLine) (blocks : Forest Block) → IsHere s before old turn source blocks
     → IfFitted before.placing new.placing (PlacesFor s new old.line.next blocks)
-text_turn before now new old rest place keeps back adds shows s turn source blocks here row fitted =
-    let still = keeps s turn source blocks here row (back fitted) in
+text_turn before now new old rest place keeps back adds shows s turn source blocks here fitted =
+    let still = keeps s turn source blocks here (back fitted) in
     let left = here_left s now rest still.1.turn still.1.source blocks still.1.here in
     let same = here_text s now rest still.1.turn still.1.source blocks still.1.here in
     let bytes : still.1.source.left ≡ left_from now.placing.builder.text rest.position rest.line.stop =
@@ -94,9 +92,9 @@ text_turn before now new old rest place keeps back adds shows s turn source bloc
 -- no turn goes on past the end of the line, so that there are fewer than there may be
 pub turns_end : (before now : Pass) (old rest : LineRest) (place : ℕ) → KeepsReading before now old rest place
     → old.line.next + 3 ≤ place → (s : Source) (turn : Turn) (source : SourceLine) (blocks : Forest Block)
-    → IsHere s before old turn source blocks → old.unless_row ≡ None → AllFitted now.placing → ⊥
-turns_end before now old rest place keeps many s turn source blocks here row fitted =
-    let still = keeps s turn source blocks here row fitted in
+    → IsHere s before old turn source blocks → AllFitted now.placing → ⊥
+turns_end before now old rest place keeps many s turn source blocks here fitted =
+    let still = keeps s turn source blocks here fitted in
     let left = here_left s now rest still.1.turn still.1.source blocks still.1.here in
     let stop = left.is.stop in
     let begin = ap (λ (l : LineLeft). l.scanned) left.is.rest.left in
@@ -115,10 +113,10 @@ turns_end before now old rest place keeps many s turn source blocks here row fit
 -- after a turn whose calls fit, all have fitted
 pub turn_fits : (before now new : Pass) (old rest : LineRest) (place : ℕ) → KeepsReading before now old rest place
     → KeepsFitting before now old → KeepsFitting now new rest → KeepsFitting before new old
-turn_fits before now new old rest place keeps fits more s turn source blocks here row fitted =
-    let so_far = fits s turn source blocks here row fitted in
-    let still = (keeps s turn source blocks here row so_far).1 in
-    more s still.turn still.source blocks still.here still.row so_far
+turn_fits before now new old rest place keeps fits more s turn source blocks here fitted =
+    let so_far = fits s turn source blocks here fitted in
+    let still = (keeps s turn source blocks here so_far).1 in
+    more s still.turn still.source blocks still.here so_far
 
 -- and after one that adds text
 pub text_turn_fits : (before now new : Pass) (old rest : LineRest) (place : ℕ)
@@ -126,7 +124,7 @@ pub text_turn_fits : (before now new : Pass) (old rest : LineRest) (place : ℕ)
     → AddsText now new rest.line rest.position.at rest.depth → KeepsFitting before new old
 text_turn_fits before now new old rest place keeps fits adds =
     turn_fits before now new old rest place keeps fits
-    (λ s turn source blocks here row. text_fits s now new rest rest.position.at turn source blocks adds here)
+    (λ s turn source blocks here. text_fits s now new rest rest.position.at turn source blocks adds here)
 
 -- what was found fits into the line that is read
 pub here_fits : (s : Source) (pass : Pass) (rest : LineRest) (turn : Turn) (source : SourceLine)

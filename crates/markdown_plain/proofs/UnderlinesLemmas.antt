@@ -4,10 +4,10 @@ use Rattle.std.proofs.Common.{◌≡◌, ℕ, ◌<◌, ◌==◌, Bool, true, fal
 use Rattle.std.proofs.Common.{refl, sym, ap, ◌∙◌, subst, arith}
 use Rattle.std.proofs.lemmas.Bool.{true≢false}
 use Rattle.std.proofs.lemmas.Option.{none-some}
-use Rattle.std.specs.Prelude.{◌&&◌, if◌then◌else◌, unwrap_or}
-use Rattle.std.specs.Option.{option_map}
+use Rattle.std.specs.Prelude.{if◌then◌else◌, unwrap_or}
+use Rattle.std.specs.Option.{option_map, option_or}
 use Rattle.std.specs.Str.{IsCharBoundary, IsUtf8}
-use Rattle.markdown_base.specs.Forest.{Forest, nil}
+use Rattle.markdown_base.specs.Forest.{Forest, nil, node}
 use Rattle.markdown_base.specs.declared.tag.HeadingLevel.{HeadingLevel}
 use Rattle.markdown_builder.specs.BuilderView.{BuilderView}
 use Rattle.markdown_builder.specs.TreeLevels.{followed_by}
@@ -23,13 +23,12 @@ use Rattle.markdown_lines.specs.declared.block_start.Before.TheVariants as parag
 use Rattle.markdown_lines.specs.declared.block_start.BlockStart.TheVariants as start
 use Rattle.markdown_lines.specs.declared.line.Line.{Line}
 use Rattle.markdown_block_rules.specs.BlockGrowth as was
-use Rattle.markdown_block_rules.specs.BlockGrowth.{Block, goes_on, with_line}
+use Rattle.markdown_block_rules.specs.BlockGrowth.{Block, goes_on, table_with, with_line}
 use Rattle.markdown_block_rules.specs.BlockRules.{is_blank_block}
-use Rattle.markdown_block_rules.specs.TableLines.{reads_tables}
 use Rattle.markdown_plain.specs.declared.beginnings.LineRest.{LineRest}
 use Rattle.markdown_plain.specs.declared.looseness.Looseness.{Looseness}
 use Rattle.markdown_plain.specs.declared.pass.Pass.{Pass}
-use Rattle.markdown_plain.specs.Beginning.{HasBegun, IsFirst, IsFound, IsHere, IsLeft, Turn, first, later}
+use Rattle.markdown_plain.specs.Beginning.{HasBegun, HoldsNone, IsFirst, IsFound, IsHere, IsLeft, Turn, first, later}
 use Rattle.markdown_plain.specs.Closable.{AreAhead, EndsHeading, HaveTask}
 use Rattle.markdown_plain.specs.Containers.{whole_line}
 use Rattle.markdown_plain.specs.Closing.{AreItemsInLists, MayEnd}
@@ -45,10 +44,12 @@ use Rattle.markdown_plain.specs.Standing.{PlacesFor, with_last}
 use Rattle.markdown_plain.proofs.AddedLinesLemmas.{has_held, no_leaf_open}
 use Rattle.markdown_plain.proofs.AddedTextLemmas.{around_text, loose_as_leaf}
 use Rattle.markdown_plain.proofs.BegunBlocksLemmas.{source_kept}
-use Rattle.markdown_plain.proofs.BegunLeavesLemmas.{none_held}
+use Rattle.markdown_plain.proofs.BegunLeavesLemmas.{no_paragraph}
 use Rattle.markdown_plain.proofs.BlankStandingLemmas.{next_after, none_inside}
 use Rattle.markdown_plain.proofs.BlanksKnownLemmas.{same_touched}
-use Rattle.markdown_plain.proofs.ClosableLemmas.{no_paragraph}
+use Rattle.markdown_plain.proofs.ClosableLemmas as held
+use Rattle.markdown_plain.proofs.RememberedTextLemmas.{makes_no_table, remembered_kind}
+use Rattle.markdown_plain.specs.TableHeads.{IsUntabled}
 use Rattle.markdown_plain.proofs.FramesLemmas.{goes_on_last}
 use Rattle.markdown_plain.proofs.GrownLeavesLemmas.{placed_touched}
 use Rattle.markdown_plain.proofs.InnerBeginningsLemmas.{BeginsInside, after_inside}
@@ -115,7 +116,10 @@ abbrev pub is_defining : Source → List SourceLine → Bool
 is_defining s lines = length (divided (entity_names s.options) s.text lines).lines == 0
 
 paragraph_heads : (s : Source) (l : SourceLine) (begin top last : ℕ) (lines : List SourceLine)
-    (level : HeadingLevel) → reads_tables s ≡ false → is_blank_rest l ≡ false
+    (level : HeadingLevel)
+    → table_with s l (record { start = begin; first = top; last = last; kind = was.paragraph_leaf lines })
+    (was.paragraph_leaf lines) ≡ None
+    → is_blank_rest l ≡ false
     → begins s paragraph.Reached l ≡ line.begins_underline level → is_defining s lines ≡ false
     → goes_on s (leaf_block (record { start = begin; first = top; last = last; kind = was.paragraph_leaf lines })) l
     ≡ Some (leaf_block (record {
@@ -125,40 +129,53 @@ paragraph_heads : (s : Source) (l : SourceLine) (begin top last : ℕ) (lines : 
       kind = was.underlined_leaf level lines;
     }))
 unfolding goes_on
-paragraph_heads s l begin top last lines level tables filled underlines some =
-    rw (filled, tables, underlines, some) refl
+paragraph_heads s l begin top last lines level untabled filled underlines some =
+    ap (λ (made : Option (Forest Block)). option_or made (option_or
+    (option_map (λ kind. node (record { start = begin; first = top; last = l.next; kind = kind }) nil nil)
+    (was.leaf_with s l (was.paragraph_leaf lines))) None)) untabled
+    ∙ rw (filled, underlines, some) refl
 
 paragraph_ends : (s : Source) (l : SourceLine) (begin top last : ℕ) (lines : List SourceLine)
-    (level : HeadingLevel) → reads_tables s ≡ false → is_blank_rest l ≡ false
+    (level : HeadingLevel)
+    → table_with s l (record { start = begin; first = top; last = last; kind = was.paragraph_leaf lines })
+    (was.paragraph_leaf lines) ≡ None
+    → is_blank_rest l ≡ false
     → begins s paragraph.Reached l ≡ line.begins_underline level → is_defining s lines ≡ true
     → goes_on s (leaf_block (record { start = begin; first = top; last = last; kind = was.paragraph_leaf lines })) l
     ≡ None
 unfolding goes_on
-paragraph_ends s l begin top last lines level tables filled underlines none =
-    rw (filled, tables, underlines, none) refl
+paragraph_ends s l begin top last lines level untabled filled underlines none =
+    ap (λ (made : Option (Forest Block)). option_or made (option_or
+    (option_map (λ kind. node (record { start = begin; first = top; last = l.next; kind = kind }) nil nil)
+    (was.leaf_with s l (was.paragraph_leaf lines))) None)) untabled
+    ∙ rw (filled, underlines, none) refl
 
 -- the heading that a line makes of a paragraph
 abbrev pub headed : Block → HeadingLevel → List SourceLine → ℕ → Block
 headed b level lines to = record b { last = to; kind = was.underlined_leaf level lines }
 
 last_heads : (s : Source) (l : SourceLine) (before : Forest Block) (b : Block) (lines : List SourceLine)
-    (level : HeadingLevel) → reads_tables s ≡ false → b.kind ≡ was.paragraph_leaf lines → is_blank_rest l ≡ false
+    (level : HeadingLevel) → ((b : Block) → table_with s l b (was.paragraph_leaf lines) ≡ None)
+    → b.kind ≡ was.paragraph_leaf lines → is_blank_rest l ≡ false
     → begins s paragraph.Reached l ≡ line.begins_underline level → is_defining s lines ≡ false
     → with_line s (followed_by before (leaf_block b)) l ≡ followed_by before (leaf_block (headed b level lines l.next))
-last_heads s l before b lines level tables is filled underlines some =
+last_heads s l before b lines level untabled is filled underlines some =
     let same = ap (λ kind. goes_on s (leaf_block (record b { kind = kind })) l) is
-    ∙ paragraph_heads s l b.start b.first b.last lines level tables filled underlines some in
+    ∙ paragraph_heads s l b.start b.first b.last lines level
+    (untabled (record b { kind = was.paragraph_leaf lines })) filled underlines some in
     ap (λ grown. unwrap_or grown (followed_by (followed_by before (leaf_block b)) (was.line_block s l)))
     (goes_on_last s before b nil l ∙ ap (option_map (followed_by before)) same)
 
 last_ends : (s : Source) (l : SourceLine) (before : Forest Block) (b : Block) (lines : List SourceLine)
-    (level : HeadingLevel) → reads_tables s ≡ false → b.kind ≡ was.paragraph_leaf lines → is_blank_rest l ≡ false
+    (level : HeadingLevel) → ((b : Block) → table_with s l b (was.paragraph_leaf lines) ≡ None)
+    → b.kind ≡ was.paragraph_leaf lines → is_blank_rest l ≡ false
     → begins s paragraph.Reached l ≡ line.begins_underline level → is_defining s lines ≡ true
     → goes_on s (followed_by before (leaf_block b)) l ≡ None
-last_ends s l before b lines level tables is filled underlines none =
+last_ends s l before b lines level untabled is filled underlines none =
     goes_on_last s before b nil l
     ∙ ap (option_map (followed_by before)) (ap (λ kind. goes_on s (leaf_block (record b { kind = kind })) l) is
-    ∙ paragraph_ends s l b.start b.first b.last lines level tables filled underlines none)
+    ∙ paragraph_ends s l b.start b.first b.last lines level
+    (untabled (record b { kind = was.paragraph_leaf lines })) filled underlines none)
 
 -- ---- what the pass makes of it
 
@@ -204,6 +221,14 @@ module _ (s : Source) (old new : Pass) (rest : LineRest) (level : HeadingLevel) 
   holds : HoldsParagraph s old frames inside b sources
   holds = may.unended
 
+  -- it makes no table of the paragraph
+  untabled : (c : Block) → table_with s source c (was.paragraph_leaf sources) ≡ None
+  untabled =
+      let r = reached s frames now l in
+      subst (λ (m : SourceLine). (c : Block) → table_with s m c (was.paragraph_leaf sources) ≡ None) (sym here.reached)
+      (makes_no_table s old rest.line.start r sources
+      (remembered_kind s (IsUntabled s old rest.line.start r) b.kind sources holds.kind here.untabled) (ap are_none all))
+
   defining : (some : Bool) → some ≡ not (length (divided_of old sources).lines == 0)
       → some ≡ not (is_defining s sources)
   defining some left = subst (λ (r : Source). some ≡ not (is_defining r sources)) here.holds.source left
@@ -215,7 +240,9 @@ module _ (s : Source) (old new : Pass) (rest : LineRest) (level : HeadingLevel) 
   heading_made some =
       let r = reached s frames now l in
       let next : r.rest.next ≡ rest.line.next = reached_next s frames now l ∙ sym here.is.next in
-      let goes = last_heads s r.rest inside b sources level here.tables holds.kind
+      let goes = last_heads s r.rest inside b sources level
+      (subst (λ (m : SourceLine). (c : Block) → table_with s m c (was.paragraph_leaf sources) ≡ None) here.reached
+      untabled) holds.kind
       (ap is_blank_rest (sym here.reached) ∙ here.filled)
       (ap (begins s paragraph.Reached) (sym here.reached) ∙ underlines) some in
       here.whole
@@ -253,11 +280,12 @@ module _ (s : Source) (old new : Pass) (rest : LineRest) (level : HeadingLevel) 
               (subst (λ (n : Looseness). IsLooseAs n frames now)
               (sym (ap (λ (p : Pass). p.looseness) ends.same)) here.holds.loose));
           filled = ends_more false inside (leaf_block h);
-          before = none_held new.lines.items rest.line.next ends.emptied;
+          before = no_paragraph new.lines.items rest.line.next ends.emptied;
           unheld = λ e. ap (λ (p : Pass). p.blanks.items) ends.same ∙ here.holds.unheld holds.built.outside;
           earlier = earlier_touched l rest.line.start rest.line.next (next_after old rest.line l here.is) frames
               here.holds.earlier;
           alone = tt;
+          remembers = tt;
           ready = ready_last s new frames at_end None rest.line.next
               (placed, ends.emptied, leaf_is_over s inside h refl) ends.emptied
               (ap (λ (p : Pass). p.blanks.items) ends.same ∙ here.holds.unheld holds.built.outside)
@@ -291,7 +319,7 @@ module _ (s : Source) (old new : Pass) (rest : LineRest) (level : HeadingLevel) 
       → goes_on s (rebuilt (reached s frames now l).inner now) source ≡ None
   over_again none =
       ap (λ (fs : List Frame). goes_on s (rebuilt fs now) source) all
-      ∙ last_ends s source inside b sources level here.tables holds.kind here.filled underlines none
+      ∙ last_ends s source inside b sources level untabled holds.kind here.filled underlines none
 
   here_again : EndsUnderlined old new level rest.line false → AllFitted new.placing
       → IsFirst s new rest_again (record { frames = frames; inside = now; last = None }) l source blocks
@@ -301,7 +329,7 @@ module _ (s : Source) (old new : Pass) (rest : LineRest) (level : HeadingLevel) 
       (defining false (ends.left sources holds.lines fitted).1) in
       let looseness = ap (λ (p : Pass). p.looseness) ends.same in
       record {
-        tables = here.tables;
+        untabled = tt;
         holds = record {
           source = source_kept s old new ends.text (ap (λ (p : Pass). p.options) ends.same) here.holds.source;
           unended = (
@@ -320,7 +348,7 @@ module _ (s : Source) (old new : Pass) (rest : LineRest) (level : HeadingLevel) 
           );
           loose = subst (λ (n : Looseness). IsLooseAs n frames now) (sym looseness) here.holds.loose;
           blanks = subst (λ (n : Looseness). BlanksKnown n.blank_from 0 frames now) (sym looseness) here.holds.blanks;
-          before = none_held new.lines.items rest.line.start ends.emptied;
+          before = no_paragraph new.lines.items rest.line.start ends.emptied;
           unheld = λ e. ap (λ (p : Pass). p.blanks.items) ends.same ∙ here.holds.unheld holds.built.outside;
           earlier = here.holds.earlier;
           ready = again_ready old new rest.line.start
@@ -348,7 +376,7 @@ module _ (s : Source) (old new : Pass) (rest : LineRest) (level : HeadingLevel) 
         left = left_again;
         depth = here.depth;
         paragraph = ap (λ has. if has then (if are_none (reached s frames now l).inner then paragraph.Reached
-            else paragraph.Lazy) else paragraph.NoParagraph) (sym (no_paragraph new ends.emptied));
+            else paragraph.Lazy) else paragraph.NoParagraph) (sym (held.no_paragraph new ends.emptied));
         filled = here.filled;
         over = λ free. over_again none;
         whole = here.whole;
@@ -368,7 +396,6 @@ module _ (s : Source) (old new : Pass) (rest : LineRest) (level : HeadingLevel) 
           here = here_again ends fitted;
           later = omega (arith, place);
           line = refl;
-          row = refl;
         },
       )
 
@@ -384,17 +411,16 @@ paragraph_underlined : (s : Source) (old new : Pass) (rest : LineRest) (level : 
     → IfFitted old.placing new.placing
     (HasBegun s new rest (record rest { before = paragraph.NoParagraph }) blocks (not some))
 paragraph_underlined s old new rest level some frames inside None l source blocks here underlines reaches has all ends =
-    absurd (true≢false (sym has ∙ no_paragraph old here.holds.unended.1))
+    absurd (true≢false (sym has ∙ held.no_paragraph old here.holds.unended.1))
 paragraph_underlined s old new rest level some frames inside (Some b) l source blocks here underlines reaches has all
     ends =
-    by_held here.holds.unended.0 here.holds.unended.1
+    by_held here.holds.unended.0 here.holds.unended.1 here.holds.unended.2
   where
-    by_held : (held : Option (List SourceLine)) → MayEnd s old frames inside b held
+    by_held : (held : Option (List SourceLine)) → MayEnd s old frames inside b held → HoldsNone old held
         → IfFitted old.placing new.placing
         (HasBegun s new rest (record rest { before = paragraph.NoParagraph }) blocks (not some))
-    by_held None may =
-        absurd (true≢false (sym has ∙ ap (λ leaf. not leaf && not (length old.lines.items == 0)) may.unended.1.leaf))
-    by_held (Some sources) may =
+    by_held None may empty = absurd (true≢false (sym has ∙ held.no_paragraph old empty))
+    by_held (Some sources) may other =
         begun_with s old new rest level l source blocks frames inside b sources here may underlines all some reaches
         ends
 

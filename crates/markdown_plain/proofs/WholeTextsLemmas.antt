@@ -1,8 +1,8 @@
 -- The blocks of a whole text, line by line: what the pass stands for after each of its lines, and once all blocks are
 -- closed.
-use Rattle.std.proofs.Common.{◌≡◌, ℕ, ◌<◌, ◌≤◌, false, List, [], ◌∷◌, Option, Some, None}
+use Rattle.std.proofs.Common.{◌≡◌, ℕ, ◌<◌, ◌≤◌, max, List, [], ◌∷◌, Option, Some, None}
 use Rattle.std.proofs.Common.{drop, length, arith, refl, sym, ap, ◌∙◌, subst}
-use Rattle.std.specs.Prelude.{slice_range, if◌then◌else◌}
+use Rattle.std.specs.Prelude.{slice_range}
 use Rattle.std.specs.List.{fold}
 use Rattle.std.specs.Str.{IsCharBoundary, IsUtf8}
 use Rattle.std.proofs.lemmas.Str.{IsCharBoundary-start}
@@ -17,10 +17,9 @@ use Rattle.markdown_lines.specs.MetadataBlocks.{lines_at}
 use Rattle.markdown_lines.specs.SourceLines.{SourceLine, first_line}
 use Rattle.markdown_lines.specs.declared.line.Line.{Line}
 use Rattle.markdown_lines.proofs.LinesAheadLemmas.{line_read, lines_step, no_lines}
-use Rattle.markdown_block_rules.specs.BlockGrowth.{Block, blocks_of, with_line, with_next_line, within_limit}
+use Rattle.markdown_block_rules.specs.BlockGrowth.{Block, blocks_of, with_next_line}
 use Rattle.markdown_block_rules.specs.BlockRules.{block_definitions, block_footnotes, block_tree, definitions_in}
 use Rattle.markdown_block_rules.specs.BlockRules.{footnotes_in, shown_blocks}
-use Rattle.markdown_block_rules.specs.TableLines.{reads_tables}
 use Rattle.markdown_plain.specs.declared.pass.Pass.{Pass}
 use Rattle.markdown_plain.specs.Closable.{AreClosable, AreContainers, IsClosable, IsReady}
 use Rattle.markdown_plain.specs.Closing.{MayClose, MayEnd}
@@ -30,7 +29,8 @@ use Rattle.markdown_plain.specs.OpenLeaves.{leaf_block}
 use Rattle.markdown_plain.specs.Standing.{HasLast, IsSource, Stands, StandsFor, with_last}
 use Rattle.markdown_plain.specs.ReachedLines.{Before, blocks_before}
 use Rattle.markdown_plain.specs.Settled.{AreOpen, IsBuilt}
-use Rattle.markdown_plain.proofs.BegunLeavesLemmas.{none_held}
+use Rattle.markdown_plain.specs.TableRows.{IsCounted}
+use Rattle.markdown_plain.proofs.BegunLeavesLemmas.{no_paragraph}
 use Rattle.markdown_plain.proofs.LastBlocksLemmas.{nothing_is_over}
 use Rattle.markdown_plain.proofs.ReadyLinesLemmas.{read_ready, white_at_end}
 
@@ -65,21 +65,29 @@ source_at pass at line is boundary utf8 =
 pub record StandsAt (s : Source) (pass : Pass) (from : ℕ) : Type 0 where
   pub blocks : Forest Block
   pub stands : StandsFor s pass from blocks
+  pub counted : IsCounted s pass blocks
   pub whole : blocks_of s ≡ fold (with_next_line s) blocks (lines_at s.text from)
 
-pub stands_first : (s : Source) (pass : Pass) → Stands s pass [] nil None 0 → StandsAt s pass 0
-stands_first s pass stands = record {
+pub stands_first : (s : Source) (pass : Pass) → Stands s pass [] nil None 0 → IsCounted s pass nil → StandsAt s pass 0
+stands_first s pass stands counted = record {
   blocks = nil;
   stands = record { frames = []; inside = nil; last = None; stands = stands; whole = refl };
+  counted = counted;
   whole = refl;
 }
 
--- what the pass reads a line to
+-- what the pass reads a line to, and how many cells were added then
 abbrev pub ReadsLine : Source → Pass → Pass → Line → Type 0
 ReadsLine s old new line =
     (before : Before) (source : SourceLine) → Stands s old before.frames before.inside before.last line.start
-    → IsSource old line source → IfFitted old.placing new.placing
-    (StandsFor s new line.next (with_line s (blocks_before before) source))
+    → IsSource old line source → IsCounted s old (blocks_before before) → IfFitted old.placing new.placing
+    (StandsFor s new line.next (with_next_line s (blocks_before before) source))
+
+abbrev pub CountsLine : Source → Pass → Pass → Line → Type 0
+CountsLine s old new line =
+    (before : Before) (source : SourceLine) → Stands s old before.frames before.inside before.last line.start
+    → IsSource old line source → IsCounted s old (blocks_before before)
+    → IsCounted s new (with_next_line s (blocks_before before) source)
 
 -- before the next line
 abbrev before_at : (s : Source) (pass : Pass) (at : ℕ) → StandsAt s pass at → Before
@@ -98,39 +106,36 @@ own_line s pass at line same is boundary utf8 =
     (subst (λ text. IsCharBoundary text at) (sym same) boundary) (subst IsUtf8 (sym same) utf8))
 
 -- so it stands after the next line
-pub stands_next : (s : Source) (old new : Pass) (at : ℕ) (line : Line) → reads_tables s ≡ false
-    → old.placing.builder.text ≡ s.text → at < length s.text → IsLineFrom s.text at line → IsCharBoundary s.text at
-    → IsUtf8 s.text → StandsAt s old at → ReadsLine s old new line
+pub stands_next : (s : Source) (old new : Pass) (at : ℕ) (line : Line) → old.placing.builder.text ≡ s.text
+    → at < length s.text → IsLineFrom s.text at line → IsCharBoundary s.text at → IsUtf8 s.text → StandsAt s old at
+    → ReadsLine s old new line → CountsLine s old new line
     → IfFitted old.placing new.placing (StandsAt s new line.next)
-stands_next s old new at line tables same less is boundary utf8 so_far reads fitted =
+stands_next s old new at line same less is boundary utf8 so_far reads counts fitted =
     let before = before_at s old at so_far in
     let source = first_line at (drop at s.text) in
     let own = own_line s old at line same is boundary utf8 in
-    let read = reads before source
-    (subst (Stands s old before.frames before.inside before.last) (sym is.begins) so_far.stands.stands) own fitted in (
+    let stands = subst (Stands s old before.frames before.inside before.last) (sym is.begins) so_far.stands.stands in
+    let counted = subst (IsCounted s old) so_far.stands.whole so_far.counted in
+    let read = reads before source stands own counted fitted in (
       read.0,
       record {
-        blocks = with_line s (blocks_before before) source;
+        blocks = with_next_line s (blocks_before before) source;
         stands = read.1;
+        counted = counts before source stands own counted;
         whole = so_far.whole
             ∙ (ap (λ lines. fold (with_next_line s) so_far.blocks lines) (lines_step s.text at less)
-            ∙ (ap (λ blocks. fold (with_next_line s) blocks (lines_at s.text source.next))
-            (untabled s so_far.blocks source tables ∙ ap (λ blocks. with_line s blocks source) so_far.stands.whole)
-            ∙ ap (λ n. fold (with_next_line s) (with_line s (blocks_before before) source) (lines_at s.text n))
+            ∙ (ap (λ blocks. fold (with_next_line s) (with_next_line s blocks source) (lines_at s.text source.next))
+            so_far.stands.whole
+            ∙ ap (λ n. fold (with_next_line s) (with_next_line s (blocks_before before) source) (lines_at s.text n))
             (line_read s.text at line is).1));
       },
     )
-  where
-    untabled : (s : Source) (blocks : Forest Block) (l : SourceLine) → reads_tables s ≡ false
-        → with_next_line s blocks l ≡ with_line s blocks l
-    untabled s blocks l none =
-        ap (λ test. if test then within_limit s l blocks (with_line s blocks l) else with_line s blocks l) none
 
 -- where the pass reads a line, the calls fit
 abbrev pub FitsLine : Source → Pass → Pass → Line → Type 0
 FitsLine s old new line =
     (before : Before) (source : SourceLine) → Stands s old before.frames before.inside before.last line.start
-    → IsSource old line source → AllFitted old.placing → AllFitted new.placing
+    → IsSource old line source → IsCounted s old (blocks_before before) → AllFitted old.placing → AllFitted new.placing
 
 -- so they do in the next line
 pub fits_next : (s : Source) (old new : Pass) (at : ℕ) (line : Line) → old.placing.builder.text ≡ s.text
@@ -140,7 +145,7 @@ fits_next s old new at line same is boundary utf8 so_far fits =
     let before = before_at s old at so_far in
     fits before (first_line at (drop at s.text))
     (subst (Stands s old before.frames before.inside before.last) (sym is.begins) so_far.stands.stands)
-    (own_line s old at line same is boundary utf8)
+    (own_line s old at line same is boundary utf8) (subst (IsCounted s old) so_far.stands.whole so_far.counted)
 
 -- ---- the end
 
@@ -188,6 +193,8 @@ pub record HasNothing (s : Source) (pass : Pass) : Type 0 where
   pub blanks : pass.blanks.items ≡ []
   pub lists : pass.looseness.lists.items ≡ []
   pub placed : pass.placed ≡ 0
+  pub added : pass.tables.added ≡ 0
+  pub most : pass.tables.most ≡ max (length s.text) 100000
   pub utf8 : IsUtf8 s.text
 
 -- and every call fits that the pass may make
@@ -244,12 +251,17 @@ nothing_stands s pass is = record {
   );
   loose = record { lists = is.lists; empty = tt };
   blanks = tt;
-  before = none_held pass.lines.items 0 is.lines;
+  before = no_paragraph pass.lines.items 0 is.lines;
   unheld = λ outside. is.blanks;
   earlier = tt;
   alone = tt;
+  remembers = tt;
   ready = nothing_ready s pass is;
 }
+
+-- nor did it add any cells
+pub nothing_counted : (s : Source) (pass : Pass) → HasNothing s pass → IsCounted s pass nil
+nothing_counted s pass is = record { added = is.added; most = is.most; few = omega arith; unended = refl }
 
 -- the blocks of a text are made, and all closed
 pub record HasBlocks (s : Source) (view : BuilderView) : Type 0 where

@@ -1,7 +1,7 @@
 -- What the pass stands for while the rest of a line is read: first what the open containers left of it, and then, as
 -- long as it opens containers, what is left inside them, where more may begin, or a leaf, or nothing.
 use Rattle.std.specs.Prelude.{◌≡◌, ◌==◌, ◌&&◌, ◌||◌, ℕ, ◌+◌, ◌<◌, ◌≤◌, Bool, true, false, List, [], Option, Some, None}
-use Rattle.std.specs.Prelude.{length, if◌then◌else◌}
+use Rattle.std.specs.Prelude.{length, take, if◌then◌else◌}
 use Rattle.std.specs.Str.{IsCharBoundary, IsUtf8}
 use Rattle.markdown_base.specs.declared.options.Options.{Options}
 use Rattle.markdown_base.specs.declared.options.TheConstants.Options.{ENABLE_YAML_STYLE_METADATA_BLOCKS}
@@ -22,8 +22,11 @@ use Rattle.markdown_plain.specs.Standing.{AreOpenedBefore, IsSource, PlacesFor, 
 use Rattle.markdown_lines.specs.declared.line.Line.{Line}
 use Rattle.markdown_block_rules.specs.BlockGrowth.{Block, begun_by, content_of, goes_on, with_line}
 use Rattle.markdown_plain.specs.declared.beginnings.LineRest.{LineRest}
+use Rattle.markdown_plain.specs.declared.containers.Reached.{Reached}
+use Rattle.markdown_plain.specs.OpenBlocks as by_body
+use Rattle.std.specs.List.{list_all}
 use Rattle.markdown_plain.specs.declared.pass.Pass.{Pass}
-use Rattle.markdown_block_rules.specs.TableLines.{reads_tables}
+use Rattle.markdown_plain.specs.TableHeads.{IfParagraphLast, IsUntabled}
 use Rattle.markdown_lines.specs.declared.atx_heading.AtxHeading.{AtxHeading}
 use Rattle.markdown_plain.specs.Closable.{IsReady}
 use Rattle.markdown_plain.specs.Closing.{AreItemsInLists, MayClose, MayEnd}
@@ -127,10 +130,16 @@ pub record IsInside (s : Source) (pass : Pass) (rest : LineRest) (frames : List 
 
 -- ---- before anything was opened in it
 
+-- no lines are held back but those of a paragraph
+abbrev pub HoldsNone : Pass → Option (List SourceLine) → Type 0
+HoldsNone pass None = pass.lines.items ≡ []
+HoldsNone pass (Some sources) = Unit
+
 -- which block has not ended, whether or not the last one goes on in some line
 abbrev pub HoldsLast : Source → Pass → List Frame → Forest Block → Option Block → Type 0
 HoldsLast s pass frames inside None = MayClose s pass frames inside × (pass.lines.items ≡ [])
-HoldsLast s pass frames inside (Some b) = (held : Option (List SourceLine)) × MayEnd s pass frames inside b held
+HoldsLast s pass frames inside (Some b) =
+    (held : Option (List SourceLine)) × MayEnd s pass frames inside b held × HoldsNone pass held
 
 -- what the pass stands for before a line that begins at a byte offset, whether or not the last block goes on in it
 pub record Holds (s : Source) (pass : Pass) (frames : List Frame) (inside : Forest Block) (last : Option Block)
@@ -144,11 +153,24 @@ pub record Holds (s : Source) (pass : Pass) (frames : List Frame) (inside : Fore
   pub earlier : AreOpenedBefore from frames
   pub ready : IsReady pass from
 
--- What the open containers left of a line is still to be read, and makes the blocks so far these ones, where no tables
--- are read. No block but a paragraph goes on in it.
+-- the rest of a line was made of what the line reaches
+pub record IsMadeOf (s : Source) (pass : Pass) (found : Reached) (rest : LineRest) : Type 0 where
+  pub text : rest.reader.text.now ≡ s.text
+  pub options : rest.reader.options ≡ pass.options
+  pub start : rest.reader.start ≡ rest.line.start
+  pub stop : rest.reader.stop ≡ rest.line.stop
+  pub next : rest.reader.next ≡ rest.line.next
+  pub outermost : rest.reader.outermost ≡ (reads_metadata pass.options
+      && list_all (λ block. by_body.is_list block.body) (take found.depth pass.placing.builder.blocks))
+  pub position : rest.position ≡ found.position
+  pub depth : rest.depth ≡ found.depth
+  pub before : rest.before ≡ paragraph_before pass found.all
+
+-- What the open containers left of a line is still to be read, and makes the blocks so far these ones. No block but a
+-- paragraph goes on in it, and it makes no table of that.
 pub record IsFirst (s : Source) (pass : Pass) (rest : LineRest) (before : Before) (line source : SourceLine)
     (blocks : Forest Block) : Type 0 where
-  pub tables : reads_tables s ≡ false
+  pub untabled : IfParagraphLast s (IsUntabled s pass rest.line.start (reached_of s before line)) before.last
   pub holds : Holds s pass before.frames before.inside before.last rest.line.start
   pub is : IsSource pass rest.line line
   pub reached : source ≡ (reached_of s before line).rest
@@ -184,7 +206,6 @@ pub record ReadsOn (s : Source) (pass : Pass) (old new : LineRest) (blocks : For
   pub here : IsHere s pass new turn source blocks
   pub later : turn_place old < turn_place new
   pub line : new.line ≡ old.line
-  pub row : new.unless_row ≡ old.unless_row
 
 -- a block was begun with the rest of a line, of which more is to be read, or not
 abbrev pub HasBegun : Source → Pass → (old new : LineRest) → Forest Block → (more : Bool) → Type 0

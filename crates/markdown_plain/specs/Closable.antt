@@ -15,7 +15,7 @@ use Rattle.markdown_lines.specs.declared.line.Line.{Line}
 use Rattle.markdown_plain.specs.Containers.{is_container}
 use Rattle.markdown_plain.specs.Fits.{MayAddBefore}
 use Rattle.markdown_plain.specs.HeldSources.{AreInParagraph}
-use Rattle.markdown_plain.specs.OpenBlocks.{is_quote, without_leaf}
+use Rattle.markdown_plain.specs.OpenBlocks.{has_leaf, is_quote, without_leaf}
 use Rattle.markdown_plain.specs.Paragraphs.{has_paragraph, lines_end}
 use Rattle.markdown_plain.specs.declared.paragraph.Ends.{Ends}
 use Rattle.markdown_plain.specs.declared.pass.Pass.{Pass}
@@ -146,6 +146,7 @@ pub record IsClosable (pass : Pass) : Type 0 where
   pub held : pass.placing.builder.leaf ≡ false → AreAhead pass.placing.builder pass.lines.items
   pub task : HaveTask pass.placing.builder.text pass.task pass.lines.items
   pub containers : AreContainers (without_leaf pass.placing.builder)
+  pub alone : has_paragraph pass ≡ true → has_leaf pass.placing.builder ≡ false
   pub low : leaf_end pass ≤ pass.placed
   pub boundary : IsCharBoundary pass.placing.builder.text pass.placed
   pub white : has_quote (without_leaf pass.placing.builder) ≡ false

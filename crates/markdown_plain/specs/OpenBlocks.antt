@@ -1,5 +1,5 @@
 -- The open blocks, the outermost first: the innermost of them, and those outside it.
-use Rattle.std.specs.Prelude.{◌≡◌, ℕ, Bool, true, false, List, [], ◌∷◌, ◌++◌, take}
+use Rattle.std.specs.Prelude.{◌≡◌, ℕ, Bool, true, false, ◌||◌, List, [], ◌∷◌, ◌++◌, take}
 use Rattle.std.specs.Prelude.{if◌then◌else◌}
 use Rattle.std.specs.Option.{option_map_or}
 use Rattle.markdown_base.specs.declared.item.ItemBody.{ItemBody}
@@ -38,9 +38,13 @@ pub record InnermostBecomes (old new : List OpenBlock) (now : OpenBlock → Open
   pub was : old ≡ outer_of old ++ block ∷ []
   pub becomes : new ≡ outer_of old ++ now block ∷ []
 
--- the open blocks without a leaf
+-- a leaf block is open: a leaf of the builder, or a table
+abbrev pub has_leaf : BuilderView → Bool
+has_leaf builder = builder.leaf || innermost_is is_table builder.blocks
+
+-- the open blocks without a leaf block
 abbrev pub without_leaf : BuilderView → List OpenBlock
-without_leaf builder = if builder.leaf then outer_of builder.blocks else builder.blocks
+without_leaf builder = if has_leaf builder then outer_of builder.blocks else builder.blocks
 
 -- the open blocks without the innermost, where that is a list
 abbrev pub without_list : List OpenBlock → List OpenBlock

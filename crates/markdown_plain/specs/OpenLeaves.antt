@@ -1,7 +1,7 @@
 -- Blocks in the innermost open container: one that is put there whole, one that is open, and a paragraph whose lines
 -- are held back.
 use Rattle.std.specs.Prelude.{◌≡◌, ℕ, ◌<◌, ◌≤◌, Bool, true, false, List, [], ◌∷◌, ◌++◌, Option, Some, None, length}
-use Rattle.std.specs.Prelude.{◌==◌, nat_le, if◌then◌else◌}
+use Rattle.std.specs.Prelude.{◌==◌, nat_le, not, if◌then◌else◌}
 use Rattle.std.specs.Str.{IsCharBoundary}
 use Rattle.markdown_base.specs.Forest.{Forest, nil, node}
 use Rattle.markdown_base.specs.declared.tag.HeadingLevel.{HeadingLevel}
@@ -106,11 +106,16 @@ pub record HoldsParagraph (s : Source) (pass : Pass) (frames : List Frame) (insi
   pub from : EndsFrom (around_innermost in_no_item frames).marked sources
   pub last : b.last ≡ lines_end pass.lines.items
 
+-- the kind is that of a table
+abbrev pub is_table : Kind → Bool
+is_table (was.table_leaf ended head alignments rows) = true
+is_table other = false
+
 -- a block is the last in the innermost open container, and has not ended: a paragraph whose lines are held back, or an
--- open leaf
+-- open leaf block, which is a leaf of the builder or a table
 abbrev pub IsUnended : Source → Pass → List Frame → Forest Block → Block → Option (List SourceLine) → Type 0
 IsUnended s pass frames inside b None =
-    (is_leaf b.kind ≡ true) × IsOpenIn s pass.placing.builder frames inside true b
+    (is_leaf b.kind ≡ true) × IsOpenIn s pass.placing.builder frames inside (not (is_table b.kind)) b
 IsUnended s pass frames inside b (Some sources) = HoldsParagraph s pass frames inside b sources
 
 -- a line with some content, which is this one of the definition, comes after these lines of a paragraph

@@ -1,5 +1,5 @@
--- What the pass stands for between two lines, where no table is open: the blocks of the lines so far. And what it
--- stands for once a line that is not blank is placed, before that is recorded.
+-- What the pass stands for between two lines: the blocks of the lines so far. And what it stands for once a line that is
+-- not blank is placed, before that is recorded.
 use Rattle.std.specs.Prelude.{◌≡◌, ℕ, ◌<◌, ◌≤◌, Bool, true, false, List, [], ◌∷◌, ◌++◌, Option, Some, None}
 use Rattle.std.specs.Str.{IsCharBoundary, IsUtf8}
 use Rattle.markdown_base.specs.Forest.{Forest}
@@ -23,6 +23,7 @@ use Rattle.markdown_plain.specs.HeldSources.{AreHeld}
 use Rattle.markdown_plain.specs.OpenLeaves.{IsPlaced, IsUnended, leaf_block}
 use Rattle.markdown_plain.specs.Paragraphs.{lines_end, source_of}
 use Rattle.markdown_plain.specs.Settled.{BlanksKnown, IsLooseAs, QuotesEnd}
+use Rattle.markdown_plain.specs.TableHeads.{IfParagraphLast, Remembers}
 
 -- blocks, and then one that has not ended, if there is one
 abbrev pub with_last : Forest Block → Option Block → Forest Block
@@ -37,17 +38,22 @@ IsLeafKind (leaf.Html kind) (was.html_leaf same false lines) = same ≡ kind
 IsLeafKind (leaf.Metadata kind) (was.metadata_leaf same false lines) = same ≡ kind
 IsLeafKind other kind = ⊥
 
+-- how an open leaf block goes on: as that leaf, or as a table
+abbrev pub GoesOnBy : LeafKind → Kind → Type 0
+GoesOnBy how (was.table_leaf ended head alignments rows) = Unit
+GoesOnBy how other = IsLeafKind how other
+
 -- the blank lines that are held back are those at the end of the lines of indented code
 abbrev pub HoldsBlanks : List HeldLine → Kind → Type 0
 HoldsBlanks held (was.indented_leaf lines) =
     (blank : List SourceLine) × (lines ≡ code_lines lines ++ blank) × AreHeld held blank
 HoldsBlanks held other = held ≡ []
 
--- the pass remembers how the last block goes on: a paragraph's lines are held back, or a leaf is open and none are
+-- the pass remembers how the last block goes on: a paragraph's lines are held back, or a leaf block is open and none are
 abbrev pub KnowsLast : Pass → Block → Option (List SourceLine) → Type 0
 KnowsLast pass b (Some sources) = Unit
 KnowsLast pass b None =
-    IsLeafKind pass.leaf b.kind × HoldsBlanks pass.blanks.items b.kind × (pass.lines.items ≡ [])
+    GoesOnBy pass.leaf b.kind × HoldsBlanks pass.blanks.items b.kind × (pass.lines.items ≡ [])
 
 -- which block has not ended
 abbrev pub HasLast : Source → Pass → List Frame → Forest Block → Option Block → Type 0
@@ -89,6 +95,7 @@ pub record Stands (s : Source) (pass : Pass) (frames : List Frame) (inside : For
   pub unheld : pass.placing.builder.leaf ≡ false → pass.blanks.items ≡ []
   pub earlier : AreOpenedBefore from frames
   pub alone : MetadataAlone last frames
+  pub remembers : IfParagraphLast s (Remembers s pass from) last
   pub ready : IsReady pass from
 
 -- the pass stands for these blocks between two lines
@@ -131,6 +138,7 @@ pub record Places (s : Source) (pass : Pass) (frames : List Frame) (inside : For
   pub unheld : pass.placing.builder.leaf ≡ false → pass.blanks.items ≡ []
   pub earlier : AreOpenedBefore to frames
   pub alone : MetadataAlone last frames
+  pub remembers : IfParagraphLast s (Remembers s pass to) last
   pub ready : IsReadyAfter pass to
 
 -- the pass has placed a line that makes these blocks

@@ -1,30 +1,29 @@
 -- Which line of the open paragraph is the head of a table, as the pass finds it out.
-use Rattle.std.specs.Prelude.{◌≡◌, ℕ, ◌-◌, ◌<◌, ◌++◌, ◌∷◌, [], Bool, true, List, Option, Some, None, length}
-use Rattle.std.specs.Prelude.{nat_eq, slice_get, if◌then◌else◌}
-use Rattle.std.specs.Option.{option_eq, option_map}
+use Rattle.std.specs.Prelude.{◌≡◌, ℕ, ◌-◌, ◌<◌, ◌++◌, ◌∷◌, [], true, false, List, Option, Some, None, length}
+use Rattle.std.specs.Prelude.{slice_get, if◌then◌else◌}
 use Rattle.markdown_base.specs.Forest.{Forest}
+use Rattle.markdown_base.specs.declared.tag.Alignment.{Alignment}
+use Rattle.markdown_builder.specs.BuilderView.{BuilderView}
+use Rattle.markdown_builder.specs.TreeLevels.{followed_by}
 use Rattle.markdown_scan.specs.LineStart.{leading_space}
 use Rattle.markdown_lines.specs.BlockBeginnings.{Source}
-use Rattle.markdown_lines.specs.SourceLines.{SourceLine, stop_of}
+use Rattle.markdown_lines.specs.SourceLines.{SourceLine, stop_of, text_line}
 use Rattle.markdown_lines.specs.declared.held_line.HeldLine.{HeldLine}
 use Rattle.markdown_lines.specs.declared.line.Line.{Line}
 use Rattle.markdown_lines.specs.declared.position.Position.{Position}
-use Rattle.markdown_block_rules.specs.BlockGrowth.{Block}
-use Rattle.markdown_block_rules.specs.TableLines.{hold_fitting, is_near, reads_tables}
+use Rattle.markdown_block_rules.specs.BlockGrowth.{Block, Kind, cut_paragraph, paragraph_leaf, table_leaf, table_with}
+use Rattle.markdown_block_rules.specs.BlockRules.{lines_end as last_next}
+use Rattle.markdown_block_rules.specs.TableLines.{alignments_for, further_line, hold_fitting, is_near, reads_tables}
 use Rattle.markdown_plain.specs.declared.pass.Pass.{Pass}
-use Rattle.markdown_plain.specs.declared.table_state.Tables.{Tables}
 use Rattle.markdown_plain.specs.Frames.{Frame, Reached, reached}
 use Rattle.markdown_plain.specs.HeldSources.{IsParagraph, IsRest}
-use Rattle.markdown_plain.specs.Paragraphs.{end_of, source_of}
+use Rattle.markdown_plain.specs.OpenLeaves.{IsOpenIn}
+use Rattle.markdown_plain.specs.Paragraphs.{end_of, lines_end, source_of}
 use Rattle.markdown_plain.specs.ReachedFrames.{IsBefore, are_none}
 
 -- the last of some lines
 abbrev pub last_of : List HeldLine → Option HeldLine
 last_of lines = slice_get lines (length lines - 1)
-
--- the byte offset at which the first of some lines begins
-abbrev pub first_start : List HeldLine → Option ℕ
-first_start lines = option_map (λ line. line.start) (slice_get lines 0)
 
 -- a further line of a paragraph is not lazy, and begins at this byte offset after at most three columns of space, and
 -- its content ends before the other
@@ -32,21 +31,6 @@ pub record IsNearRow (at stop : ℕ) (row : SourceLine) : Type 0 where
   pub near : is_near row.indent ≡ true
   pub start : at ≡ row.left.scanned
   pub stop_is : stop ≡ stop_of row
-
--- the number of cells that were added to rows stays, and that of those that may be
-pub record KeepsCount (old new : Tables) : Type 0 where
-  pub added : new.added ≡ old.added
-  pub most : new.most ≡ old.most
-
--- and so does the number of columns
-pub record KeepsCells (old new : Tables) : Type 0 where
-  pub columns : new.columns ≡ old.columns
-  pub added : new.added ≡ old.added
-  pub most : new.most ≡ old.most
-
--- in the open paragraph it was tried whether only definitions precede a head
-abbrev pub was_tried : Pass → Bool
-was_tried pass = option_eq nat_eq pass.tables.tried (first_start pass.lines.items)
 
 -- the last line of the open paragraph, which is not its first, from where the line before it ends
 abbrev pub whole_head : Pass → HeldLine → Line
@@ -74,10 +58,61 @@ pub record IsLastLine (s : Source) (pass : Pass) (head : HeldLine) (before : Lis
   pub lines : IsParagraph pass.placing.builder.text pass.lines.items (before ++ from ∷ [])
   pub there : last_of pass.lines.items ≡ Some head
   pub further : 0 < length before → IsFurther s pass (whole_head pass head) from
-  pub tried : was_tried pass ≡ hold_fitting s (before ++ from ∷ [])
+  pub tried : pass.tried ≡ hold_fitting s (before ++ from ∷ [])
+
+-- what is remembered of the open paragraph, whose lines are these, and end at a byte offset
+pub record Remembers (s : Source) (pass : Pass) (from : ℕ) (sources : List SourceLine) : Type 0 where
+  pub ends : lines_end pass.lines.items ≡ from
+  pub tried : pass.tried ≡ hold_fitting s sources
+  pub further : (head : HeldLine) (before : List SourceLine) (last : SourceLine)
+      → last_of pass.lines.items ≡ Some head → sources ≡ before ++ last ∷ [] → 0 < length before
+      → IsFurther s pass (whole_head pass head) last
+
+-- the next line of the open paragraph, as it is held: it has its indentation where it reaches the paragraph
+abbrev pub next_line : Source → Reached → SourceLine
+next_line s r = if are_none r.inner then further_line s r.rest else text_line r.rest
+
+-- A line makes no table of the open paragraph, whose lines are these, and end at a byte offset; and of the paragraph so
+-- much is remembered as if it had this line.
+pub record IsUntabled (s : Source) (pass : Pass) (from : ℕ) (r : Reached) (sources : List SourceLine) : Type 0 where
+  pub ends : lines_end pass.lines.items ≡ from
+  pub tried : pass.tried ≡ hold_fitting s (sources ++ next_line s r ∷ [])
+  pub none : are_none r.inner ≡ true → (b : Block) → table_with s r.rest b (paragraph_leaf sources) ≡ None
+
+-- where tables are read, this is so of the last block, if that is a paragraph
+abbrev pub IfParagraph : Source → (List SourceLine → Type 0) → Kind → Type 0
+IfParagraph s So (paragraph_leaf sources) = reads_tables s ≡ true → So sources
+IfParagraph s So other = Unit
+
+abbrev pub IfParagraphLast : Source → (List SourceLine → Type 0) → Option Block → Type 0
+IfParagraphLast s So None = Unit
+IfParagraphLast s So (Some b) = IfParagraph s So b.kind
 
 -- a line that is not lazy comes next, where tables are read, of which this is left
 pub record IsRowRest (s : Source) (text : List ℕ) (line : Line) (position : Position) (l : SourceLine) : Type 0 where
   pub reads : reads_tables s ≡ true
   pub rest : IsRest text position line l
   pub stop : line.stop ≡ stop_of l
+
+-- ---- the table that begins
+
+-- the table of which a line is the head, with these alignments, and which ends at a byte offset so far
+abbrev pub begun_table : SourceLine → (last : ℕ) → List Alignment → Block
+begun_table head last alignments = record {
+  start = head.left.scanned;
+  first = head.next;
+  last = last;
+  kind = table_leaf false head alignments [];
+}
+
+-- the blocks before it: the lines of a paragraph before its head are one of them
+abbrev pub before_table : Forest Block → Block → List SourceLine → Forest Block
+before_table inside b before = followed_by inside (cut_paragraph b (last_next b.first before) before)
+
+-- such a table is open in the innermost container, where a line begins it as its delimiter row, after the head and the
+-- lines of a paragraph before that
+pub record HasTable (s : Source) (view : BuilderView) (frames : List Frame) (inside : Forest Block) (b : Block)
+    (before : List SourceLine) (from l : SourceLine) (to : ℕ) : Type 0 where
+  pub found : List Alignment
+  pub begins : alignments_for s l before from ≡ Some found
+  pub opened : IsOpenIn s view frames (before_table inside b before) false (begun_table from to found)

@@ -1,16 +1,22 @@
 -- The rows of tables, as the pass places them: one tree of the innermost level for each cell.
-use Rattle.std.specs.Prelude.{◌≡◌, ℕ, ◌+◌, ◌-◌, ◌≤◌, Bool, false, ◌&&◌, nat_le, nat_lt, List, [], ◌∷◌, ◌++◌, length}
-use Rattle.std.specs.Prelude.{slice_range, take}
+use Rattle.std.specs.Prelude.{◌≡◌, ℕ, ◌+◌, ◌-◌, ◌≤◌, Bool, true, false, ◌&&◌, nat_le, nat_lt, List, [], ◌∷◌, ◌++◌, length}
+use Rattle.std.specs.Prelude.{◌||◌, if◌then◌else◌, not, slice_range, take}
 use Rattle.std.specs.Str.{IsCharBoundary}
 use Rattle.markdown_base.specs.Forest.{Forest, nil, node, roots}
 use Rattle.markdown_builder.specs.BuilderView.{BuilderView}
+use Rattle.markdown_builder.specs.EvenRows.{open_columns}
 use Rattle.markdown_builder.specs.Shown.{Shown}
 use Rattle.markdown_builder.specs.TreeLevels.{followed_by}
+use Rattle.markdown_lines.specs.declared.block_start.BlockStart.{BlockStart}
+use Rattle.markdown_lines.specs.declared.block_start.BlockStart.TheVariants as start
 use Rattle.markdown_lines.specs.declared.held_line.HeldLine.{HeldLine}
 use Rattle.markdown_lines.specs.declared.table_row.Cell.{Cell}
 use Rattle.markdown_lines.specs.BlockBeginnings.{Source}
 use Rattle.markdown_lines.specs.TableRows.{piece_length, row_cells_at}
+use Rattle.markdown_block_rules.specs.BlockGrowth as was
+use Rattle.markdown_block_rules.specs.BlockGrowth.{Block, Kind, added_in, is_nil}
 use Rattle.markdown_block_rules.specs.BlockRules.{empty_cells, shown_cells}
+use Rattle.markdown_block_rules.specs.TableLines.{most_added, reads_tables}
 use Rattle.markdown_plain.specs.Closable.{IsInText}
 use Rattle.markdown_plain.specs.Fits.{MayStep}
 use Rattle.markdown_plain.specs.LeafTrees.{HasTrees}
@@ -57,9 +63,34 @@ abbrev pub HasCells : List (Forest Shown) → ℕ → List (Forest Shown) → Ty
 HasCells outer count levels =
     (cells : Forest Shown) × (levels ≡ outer ++ cells ∷ []) × (length (roots cells) ≡ count)
 
+-- what a line begins is text
+abbrev pub is_text_start : BlockStart → Bool
+is_text_start start.Text = true
+is_text_start other = false
+
+-- the kind is that of a table that takes no rows: it is ended, or no tables are read
+abbrev pub is_ended_table : Source → Kind → Bool
+is_ended_table s (was.table_leaf ended head alignments rows) = ended || not (reads_tables s)
+is_ended_table s other = false
+
+-- the last of some blocks, at any depth, is such a table
+abbrev pub ends_ended : Source → Forest Block → Bool
+ends_ended s nil = false
+ends_ended s (node b below after) =
+    if is_nil after then is_ended_table s b.kind || ends_ended s below else ends_ended s after
+
+-- the cells that were added to rows are those of these blocks, of which there are no more than may be added; and if the
+-- blocks end with a table, that takes rows
+pub record IsCounted (s : Source) (pass : Pass) (blocks : Forest Block) : Type 0 where
+  pub added : pass.tables.added ≡ added_in blocks
+  pub most : pass.tables.most ≡ most_added s.text
+  pub few : added_in blocks ≤ most_added s.text
+  pub unended : ends_ended s blocks ≡ false
+
 -- A line may be a row of the open table, from byte offset `start` on, where its content ends before `stop`: it has a
 -- cell, and those that it lacks may still be added.
 abbrev pub may_be_row : Pass → (start stop : ℕ) → Bool
 may_be_row pass start stop =
     let count = length (row_cells_at pass.placing.builder.text start stop) in
-    nat_lt 0 count && nat_le (pass.tables.added + (pass.tables.columns - count)) pass.tables.most
+    nat_lt 0 count
+    && nat_le (pass.tables.added + (open_columns pass.placing.builder - count)) pass.tables.most

@@ -3,7 +3,8 @@ use Rattle.std.specs.Prelude.{◌≡◌, ℕ, ◌≤◌, Bool, false, ◌==◌, 
 use Rattle.std.specs.Prelude.{if◌then◌else◌}
 use Rattle.std.specs.Char.{is_ascii_digit}
 use Rattle.std.specs.Str.{IsCharBoundary}
-use Rattle.markdown_base.specs.Bytes.{backtick, equals_sign, greater_than, less_than, number_sign, open_bracket, tilde}
+use Rattle.markdown_base.specs.Bytes.{backtick, colon, equals_sign, greater_than, less_than, number_sign}
+use Rattle.markdown_base.specs.Bytes.{open_bracket, pipe, tilde}
 use Rattle.markdown_base.specs.Forest.{Forest}
 use Rattle.markdown_lines.specs.declared.block_start.Before.{Before}
 use Rattle.markdown_lines.specs.declared.block_start.Before.TheVariants as paragraph
@@ -14,6 +15,7 @@ use Rattle.markdown_lines.specs.BlockBeginnings as beginning
 use Rattle.markdown_lines.specs.BlockBeginnings.{Source, begins}
 use Rattle.markdown_lines.specs.ListMarkers.{is_bullet}
 use Rattle.markdown_lines.specs.Positions.{left_from}
+use Rattle.markdown_lines.specs.TableRows.{delimiter_row_at}
 use Rattle.markdown_lines.specs.ThematicBreaks.{is_break_mark}
 use Rattle.markdown_lines.specs.SourceLines.{SourceLine, is_blank_rest, stop_of, text_line}
 use Rattle.markdown_block_rules.specs.BlockGrowth as was
@@ -23,7 +25,7 @@ use Rattle.markdown_plain.specs.Frames.{Reached, rebuilt}
 use Rattle.markdown_plain.specs.Paragraphs.{has_paragraph}
 use Rattle.markdown_plain.specs.ReachedFrames.{are_none}
 
--- a line that begins with this byte begins no block but a paragraph, and underlines none
+-- a line that begins with this byte begins no block but a paragraph, underlines none, and is no delimiter row
 pub record BeginsNoBlock (byte : ℕ) : Type 0 where
   pub quote : (byte == greater_than) ≡ false
   pub heading : (byte == number_sign) ≡ false
@@ -34,13 +36,17 @@ pub record BeginsNoBlock (byte : ℕ) : Type 0 where
   pub break : is_break_mark byte ≡ false
   pub bullet : is_bullet byte ≡ false
   pub digit : is_ascii_digit byte ≡ false
+  pub cut : ((byte == pipe) || (byte == colon)) ≡ false
+  pub white : ((byte == 11) || (byte == 12)) ≡ false
 
--- a line of which this is left is not blank, has its content here, and begins text, whatever paragraph is before it
+-- a line of which this is left is not blank, has its content here, begins text, whatever paragraph is before it, and is
+-- no delimiter row
 pub record IsTextFrom (text : List ℕ) (position : Position) (stop : ℕ) : Type 0 where
   pub filled : (l : SourceLine) → l.left ≡ left_from text position stop → is_blank_rest l ≡ false
   pub here : (l : SourceLine) → l.left ≡ left_from text position stop → content_of l ≡ position.at
   pub begins_it : (s : Source) (before : Before) (l : SourceLine) → s.text ≡ text
       → l.left ≡ left_from text position stop → begins s before l ≡ beginning.begins_text
+  pub no_row : (end : ℕ) → delimiter_row_at text position.at end ≡ None
 
 -- a line as it is held back, from its first byte of content on
 abbrev pub held_line : Line → (start : ℕ) → HeldLine
@@ -61,10 +67,9 @@ abbrev pub paragraph_before : Pass → (all : Bool) → Before
 paragraph_before pass all =
     if has_paragraph pass then (if all then paragraph.Reached else paragraph.Lazy) else paragraph.NoParagraph
 
--- a paragraph of these lines with the rest of one more
-abbrev pub with_text : SourceLine → Block → List SourceLine → Block
-with_text rest b lines =
-    record b { last = rest.next; kind = was.paragraph_leaf (lines ++ text_line rest ∷ []) }
+-- a paragraph of these lines with one more, of which `rest` is left
+abbrev pub with_text : (rest line : SourceLine) → Block → List SourceLine → Block
+with_text rest line b lines = record b { last = rest.next; kind = was.paragraph_leaf (lines ++ line ∷ []) }
 
 -- a paragraph that begins with the rest of a line
 abbrev pub text_block : SourceLine → Block

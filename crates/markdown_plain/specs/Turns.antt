@@ -1,5 +1,5 @@
 -- The turns at the rest of a line: as long as the line opens containers, more of it is read.
-use Rattle.std.specs.Prelude.{◌≡◌, ℕ, ◌≤◌, None}
+use Rattle.std.specs.Prelude.{◌≡◌, ℕ, ◌≤◌}
 use Rattle.markdown_base.specs.Forest.{Forest}
 use Rattle.markdown_lines.specs.BlockBeginnings.{Source}
 use Rattle.markdown_lines.specs.SourceLines.{SourceLine}
@@ -9,23 +9,22 @@ use Rattle.markdown_plain.specs.declared.pass.Pass.{Pass}
 use Rattle.markdown_plain.specs.Beginning.{IsHere, Turn, turn_place}
 use Rattle.markdown_plain.specs.Fitting.{AllFitted, IfFitted}
 
--- more is to be read of the same line, which is no row, after turns that went on to a place
+-- more is to be read of the same line, after turns that went on to a place
 pub record StillReads (s : Source) (pass : Pass) (old now : LineRest) (blocks : Forest Block) (place : ℕ) : Type 0 where
   pub turn : Turn
   pub source : SourceLine
   pub here : IsHere s pass now turn source blocks
   pub line : now.line ≡ old.line
-  pub row : now.unless_row ≡ None
   pub far : place ≤ turn_place now
 
 -- what was to be read of a line is still to be read
 abbrev pub KeepsReading : (before now : Pass) → (old rest : LineRest) → ℕ → Type 0
 KeepsReading before now old rest place =
     (s : Source) (turn : Turn) (source : SourceLine) (blocks : Forest Block) → IsHere s before old turn source blocks
-    → old.unless_row ≡ None → IfFitted before.placing now.placing (StillReads s now old rest blocks place)
+    → IfFitted before.placing now.placing (StillReads s now old rest blocks place)
 
 -- all calls so far fitted, where what was to be read of a line is
 abbrev pub KeepsFitting : (before now : Pass) → (old : LineRest) → Type 0
 KeepsFitting before now old =
     (s : Source) (turn : Turn) (source : SourceLine) (blocks : Forest Block) → IsHere s before old turn source blocks
-    → old.unless_row ≡ None → AllFitted before.placing → AllFitted now.placing
+    → AllFitted before.placing → AllFitted now.placing

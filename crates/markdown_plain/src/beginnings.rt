@@ -47,24 +47,6 @@ pub struct LineRest<'a> {
     pub depth: usize,
     /// the paragraph that it may go on with
     pub before: Before,
-    /// where it begins if it is no row of the open table, as long as that is not known
-    pub unless_row: Option<Position>,
-}
-
-/// Returns whether what a line begins is text.
-fn is_text(start: &BlockStart<'_>) -> bool {
-    match start {
-        BlockStart::Text => true,
-        _ => false,
-    }
-}
-
-/// Has the rest of a line be read first as a row, from its first byte after white space on: what ends a table is what
-/// would end a paragraph that the line continued lazily.
-pub fn try_as_row(rest: &mut LineRest<'_>, content: usize) {
-    rest.unless_row = Some(rest.position);
-    rest.position = Position::new(content);
-    rest.before = Before::Lazy;
 }
 
 impl<'a> Pass<'a> {
@@ -87,31 +69,17 @@ impl<'a> Pass<'a> {
         ensures text { IfOk result (λ _. self.new.placing.builder.text
             ≡ self.old.placing.builder.text) }
         ensures fitted { IfOk result (λ _. FittedBefore self.old.placing self.new.placing) }
+        ensures tables { IfOk result (λ _. self.new.tables ≡ self.old.tables) }
         ensures begins { IfOk result (λ more. (s : Source) (turn : Turn) (source : SourceLine)
             (blocks : Forest Block) → IsHere s self.old rest.old turn source blocks
-            → rest.old.unless_row ≡ None
             → IfFitted self.old.placing self.new.placing
             (HasBegun s self.new rest.old rest.new blocks more)) }
         ensures fits { IfOk result (λ more. (s : Source) (turn : Turn) (source : SourceLine)
             (blocks : Forest Block) → IsHere s self.old rest.old turn source blocks
-            → rest.old.unless_row ≡ None
             → AllFitted self.old.placing → AllFitted self.new.placing) }
     {
-        if self.reads_table(rest)? {
-            return Ok(false);
-        }
         let begun = rest.reader.beginning(rest.position, rest.before)?;
         let at = begun.at;
-        if let Some(outside) = rest.unless_row {
-            // what begins nothing but text is a row, or else the line is read once more, from outside the table on
-            if is_text(&begun.start) && self.add_row(rest.line, at)? {
-                return Ok(false);
-            }
-            rest.unless_row = None;
-            rest.position = outside;
-            rest.before = self.paragraph_before(true);
-            return Ok(true);
-        }
         match begun.start {
             BlockStart::Nothing => self.skip_blank(rest.line),
             BlockStart::Text => self.read_text(rest, at),
@@ -129,24 +97,6 @@ impl<'a> Pass<'a> {
         }
     }
 
-    /// Reads the delimiter row of a table, where tables are read, and returns whether the rest of the line is one.
-    fn reads_table(&mut self, rest: &LineRest<'a>) -> Result<bool, AllocError>
-        ensures text { IfOk result (λ _. self.new.placing.builder.text
-            ≡ self.old.placing.builder.text) }
-        ensures fitted { IfOk result (λ _. FittedBefore self.old.placing self.new.placing) }
-        ensures none { IfOk result (λ is. rest.now.before ≡ before.NoParagraph → (is ≡ false)
-            × (self.new ≡ self.old)) }
-        ensures off { IfOk result (λ is. reads_tables (source_of self.old) ≡ false → (is ≡ false)
-            × (self.new ≡ self.old)) }
-    {
-        match rest.before {
-            Before::Reached if is_read(Options::ENABLE_TABLES, self.options) => {
-                self.begin_table(rest.line, rest.position)
-            }
-            _ => Ok(false),
-        }
-    }
-
     /// Makes room for the block that the rest of a line begins, which is no item: ends the open leaf, and closes the
     /// containers that it is not in.
     #[inline(always)]
@@ -154,6 +104,7 @@ impl<'a> Pass<'a> {
         ensures text { IfOk result (λ _. self.new.placing.builder.text
             ≡ self.old.placing.builder.text) }
         ensures fitted { IfOk result (λ _. FittedBefore self.old.placing self.new.placing) }
+        ensures tables { IfOk result (λ _. self.new.tables ≡ self.old.tables) }
         ensures room { IfOk result (λ _. (s : Source) (turn : Turn) (source : SourceLine)
             (at : ℕ) (start : BlockStart) (b : Beginning) (blocks : Forest Block)
             → IsHere s self.old rest.now turn source blocks → IsFound s rest.now source at start
@@ -195,6 +146,7 @@ impl<'a> Pass<'a> {
         ensures text { IfOk result (λ _. self.new.placing.builder.text
             ≡ self.old.placing.builder.text) }
         ensures fitted { IfOk result (λ _. FittedBefore self.old.placing self.new.placing) }
+        ensures tables { IfOk result (λ _. self.new.tables ≡ self.old.tables) }
         ensures more { IfOk result (λ more. more ≡ false) }
         ensures places { IfOk result (λ _. (s : Source) (rest : LineRest) (turn : Turn)
             (source : SourceLine) (at : ℕ) (blocks : Forest Block)
@@ -216,6 +168,7 @@ impl<'a> Pass<'a> {
         ensures text { IfOk result (λ _. self.new.placing.builder.text
             ≡ self.old.placing.builder.text) }
         ensures fitted { IfOk result (λ _. FittedBefore self.old.placing self.new.placing) }
+        ensures tables { IfOk result (λ _. self.new.tables ≡ self.old.tables) }
         ensures more { IfOk result (λ more. more ≡ false) }
         ensures places { IfOk result (λ _. (s : Source) (turn : Turn) (source : SourceLine)
             (blocks : Forest Block) → IsHere s self.old rest.now turn source blocks
@@ -248,6 +201,7 @@ impl<'a> Pass<'a> {
         ensures text { IfOk result (λ _. self.new.placing.builder.text
             ≡ self.old.placing.builder.text) }
         ensures fitted { IfOk result (λ _. FittedBefore self.old.placing self.new.placing) }
+        ensures tables { IfOk result (λ _. self.new.tables ≡ self.old.tables) }
         ensures more { IfOk result (λ more. more ≡ false) }
         ensures places { IfOk result (λ _. (s : Source) (turn : Turn) (source : SourceLine)
             (at : ℕ) (blocks : Forest Block) → IsHere s self.old rest.now turn source blocks
@@ -275,6 +229,7 @@ impl<'a> Pass<'a> {
         ensures text { IfOk result (λ _. self.new.placing.builder.text
             ≡ self.old.placing.builder.text) }
         ensures fitted { IfOk result (λ _. FittedBefore self.old.placing self.new.placing) }
+        ensures tables { IfOk result (λ _. self.new.tables ≡ self.old.tables) }
         ensures more { IfOk result (λ more. more ≡ true) }
         ensures reads_on { IfOk result (λ _. (s : Source) (turn : Turn) (source : SourceLine)
             (blocks : Forest Block) → IsHere s self.old rest.old turn source blocks
@@ -304,6 +259,7 @@ impl<'a> Pass<'a> {
         ensures text { IfOk result (λ _. self.new.placing.builder.text
             ≡ self.old.placing.builder.text) }
         ensures fitted { IfOk result (λ _. FittedBefore self.old.placing self.new.placing) }
+        ensures tables { IfOk result (λ _. self.new.tables ≡ self.old.tables) }
         ensures more { IfOk result (λ more. more ≡ false) }
         ensures places { IfOk result (λ _. (s : Source) (turn : Turn) (source : SourceLine)
             (blocks : Forest Block) → IsHere s self.old rest.now turn source blocks
@@ -331,6 +287,7 @@ impl<'a> Pass<'a> {
         ensures text { IfOk result (λ _. self.new.placing.builder.text
             ≡ self.old.placing.builder.text) }
         ensures fitted { IfOk result (λ _. FittedBefore self.old.placing self.new.placing) }
+        ensures tables { IfOk result (λ _. self.new.tables ≡ self.old.tables) }
         ensures more { IfOk result (λ more. more ≡ false) }
         ensures places { IfOk result (λ _. (s : Source) (turn : Turn) (source : SourceLine)
             (blocks : Forest Block) → IsHere s self.old rest.now turn source blocks
@@ -361,6 +318,7 @@ impl<'a> Pass<'a> {
         ensures text { IfOk result (λ _. self.new.placing.builder.text
             ≡ self.old.placing.builder.text) }
         ensures fitted { IfOk result (λ _. FittedBefore self.old.placing self.new.placing) }
+        ensures tables { IfOk result (λ _. self.new.tables ≡ self.old.tables) }
         ensures more { IfOk result (λ more. more ≡ false) }
         ensures places { IfOk result (λ _. (s : Source) (turn : Turn) (source : SourceLine)
             (blocks : Forest Block) → IsHere s self.old rest.now turn source blocks
@@ -384,6 +342,7 @@ impl<'a> Pass<'a> {
         ensures text { IfOk result (λ _. self.new.placing.builder.text
             ≡ self.old.placing.builder.text) }
         ensures fitted { IfOk result (λ _. FittedBefore self.old.placing self.new.placing) }
+        ensures tables { IfOk result (λ _. self.new.tables ≡ self.old.tables) }
         ensures more { IfOk result (λ more. more ≡ false) }
         ensures places { IfOk result (λ _. (s : Source) (turn : Turn) (source : SourceLine)
             (at : ℕ) (blocks : Forest Block) → IsHere s self.old rest.now turn source blocks
@@ -423,6 +382,7 @@ impl<'a> Pass<'a> {
         ensures text { IfOk result (λ _. self.new.placing.builder.text
             ≡ self.old.placing.builder.text) }
         ensures fitted { IfOk result (λ _. FittedBefore self.old.placing self.new.placing) }
+        ensures tables { IfOk result (λ _. self.new.tables ≡ self.old.tables) }
         ensures more { IfOk result (λ more. more ≡ true) }
         ensures reads_on { IfOk result (λ _. (s : Source) (turn : Turn) (source : SourceLine)
             (blocks : Forest Block) → IsHere s self.old rest.old turn source blocks
@@ -451,6 +411,7 @@ impl<'a> Pass<'a> {
         ensures text { IfOk result (λ _. self.new.placing.builder.text
             ≡ self.old.placing.builder.text) }
         ensures fitted { IfOk result (λ _. FittedBefore self.old.placing self.new.placing) }
+        ensures tables { IfOk result (λ _. self.new.tables ≡ self.old.tables) }
         ensures begins { IfOk result (λ more. (s : Source) (turn : Turn) (source : SourceLine)
             (at : ℕ) (blocks : Forest Block) → IsHere s self.old rest.old turn source blocks
             → IsFound s rest.old source at (start.Underline level)
@@ -471,6 +432,7 @@ impl<'a> Pass<'a> {
         ensures text { IfOk result (λ _. self.new.placing.builder.text
             ≡ self.old.placing.builder.text) }
         ensures fitted { IfOk result (λ _. FittedBefore self.old.placing self.new.placing) }
+        ensures tables { IfOk result (λ _. self.new.tables ≡ self.old.tables) }
         ensures more { IfOk result (λ more. more ≡ false) }
         ensures places { IfOk result (λ _. (s : Source) (turn : Turn) (source : SourceLine)
             (blocks : Forest Block) → IsHere s self.old rest.now turn source blocks
@@ -498,6 +460,7 @@ impl<'a> Pass<'a> {
         ensures text { IfOk result (λ _. self.new.placing.builder.text
             ≡ self.old.placing.builder.text) }
         ensures fitted { IfOk result (λ _. FittedBefore self.old.placing self.new.placing) }
+        ensures tables { IfOk result (λ _. self.new.tables ≡ self.old.tables) }
         ensures more { IfOk result (λ more. more ≡ true) }
         ensures reads_on { IfOk result (λ _. (s : Source) (turn : Turn) (source : SourceLine)
             (blocks : Forest Block) → IsHere s self.old rest.old turn source blocks
@@ -524,6 +487,7 @@ impl<'a> Pass<'a> {
         ensures text { IfOk result (λ _. self.new.placing.builder.text
             ≡ self.old.placing.builder.text) }
         ensures fitted { IfOk result (λ _. FittedBefore self.old.placing self.new.placing) }
+        ensures tables { IfOk result (λ _. self.new.tables ≡ self.old.tables) }
         ensures more { IfOk result (λ more. more ≡ false) }
         ensures places { IfOk result (λ _. (s : Source) (turn : Turn) (source : SourceLine)
             (at : ℕ) (blocks : Forest Block) → IsHere s self.old rest.now turn source blocks

@@ -8,9 +8,8 @@ ghost use Rattle.markdown_base.specs.BlockTree.{tree_of};
 ghost use Rattle.markdown_base.specs.Coverage.{Covers};
 ghost use Rattle.markdown_base.specs.Forest.{Forest, nil};
 ghost use Rattle.markdown_base.specs.WellFormed.{IsWellFormed};
-ghost use Rattle.markdown_block_rules.specs.BlockGrowth.{Block, blocks_of, with_line};
+ghost use Rattle.markdown_block_rules.specs.BlockGrowth.{Block, blocks_of, with_line, with_next_line};
 ghost use Rattle.markdown_block_rules.specs.BlockResults.{IsBlockResult};
-ghost use Rattle.markdown_block_rules.specs.TableLines.{reads_tables};
 ghost use Rattle.markdown_builder.specs.EvenRows.{HasEvenRows};
 ghost use Rattle.markdown_builder.specs.HeadingsHoldInline.{HeadingsHoldInline};
 ghost use Rattle.markdown_builder.specs.Shown.{shown_result};
@@ -19,17 +18,20 @@ ghost use Rattle.markdown_lines.specs.BlockBeginnings.{Source};
 ghost use Rattle.markdown_lines.specs.Lines.{AllPass, is_in_blank_line, is_space_or_tab};
 ghost use Rattle.markdown_lines.specs.SourceLines.{SourceLine, is_blank_rest};
 ghost use Rattle.markdown_lines.specs.declared.position.Position.{Position};
-ghost use Rattle.markdown_plain.specs.Beginning.{IsHere, Turn, reads_metadata};
+ghost use Rattle.markdown_plain.specs.Beginning.{IsHere, IsMadeOf, Turn, reads_metadata};
 ghost use Rattle.markdown_plain.specs.Fitting.{AllFitted, FittedBefore, IfFitted};
 ghost use Rattle.markdown_plain.specs.ListLooseness.{blank_from};
 ghost use Rattle.markdown_plain.specs.OpenBlocks.{is_list};
 ghost use Rattle.markdown_plain.specs.ReachedLines as lines;
-ghost use Rattle.markdown_plain.specs.ReachedLines.{IsReachedBy, LeavesOff, blocks_before, blocks_in, reached_of};
+ghost use Rattle.markdown_plain.specs.ReachedLines.{GoesOffAs, IsReachedBy, LeavesOff, blocks_before};
+ghost use Rattle.markdown_plain.specs.ReachedLines.{blocks_in, reached_of};
 ghost use Rattle.markdown_plain.specs.Settled.{IsBuilt};
 ghost use Rattle.markdown_plain.specs.Standing.{IsSource, PlacesFor, Stands, StandsFor};
 ghost use Rattle.markdown_plain.specs.TextLines.{BeginsNoBlock, IsTextFrom, IsTextHere};
+ghost use Rattle.markdown_plain.specs.TableHeads.{IfParagraphLast, IsUntabled};
+ghost use Rattle.markdown_plain.specs.TableRows.{IsCounted};
 
-use crate::beginnings::{LineRest, try_as_row};
+use crate::beginnings::LineRest;
 use crate::containers::{Reached, reach};
 use crate::pass::{LeafKind, Pass};
 use crate::placing::Placing;
@@ -118,14 +120,20 @@ impl<'a> Pass<'a> {
         ensures fitted { IfOk result (λ _. FittedBefore self.old.placing self.new.placing) }
         ensures ahead { ahead.new.text.now ≡ ahead.old.text.now }
         ensures stands { IfOk result (λ _. (s : Source) (before : lines.Before)
-            (source : SourceLine) → reads_tables s ≡ false → ahead.old.text.now ≡ s.text
+            (source : SourceLine) → ahead.old.text.now ≡ s.text
             → Stands s self.old before.frames before.inside before.last line.start
-            → IsSource self.old line source → IfFitted self.old.placing self.new.placing
-            (StandsFor s self.new line.next (with_line s (blocks_before before) source))) }
+            → IsSource self.old line source → IsCounted s self.old (blocks_before before)
+            → IfFitted self.old.placing self.new.placing
+            (StandsFor s self.new line.next (with_next_line s (blocks_before before) source))) }
+        ensures counted { IfOk result (λ _. (s : Source) (before : lines.Before)
+            (source : SourceLine) → ahead.old.text.now ≡ s.text
+            → Stands s self.old before.frames before.inside before.last line.start
+            → IsSource self.old line source → IsCounted s self.old (blocks_before before)
+            → IsCounted s self.new (with_next_line s (blocks_before before) source)) }
         ensures fits { IfOk result (λ _. (s : Source) (before : lines.Before)
-            (source : SourceLine) → reads_tables s ≡ false → ahead.old.text.now ≡ s.text
+            (source : SourceLine) → ahead.old.text.now ≡ s.text
             → Stands s self.old before.frames before.inside before.last line.start
-            → IsSource self.old line source
+            → IsSource self.old line source → IsCounted s self.old (blocks_before before)
             → AllFitted self.old.placing → AllFitted self.new.placing) }
     {
         if !self.placing.open_blocks().is_empty()
@@ -144,15 +152,18 @@ impl<'a> Pass<'a> {
         ensures text { IfOk result (λ _. self.new.placing.builder.text
             ≡ self.old.placing.builder.text) }
         ensures fitted { IfOk result (λ _. FittedBefore self.old.placing self.new.placing) }
+        ensures tables { IfOk result (λ _. self.new.tables ≡ self.old.tables) }
         ensures stands { IfOk result (λ _. (s : Source) (before : lines.Before)
-            (source : SourceLine) → reads_tables s ≡ false
+            (source : SourceLine)
             → Stands s self.old before.frames before.inside before.last line.start
             → IsSource self.old line source
             → IsTextHere s self.old line start depth (blocks_in before) (reached_of s before source)
+            → IfParagraphLast s (IsUntabled s self.old line.start (reached_of s before source))
+            before.last
             → IfFitted self.old.placing self.new.placing
             (StandsFor s self.new line.next (with_line s (blocks_before before) source))) }
         ensures fits { IfOk result (λ _. (s : Source) (before : lines.Before)
-            (source : SourceLine) → reads_tables s ≡ false
+            (source : SourceLine)
             → Stands s self.old before.frames before.inside before.last line.start
             → IsSource self.old line source
             → IsTextHere s self.old line start depth (blocks_in before) (reached_of s before source)
@@ -166,6 +177,7 @@ impl<'a> Pass<'a> {
     /// Records that a line was read that is not blank for the innermost blocks that continue in it.
     fn see_content(&mut self, line: Line)
         ensures placing { self.new.placing ≡ self.old.placing }
+        ensures tables { self.new.tables ≡ self.old.tables }
         ensures stands { (s : Source) (blocks : Forest Block)
             → PlacesFor s self.old line.next blocks
             → StandsFor s self.new line.next blocks }
@@ -183,45 +195,168 @@ impl<'a> Pass<'a> {
         ensures fitted { IfOk result (λ _. FittedBefore self.old.placing self.new.placing) }
         ensures ahead { ahead.new.text.now ≡ ahead.old.text.now }
         ensures stands { IfOk result (λ _. (s : Source) (before : lines.Before)
-            (source : SourceLine) → reads_tables s ≡ false → ahead.old.text.now ≡ s.text
+            (source : SourceLine) → ahead.old.text.now ≡ s.text
             → Stands s self.old before.frames before.inside before.last line.start
-            → IsSource self.old line source → IfFitted self.old.placing self.new.placing
-            (StandsFor s self.new line.next (with_line s (blocks_before before) source))) }
+            → IsSource self.old line source → IsCounted s self.old (blocks_before before)
+            → IfFitted self.old.placing self.new.placing
+            (StandsFor s self.new line.next (with_next_line s (blocks_before before) source))) }
+        ensures counted { IfOk result (λ _. (s : Source) (before : lines.Before)
+            (source : SourceLine) → ahead.old.text.now ≡ s.text
+            → Stands s self.old before.frames before.inside before.last line.start
+            → IsSource self.old line source → IsCounted s self.old (blocks_before before)
+            → IsCounted s self.new (with_next_line s (blocks_before before) source)) }
         ensures fits { IfOk result (λ _. (s : Source) (before : lines.Before)
-            (source : SourceLine) → reads_tables s ≡ false → ahead.old.text.now ≡ s.text
+            (source : SourceLine) → ahead.old.text.now ≡ s.text
             → Stands s self.old before.frames before.inside before.last line.start
-            → IsSource self.old line source
+            → IsSource self.old line source → IsCounted s self.old (blocks_before before)
             → AllFitted self.old.placing → AllFitted self.new.placing) }
     {
         let reached = reach(self, line);
-        if reached.all && self.placing.is_in_leaf() && self.goes_on(line, reached)? {
+        if self.last_goes_on(line, reached, ahead)? {
             self.see_content(line);
             return Ok(());
         }
         if reached.content >= line.stop {
             return self.read_blank(line, reached);
         }
-        let is_row = reached.all && self.is_in_table();
-        if !is_row && is_text_from(self.placing.text(), reached.position, line.stop) {
+        self.read_filled(line, reached, ahead)
+    }
+
+    /// Adds a line to the open leaf block, if that goes on in it, and returns whether it does.
+    #[inline(always)]
+    fn last_goes_on(
+        &mut self,
+        line: Line,
+        reached: Reached,
+        ahead: &mut LinesAhead<'a>,
+    ) -> Result<bool, AllocError>
+        requires { IsCharBoundary ahead.old.text.now line.stop }
+        ensures text { IfOk result (λ _. self.new.placing.builder.text
+            ≡ self.old.placing.builder.text) }
+        ensures fitted { IfOk result (λ _. FittedBefore self.old.placing self.new.placing) }
+        ensures ahead { ahead.new.text.now ≡ ahead.old.text.now }
+        ensures places { IfOk result (λ goes. goes ≡ true → (s : Source) (before : lines.Before)
+            (source : SourceLine) → ahead.old.text.now ≡ s.text
+            → IsReachedBy s self.old line reached before source
+            → IsCounted s self.old (blocks_before before)
+            → IfFitted self.old.placing self.new.placing (PlacesFor s self.new line.next
+            (with_next_line s (blocks_before before) source))) }
+        ensures counted { IfOk result (λ goes. goes ≡ true → (s : Source) (before : lines.Before)
+            (source : SourceLine) → ahead.old.text.now ≡ s.text
+            → IsReachedBy s self.old line reached before source
+            → IsCounted s self.old (blocks_before before)
+            → IsCounted s self.new (with_next_line s (blocks_before before) source)) }
+        ensures fits { IfOk result (λ goes. goes ≡ true → (s : Source) (before : lines.Before)
+            (source : SourceLine) → ahead.old.text.now ≡ s.text
+            → IsReachedBy s self.old line reached before source
+            → AllFitted self.old.placing → AllFitted self.new.placing) }
+        ensures off { IfOk result (λ goes. goes ≡ false → (self.new ≡ self.old)
+            × ((s : Source) (before : lines.Before) (source : SourceLine)
+            → ahead.old.text.now ≡ s.text → IsReachedBy s self.old line reached before source
+            → IsCounted s self.old (blocks_before before)
+            → GoesOffAs s self.old line reached before source)) }
+    {
+        if !reached.all {
+            return Ok(false);
+        }
+        if self.placing.is_in_leaf() {
+            return self.goes_on(line, reached);
+        }
+        if reached.content < line.stop && self.is_in_table() {
+            return self.read_row(line, reached, ahead);
+        }
+        Ok(false)
+    }
+
+    /// Reads a line that is not blank for the innermost blocks that continue in it, and in which no open leaf block goes
+    /// on.
+    fn read_filled(
+        &mut self,
+        line: Line,
+        reached: Reached,
+        ahead: &mut LinesAhead<'a>,
+    ) -> Result<(), AllocError>
+        requires { IsCharBoundary ahead.old.text.now line.stop }
+        ensures text { IfOk result (λ _. self.new.placing.builder.text
+            ≡ self.old.placing.builder.text) }
+        ensures fitted { IfOk result (λ _. FittedBefore self.old.placing self.new.placing) }
+        ensures ahead { ahead.new.text.now ≡ ahead.old.text.now }
+        ensures tables { IfOk result (λ _. self.new.tables ≡ self.old.tables) }
+        ensures stands { IfOk result (λ _. (s : Source) (before : lines.Before)
+            (source : SourceLine) → ahead.old.text.now ≡ s.text
+            → IsReachedBy s self.old line reached before source
+            → is_blank_rest (reached_of s before source).rest ≡ false
+            → ((reached_of s before source).inner ≡ []
+            → LeavesOff s (reached_of s before source).rest before.last)
+            → IfFitted self.old.placing self.new.placing
+            (StandsFor s self.new line.next (with_line s (blocks_before before) source))) }
+        ensures fits { IfOk result (λ _. (s : Source) (before : lines.Before)
+            (source : SourceLine) → ahead.old.text.now ≡ s.text
+            → IsReachedBy s self.old line reached before source
+            → is_blank_rest (reached_of s before source).rest ≡ false
+            → ((reached_of s before source).inner ≡ []
+            → LeavesOff s (reached_of s before source).rest before.last)
+            → AllFitted self.old.placing → AllFitted self.new.placing) }
+    {
+        if is_text_from(self.placing.text(), reached.position, line.stop) {
             return self.read_text_line(line, reached.position.at, reached.depth);
         }
+        if !self.read_delimiter_row(line, reached)? {
+            let mut rest = self.rest_of(line, reached, ahead);
+            self.read_rest(&mut rest)?;
+        }
+        self.see_content(line);
+        Ok(())
+    }
+
+    /// Reads a line as the delimiter row of a table, where it is one for the last line of the open paragraph, and returns
+    /// whether it is.
+    fn read_delimiter_row(&mut self, line: Line, reached: Reached) -> Result<bool, AllocError>
+        ensures text { IfOk result (λ _. self.new.placing.builder.text
+            ≡ self.old.placing.builder.text) }
+        ensures fitted { IfOk result (λ _. FittedBefore self.old.placing self.new.placing) }
+        ensures tables { IfOk result (λ _. self.new.tables ≡ self.old.tables) }
+        ensures places { IfOk result (λ is. is ≡ true → (s : Source) (before : lines.Before)
+            (source : SourceLine) → IsReachedBy s self.old line reached before source
+            → is_blank_rest (reached_of s before source).rest ≡ false
+            → IfFitted self.old.placing self.new.placing
+            (PlacesFor s self.new line.next (with_line s (blocks_before before) source))) }
+        ensures fits { IfOk result (λ is. is ≡ true → (s : Source) (before : lines.Before)
+            (source : SourceLine) → IsReachedBy s self.old line reached before source
+            → is_blank_rest (reached_of s before source).rest ≡ false
+            → AllFitted self.old.placing → AllFitted self.new.placing) }
+        ensures same { IfOk result (λ is. is ≡ false
+            → self.new ≡ record self.old { tried = self.new.tried }) }
+        ensures untabled { IfOk result (λ is. is ≡ false → (s : Source) (before : lines.Before)
+            (source : SourceLine) → IsReachedBy s self.old line reached before source
+            → IfParagraphLast s (IsUntabled s self.new line.start (reached_of s before source))
+            before.last) }
+    {
+        if !reached.all || !self.has_paragraph() || !is_read(Options::ENABLE_TABLES, self.options) {
+            return Ok(false);
+        }
+        self.begin_table(line, reached.position)
+    }
+
+    /// Returns what the open containers left of a line.
+    #[inline(always)]
+    fn rest_of(&self, line: Line, reached: Reached, ahead: &mut LinesAhead<'a>) -> LineRest<'a>
+        requires { IsCharBoundary ahead.old.text.now line.stop }
+        ensures ahead { ahead.new.text.now ≡ ahead.old.text.now }
+        ensures line { result.line ≡ line }
+        ensures made { (s : Source) → ahead.old.text.now ≡ s.text
+            → IsMadeOf s self.now reached result }
+    {
         // only metadata asks whether the line is directly under the root
         let outermost = reads_metadata(self.options)
             && are_lists(self.placing.open_blocks(), reached.depth);
-        let mut rest = LineRest {
+        LineRest {
             line,
             reader: LineReader::new(self.alloc, ahead, self.options, line, outermost),
             position: reached.position,
             depth: reached.depth,
             before: self.paragraph_before(reached.all),
-            unless_row: None,
-        };
-        if is_row {
-            try_as_row(&mut rest, reached.content);
         }
-        self.read_rest(&mut rest)?;
-        self.see_content(line);
-        Ok(())
     }
 
     /// Adds a line to the open code or HTML block, if that continues in it, and returns whether it does.
@@ -229,6 +364,7 @@ impl<'a> Pass<'a> {
         ensures text { IfOk result (λ _. self.new.placing.builder.text
             ≡ self.old.placing.builder.text) }
         ensures fitted { IfOk result (λ _. FittedBefore self.old.placing self.new.placing) }
+        ensures tables { IfOk result (λ _. self.new.tables ≡ self.old.tables) }
         ensures places { IfOk result (λ goes. goes ≡ true → (s : Source) (before : lines.Before)
             (source : SourceLine) → IsReachedBy s self.old line reached before source
             → self.old.placing.builder.leaf ≡ true → (reached_of s before source).inner ≡ []
@@ -270,6 +406,7 @@ impl<'a> Pass<'a> {
         ensures text { IfOk result (λ _. self.new.placing.builder.text
             ≡ self.old.placing.builder.text) }
         ensures fitted { IfOk result (λ _. FittedBefore self.old.placing self.new.placing) }
+        ensures tables { IfOk result (λ _. self.new.tables ≡ self.old.tables) }
         ensures stands { IfOk result (λ _. (s : Source) (before : lines.Before)
             (source : SourceLine) → IsReachedBy s self.old line reached before source
             → is_blank_rest (reached_of s before source).rest ≡ true
@@ -325,25 +462,22 @@ impl<'a> Pass<'a> {
         ensures text { IfOk result (λ _. self.new.placing.builder.text
             ≡ self.old.placing.builder.text) }
         ensures fitted { IfOk result (λ _. FittedBefore self.old.placing self.new.placing) }
+        ensures tables { IfOk result (λ _. self.new.tables ≡ self.old.tables) }
         ensures places { IfOk result (λ _. (s : Source) (turn : Turn) (source : SourceLine)
             (blocks : Forest Block) → IsHere s self.old rest.old turn source blocks
-            → rest.old.unless_row ≡ None
             → IfFitted self.old.placing self.new.placing
             (PlacesFor s self.new rest.old.line.next blocks)) }
         ensures fits { IfOk result (λ _. (s : Source) (turn : Turn) (source : SourceLine)
             (blocks : Forest Block) → IsHere s self.old rest.old turn source blocks
-            → rest.old.unless_row ≡ None
             → AllFitted self.old.placing → AllFitted self.new.placing) }
     {
         // each container takes at least one byte of the line; what is left after the last one is read too, and a line
-        // that underlines definitions, or ends a table, is read twice; 3 more than the last byte offset need more bits
+        // that underlines definitions is read twice; 3 more than the last byte offset need more bits
         'blocks: for _turn in rest.line.start as u128..rest.line.next as u128 + 3 {
             if !self.read_block(rest)? {
                 break;
             }
-            if rest.unless_row.is_none()
-                && is_text_from(self.placing.text(), rest.position, rest.line.stop)
-            {
+            if is_text_from(self.placing.text(), rest.position, rest.line.stop) {
                 self.add_text(rest.line, rest.position.at, rest.depth)?;
                 break;
             }
@@ -355,14 +489,14 @@ impl<'a> Pass<'a> {
     fn read_lines(&mut self) -> Result<(), AllocError>
         ensures text { IfOk result (λ _. self.new.placing.builder.text
             ≡ self.old.placing.builder.text) }
-        ensures made { IfOk result (λ _. (s : Source) → reads_tables s ≡ false
-            → Stands s self.old [] nil None 0 → IfFitted self.old.placing self.new.placing
+        ensures made { IfOk result (λ _. (s : Source) → Stands s self.old [] nil None 0
+            → IsCounted s self.old nil → IfFitted self.old.placing self.new.placing
             (IsBuilt s self.new.placing.builder [] (blocks_of s))) }
-        ensures fits { IfOk result (λ _. (s : Source) → reads_tables s ≡ false
-            → Stands s self.old [] nil None 0
+        ensures fits { IfOk result (λ _. (s : Source) → Stands s self.old [] nil None 0
+            → IsCounted s self.old nil
             → AllFitted self.old.placing → AllFitted self.new.placing) }
-        ensures left { IfOk result (λ _. (s : Source) → reads_tables s ≡ false
-            → Stands s self.old [] nil None 0 → AllFitted self.new.placing
+        ensures left { IfOk result (λ _. (s : Source) → Stands s self.old [] nil None 0
+            → IsCounted s self.old nil → AllFitted self.new.placing
             → AllPass is_in_blank_line self.new.placing.builder.text self.new.placing.builder.at
             (length self.new.placing.builder.text)) }
     {
@@ -384,10 +518,9 @@ fn place_all<'a>(alloc: Global, text: &'a str, options: Options) -> Result<Placi
     ensures closed { IfOk result (λ made. made.builder.blocks ≡ []) }
     ensures read { IfOk result (λ made. made.builder.at ≡ length text.now) }
     ensures made { IfOk result (λ made. (s : Source)
-        → s ≡ record { text = text.now; options = options } → reads_tables s ≡ false
+        → s ≡ record { text = text.now; options = options }
         → IsBuilt s made.builder [] (blocks_of s)) }
-    ensures fits { IfOk result (λ made. reads_tables (record { text = text.now; options = options })
-        ≡ false → AllFitted made) }
+    ensures fits { IfOk result (λ made. AllFitted made) }
 {
     let mut pass = Pass::new(alloc, text, options)?;
     pass.read_lines()?;
@@ -397,8 +530,8 @@ fn place_all<'a>(alloc: Global, text: &'a str, options: Options) -> Result<Placi
     Ok(placing)
 }
 
-/// Returns the tree of a text's blocks, and the parts that its items refer to: where no tables are read, exactly those
-/// that the rules of blocks give (`markdown_block_rules`). Fails where memory is refused.
+/// Returns the tree of a text's blocks, and the parts that its items refer to: exactly those that the rules of blocks
+/// give (`markdown_block_rules`). Fails where memory is refused.
 ///
 /// The blocks are those of CommonMark 0.31.2, chapters 4 and 5, and, with footnotes enabled, footnote definitions. In a
 /// tight list paragraphs are tight. A block's range extends from its marker or first content byte to the end of its
@@ -432,8 +565,7 @@ pub fn blocks<'a>(
     ensures headings { IfOk result (λ made. HeadingsHoldInline (tree_of made.0.nodes)) }
     ensures rows { IfOk result (λ made. HasEvenRows (shown_result made.0.nodes made.1)) }
     ensures blocks { IfOk result (λ made.
-        reads_tables (record { text = text.now; options = options }) ≡ false
-        → IsBlockResult (record { text = text.now; options = options }) made.0.nodes made.1) }
+        IsBlockResult (record { text = text.now; options = options }) made.0.nodes made.1) }
 {
     let placing = place_all(alloc, text, options)?;
     let Placing {
@@ -446,11 +578,10 @@ pub fn blocks<'a>(
     Ok(builder.finish())
 }
 
-/// Returns the number of builder calls of the block pass that did not fit, so that nothing was made: 0 where no tables
-/// are read, and otherwise too, as tests over many texts show. Fails where memory is refused.
+/// Returns the number of builder calls of the block pass that did not fit, so that nothing was made: 0. Fails where memory
+/// is refused.
 pub fn misfits(alloc: Global, text: &str, options: Options) -> Result<usize, AllocError>
-    ensures { IfOk result (λ count.
-        reads_tables (record { text = text.now; options = options }) ≡ false → count ≡ 0) }
+    ensures { IfOk result (λ count. count ≡ 0) }
 {
     Ok(place_all(alloc, text, options)?.misfits)
 }

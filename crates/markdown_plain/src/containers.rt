@@ -379,7 +379,8 @@ impl<'a> Pass<'a> {
             → (room_in depth (without_leaf self.old.placing.builder) ≡ []
             → AllPass is_in_blank_line self.old.placing.builder.text self.old.placed at)
             → AllFitted self.old.placing → AllFitted self.new.placing) }
-        ensures fits_inside { IfOk result (λ _. self.old.placing.builder.leaf ≡ false
+        ensures fits_inside { IfOk result (λ _.
+            open_blocks.has_leaf self.old.placing.builder ≡ false
             → self.old.lines.items ≡ [] → length self.old.placing.builder.blocks ≤ depth
             → open_blocks.innermost_is open_blocks.is_list self.old.placing.builder.blocks ≡ false
             → IsAhead self.old.placing.builder at → IsWhiteOutside self.old.placing.builder at

@@ -404,6 +404,9 @@ impl<'a> Pass<'a> {
             (self.new.placing.builder.leaf ≡ false)) }
         ensures task { IfOk result (λ _. has_paragraph self.old ≡ false
             → self.new.task ≡ task_at self.new line start) }
+        ensures untried { IfOk result (λ _. has_paragraph self.old ≡ false
+            → self.new.tried ≡ false) }
+        ensures tables { IfOk result (λ _. self.new.tables ≡ self.old.tables) }
         ensures line { IfOk result (λ _. self.new.lines.items
             ≡ (if has_paragraph self.old then self.old.lines.items else [])
             ++ record { start = start; stop = line.stop; next = line.next; owed = 0 } ∷ []) }
@@ -413,6 +416,7 @@ impl<'a> Pass<'a> {
             → (self.new ≡ record self.old {
               lines = self.new.lines;
               task = self.new.task;
+              tried = self.new.tried;
               looseness = self.new.looseness;
             })
             × IsLooseBefore self.new.looseness frames nil) }
@@ -422,7 +426,7 @@ impl<'a> Pass<'a> {
             (StandsFor s self.new (take (room_depth depth frames) frames)
             (rebuilt (drop (room_depth depth frames) frames) inside))) }
         ensures finishes { IfOk result (λ _. (s : Source) (frames : List Frame)
-            (inside : Forest Block) (b : Block) → depth ≤ length frames
+            (inside : Forest Block) (b : Block) → self.old.lines.items ≡ [] → depth ≤ length frames
             → MayEnd s self.old frames inside b None
             → IfFitted self.old.placing self.new.placing
             (StandsFor s self.new (take (room_depth depth frames) frames)
@@ -467,6 +471,7 @@ impl<'a> Pass<'a> {
         if !self.has_paragraph() {
             self.make_room(depth)?;
             self.task = self.task_at(line, start);
+            self.tried = false;
         }
         let held = HeldLine {
             start,

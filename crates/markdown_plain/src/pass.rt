@@ -1,7 +1,7 @@
 //! The state of the block pass between two lines, and the closing of blocks. Functions that return a `Result` fail only
 //! where memory is refused.
 ghost use Rattle.std.specs.Prelude.{◌≡◌, ◌≤◌, List, [], ◌∷◌, ◌++◌, ◌&&◌, true, false, not, length, take};
-ghost use Rattle.std.specs.Prelude.{drop, IfOk, ℕ, Option};
+ghost use Rattle.std.specs.Prelude.{drop, max, IfOk, ℕ, Option};
 ghost use Rattle.std.specs.Option.{option_map};
 ghost use Rattle.markdown_base.specs.Forest.{Forest, nil};
 ghost use Rattle.markdown_base.specs.declared.item.ItemBody.TheVariants as body;
@@ -15,7 +15,8 @@ ghost use Rattle.markdown_lines.specs.SourceLines.{SourceLine};
 ghost use Rattle.markdown_plain.specs.OpenLeaves.{IsPlaced, IsUnended, leaf_block};
 ghost use Rattle.markdown_plain.specs.Fitting.{AllFitted, HasBody, IfFitted, PutsBlock, closed};
 ghost use Rattle.markdown_plain.specs.OpenedFrames.{MayOpen};
-ghost use Rattle.markdown_plain.specs.OpenBlocks.{innermost_is, is_list, room_in, without_leaf};
+ghost use Rattle.markdown_plain.specs.OpenBlocks.{has_leaf, innermost_is, is_list, room_in};
+ghost use Rattle.markdown_plain.specs.OpenBlocks.{without_leaf};
 ghost use Rattle.markdown_plain.specs.Closable.{AreClosable, IsClosable};
 ghost use Rattle.markdown_plain.specs.Containers.{closing_place};
 ghost use Rattle.markdown_plain.specs.Paragraphs.{has_paragraph};
@@ -58,6 +59,8 @@ pub struct Pass<'a> {
     pub blanks: Vec<HeldLine>,
     /// the task marker that the open paragraph begins with, if any, by whether the task is done
     pub task: Option<bool>,
+    /// whether it was tried in the open paragraph if only definitions precede a table's head
+    pub tried: bool,
     /// the kind of the code or HTML block that was opened last
     pub leaf: LeafKind,
     pub looseness: Looseness,
@@ -76,6 +79,8 @@ impl<'a> Pass<'a> {
         ensures blanks { IfOk result (λ made. made.blanks.items ≡ []) }
         ensures lists { IfOk result (λ made. made.looseness.lists.items ≡ []) }
         ensures placed { IfOk result (λ made. made.placed ≡ 0) }
+        ensures added { IfOk result (λ made. made.tables.added ≡ 0) }
+        ensures most { IfOk result (λ made. made.tables.most ≡ max (length text.now) 100000) }
     {
         let old = options.contains(Options::ENABLE_OLD_FOOTNOTES);
         Ok(Pass {
@@ -85,6 +90,7 @@ impl<'a> Pass<'a> {
             lines: Vec::new(alloc),
             blanks: Vec::new(alloc),
             task: None,
+            tried: false,
             leaf: LeafKind::Indented,
             looseness: Looseness::new(alloc),
             placed: 0,
@@ -104,6 +110,13 @@ impl<'a> Pass<'a> {
         ensures { result ≡ has_paragraph self.now }
     {
         !self.placing.is_in_leaf() && !self.lines.is_empty()
+    }
+
+    /// Returns whether a leaf block is open: a leaf of the builder, or a table.
+    fn has_leaf(&self) -> bool
+        ensures { result ≡ has_leaf self.now.placing.builder }
+    {
+        self.placing.is_in_leaf() || self.is_in_table()
     }
 
     /// Returns the number of open blocks.
@@ -173,7 +186,7 @@ impl<'a> Pass<'a> {
     pub fn close_down(&mut self, depth: usize) -> Result<(), AllocError>
         ensures text { IfOk result (λ _. self.new.placing.builder.text
             ≡ self.old.placing.builder.text) }
-        ensures kept { IfOk result (λ _. self.old.placing.builder.leaf ≡ false
+        ensures kept { IfOk result (λ _. has_leaf self.old.placing.builder ≡ false
             → self.old.lines.items ≡ [] → length self.old.placing.builder.blocks ≤ depth
             → self.new ≡ self.old) }
         ensures closes { IfOk result (λ _. IfFitted self.old.placing self.new.placing
@@ -228,7 +241,7 @@ impl<'a> Pass<'a> {
     pub fn make_room(&mut self, depth: usize) -> Result<(), AllocError>
         ensures text { IfOk result (λ _. self.new.placing.builder.text
             ≡ self.old.placing.builder.text) }
-        ensures kept { IfOk result (λ _. self.old.placing.builder.leaf ≡ false
+        ensures kept { IfOk result (λ _. has_leaf self.old.placing.builder ≡ false
             → self.old.lines.items ≡ [] → length self.old.placing.builder.blocks ≤ depth
             → innermost_is is_list self.old.placing.builder.blocks ≡ false
             → self.new.placing ≡ self.old.placing) }
@@ -293,7 +306,7 @@ impl<'a> Pass<'a> {
         Ok(())
     }
 
-    /// Ends the open leaf: places a paragraph, or closes another leaf without the blank lines held back at its end,
+    /// Ends the open leaf block: places a paragraph, or closes another one without the blank lines held back at its end,
     /// which are not part of it.
     // inlined: it is called for each block
     #[inline(always)]
@@ -317,7 +330,7 @@ impl<'a> Pass<'a> {
             → IsUnended s self.old frames inside b held → s.options ≡ self.old.options
             → IfFitted self.old.placing self.new.placing
             (IsPlaced s self.new.placing.builder frames (followed_by inside (leaf_block b)))) }
-        ensures none { IfOk result (λ _. self.old.placing.builder.leaf ≡ false
+        ensures none { IfOk result (λ _. has_leaf self.old.placing.builder ≡ false
             → self.old.lines.items ≡ [] → self.new ≡ self.old) }
         ensures same { self.new ≡ record self.old {
           placing = self.new.placing;
@@ -330,7 +343,7 @@ impl<'a> Pass<'a> {
             → AllFitted self.new.placing
             → AreClosable self.new.placing.builder self.old.placed) }
     {
-        if self.placing.is_in_leaf() {
+        if self.has_leaf() {
             self.lines.clear();
             self.blanks.clear();
             self.placing.close();

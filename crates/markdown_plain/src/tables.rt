@@ -16,29 +16,41 @@ ghost use Rattle.markdown_block_rules.specs.BlockRules.{empty_cells, shown_cells
 ghost use Rattle.markdown_block_rules.specs.LineContents.{cell_items};
 ghost use Rattle.markdown_block_rules.specs.TableLines as rules;
 ghost use Rattle.markdown_block_rules.specs.TableLines.{fitting, may_be_head};
-ghost use Rattle.markdown_plain.specs.Closable.{IsInText, IsLeafOpen};
+ghost use Rattle.markdown_plain.specs.Closable.{AreAhead, HaveTask, IsInText, IsLeafOpen};
+ghost use Rattle.markdown_plain.specs.Frames.{Frame};
 ghost use Rattle.markdown_plain.specs.HeldSources.{IsParagraph, IsTextLine};
-ghost use Rattle.markdown_plain.specs.LeafTrees.{HasItems, HasTrees};
-ghost use Rattle.markdown_plain.specs.Paragraphs.{IsPlacedTo, divided_of, source_of};
-ghost use Rattle.markdown_plain.specs.TableHeads.{IsLastLine, IsNearRow, IsRowRest, KeepsCells, KeepsCount};
-ghost use Rattle.markdown_plain.specs.TableHeads.{first_start, last_of, was_tried};
+ghost use Rattle.markdown_plain.specs.LeafTrees.{HasItems, HasMoreTexts, HasTrees};
+ghost use Rattle.markdown_plain.specs.OpenLeaves.{HoldsParagraph, IsOpenIn};
+ghost use Rattle.markdown_plain.specs.Paragraphs.{IsPlacedTo, divided_of, lines_end, source_of};
+ghost use Rattle.markdown_plain.specs.TableHeads.{HasTable, IsLastLine, IsNearRow, IsRowRest, before_table};
+ghost use Rattle.markdown_plain.specs.TableHeads.{begun_table, last_of};
 ghost use Rattle.markdown_plain.specs.TextLines.{held_line};
 ghost use Rattle.markdown_base.specs.declared.item.ItemBody.TheVariants as body;
 ghost use Rattle.markdown_plain.specs.OpenBlocks.{innermost_is, is_table};
-ghost use Rattle.markdown_plain.specs.TableRows.{IsCellIn, IsOnePiece, MayAddCell, MayAddRow, PutsTree, may_be_row};
+ghost use Rattle.markdown_plain.specs.TableRows.{IsCellIn, IsCounted, IsOnePiece, MayAddCell, MayAddRow, PutsTree};
+ghost use Rattle.markdown_plain.specs.TableRows.{is_text_start, may_be_row};
+ghost use Rattle.markdown_base.specs.Forest.{Forest};
+ghost use Rattle.markdown_block_rules.specs.BlockGrowth.{Block, with_next_line};
+ghost use Rattle.markdown_lines.specs.SourceLines.{is_blank_rest};
+ghost use Rattle.markdown_plain.specs.ReachedLines as lines;
+ghost use Rattle.markdown_plain.specs.ReachedLines.{GoesOffAs, IsReachedBy, blocks_before, reached_of};
+ghost use Rattle.markdown_plain.specs.Standing.{PlacesFor};
+ghost use Rattle.std.specs.Str.{IsCharBoundary};
 
-use crate::containers::reach;
+use crate::containers::{Reached, reach};
 use crate::pass::{Pass, innermost};
 use crate::placing::Placing;
 use markdown_base::byte_tests::holds;
 use markdown_base::item::ItemBody;
 use markdown_base::options::Options;
 use markdown_base::tag::Alignment;
+use markdown_lines::block_start::{Before, BlockStart};
 use markdown_lines::bytes::{byte_at, bytes_of};
 use markdown_lines::definition::read_definition;
-use markdown_lines::extended_only::is_read;
 use markdown_lines::held_line::HeldLine;
 use markdown_lines::line::{Line, is_space_or_tab};
+use markdown_lines::line_reader::LineReader;
+use markdown_lines::lines_ahead::LinesAhead;
 use markdown_lines::position::Position;
 use markdown_lines::space::read_space;
 use markdown_lines::table_row::{
@@ -61,6 +73,8 @@ fn add_cell_items(
         (GoesOn placing.old.builder placing.new.builder placing.new.builder.at)) }
     ensures inside { IfOk result (λ _. IfFitted placing.old placing.new
         (AddsItems placing.old.builder placing.new.builder)) }
+    ensures texts { IfOk result (λ _. IfFitted placing.old placing.new
+        (HasMoreTexts placing.old.builder placing.new.builder)) }
     ensures items { IfOk result (λ _. (escapes ≡ false → IsOnePiece placing.old.builder.text cell)
         → IsCellIn placing.old.builder.text cell → placing.old.builder.run ≡ None
         → IfFitted placing.old placing.new
@@ -97,6 +111,8 @@ fn place_cell(
     ensures text { IfOk result (λ _. placing.new.builder.text ≡ placing.old.builder.text) }
     ensures placed { IfOk result (λ _. IfFitted placing.old placing.new
         (IsPlacedTo placing.old.builder placing.new.builder cell.end)) }
+    ensures texts { IfOk result (λ _. IfFitted placing.old placing.new
+        (HasMoreTexts placing.old.builder placing.new.builder)) }
     ensures tree { IfOk result (λ _. IfFitted placing.old placing.new
         (PutsTree placing.old.builder placing.new.builder)) }
     ensures shown { IfOk result (λ _. (escapes ≡ false → IsOnePiece placing.old.builder.text cell)
@@ -121,6 +137,8 @@ fn place_empty_cell(placing: &mut Placing<'_>, at: usize) -> Result<(), AllocErr
     ensures text { IfOk result (λ _. placing.new.builder.text ≡ placing.old.builder.text) }
     ensures placed { IfOk result (λ _. IfFitted placing.old placing.new
         (IsPlacedTo placing.old.builder placing.new.builder at)) }
+    ensures texts { IfOk result (λ _. IfFitted placing.old placing.new
+        (HasMoreTexts placing.old.builder placing.new.builder)) }
     ensures tree { IfOk result (λ _. IfFitted placing.old placing.new
         (PutsTree placing.old.builder placing.new.builder)) }
     ensures shown { IfOk result (λ _. IfFitted placing.old placing.new
@@ -148,6 +166,8 @@ fn place_row(
     ensures text { IfOk result (λ _. placing.new.builder.text ≡ placing.old.builder.text) }
     ensures placed { IfOk result (λ _. IfFitted placing.old placing.new
         (IsPlacedTo placing.old.builder placing.new.builder line.next)) }
+    ensures texts { IfOk result (λ _. IfFitted placing.old placing.new
+        (HasMoreTexts placing.old.builder placing.new.builder)) }
     ensures found { IfOk result (λ found. found ≡ min (open_columns placing.old.builder)
         (length (row_cells_at placing.old.builder.text line.start line.stop))) }
     ensures tree { IfOk result (λ _. is_table_row row ≡ true
@@ -242,6 +262,16 @@ fn alignments_for(
     }
 }
 
+/// Returns whether what a line begins is text.
+fn is_text(start: &BlockStart<'_>) -> bool
+    ensures { result ≡ is_text_start start.now }
+{
+    match start {
+        BlockStart::Text => true,
+        _ => false,
+    }
+}
+
 /// Returns whether a delimiter row may begin with this byte. White space may precede its first cut.
 fn begins_delimiter_row(byte: Option<u8>) -> bool
     ensures { result ≡ false → (text : List ℕ) (at stop : ℕ) → byte ≡ slice_get text at
@@ -282,20 +312,31 @@ impl<'a> Pass<'a> {
             (before : List SourceLine) (from l : SourceLine)
             → IsLastLine s self.old head before from
             → IsRowRest s self.old.placing.builder.text line position l → is ≡ false
-            → was_tried self.new
+            → self.new.tried
             ≡ rules.hold_fitting s (before ++ from ∷ rules.further_line s l ∷ [])) }
-        ensures columns { IfOk result (λ is. (s : Source) (head : HeldLine)
-            (before : List SourceLine) (from l : SourceLine)
-            → IsLastLine s self.old head before from
-            → IsRowRest s self.old.placing.builder.text line position l → is ≡ true
-            → option_map (λ alignments. length alignments) (rules.alignments_for s l before from)
-            ≡ Some self.new.tables.columns) }
-        ensures counted { IfOk result (λ _. KeepsCount self.old.tables self.new.tables) }
+        ensures keeps { IfOk result (λ _. self.new ≡ record self.old {
+          placing = self.new.placing;
+          lines = self.new.lines;
+          tried = self.new.tried;
+        }) }
         ensures ended { IfOk result (λ is. is ≡ true → self.new.lines.items ≡ []) }
+        ensures frame { IfOk result (λ is. is ≡ true → (s : Source) (frames : List Frame)
+            (inside : Forest Block) (b : Block) (head : HeldLine) (before : List SourceLine)
+            (from l : SourceLine)
+            → HoldsParagraph s self.old frames inside b (before ++ from ∷ [])
+            → IsLastLine s self.old head before from
+            → IsRowRest s self.old.placing.builder.text line position l
+            → AreAhead self.old.placing.builder self.old.lines.items
+            → IfFitted self.old.placing self.new.placing
+            (HasTable s self.new.placing.builder frames inside b before from l line.next)) }
+        ensures fits { IfOk result (λ is. is ≡ true → self.old.placing.builder.leaf ≡ false
+            → AreAhead self.old.placing.builder self.old.lines.items
+            → HaveTask self.old.placing.builder.text self.old.task self.old.lines.items
+            → lines_end self.old.lines.items ≤ line.next
+            → IsCharBoundary self.old.placing.builder.text line.next
+            → AllFitted self.old.placing → AllFitted self.new.placing) }
         ensures same { IfOk result (λ is. is ≡ false
-            → self.new ≡ record self.old { tables = self.new.tables }) }
-        ensures tables { IfOk result (λ is. is ≡ false
-            → KeepsCells self.old.tables self.new.tables) }
+            → self.new ≡ record self.old { tried = self.new.tried }) }
     {
         let text = self.placing.text();
         let space = read_space(text, position, line.stop, 4);
@@ -332,14 +373,13 @@ impl<'a> Pass<'a> {
     /// matter: it is the first, or not lazy and after an alert's marker, or not lazy and begins with a `|`, or not lazy
     /// and after definitions alone. The last is tried once in a paragraph.
     fn may_be_head(&mut self, head: HeldLine) -> Result<bool, AllocError>
-        ensures same { self.new ≡ record self.old { tables = self.new.tables } }
-        ensures tables { KeepsCells self.old.tables self.new.tables }
+        ensures same { self.new ≡ record self.old { tried = self.new.tried } }
         ensures value { IfOk result (λ is. (s : Source) (before : List SourceLine)
             (from : SourceLine) → IsLastLine s self.old head before from
             → is ≡ may_be_head s before from) }
         ensures tried { IfOk result (λ is. (s : Source) (before : List SourceLine)
             (from : SourceLine) → IsLastLine s self.old head before from → is ≡ false
-            → was_tried self.new ≡ (was_tried self.old || is_some from.indent)) }
+            → self.new.tried ≡ (self.old.tried || is_some from.indent)) }
     {
         let before = self.lines.len().saturating_sub(1);
         if before == 0 {
@@ -369,22 +409,16 @@ impl<'a> Pass<'a> {
     /// was tried before.
     fn is_after_definitions(&mut self, before: usize) -> Result<bool, AllocError>
         requires { before ≤ length self.old.lines.items }
-        ensures same { self.new ≡ record self.old { tables = self.new.tables } }
-        ensures tables { KeepsCells self.old.tables self.new.tables }
-        ensures tried { self.new.tables.tried ≡ first_start self.old.lines.items }
+        ensures same { self.new ≡ record self.old { tried = true } }
         ensures value { IfOk result (λ is. (sources : List SourceLine)
             → IsParagraph self.old.placing.builder.text (take before self.old.lines.items) sources
-            → is ≡ (not (was_tried self.old)
+            → is ≡ (not self.old.tried
             && (length (divided_of self.old sources).lines == 0))) }
     {
-        let first = match self.lines.first() {
-            Some(line) => Some(line.start),
-            None => None,
-        };
-        if self.tables.tried == first {
+        if self.tried {
             return Ok(false);
         }
-        self.tables.tried = first;
+        self.tried = true;
         let names = entity_names(self.options);
         are_definitions(
             self.alloc,
@@ -399,17 +433,88 @@ impl<'a> Pass<'a> {
         ensures text { IfOk result (λ _. self.new.placing.builder.text
             ≡ self.old.placing.builder.text) }
         ensures fitted { IfOk result (λ _. FittedBefore self.old.placing self.new.placing) }
-        ensures columns { IfOk result (λ _. self.new.tables.columns ≡ length alignments.items) }
-        ensures counted { IfOk result (λ _. KeepsCount self.old.tables self.new.tables) }
+        ensures same { self.new
+            ≡ record self.old { placing = self.new.placing; lines = self.new.lines } }
         ensures ended { IfOk result (λ _. self.new.lines.items ≡ []) }
+        ensures frame { IfOk result (λ _. (s : Source) (frames : List Frame)
+            (inside : Forest Block) (b : Block) (before : List SourceLine) (from : SourceLine)
+            → HoldsParagraph s self.old frames inside b (before ++ from ∷ [])
+            → source_of self.old ≡ s → last_of self.old.lines.items ≡ Some head
+            → AreAhead self.old.placing.builder self.old.lines.items
+            → IfFitted self.old.placing self.new.placing
+            (IsOpenIn s self.new.placing.builder frames (before_table inside b before) false
+            (begun_table from from.next alignments.items))) }
+        ensures here { IfOk result (λ _. IfFitted self.old.placing self.new.placing
+            ((self.new.placing.builder.at ≡ head.next)
+            × (self.new.placing.builder.blocks ≡ [] → ⊥))) }
+        ensures fits { IfOk result (λ _. self.old.placing.builder.leaf ≡ false
+            → last_of self.old.lines.items ≡ Some head
+            → AreAhead self.old.placing.builder self.old.lines.items
+            → HaveTask self.old.placing.builder.text self.old.task self.old.lines.items
+            → AllFitted self.old.placing → AllFitted self.new.placing) }
     {
         let _head = self.lines.pop();
-        self.end_leaf()?;
-        self.tables.columns = alignments.len();
+        if !self.lines.is_empty() {
+            self.end_paragraph(None)?;
+        }
         self.placing.step_to(head.start);
         self.placing.open_table(alignments)?;
         let _found = place_row(&mut self.placing, ItemBody::TableHead, head, self.options)?;
         Ok(())
+    }
+
+    /// Adds a line to the open table, if it is a row that may be added, and returns whether it is: what ends a table is what
+    /// would end a paragraph that the line continued lazily.
+    pub fn read_row(
+        &mut self,
+        line: Line,
+        reached: Reached,
+        ahead: &mut LinesAhead<'a>,
+    ) -> Result<bool, AllocError>
+        requires { IsCharBoundary ahead.old.text.now line.stop }
+        ensures text { IfOk result (λ _. self.new.placing.builder.text
+            ≡ self.old.placing.builder.text) }
+        ensures fitted { IfOk result (λ _. FittedBefore self.old.placing self.new.placing) }
+        ensures ahead { ahead.new.text.now ≡ ahead.old.text.now }
+        ensures places { IfOk result (λ is. is ≡ true → (s : Source) (before : lines.Before)
+            (source : SourceLine) → ahead.old.text.now ≡ s.text
+            → IsReachedBy s self.old line reached before source
+            → (reached_of s before source).inner ≡ []
+            → is_blank_rest (reached_of s before source).rest ≡ false
+            → innermost_is is_table self.old.placing.builder.blocks ≡ true
+            → IsCounted s self.old (blocks_before before)
+            → IfFitted self.old.placing self.new.placing (PlacesFor s self.new line.next
+            (with_next_line s (blocks_before before) source))) }
+        ensures counted { IfOk result (λ is. is ≡ true → (s : Source) (before : lines.Before)
+            (source : SourceLine) → ahead.old.text.now ≡ s.text
+            → IsReachedBy s self.old line reached before source
+            → (reached_of s before source).inner ≡ []
+            → is_blank_rest (reached_of s before source).rest ≡ false
+            → innermost_is is_table self.old.placing.builder.blocks ≡ true
+            → IsCounted s self.old (blocks_before before)
+            → IsCounted s self.new (with_next_line s (blocks_before before) source)) }
+        ensures fits { IfOk result (λ is. is ≡ true → (s : Source) (before : lines.Before)
+            (source : SourceLine) → ahead.old.text.now ≡ s.text
+            → IsReachedBy s self.old line reached before source
+            → (reached_of s before source).inner ≡ []
+            → is_blank_rest (reached_of s before source).rest ≡ false
+            → innermost_is is_table self.old.placing.builder.blocks ≡ true
+            → AllFitted self.old.placing → AllFitted self.new.placing) }
+        ensures off { IfOk result (λ is. is ≡ false → (self.new ≡ self.old)
+            × ((s : Source) (before : lines.Before) (source : SourceLine)
+            → ahead.old.text.now ≡ s.text → IsReachedBy s self.old line reached before source
+            → (reached_of s before source).inner ≡ []
+            → is_blank_rest (reached_of s before source).rest ≡ false
+            → innermost_is is_table self.old.placing.builder.blocks ≡ true
+            → IsCounted s self.old (blocks_before before)
+            → GoesOffAs s self.old line reached before source)) }
+    {
+        let mut reader = LineReader::new(self.alloc, ahead, self.options, line, false);
+        let begun = reader.beginning(Position::new(reached.content), Before::Lazy)?;
+        if !is_text(&begun.start) {
+            return Ok(false);
+        }
+        self.add_row(line, begun.at)
     }
 
     /// Adds a row to the open table, if a line has a cell and may have the cells that it lacks, and returns whether it is
@@ -424,16 +529,16 @@ impl<'a> Pass<'a> {
         ensures nothing { IfOk result (λ added. added ≡ false → self.new ≡ self.old) }
         ensures same { IfOk result (λ _. self.new
             ≡ record self.old { placing = self.new.placing; tables = self.new.tables }) }
-        ensures counts { IfOk result (λ added. added ≡ true
-            → self.old.tables.columns ≡ open_columns self.old.placing.builder
-            → self.new.tables.added ≡ self.old.tables.added + (self.old.tables.columns
+        ensures counts { IfOk result (λ added. added ≡ true → self.new.tables.added
+            ≡ self.old.tables.added + (open_columns self.old.placing.builder
             - length (row_cells_at self.old.placing.builder.text start line.stop))) }
-        ensures columns { IfOk result (λ _. self.new.tables.columns ≡ self.old.tables.columns) }
         ensures most { IfOk result (λ _. self.new.tables.most ≡ self.old.tables.most) }
-        ensures tried { IfOk result (λ _. self.new.tables.tried ≡ self.old.tables.tried) }
         ensures placed { IfOk result (λ added. added ≡ true
             → IfFitted self.old.placing self.new.placing
             (IsPlacedTo self.old.placing.builder self.new.placing.builder line.next)) }
+        ensures texts { IfOk result (λ added. added ≡ true
+            → IfFitted self.old.placing self.new.placing
+            (HasMoreTexts self.old.placing.builder self.new.placing.builder)) }
         ensures tree { IfOk result (λ added. added ≡ true
             → IsInText self.old.placing.builder.text (held_line line start)
             → (source : SourceLine)
@@ -455,8 +560,9 @@ impl<'a> Pass<'a> {
             next: line.next,
             owed: 0,
         };
+        let columns = self.placing.builder.columns();
         let found = place_row(&mut self.placing, ItemBody::TableRow, row, self.options)?;
-        let _fits = self.tables.add(found);
+        let _fits = self.tables.add(columns.saturating_sub(found));
         Ok(true)
     }
 
@@ -466,10 +572,11 @@ impl<'a> Pass<'a> {
         ensures { result ≡ may_be_row self.now start stop }
     {
         let text = self.placing.text();
-        if self.tables.may_add(0) {
+        let columns = self.placing.builder.columns();
+        if self.tables.may_add(columns) {
             return has_cell(text, start, stop);
         }
         let count = count_cells(text, start, stop);
-        0 < count && self.tables.may_add(count)
+        0 < count && self.tables.may_add(columns.saturating_sub(count))
     }
 }

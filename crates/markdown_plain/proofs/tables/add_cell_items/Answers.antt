@@ -5,6 +5,7 @@ use Rattle.std.proofs.Common.{arith, true≢false}
 use Rattle.std.proofs.lemmas.List.{length-take}
 use Rattle.markdown_builder.specs.BuilderView.{BuilderView}
 use Rattle.markdown_items.proofs.RestOfLineLemmas.{adds_none}
+use Rattle.markdown_plain.proofs.LeafTreesLemmas.{no_text, texts_after}
 use Rattle.markdown_plain.proofs.TableRowsLemmas.{adds_later}
 use Rattle.markdown_items.specs.LineItems.{item_extensions}
 use Rattle.markdown_lines.specs.TableRows.{piece_length}
@@ -19,6 +20,7 @@ pieces-init c = record {
   text = search rules;
   goes_on = search rules;
   inside = λ fitted. (fitted, adds_none c.args.placing.now.builder);
+  texts = λ fitted. (fitted, no_text _ _ refl);
   whole = λ once less. refl;
   items = λ once is none fitted. (
     fitted,
@@ -63,6 +65,15 @@ pieces-preserved c =
             adds_later c.args.placing.now.builder c.pieces.placing.builder c.step_to.new.self.builder
                 c.add_items.new.self.builder before.1
                 (ap (λ (v : BuilderView). v.levels) moved.1) added.1,
+          );
+      texts = λ fitted.
+          let more = c.in_ok-add_items.ensures.texts fitted in
+          let moved = c.step_to.ensures.steps more.0 in
+          let before = c.pieces.invariant.texts moved.0 in (
+            before.0,
+            texts_after _ c.pieces.placing.builder _ before.1
+                (texts_after _ c.step_to.new.self.builder _
+                (no_text _ _ (ap (λ (v : BuilderView). v.texts) moved.1)) more.1),
           );
       whole = λ once more. elim c.if-escapes.branch [
         | then-escapes w ↦ absurd (true≢false (sym w.if-escapes.true ∙ once))

@@ -6,6 +6,7 @@ use Rattle.markdown_items.specs.LineItems.{item_extensions}
 use Rattle.markdown_block_rules.specs.LineContents.{cell_items}
 use Rattle.markdown_plain.specs.Closable.{IsLeafOpen}
 use Rattle.markdown_plain.specs.Fitting.{AllFitted, IfFitted, GoesOn}
+use Rattle.markdown_plain.specs.LeafTrees.{HasMoreTexts}
 use Rattle.markdown_plain.specs.TableRows.{IsCellIn, IsOnePiece}
 use Rattle.markdown_plain.proofs.ShownRowsLemmas.{AwaitsPieces, MayAddPiece}
 use Rattle.markdown_plain.proofs.tables.add_cell_items.Given as goal
@@ -15,6 +16,7 @@ invariant-pieces l = record {
   text : l.placing.builder.text ≡ l.fn.placing.builder.text;
   goes_on : IfFitted l.fn.placing l.placing (GoesOn l.fn.placing.builder l.placing.builder l.placing.builder.at);
   inside : IfFitted l.fn.placing l.placing (AddsItems l.fn.placing.builder l.placing.builder);
+  texts : IfFitted l.fn.placing l.placing (HasMoreTexts l.fn.placing.builder l.placing.builder);
   whole : l.escapes ≡ false → l.from < l.cell.to → l.from ≡ l.cell.from;
   items : (l.escapes ≡ false → IsOnePiece l.fn.placing.builder.text l.cell)
       → IsCellIn l.fn.placing.builder.text l.cell → l.fn.placing.builder.run ≡ None

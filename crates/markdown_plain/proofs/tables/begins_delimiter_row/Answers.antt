@@ -1,6 +1,6 @@
 -- Another byte.
 use Rattle.std.proofs.Common.{ℕ, List, sym, ◌∙◌}
-use Rattle.markdown_plain.proofs.TableHeadsLemmas.{is_black, no_row_byte}
+use Rattle.markdown_plain.proofs.DelimiterRowsLemmas.{is_black, no_row_byte}
 use Rattle.markdown_plain.proofs.tables.begins_delimiter_row.Goals as goal
 
 pub returns-else-byte-eq11 : goal.returns-else-byte-eq11

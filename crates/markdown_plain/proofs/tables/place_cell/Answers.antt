@@ -8,9 +8,23 @@ use Rattle.markdown_block_rules.specs.LineContents.{cell_items}
 use Rattle.markdown_plain.specs.LeafTrees.{HasItems}
 use Rattle.markdown_plain.specs.TableRows.{IsCellIn, IsOnePiece}
 use Rattle.markdown_plain.proofs.FittingLemmas.{goes_at, leaf_opened, stepped_at}
+use Rattle.markdown_plain.proofs.LeafTreesLemmas.{no_text, texts_after}
 use Rattle.markdown_plain.proofs.ShownRowsLemmas.{cell_shown, may_open_cell}
 use Rattle.markdown_plain.proofs.TableRowsLemmas.{cell_put}
 use Rattle.markdown_plain.proofs.tables.place_cell.Goals as goal
+
+pub returns-clause-texts : goal.returns-clause-texts
+returns-clause-texts c = λ fitted.
+    let closed = c.close.ensures.closes fitted in
+    let moved = c.step_to-2.ensures.steps closed.0 in
+    let filled = c.in_ok-add_cell_items.ensures.texts moved.0 in
+    let opened = c.in_ok-open_block.ensures.opens filled.0 in
+    let begun = c.step_to.ensures.steps opened.0 in (
+      begun.0,
+      texts_after _ _ _ (texts_after _ _ _ (no_text _ _ (ap (λ (v : BuilderView). v.texts) opened.1
+          ∙ ap (λ (v : BuilderView). v.texts) begun.1)) filled.1)
+          (no_text _ _ (ap (λ (v : BuilderView). v.texts) closed.1 ∙ ap (λ (v : BuilderView). v.texts) moved.1)),
+    )
 
 pub returns-clause-tree : goal.returns-clause-tree
 returns-clause-tree c = λ fitted.

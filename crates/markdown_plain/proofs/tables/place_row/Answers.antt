@@ -11,9 +11,10 @@ use Rattle.markdown_plain.specs.declared.placing.Placing.{Placing}
 use Rattle.markdown_plain.specs.Closable.{IsInText}
 use Rattle.markdown_plain.specs.Fitting.{IfFitted}
 use Rattle.markdown_plain.specs.HeldSources.{IsTextLine}
-use Rattle.markdown_plain.specs.LeafTrees.{HasTrees}
+use Rattle.markdown_plain.specs.LeafTrees.{HasMoreTexts, HasTrees}
 use Rattle.markdown_plain.specs.TableRows.{IsCellIn, IsOnePiece}
 use Rattle.markdown_plain.proofs.FittingLemmas.{may_step, step_done}
+use Rattle.markdown_plain.proofs.LeafTreesLemmas.{no_text, texts_after}
 use Rattle.markdown_plain.proofs.ShownRowsLemmas.{AreCellsFrom, after_cell, after_empty, cell_added, comes_next}
 use Rattle.markdown_plain.proofs.ShownRowsLemmas.{drop_next}
 use Rattle.markdown_plain.proofs.ShownRowsLemmas.{empty_added, may_add_cell, nothing_left, one_piece_in, row_cells_in}
@@ -35,10 +36,28 @@ found_all c cell value =
     ≡ length (cells_left c.text-text.result.now (cell.end + 1) c.args.line.stop) + 1 = ap length value ∙ omega arith in
     none_lacking c.cells.found c.cells.count _ _ c.cells.invariant.few c.cells.invariant.lacking more
 
+-- texts follow those that there were
+more_again : (first old now new : Placing) → new ≡ now → IfFitted first old (HasMoreTexts first.builder old.builder)
+    → IfFitted old now (HasMoreTexts old.builder now.builder)
+    → IfFitted first new (HasMoreTexts first.builder new.builder)
+more_again first old now new same before cell = λ fitted.
+    let more = cell (ap (λ (p : Placing). p.misfits) (sym same) ∙ fitted) in
+    let kept = before more.0 in (
+      kept.0,
+      subst (λ (p : Placing). HasMoreTexts first.builder p.builder) (sym same)
+          (texts_after first.builder old.builder now.builder kept.1 more.1),
+    )
+
 pub cells-init : goal.cells-init
 cells-init c = record {
   text = search rules;
   row = search rules;
+  more = λ fitted.
+      let opened = c.in_ok-open_block.ensures.opens fitted in
+      let begun = c.step_to.ensures.steps opened.0 in (
+        begun.0,
+        no_text _ _ (ap (λ (v : BuilderView). v.texts) opened.1 ∙ ap (λ (v : BuilderView). v.texts) begun.1),
+      );
   cells = search rules;
   few = search rules;
   all = search rules;
@@ -77,6 +96,13 @@ pub cells-preserved : goal.cells-preserved
 cells-preserved c = record {
   text = search rules;
   row = search rules;
+  more = elim c.match-next_cell.branch [
+    | in-Some+in_ok-place_cell-in-Some w ↦ more_again c.args.placing.now c.cells.placing w.place_cell.new.placing
+        c.match-next_cell.placing w.placing-is c.cells.invariant.more w.in_ok-place_cell-in-Some.ensures.texts
+    | in-None+in_ok-place_empty_cell-in-None w ↦ more_again c.args.placing.now c.cells.placing
+        w.place_empty_cell.new.placing c.match-next_cell.placing w.placing-is c.cells.invariant.more
+        w.in_ok-place_empty_cell-in-None.ensures.texts
+  ];
   cells = elim c.match-next_cell.branch [
     | in-Some+in_ok-place_cell-in-Some w ↦ cell_counted c.args.placing.now.builder.levels c.cells.count
         c.args.placing.now c.cells.placing w.place_cell.new.placing c.match-next_cell.placing w.placing-is
@@ -194,6 +220,16 @@ cells-preserved c = record {
             c.args.line.next in_row (omega (arith, here, last)) may.inside.next) before
       ];
 }
+
+pub returns-clause-texts : goal.returns-clause-texts
+returns-clause-texts c = λ fitted.
+    let closed = c.close_row.ensures.closes fitted in
+    let moved = c.step_to-2.ensures.steps closed.0 in
+    let kept = c.cells.invariant.more moved.0 in (
+      kept.0,
+      texts_after _ c.cells.placing.builder _ kept.1
+          (no_text _ _ (ap (λ (v : BuilderView). v.texts) closed.1 ∙ ap (λ (v : BuilderView). v.texts) moved.1)),
+    )
 
 pub returns-clause-tree : goal.returns-clause-tree
 returns-clause-tree c = λ is inside source stands fitted.

@@ -3,6 +3,7 @@ use Rattle.std.proofs.Common.{◌≡◌, ◌+◌, ◌∷◌, ◌++◌, ◌<◌, 
 use Rattle.markdown_lines.specs.TableRows.{cells_left, row_cells_at}
 use Rattle.markdown_plain.specs.Closable.{IsInText}
 use Rattle.markdown_plain.specs.Fitting.{AllFitted, IfFitted, opened}
+use Rattle.markdown_plain.specs.LeafTrees.{HasMoreTexts}
 use Rattle.markdown_plain.specs.TableRows.{HasCells, MayAddRow, cells_placed}
 use Rattle.markdown_plain.proofs.ShownRowsLemmas.{IsInRow}
 use Rattle.markdown_plain.proofs.tables.place_row.Given as goal
@@ -17,6 +18,7 @@ invariant-cells l = record {
         headings = l.placing.builder.headings;
         texts = l.placing.builder.texts;
       });
+  more : IfFitted l.fn.placing l.placing (HasMoreTexts l.fn.placing.builder l.placing.builder);
   cells : IfFitted l.fn.placing l.placing (HasCells l.fn.placing.builder.levels l.count l.placing.builder.levels);
   few : l.found ≤ l.count;
   all : l.found + length (cells_left l.text l.start l.line.stop)

@@ -9,7 +9,7 @@ use Rattle.markdown_plain.specs.Paragraphs.{has_paragraph, task_at}
 use Rattle.markdown_plain.specs.Settled.{IsLooseBefore}
 use Rattle.markdown_plain.specs.declared.looseness.Looseness.{Looseness}
 use Rattle.markdown_plain.specs.declared.pass.Pass.{Pass}
-use Rattle.markdown_plain.proofs.AddedLinesLemmas.{has_held, line_added, no_leaf_open, paragraph_begun}
+use Rattle.markdown_plain.proofs.AddedLinesLemmas.{has_held, line_added, paragraph_begun}
 use Rattle.markdown_plain.proofs.ClosableLemmas.{no_paragraph}
 use Rattle.markdown_plain.proofs.ClosedFramesLemmas.{stands_on}
 use Rattle.markdown_plain.proofs.pass.Pass.add_text.Goals.{then-not-has_paragraph+in_ok-make_room}
@@ -21,7 +21,7 @@ abbrev line_of : goal.In_ok-push → HeldLine
 line_of c = record { start = c.args.start; stop = c.args.line.stop; next = c.args.line.next; owed = 0 }
 
 pub returns-clause-finishes : goal.returns-clause-finishes
-returns-clause-finishes c = λ s frames inside b few may fitted.
+returns-clause-finishes c = λ s frames inside b none few may fitted.
     let self = c.if-not-has_paragraph.self in
     elim c.if-not-has_paragraph.branch [
       | then-not-has_paragraph+in_ok-make_room w ↦
@@ -32,7 +32,7 @@ returns-clause-finishes c = λ s frames inside b few may fitted.
           (made.0, stands_on s w.make_room.new.self _ _ _ placing placed made.1)
       | else-not-has_paragraph w ↦
           let held : has_paragraph c.args.self.now ≡ true = search rules in
-          absurd (true≢false (sym may.unended.1.leaf ∙ no_leaf_open c.args.self.now held))
+          absurd (true≢false (sym held ∙ no_paragraph c.args.self.now none))
     ]
 
 pub returns-clause-first : goal.returns-clause-first
@@ -67,6 +67,7 @@ returns-clause-inside c = λ s frames may deep loose.
           let now : Pass → Pass = λ p. record p {
             lines = c.push.new.self;
             task = c.if-not-has_paragraph.self.task;
+            tried = c.if-not-has_paragraph.self.tried;
             looseness = c.if-not-has_paragraph.self.looseness;
           } in (
             ap now w.self-is ∙ ap now made.0,

@@ -1,5 +1,5 @@
 -- No delimiter row; no head; both.
-use Rattle.std.proofs.Common.{◌≡◌, List, None, ap, arith, sym, ◌∙◌}
+use Rattle.std.proofs.Common.{◌≡◌, ◌++◌, ◌∷◌, [], ℕ, List, None, Some, ap, arith, subst, sym, ◌∙◌}
 use Rattle.std.specs.Option.{option_map}
 use Rattle.std.specs.declared.vec.Vec.{Vec}
 use Rattle.std.specs.declared.alloc.Global.{Global}
@@ -8,9 +8,15 @@ use Rattle.markdown_lines.specs.BlockBeginnings.{Source}
 use Rattle.markdown_lines.specs.SourceLines.{SourceLine}
 use Rattle.markdown_lines.specs.declared.held_line.HeldLine.{HeldLine}
 use Rattle.markdown_block_rules.specs.TableLines.{fitting, further_line}
-use Rattle.markdown_plain.specs.TableHeads.{IsLastLine, IsRowRest, was_tried}
-use Rattle.markdown_plain.proofs.TableHeadsLemmas.{ReadsRow, begins_columns, begins_none, begins_one, far_fits}
-use Rattle.markdown_plain.proofs.TableHeadsLemmas.{last_is, other_fits, read_fits, tried_none, tried_then}
+use Rattle.std.specs.Str.{IsCharBoundary}
+use Rattle.markdown_plain.specs.declared.pass.Pass.{Pass}
+use Rattle.markdown_plain.specs.Paragraphs.{source_of}
+use Rattle.markdown_plain.specs.TableHeads.{IsLastLine, IsRowRest, before_table, last_of}
+use Rattle.markdown_plain.proofs.BegunTablesLemmas.{ahead_tried, end_of_head, found_alignments, holds_tried, task_tried}
+use Rattle.markdown_plain.proofs.BegunTablesLemmas.{table_stepped}
+use Rattle.markdown_plain.proofs.FittingLemmas.{may_step, step_done}
+use Rattle.markdown_plain.proofs.TableBeginningsLemmas.{ReadsRow, begins_none, begins_one, far_fits}
+use Rattle.markdown_plain.proofs.TableBeginningsLemmas.{last_is, other_fits, read_fits, tried_none, tried_then}
 use Rattle.markdown_plain.proofs.pass.Pass.begin_table.Goals.{then-space-ge4-via-then-space-ge4}
 use Rattle.markdown_plain.proofs.pass.Pass.begin_table.Goals.{
   then-space-ge4-via-else-space-ge4+then-not-begins_delimiter_row,
@@ -101,7 +107,7 @@ returns-then-not-branch-clause-tried c = λ (s : Source) (head : HeldLine) (befo
     (option_map (λ (alignments : Vec Alignment Global). alignments.items) c.in_ok-alignments.field-0) reads
     c.args.position.before_stop (omega (arith, c.if-space-ge4.false)) c.in_ok-alignments.ensures in
     tried_then s pass head before from (further_line s l) c.in-Some-2.alignments.items
-    (was_tried c.may_be_head.new.self) is
+    c.may_be_head.new.self.tried is
     (sym (ap (option_map (λ (alignments : Vec Alignment Global). alignments.items)) c.in-Some-2.is) ∙ fits)
     (c.in_ok-may_be_head.ensures.tried s before from last c.if-not-branch.true)
 
@@ -123,20 +129,53 @@ returns-clause-value c = λ (s : Source) (head : HeldLine) (before : List Source
     (sym c.if-not-branch.false
     ∙ c.in_ok-may_be_head.ensures.value s before from last)
 
-pub returns-clause-columns : goal.returns-clause-columns
-returns-clause-columns c = λ (s : Source) (head : HeldLine) (before : List SourceLine)
-    (from l : SourceLine) (is : IsLastLine s c.args.self.now head before from)
-    (rest : IsRowRest s c.args.self.now.placing.builder.text c.args.line c.args.position l) _.
+-- the table, open up to the end of the line
+pub returns-clause-frame : goal.returns-clause-frame
+returns-clause-frame c = λ is s frames inside b head before from l holds last_line rest ahead fitted.
     let pass = c.args.self.now in
     let read = c.read_space-space.result in
     let text = c.text-text.result.now in
-    let last = last_is s pass head before from c.last_line.result c.in-Some.head is c.last_line.ensures c.in-Some.is in
+    let now = c.may_be_head.new.self in
+    let found = c.in-Some-2.alignments.items in
+    let same = c.in_ok-may_be_head.ensures.same in
+    let last = last_is s pass head before from c.last_line.result c.in-Some.head last_line c.last_line.ensures
+    c.in-Some.is in
     let reads : ReadsRow s pass c.in-Some.head before from l c.args.line c.args.position read text =
     record { last = last; rest = rest; same = c.text-text.ensures; space = c.read_space-space.ensures.value } in
     let fits = read_fits s pass c.in-Some.head before from l c.args.line c.args.position read text
     (option_map (λ (alignments : Vec Alignment Global). alignments.items) c.in_ok-alignments.field-0) reads
     c.args.position.before_stop (omega (arith, c.if-space-ge4.false)) c.in_ok-alignments.ensures in
-    begins_columns s before from l c.in-Some-2.alignments.items _
-    (sym (ap (option_map (λ (alignments : Vec Alignment Global). alignments.items)) c.in-Some-2.is) ∙ fits)
-    (sym c.if-not-branch.false
-    ∙ c.in_ok-may_be_head.ensures.value s before from last) c.in_ok-open_table.ensures.columns
+    let moved = c.step_to.ensures.steps fitted in
+    let opened = c.in_ok-open_table.ensures.frame s frames inside b before from
+    (holds_tried s pass now frames inside b (before ++ from ∷ []) same holds)
+    (ap source_of same ∙ last.source) (ap (λ (p : Pass). last_of p.lines.items) same ∙ last.there)
+    (ahead_tried pass now same ahead) moved.0 in (
+      ap (λ (p : Pass). p.placing.misfits) (sym same) ∙ opened.0,
+      record {
+        found = found;
+        begins = found_alignments s before from l found
+            (sym (ap (option_map (λ (alignments : Vec Alignment Global). alignments.items)) c.in-Some-2.is) ∙ fits)
+            (sym c.if-not-branch.false ∙ c.in_ok-may_be_head.ensures.value s before from last);
+        opened = table_stepped s c.open_table.new.self.placing.builder c.step_to.new.self.builder frames
+            (before_table inside b before) from from.next c.args.line.next found moved.1 opened.1;
+      },
+    )
+
+pub returns-clause-fits : goal.returns-clause-fits
+returns-clause-fits c = λ is outside ahead task low boundary fitted.
+    let pass = c.args.self.now in
+    let now = c.may_be_head.new.self in
+    let same = c.in_ok-may_be_head.ensures.same in
+    let there : last_of pass.lines.items ≡ Some c.in-Some.head = sym c.last_line.ensures ∙ c.in-Some.is in
+    let opened = c.in_ok-open_table.ensures.fits (ap (λ (p : Pass). p.placing.builder.leaf) same ∙ outside)
+    (ap (λ (p : Pass). last_of p.lines.items) same ∙ there)
+    (ahead_tried pass now same ahead) (task_tried pass now same task)
+    (ap (λ (p : Pass). p.placing.misfits) same ∙ fitted) in
+    let here = (c.in_ok-open_table.ensures.here opened).1 in
+    let end = end_of_head pass.lines.items c.in-Some.head there in
+    let at = here.0 in
+    (step_done c.open_table.new.self.placing c.step_to.new.self c.args.line.next c.step_to.ensures.steps
+    c.step_to.ensures.fits (may_step c.open_table.new.self.placing.builder c.args.line.next (omega (arith, at, end, low))
+    (subst (λ (t : List ℕ). IsCharBoundary t c.args.line.next)
+    (sym (c.in_ok-open_table.ensures.text ∙ ap (λ (p : Pass). p.placing.builder.text) same)) boundary)
+    here.1) opened).0

@@ -12,6 +12,7 @@ use Rattle.markdown_plain.specs.Frames.{Frame, rebuilt}
 use Rattle.markdown_plain.specs.OpenLeaves.{leaf_block}
 use Rattle.markdown_plain.specs.declared.pass.Pass.{Pass}
 use Rattle.markdown_plain.proofs.ClosedFramesLemmas.{all_kept, one_less, open_containers}
+use Rattle.markdown_plain.proofs.OpenTablesLemmas.{built_outside}
 use Rattle.markdown_builder.specs.declared.open_block.OpenBlock.{OpenBlock}
 use Rattle.markdown_plain.proofs.ClosedListsLemmas.{all_closed, none_closed, one_closed}
 use Rattle.markdown_plain.proofs.EndedLeavesLemmas.{closed_to, ended_may_close}
@@ -155,7 +156,8 @@ closed_from c s frames inside may fitted =
 pub returns-clause-forgets : goal.returns-clause-forgets
 returns-clause-forgets c = λ s frames inside none may fitted.
     let now = c.args.self.now in
-    let same : c.end_leaf.new.self ≡ now = c.in_ok-end_leaf.ensures.none may.stands.built.outside none in (
+    let same : c.end_leaf.new.self ≡ now = c.in_ok-end_leaf.ensures.none
+    (built_outside s now.placing.builder frames inside may.stands.built) none in (
       (c.blocks-2.invariant.outside fitted).0,
       closed_from c s frames inside (subst (λ (p : Pass). MayClose s p frames inside) (sym same) may) fitted,
     )

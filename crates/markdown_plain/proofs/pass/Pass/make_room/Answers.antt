@@ -11,6 +11,7 @@ use Rattle.markdown_plain.specs.Fitting.{AllFitted, IfFitted}
 use Rattle.markdown_plain.specs.Frames.{Frame, rebuilt, room_depth}
 use Rattle.markdown_plain.specs.OpenLeaves.{leaf_block}
 use Rattle.markdown_plain.specs.declared.pass.Pass.{Pass}
+use Rattle.markdown_plain.proofs.OpenTablesLemmas.{built_outside}
 use Rattle.markdown_plain.proofs.ClosedFramesLemmas.{list_in_the_way, no_list_closed, stands_on}
 use Rattle.markdown_plain.proofs.OpenedFramesLemmas.{as_many_containers, list_innermost}
 use Rattle.markdown_plain.specs.Settled.{AreOpen, IsLooseAs}
@@ -113,7 +114,8 @@ returns-clause-inside c = λ s frames may deep loose.
     let now = c.if-is_in_list.self in
     let texts = old.placing.builder.texts in
     let many = as_many_containers s old.placing.builder frames nil may.built in
-    let kept = c.in_ok-close_down.ensures.kept may.built.outside may.lines (omega (arith, many, deep)) in
+    let kept = c.in_ok-close_down.ensures.kept (built_outside s old.placing.builder frames nil may.built) may.lines
+    (omega (arith, many, deep)) in
     let free : innermost_is is_list c.close_down.new.self.placing.builder.blocks ≡ false =
     ap (λ (p : Pass). innermost_is is_list p.placing.builder.blocks) kept
     ∙ (list_innermost s old.placing.builder frames nil may.built ∙ may.free) in

@@ -9,14 +9,16 @@ use Rattle.markdown_scan.specs.LineStart.{leading_space}
 use Rattle.markdown_lines.specs.Positions.{left_from}
 use Rattle.markdown_block_rules.specs.TableLines.{is_first_after, may_be_head}
 use Rattle.markdown_plain.specs.HeldSources.{IsParagraph}
+use Rattle.markdown_plain.specs.declared.pass.Pass.{Pass}
 use Rattle.markdown_plain.specs.Paragraphs.{divided_of}
+use Rattle.markdown_plain.specs.declared.pass.Pass.{Pass}
 use Rattle.markdown_lines.specs.BlockBeginnings.{Source}
 use Rattle.markdown_lines.specs.SourceLines.{SourceLine}
-use Rattle.markdown_plain.specs.TableHeads.{IsLastLine, was_tried}
+use Rattle.markdown_plain.specs.TableHeads.{IsLastLine}
 use Rattle.markdown_plain.proofs.TableHeadsLemmas.{any_tried, as_tried, columns_again, count_of, first_by_index}
 use Rattle.markdown_plain.proofs.TableHeadsLemmas.{front_of, if_ok, last_filled, lazy_again, left_by_index}
 use Rattle.markdown_plain.proofs.TableHeadsLemmas.{may_after_none, may_first, may_last, may_lazy, may_led, not_near}
-use Rattle.markdown_plain.proofs.TableHeadsLemmas.{second_left, tried_now, unled}
+use Rattle.markdown_plain.proofs.TableHeadsLemmas.{second_left, unled}
 use Rattle.markdown_plain.proofs.pass.Pass.may_be_head.Goals.{else-before-eq1-via-then-before-eq1+else-index}
 use Rattle.markdown_plain.proofs.pass.Pass.may_be_head.Goals.{else-before-eq1-via-else-before-eq1}
 use Rattle.markdown_plain.proofs.pass.Pass.may_be_head.Goals.{else-columns-lt4-via-then-columns-lt4+else-eq}
@@ -96,7 +98,7 @@ pub returns-clause-value : goal.returns-clause-value
 returns-clause-value c = if_ok
     (λ found. (sources : List SourceLine) → IsParagraph c.args.self.now.placing.builder.text
     (take c.saturating_sub-before.result c.args.self.now.lines.items) sources
-    → found ≡ (not (was_tried c.args.self.now) && (length (divided_of c.args.self.now sources).lines == 0)))
+    → found ≡ (not c.args.self.now.tried && (length (divided_of c.args.self.now sources).lines == 0)))
     (λ found. (s : Source) (before : List SourceLine) (from : SourceLine)
     → IsLastLine s c.args.self.now c.args.head before from → found ≡ may_be_head s before from)
     c.is_after_definitions.result (λ found known (s : Source) (before : List SourceLine) (from : SourceLine)
@@ -141,10 +143,10 @@ pub returns-clause-tried : goal.returns-clause-tried
 returns-clause-tried c = if_ok
     (λ found. (sources : List SourceLine) → IsParagraph c.args.self.now.placing.builder.text
     (take c.saturating_sub-before.result c.args.self.now.lines.items) sources
-    → found ≡ (not (was_tried c.args.self.now) && (length (divided_of c.args.self.now sources).lines == 0)))
+    → found ≡ (not c.args.self.now.tried && (length (divided_of c.args.self.now sources).lines == 0)))
     (λ found. (s : Source) (before : List SourceLine) (from : SourceLine)
     → IsLastLine s c.args.self.now c.args.head before from → found ≡ false
-    → was_tried c.is_after_definitions.new.self ≡ (was_tried c.args.self.now || is_some from.indent))
+    → c.is_after_definitions.new.self.tried ≡ (c.args.self.now.tried || is_some from.indent))
     c.is_after_definitions.result (λ found known (s : Source) (before : List SourceLine) (from : SourceLine)
     (is : IsLastLine s c.args.self.now c.args.head before from) _.
     let pass = c.args.self.now in
@@ -162,6 +164,5 @@ returns-clause-tried c = if_ok
     let indent : from.indent ≡ Some columns = columns_again s pass c.args.head before from number c.index.result.now
     c.reach-reached.result columns is size some c.index.ensures c.reach-reached.ensures.frames
     c.if-not-reached.false space in
-    tried_now pass c.is_after_definitions.new.self c.is_after_definitions.ensures.same
-    c.is_after_definitions.ensures.tried ∙ any_tried (was_tried pass) from.indent columns indent)
+    ap (λ (p : Pass). p.tried) c.is_after_definitions.ensures.same ∙ any_tried pass.tried from.indent columns indent)
     c.is_after_definitions.ensures.value

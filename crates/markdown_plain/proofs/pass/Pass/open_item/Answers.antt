@@ -18,6 +18,8 @@ use Rattle.markdown_plain.specs.declared.looseness.Looseness.{Looseness}
 use Rattle.markdown_plain.specs.declared.pass.Pass.{Pass}
 use Rattle.markdown_plain.specs.Closable.{AreClosable, IsWhiteBefore}
 use Rattle.markdown_plain.specs.OpenBlocks as own
+use Rattle.markdown_plain.proofs.OpenBlocksLemmas.{no_leaf_there}
+use Rattle.markdown_plain.proofs.OpenTablesLemmas.{built_outside}
 use Rattle.markdown_plain.proofs.ClosableLemmas.{item_ahead, item_outside, item_white, listed_ahead}
 use Rattle.markdown_plain.proofs.ClosedListsLemmas.{known_of_outermost}
 use Rattle.markdown_plain.proofs.FramesInsideLemmas.{inner_last}
@@ -46,7 +48,8 @@ returns-clause-begins c =
     let last = opens fitted in
     let first = c.step_to.ensures.steps last.0 in
     let many = as_many_containers s c.args.self.now.placing.builder frames inside may.built in
-    let kept = c.in_ok-close_down.ensures.kept may.built.outside may.lines (omega (arith, many, deep)) in
+    let kept = c.in_ok-close_down.ensures.kept
+    (built_outside s c.args.self.now.placing.builder frames inside may.built) may.lines (omega (arith, many, deep)) in
     let listed = c.in_ok-open_list.ensures.begins s frames inside list
     (subst (λ (p : Pass). IsBuilt s p.placing.builder frames inside) (sym kept) may.built) may.free starts is first.0
     in (
@@ -62,7 +65,8 @@ returns-clause-inside c =
     let old = c.args.self.now in
     let now = c.open_list.new.self in
     let many = as_many_containers s old.placing.builder frames nil may.built in
-    let kept = c.in_ok-close_down.ensures.kept may.built.outside may.lines (omega (arith, many, deep)) in (
+    let kept = c.in_ok-close_down.ensures.kept (built_outside s old.placing.builder frames nil may.built) may.lines
+    (omega (arith, many, deep)) in (
       ap (λ (p : Pass). record p { placing = c.open_block.new.self; looseness = now.looseness })
           (c.open_list.ensures.same ∙ ap (λ (p : Pass). record p { placing = now.placing; looseness = now.looseness })
           kept),
@@ -169,7 +173,8 @@ returns-clause-fits_inside c =
     IfOk-weaker c.open_block.result _ _ (λ done fits outside none deep other ahead white fitted.
     let old = c.args.self.now in
     let kept : c.close_down.new.self ≡ old = c.in_ok-close_down.ensures.kept outside none deep in
-    let opened = item_fits c (ap (λ (p : Pass). p.placing.builder.leaf) kept ∙ outside)
+    let opened = item_fits c
+    (ap (λ (p : Pass). p.placing.builder.leaf) kept ∙ no_leaf_there old.placing.builder outside)
     (subst (λ (p : Pass). IsAhead p.placing.builder c.args.at) (sym kept) ahead)
     (subst (λ (p : Pass). own.without_list p.placing.builder.blocks ≡ [] → IsWhiteBefore p.placing.builder c.args.at)
     (sym kept) (λ left. white (item_outside _ other left)))

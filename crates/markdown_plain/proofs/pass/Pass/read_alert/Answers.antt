@@ -34,6 +34,7 @@ record IsAlert (c : goal.In_ok-add_text) (s : Source) (source : SourceLine) (blo
   same : (c.add_text.new.self ≡ record c.open_quote.new.self {
     lines = c.add_text.new.self.lines;
     task = c.add_text.new.self.task;
+    tried = c.add_text.new.self.tried;
     looseness = c.add_text.new.self.looseness;
   })
       × IsLooseBefore c.add_text.new.self.looseness
@@ -109,7 +110,7 @@ returns-clause-places c = λ s turn source blocks state found fitted.
           (ap (λ (p : Pass). p.blanks.items) same.0 ∙ after.blanks) lines
           (begun_in_room s made rest source begins blocks room
           ∙ sym (rebuilt_more room.frames f (leaf_block b)))
-          room.items
+          room.items (c.in_ok-add_text.ensures.untried none)
           (end_ready s made now rest source c.args.at inner c.args.kind room.left room.filled found.begins (record {
             opens = ap (λ (p : Pass). p.placing.builder) same.0 ∙ opens.1;
             built = built;

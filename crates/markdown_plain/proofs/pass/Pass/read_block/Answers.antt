@@ -1,5 +1,5 @@
 -- What begins is what the definition says, by what the reader found.
-use Rattle.std.proofs.Common.{◌≡◌, refl, subst, sym}
+use Rattle.std.proofs.Common.{◌≡◌, refl}
 use Rattle.std.proofs.lemmas.Result.{IfOk-weaker}
 use Rattle.markdown_base.specs.Forest.{Forest}
 use Rattle.markdown_lines.specs.BlockBeginnings.{Source}
@@ -8,8 +8,6 @@ use Rattle.markdown_lines.specs.declared.block_start.BlockStart.{BlockStart}
 use Rattle.markdown_lines.specs.declared.block_start.BlockStart.TheVariants as start
 use Rattle.markdown_block_rules.specs.BlockGrowth.{Block}
 use Rattle.markdown_plain.specs.Beginning.{IsHere, Turn}
-use Rattle.markdown_plain.specs.Fitting.{AllFitted}
-use Rattle.markdown_plain.specs.declared.pass.Pass.{Pass}
 use Rattle.markdown_plain.proofs.FoundPlacesLemmas.{Meets, begun_old, begun_places, begun_reads, meets}
 use Rattle.markdown_plain.proofs.OpenedFramesLemmas.{both_ok}
 use Rattle.markdown_plain.proofs.TurnsLemmas.{here_fits}
@@ -20,115 +18,105 @@ use Rattle.markdown_plain.proofs.pass.Pass.read_block.Goals as goal
 met_with : (c : In_ok-begun) (s : Source) (turn : Turn) (source : SourceLine) (blocks : Forest Block)
     (start : BlockStart) → c.in_ok-begun.begun.start ≡ start
     → IsHere s c.args.self.now c.args.rest.now turn source blocks
-    → Meets s c.args.self.now c.reads_table.new.self (record c.args.rest.now { reader = c.beginning.new.self }) turn
-    source blocks c.in_ok-begun.begun.at start
+    → Meets s c.args.self.now (record c.args.rest.now { reader = c.beginning.new.self }) turn source blocks
+    c.in_ok-begun.begun.at start
 met_with c s turn source blocks start is state =
-    let row = c.in_ok-reads_table.ensures in
     let begun = c.in_ok-begun.ensures in
-    meets s c.args.self.now c.reads_table.new.self c.args.rest.now _ c.beginning.new.self turn source blocks
-    c.in_ok-begun.begun.at c.in_ok-begun.begun.start start
-    (record { none = row.none; off = row.off; begins = begun.begins; place = begun.at; same = begun.same }) is state
+    meets s c.args.self.now c.args.rest.now c.beginning.new.self turn source blocks c.in_ok-begun.begun.at
+    c.in_ok-begun.begun.start start (record { begins = begun.begins; place = begun.at; same = begun.same }) is state
 
 pub returns-in-Nothing-clause-begins : goal.returns-in-Nothing-clause-begins
 returns-in-Nothing-clause-begins c =
-    IfOk-weaker c.skip_blank.result _ _ (λ more told s turn source blocks state none fitted.
+    IfOk-weaker c.skip_blank.result _ _ (λ more told s turn source blocks state fitted.
     let rest = c.args.rest.now in
     let reader = c.beginning.new.self in
     let at = c.in_ok-begun.begun.at in
     let met = met_with (goal.at.returns-in-Nothing-clause-begins c).In_ok-begun
     s turn source blocks start.Nothing c.in-Nothing.is state in
-    begun_places s c.args.self.now c.reads_table.new.self _ rest (record rest { reader = reader }) blocks more met.kept
-    told.1 (told.0 s (record rest { reader = reader }) turn source at blocks met.here refl met.found fitted))
+    begun_places s c.args.self.now _ rest (record rest { reader = reader }) blocks more told.1 (told.0 s (record rest { reader = reader }) turn source at blocks met.here refl met.found fitted))
     (both_ok c.skip_blank.result _ _ c.skip_blank.ensures.places c.skip_blank.ensures.more)
 
 pub returns-in-Text-clause-begins : goal.returns-in-Text-clause-begins
 returns-in-Text-clause-begins c =
-    IfOk-weaker c.read_text.result _ _ (λ more told s turn source blocks state none fitted.
+    IfOk-weaker c.read_text.result _ _ (λ more told s turn source blocks state fitted.
     let rest = c.args.rest.now in
     let reader = c.beginning.new.self in
     let met = met_with (goal.at.returns-in-Text-clause-begins c).In_ok-begun
     s turn source blocks start.Text c.in-Text.is state in
-    begun_places s c.args.self.now c.reads_table.new.self _ rest (record rest { reader = reader }) blocks more met.kept
-    told.1 (told.0 s turn source blocks met.here met.found met.stands fitted))
+    begun_places s c.args.self.now _ rest (record rest { reader = reader }) blocks more told.1 (told.0 s turn source blocks met.here met.found met.stands fitted))
     (both_ok c.read_text.result _ _ c.read_text.ensures.places c.read_text.ensures.more)
 
 pub returns-in-IndentedCode-clause-begins : goal.returns-in-IndentedCode-clause-begins
 returns-in-IndentedCode-clause-begins c =
-    IfOk-weaker c.read_indented.result _ _ (λ more told s turn source blocks state none fitted.
+    IfOk-weaker c.read_indented.result _ _ (λ more told s turn source blocks state fitted.
     let rest = c.args.rest.now in
     let reader = c.beginning.new.self in
     let at = c.in_ok-begun.begun.at in
     let met = met_with (goal.at.returns-in-IndentedCode-clause-begins c).In_ok-begun
     s turn source blocks (start.IndentedCode c.in-IndentedCode.code) c.in-IndentedCode.is state in
-    begun_places s c.args.self.now c.reads_table.new.self _ rest (record rest { reader = reader }) blocks more met.kept
-    told.1 (told.0 s turn source at blocks met.here met.found fitted))
+    begun_places s c.args.self.now _ rest (record rest { reader = reader }) blocks more told.1 (told.0 s turn source at blocks met.here met.found fitted))
     (both_ok c.read_indented.result _ _ c.read_indented.ensures.places c.read_indented.ensures.more)
 
 pub returns-in-Quote-clause-begins : goal.returns-in-Quote-clause-begins
 returns-in-Quote-clause-begins c =
-    IfOk-weaker c.read_quote.result _ _ (λ more told s turn source blocks state none fitted.
+    IfOk-weaker c.read_quote.result _ _ (λ more told s turn source blocks state fitted.
     let rest = c.args.rest.now in
     let reader = c.beginning.new.self in
     let met = met_with (goal.at.returns-in-Quote-clause-begins c).In_ok-begun
     s turn source blocks (start.Quote c.in-Quote.inside) c.in-Quote.is state in
-    begun_reads s c.args.self.now c.reads_table.new.self _ rest c.read_quote.new.rest reader blocks more met.kept told.1
+    begun_reads s c.args.self.now _ rest c.read_quote.new.rest reader blocks more told.1
     (told.0 s turn source blocks met.here met.found met.stands fitted))
     (both_ok c.read_quote.result _ _ c.read_quote.ensures.reads_on c.read_quote.ensures.more)
 
 pub returns-in-Alert-clause-begins : goal.returns-in-Alert-clause-begins
 returns-in-Alert-clause-begins c =
-    IfOk-weaker c.read_alert.result _ _ (λ more told s turn source blocks state none fitted.
+    IfOk-weaker c.read_alert.result _ _ (λ more told s turn source blocks state fitted.
     let rest = c.args.rest.now in
     let reader = c.beginning.new.self in
     let met = met_with (goal.at.returns-in-Alert-clause-begins c).In_ok-begun
     s turn source blocks (start.Alert c.in-Alert.kind) c.in-Alert.is state in
-    begun_places s c.args.self.now c.reads_table.new.self _ rest (record rest { reader = reader }) blocks more met.kept
-    told.1 (told.0 s turn source blocks met.here met.found fitted))
+    begun_places s c.args.self.now _ rest (record rest { reader = reader }) blocks more told.1 (told.0 s turn source blocks met.here met.found fitted))
     (both_ok c.read_alert.result _ _ c.read_alert.ensures.places c.read_alert.ensures.more)
 
 pub returns-in-Heading-clause-begins : goal.returns-in-Heading-clause-begins
 returns-in-Heading-clause-begins c =
-    IfOk-weaker c.read_heading.result _ _ (λ more told s turn source blocks state none fitted.
+    IfOk-weaker c.read_heading.result _ _ (λ more told s turn source blocks state fitted.
     let rest = c.args.rest.now in
     let reader = c.beginning.new.self in
     let met = met_with (goal.at.returns-in-Heading-clause-begins c).In_ok-begun
     s turn source blocks (start.Heading c.in-Heading.heading) c.in-Heading.is state in
-    begun_places s c.args.self.now c.reads_table.new.self _ rest (record rest { reader = reader }) blocks more met.kept
-    told.1 (told.0 s turn source blocks met.here met.found met.stands fitted))
+    begun_places s c.args.self.now _ rest (record rest { reader = reader }) blocks more told.1 (told.0 s turn source blocks met.here met.found met.stands fitted))
     (both_ok c.read_heading.result _ _ c.read_heading.ensures.places c.read_heading.ensures.more)
 
 pub returns-in-Fence-clause-begins : goal.returns-in-Fence-clause-begins
 returns-in-Fence-clause-begins c =
-    IfOk-weaker c.read_fence.result _ _ (λ more told s turn source blocks state none fitted.
+    IfOk-weaker c.read_fence.result _ _ (λ more told s turn source blocks state fitted.
     let rest = c.args.rest.now in
     let reader = c.beginning.new.self in
     let met = met_with (goal.at.returns-in-Fence-clause-begins c).In_ok-begun
     s turn source blocks (start.Fence c.in-Fence.opening) c.in-Fence.is state in
-    begun_places s c.args.self.now c.reads_table.new.self _ rest (record rest { reader = reader }) blocks more met.kept
-    told.1 (told.0 s turn source blocks met.here met.found met.stands fitted))
+    begun_places s c.args.self.now _ rest (record rest { reader = reader }) blocks more told.1 (told.0 s turn source blocks met.here met.found met.stands fitted))
     (both_ok c.read_fence.result _ _ c.read_fence.ensures.places c.read_fence.ensures.more)
 
 pub returns-in-Html-clause-begins : goal.returns-in-Html-clause-begins
 returns-in-Html-clause-begins c =
-    IfOk-weaker c.read_html.result _ _ (λ more told s turn source blocks state none fitted.
+    IfOk-weaker c.read_html.result _ _ (λ more told s turn source blocks state fitted.
     let rest = c.args.rest.now in
     let reader = c.beginning.new.self in
     let at = c.in_ok-begun.begun.at in
     let met = met_with (goal.at.returns-in-Html-clause-begins c).In_ok-begun
     s turn source blocks (start.Html c.in-Html.kind) c.in-Html.is state in
-    begun_places s c.args.self.now c.reads_table.new.self _ rest (record rest { reader = reader }) blocks more met.kept
-    told.1 (told.0 s turn source at blocks met.here met.found met.stands fitted))
+    begun_places s c.args.self.now _ rest (record rest { reader = reader }) blocks more told.1 (told.0 s turn source at blocks met.here met.found met.stands fitted))
     (both_ok c.read_html.result _ _ c.read_html.ensures.places c.read_html.ensures.more)
 
 pub returns-in-Footnote-clause-begins : goal.returns-in-Footnote-clause-begins
 returns-in-Footnote-clause-begins c =
-    IfOk-weaker c.read_footnote.result _ _ (λ more told s turn source blocks state none fitted.
+    IfOk-weaker c.read_footnote.result _ _ (λ more told s turn source blocks state fitted.
     let rest = c.args.rest.now in
     let reader = c.beginning.new.self in
     let met = met_with (goal.at.returns-in-Footnote-clause-begins c).In_ok-begun
     s turn source blocks (start.Footnote c.in-Footnote.label c.in-Footnote.inside) c.in-Footnote.is state in
-    begun_reads s c.args.self.now c.reads_table.new.self _ rest c.read_footnote.new.rest reader blocks more met.kept
-    told.1
+    begun_reads s c.args.self.now _ rest c.read_footnote.new.rest reader blocks more told.1
     (told.0 s turn source blocks met.here
     (rw (c.in-Footnote.label-is, c.in-Footnote.inside-is) met.found)
     (rw (c.in-Footnote.inside-is) met.stands) fitted))
@@ -136,48 +124,46 @@ returns-in-Footnote-clause-begins c =
 
 pub returns-in-ThematicBreak-clause-begins : goal.returns-in-ThematicBreak-clause-begins
 returns-in-ThematicBreak-clause-begins c =
-    IfOk-weaker c.read_break.result _ _ (λ more told s turn source blocks state none fitted.
+    IfOk-weaker c.read_break.result _ _ (λ more told s turn source blocks state fitted.
     let rest = c.args.rest.now in
     let reader = c.beginning.new.self in
     let met = met_with (goal.at.returns-in-ThematicBreak-clause-begins c).In_ok-begun
     s turn source blocks start.ThematicBreak c.in-ThematicBreak.is state in
-    begun_places s c.args.self.now c.reads_table.new.self _ rest (record rest { reader = reader }) blocks more met.kept
-    told.1 (told.0 s turn source blocks met.here met.found fitted))
+    begun_places s c.args.self.now _ rest (record rest { reader = reader }) blocks more told.1 (told.0 s turn source blocks met.here met.found fitted))
     (both_ok c.read_break.result _ _ c.read_break.ensures.places c.read_break.ensures.more)
 
 pub returns-in-Item-clause-begins : goal.returns-in-Item-clause-begins
 returns-in-Item-clause-begins c =
-    IfOk-weaker c.read_item.result _ _ (λ more told s turn source blocks state none fitted.
+    IfOk-weaker c.read_item.result _ _ (λ more told s turn source blocks state fitted.
     let rest = c.args.rest.now in
     let reader = c.beginning.new.self in
     let met = met_with (goal.at.returns-in-Item-clause-begins c).In_ok-begun
     s turn source blocks (start.Item c.in-Item.item) c.in-Item.is state in
-    begun_reads s c.args.self.now c.reads_table.new.self _ rest c.read_item.new.rest reader blocks more met.kept told.1
+    begun_reads s c.args.self.now _ rest c.read_item.new.rest reader blocks more told.1
     (told.0 s turn source blocks met.here met.found met.stands fitted))
     (both_ok c.read_item.result _ _ c.read_item.ensures.reads_on c.read_item.ensures.more)
 
 pub returns-in-Metadata-clause-begins : goal.returns-in-Metadata-clause-begins
 returns-in-Metadata-clause-begins c =
-    IfOk-weaker c.read_metadata.result _ _ (λ more told s turn source blocks state none fitted.
+    IfOk-weaker c.read_metadata.result _ _ (λ more told s turn source blocks state fitted.
     let rest = c.args.rest.now in
     let reader = c.beginning.new.self in
     let at = c.in_ok-begun.begun.at in
     let met = met_with (goal.at.returns-in-Metadata-clause-begins c).In_ok-begun
     s turn source blocks (start.Metadata c.in-Metadata.kind) c.in-Metadata.is state in
-    begun_places s c.args.self.now c.reads_table.new.self _ rest (record rest { reader = reader }) blocks more met.kept
-    told.1 (told.0 s turn source at blocks met.here met.found fitted))
+    begun_places s c.args.self.now _ rest (record rest { reader = reader }) blocks more told.1 (told.0 s turn source at blocks met.here met.found fitted))
     (both_ok c.read_metadata.result _ _ c.read_metadata.ensures.places c.read_metadata.ensures.more)
 
 pub returns-in-Underline-clause-begins : goal.returns-in-Underline-clause-begins
 returns-in-Underline-clause-begins c =
-    IfOk-weaker c.read_underline.result _ _ (λ more told s turn source blocks state none fitted.
+    IfOk-weaker c.read_underline.result _ _ (λ more told s turn source blocks state fitted.
     let rest = c.args.rest.now in
     let reader = c.beginning.new.self in
     let at = c.in_ok-begun.begun.at in
     let met = met_with (goal.at.returns-in-Underline-clause-begins c).In_ok-begun
     s turn source blocks (start.Underline c.in-Underline.level) c.in-Underline.is state in
     let done = told s turn source at blocks met.here met.found fitted in (
-      subst (λ (p : Pass). AllFitted p.placing) met.kept done.0,
+      done.0,
       begun_old s _ rest c.read_underline.new.rest reader blocks more done.1,
     )) c.read_underline.ensures.begins
 
@@ -185,122 +171,122 @@ returns-in-Underline-clause-begins c =
 
 pub returns-in-Nothing-clause-fits : goal.returns-in-Nothing-clause-fits
 returns-in-Nothing-clause-fits c =
-    IfOk-weaker c.skip_blank.result _ _ (λ more told s turn source blocks state none fitted.
+    IfOk-weaker c.skip_blank.result _ _ (λ more told s turn source blocks state fitted.
     let rest = c.args.rest.now in
     let reader = c.beginning.new.self in
     let at = c.in_ok-begun.begun.at in
     let met = met_with (goal.at.returns-in-Nothing-clause-fits c).In_ok-begun
     s turn source blocks start.Nothing c.in-Nothing.is state in
     told s (record rest { reader = reader }) turn source at blocks met.here refl met.found
-    (subst (λ (p : Pass). AllFitted p.placing) (sym met.kept) fitted)) c.skip_blank.ensures.fits
+    fitted) c.skip_blank.ensures.fits
 
 pub returns-in-Text-clause-fits : goal.returns-in-Text-clause-fits
 returns-in-Text-clause-fits c =
-    IfOk-weaker c.read_text.result _ _ (λ more told s turn source blocks state none fitted.
+    IfOk-weaker c.read_text.result _ _ (λ more told s turn source blocks state fitted.
     let met = met_with (goal.at.returns-in-Text-clause-fits c).In_ok-begun
     s turn source blocks start.Text c.in-Text.is state in
     told s turn source blocks met.here met.found met.stands
-    (subst (λ (p : Pass). AllFitted p.placing) (sym met.kept) fitted)) c.read_text.ensures.fits
+    fitted) c.read_text.ensures.fits
 
 pub returns-in-IndentedCode-clause-fits : goal.returns-in-IndentedCode-clause-fits
 returns-in-IndentedCode-clause-fits c =
-    IfOk-weaker c.read_indented.result _ _ (λ more told s turn source blocks state none fitted.
+    IfOk-weaker c.read_indented.result _ _ (λ more told s turn source blocks state fitted.
     let rest = c.args.rest.now in
     let reader = c.beginning.new.self in
     let at = c.in_ok-begun.begun.at in
     let met = met_with (goal.at.returns-in-IndentedCode-clause-fits c).In_ok-begun
     s turn source blocks (start.IndentedCode c.in-IndentedCode.code) c.in-IndentedCode.is state in
-    let fits = here_fits s c.reads_table.new.self (record rest { reader = reader }) turn source blocks at
+    let fits = here_fits s c.args.self.now (record rest { reader = reader }) turn source blocks at
     (start.IndentedCode c.in-IndentedCode.code) met.here met.found in
     told s turn source at blocks met.here met.found fits.0 fits.1
-    (subst (λ (p : Pass). AllFitted p.placing) (sym met.kept) fitted)) c.read_indented.ensures.fits
+    fitted) c.read_indented.ensures.fits
 
 pub returns-in-Quote-clause-fits : goal.returns-in-Quote-clause-fits
 returns-in-Quote-clause-fits c =
-    IfOk-weaker c.read_quote.result _ _ (λ more told s turn source blocks state none fitted.
+    IfOk-weaker c.read_quote.result _ _ (λ more told s turn source blocks state fitted.
     let met = met_with (goal.at.returns-in-Quote-clause-fits c).In_ok-begun
     s turn source blocks (start.Quote c.in-Quote.inside) c.in-Quote.is state in
     told s turn source blocks met.here met.found met.stands
-    (subst (λ (p : Pass). AllFitted p.placing) (sym met.kept) fitted)) c.read_quote.ensures.fits
+    fitted) c.read_quote.ensures.fits
 
 pub returns-in-Alert-clause-fits : goal.returns-in-Alert-clause-fits
 returns-in-Alert-clause-fits c =
-    IfOk-weaker c.read_alert.result _ _ (λ more told s turn source blocks state none fitted.
+    IfOk-weaker c.read_alert.result _ _ (λ more told s turn source blocks state fitted.
     let met = met_with (goal.at.returns-in-Alert-clause-fits c).In_ok-begun
     s turn source blocks (start.Alert c.in-Alert.kind) c.in-Alert.is state in
     told s turn source blocks met.here met.found
-    (subst (λ (p : Pass). AllFitted p.placing) (sym met.kept) fitted)) c.read_alert.ensures.fits
+    fitted) c.read_alert.ensures.fits
 
 pub returns-in-Heading-clause-fits : goal.returns-in-Heading-clause-fits
 returns-in-Heading-clause-fits c =
-    IfOk-weaker c.read_heading.result _ _ (λ more told s turn source blocks state none fitted.
+    IfOk-weaker c.read_heading.result _ _ (λ more told s turn source blocks state fitted.
     let rest = c.args.rest.now in
     let reader = c.beginning.new.self in
     let at = c.in_ok-begun.begun.at in
     let met = met_with (goal.at.returns-in-Heading-clause-fits c).In_ok-begun
     s turn source blocks (start.Heading c.in-Heading.heading) c.in-Heading.is state in
-    let fits = here_fits s c.reads_table.new.self (record rest { reader = reader }) turn source blocks at
+    let fits = here_fits s c.args.self.now (record rest { reader = reader }) turn source blocks at
     (start.Heading c.in-Heading.heading) met.here met.found in
     told s turn source blocks met.here met.found met.stands fits
-    (subst (λ (p : Pass). AllFitted p.placing) (sym met.kept) fitted)) c.read_heading.ensures.fits
+    fitted) c.read_heading.ensures.fits
 
 pub returns-in-Fence-clause-fits : goal.returns-in-Fence-clause-fits
 returns-in-Fence-clause-fits c =
-    IfOk-weaker c.read_fence.result _ _ (λ more told s turn source blocks state none fitted.
+    IfOk-weaker c.read_fence.result _ _ (λ more told s turn source blocks state fitted.
     let met = met_with (goal.at.returns-in-Fence-clause-fits c).In_ok-begun
     s turn source blocks (start.Fence c.in-Fence.opening) c.in-Fence.is state in
     told s turn source blocks met.here met.found met.stands
-    (subst (λ (p : Pass). AllFitted p.placing) (sym met.kept) fitted)) c.read_fence.ensures.fits
+    fitted) c.read_fence.ensures.fits
 
 pub returns-in-Html-clause-fits : goal.returns-in-Html-clause-fits
 returns-in-Html-clause-fits c =
-    IfOk-weaker c.read_html.result _ _ (λ more told s turn source blocks state none fitted.
+    IfOk-weaker c.read_html.result _ _ (λ more told s turn source blocks state fitted.
     let at = c.in_ok-begun.begun.at in
     let met = met_with (goal.at.returns-in-Html-clause-fits c).In_ok-begun
     s turn source blocks (start.Html c.in-Html.kind) c.in-Html.is state in
     told s turn source at blocks met.here met.found met.stands
-    (subst (λ (p : Pass). AllFitted p.placing) (sym met.kept) fitted)) c.read_html.ensures.fits
+    fitted) c.read_html.ensures.fits
 
 pub returns-in-Footnote-clause-fits : goal.returns-in-Footnote-clause-fits
 returns-in-Footnote-clause-fits c =
-    IfOk-weaker c.read_footnote.result _ _ (λ more told s turn source blocks state none fitted.
+    IfOk-weaker c.read_footnote.result _ _ (λ more told s turn source blocks state fitted.
     let met = met_with (goal.at.returns-in-Footnote-clause-fits c).In_ok-begun
     s turn source blocks (start.Footnote c.in-Footnote.label c.in-Footnote.inside) c.in-Footnote.is state in
     told s turn source blocks met.here
     (rw (c.in-Footnote.label-is, c.in-Footnote.inside-is) met.found)
     (rw (c.in-Footnote.inside-is) met.stands)
-    (subst (λ (p : Pass). AllFitted p.placing) (sym met.kept) fitted)) c.read_footnote.ensures.fits
+    fitted) c.read_footnote.ensures.fits
 
 pub returns-in-ThematicBreak-clause-fits : goal.returns-in-ThematicBreak-clause-fits
 returns-in-ThematicBreak-clause-fits c =
-    IfOk-weaker c.read_break.result _ _ (λ more told s turn source blocks state none fitted.
+    IfOk-weaker c.read_break.result _ _ (λ more told s turn source blocks state fitted.
     let met = met_with (goal.at.returns-in-ThematicBreak-clause-fits c).In_ok-begun
     s turn source blocks start.ThematicBreak c.in-ThematicBreak.is state in
     told s turn source blocks met.here met.found
-    (subst (λ (p : Pass). AllFitted p.placing) (sym met.kept) fitted)) c.read_break.ensures.fits
+    fitted) c.read_break.ensures.fits
 
 pub returns-in-Item-clause-fits : goal.returns-in-Item-clause-fits
 returns-in-Item-clause-fits c =
-    IfOk-weaker c.read_item.result _ _ (λ more told s turn source blocks state none fitted.
+    IfOk-weaker c.read_item.result _ _ (λ more told s turn source blocks state fitted.
     let met = met_with (goal.at.returns-in-Item-clause-fits c).In_ok-begun
     s turn source blocks (start.Item c.in-Item.item) c.in-Item.is state in
     told s turn source blocks met.here met.found met.stands
-    (subst (λ (p : Pass). AllFitted p.placing) (sym met.kept) fitted)) c.read_item.ensures.fits
+    fitted) c.read_item.ensures.fits
 
 pub returns-in-Metadata-clause-fits : goal.returns-in-Metadata-clause-fits
 returns-in-Metadata-clause-fits c =
-    IfOk-weaker c.read_metadata.result _ _ (λ more told s turn source blocks state none fitted.
+    IfOk-weaker c.read_metadata.result _ _ (λ more told s turn source blocks state fitted.
     let at = c.in_ok-begun.begun.at in
     let met = met_with (goal.at.returns-in-Metadata-clause-fits c).In_ok-begun
     s turn source blocks (start.Metadata c.in-Metadata.kind) c.in-Metadata.is state in
     told s turn source at blocks met.here met.found
-    (subst (λ (p : Pass). AllFitted p.placing) (sym met.kept) fitted)) c.read_metadata.ensures.fits
+    fitted) c.read_metadata.ensures.fits
 
 pub returns-in-Underline-clause-fits : goal.returns-in-Underline-clause-fits
 returns-in-Underline-clause-fits c =
-    IfOk-weaker c.read_underline.result _ _ (λ more told s turn source blocks state none fitted.
+    IfOk-weaker c.read_underline.result _ _ (λ more told s turn source blocks state fitted.
     let at = c.in_ok-begun.begun.at in
     let met = met_with (goal.at.returns-in-Underline-clause-fits c).In_ok-begun
     s turn source blocks (start.Underline c.in-Underline.level) c.in-Underline.is state in
     told s turn source at blocks met.here met.found
-    (subst (λ (p : Pass). AllFitted p.placing) (sym met.kept) fitted)) c.read_underline.ensures.fits
+    fitted) c.read_underline.ensures.fits

@@ -30,7 +30,7 @@ returns-clause-places c = λ s turn source blocks here found stand fitted.
     (subst (λ text. InfoStands text opening) (sym c.in_ok-make_room_for.ensures.text) stand) refl (sym found.begins)
     (sym has.left.is.rest.next) fitted in (
       made.0,
-      open_in_room s room now rest source begins blocks b has keeps (record { filled = refl; ends = refl }) refl
+      open_in_room s room now rest source begins blocks b has keeps (record { filled = refl; ends = refl }) refl refl
           (sym has.left.is.rest.next)
           (other_alone b.kind has.frames refl) leaf.1
           (subst (λ (kind : LeafKind). IsLeafKind kind b.kind) (sym c.in_ok-open_fenced.ensures.kind) refl)

@@ -40,7 +40,7 @@ returns-clause-places c = λ s turn source at blocks here found fitted.
     (subst (λ bytes. IsLineRest bytes code rest.line l) (sym text)
     (code_left s rest source code has.left alike.0 alike.1)) filled refl refl fitted in (
       made.0,
-      open_in_room s room now rest source begins blocks b has keeps (record { filled = refl; ends = filled }) refl
+      open_in_room s room now rest source begins blocks b has keeps (record { filled = refl; ends = filled }) refl refl
           (code_ends b.first l filled ∙ sym has.left.is.rest.next)
           (other_alone kind has.frames refl) leaf.1
           (subst (λ (how : LeafKind). IsLeafKind how kind) (sym c.in_ok-open_indented.ensures.kind) tt)

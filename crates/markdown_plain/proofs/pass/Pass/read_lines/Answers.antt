@@ -17,8 +17,8 @@ lines-init c = record {
   ahead = c.new-ahead.ensures;
   boundary = IsCharBoundary-start c.text-text.result.now c.text-text.utf8;
   fitted = λ fitted. fitted;
-  made = λ s tables stands fitted. (fitted, stands_first s c.args.self.now stands);
-  fits = λ s tables stands fitted. fitted;
+  made = λ s stands counted fitted. (fitted, stands_first s c.args.self.now stands counted);
+  fits = λ s stands counted fitted. fitted;
 }
 
 -- the line that is read is one of the text
@@ -39,35 +39,36 @@ lines-preserved c =
       ahead = search rules;
       boundary = next_between c.text-text.result.now c.lines.from c.line_from-line.result c.text-text.utf8 line.1;
       fitted = λ fitted. loop.fitted (c.in_ok-read_line.ensures.fitted fitted);
-      made = λ s tables stands fitted.
-          let so_far = loop.made s tables stands (c.in_ok-read_line.ensures.fitted fitted) in
+      made = λ s stands counted fitted.
+          let so_far = loop.made s stands counted (c.in_ok-read_line.ensures.fitted fitted) in
           let own = ap (λ (s : Source). s.text) stands.source in
           let text = c.text-text.ensures ∙ own in
-          let next = stands_next s c.lines.self c.read_line.new.self c.lines.from c.line_from-line.result tables
+          let next = stands_next s c.lines.self c.read_line.new.self c.lines.from c.line_from-line.result
           (loop.same ∙ own) (subst (λ (text : List ℕ). c.lines.from < length text) text line.0)
           (subst (λ (text : List ℕ). IsLineFrom text c.lines.from c.line_from-line.result) text line.1)
           (subst (λ (text : List ℕ). IsCharBoundary text c.lines.from) text loop.boundary)
           (subst IsUtf8 text c.text-text.utf8) so_far.1
-          (λ before source. c.in_ok-read_line.ensures.stands s before source tables (loop.ahead ∙ text)) fitted in
+          (λ before source. c.in_ok-read_line.ensures.stands s before source (loop.ahead ∙ text))
+          (λ before source. c.in_ok-read_line.ensures.counted s before source (loop.ahead ∙ text)) fitted in
           (so_far.0, next.1);
-      fits = λ s tables stands fitted.
-          let now = loop.fits s tables stands fitted in
-          let so_far = loop.made s tables stands now in
+      fits = λ s stands counted fitted.
+          let now = loop.fits s stands counted fitted in
+          let so_far = loop.made s stands counted now in
           let own = ap (λ (s : Source). s.text) stands.source in
           let text = c.text-text.ensures ∙ own in
           fits_next s c.lines.self c.read_line.new.self c.lines.from c.line_from-line.result (loop.same ∙ own)
           (subst (λ (text : List ℕ). IsLineFrom text c.lines.from c.line_from-line.result) text line.1)
           (subst (λ (text : List ℕ). IsCharBoundary text c.lines.from) text loop.boundary)
           (subst IsUtf8 text c.text-text.utf8) so_far.1
-          (λ before source. c.in_ok-read_line.ensures.fits s before source tables (loop.ahead ∙ text)) now;
+          (λ before source. c.in_ok-read_line.ensures.fits s before source (loop.ahead ∙ text)) now;
     }
 
 pub returns-clause-made : goal.returns-clause-made
 returns-clause-made c =
-    IfOk-weaker c.close_down.result _ _ (λ done told s tables stands fitted.
+    IfOk-weaker c.close_down.result _ _ (λ done told s stands counted fitted.
     let end : length c.text-text.result.now ≤ c.lines.from = search rules in
     let text = c.text-text.ensures ∙ ap (λ (s : Source). s.text) stands.source in
-    let so_far = c.lines.invariant.made s tables stands (told.1 fitted).0 in (
+    let so_far = c.lines.invariant.made s stands counted (told.1 fitted).0 in (
       so_far.0,
       (whole_text s c.lines.self c.close_down.new.self c.lines.from
           (subst (λ (text : List ℕ). length text ≤ c.lines.from) text end) so_far.1
@@ -79,20 +80,20 @@ returns-clause-made c =
 
 pub returns-clause-fits : goal.returns-clause-fits
 returns-clause-fits c =
-    IfOk-weaker c.close_down.result _ _ (λ done told s tables stands fitted.
-    let now = c.lines.invariant.fits s tables stands fitted in
-    let so_far = c.lines.invariant.made s tables stands now in
+    IfOk-weaker c.close_down.result _ _ (λ done told s stands counted fitted.
+    let now = c.lines.invariant.fits s stands counted fitted in
+    let so_far = c.lines.invariant.made s stands counted now in
     told so_far.1.stands.stands.ready.closable now)
     c.close_down.ensures.fits
 
 pub returns-clause-left : goal.returns-clause-left
 returns-clause-left c =
-    IfOk-weaker c.close_down.result _ _ (λ done told s tables stands fitted.
+    IfOk-weaker c.close_down.result _ _ (λ done told s stands counted fitted.
     let text : c.close_down.new.self.placing.builder.text ≡ c.lines.self.placing.builder.text = told.1 in
     let end : length c.text-text.result.now ≤ c.lines.from = search rules in
     let whole = text ∙ (c.lines.invariant.same ∙ sym c.text-text.ensures) in
     let closed = told.0.1 fitted in
-    let so_far = c.lines.invariant.made s tables stands closed.0 in
+    let so_far = c.lines.invariant.made s stands counted closed.0 in
     white_left s c.lines.self c.close_down.new.self c.lines.from
     (subst (λ (text : List ℕ). length text ≤ c.lines.from) (sym whole) end) so_far.1
     (λ may. told.0.0 may fitted) closed.1 text)

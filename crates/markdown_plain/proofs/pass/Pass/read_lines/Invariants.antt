@@ -1,9 +1,9 @@
 -- The text stays, and the pass stands for the blocks of the lines so far; each turn reads a line.
-use Rattle.std.proofs.Common.{◌≡◌, ◌-◌, [], None, false, length}
+use Rattle.std.proofs.Common.{◌≡◌, ◌-◌, [], None, length}
 use Rattle.std.specs.Str.{IsCharBoundary}
 use Rattle.markdown_base.specs.Forest.{nil}
 use Rattle.markdown_lines.specs.BlockBeginnings.{Source}
-use Rattle.markdown_block_rules.specs.TableLines.{reads_tables}
+use Rattle.markdown_plain.specs.TableRows.{IsCounted}
 use Rattle.markdown_plain.specs.Fitting.{AllFitted, FittedBefore, IfFitted}
 use Rattle.markdown_plain.specs.Standing.{Stands}
 use Rattle.markdown_plain.proofs.WholeTextsLemmas.{StandsAt}
@@ -16,9 +16,9 @@ invariant-lines l = record {
   ahead : l.ahead.text.now ≡ l.text;
   boundary : IsCharBoundary l.text l.from;
   fitted : FittedBefore l.fn.self.placing l.self.placing;
-  made : (s : Source) → reads_tables s ≡ false → Stands s l.fn.self [] nil None 0
+  made : (s : Source) → Stands s l.fn.self [] nil None 0 → IsCounted s l.fn.self nil
       → IfFitted l.fn.self.placing l.self.placing (StandsAt s l.self l.from);
-  fits : (s : Source) → reads_tables s ≡ false → Stands s l.fn.self [] nil None 0
+  fits : (s : Source) → Stands s l.fn.self [] nil None 0 → IsCounted s l.fn.self nil
       → AllFitted l.fn.self.placing → AllFitted l.self.placing;
 }
 

@@ -27,7 +27,7 @@ returns-clause-places c = λ s turn source at blocks here found fitted.
     let leaf = c.in_ok-open_metadata.ensures.leaf s has.frames has.inside b has.built refl
     (metadata_starts s room rest source kind blocks has) (sym has.left.is.rest.next) fitted in (
       made.0,
-      open_in_room s room now rest source begins blocks b has keeps (record { filled = refl; ends = refl }) refl
+      open_in_room s room now rest source begins blocks b has keeps (record { filled = refl; ends = refl }) refl refl
           (sym has.left.is.rest.next)
           (λ is. metadata_alone s room rest source kind blocks has) leaf.1
           (subst (λ (how : LeafKind). IsLeafKind how b.kind) (sym c.in_ok-open_metadata.ensures.kind) refl)

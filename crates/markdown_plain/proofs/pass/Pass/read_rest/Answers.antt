@@ -1,5 +1,5 @@
 -- At each turn a block begins, of which more is to be read, or not.
-use Rattle.std.proofs.Common.{◌+◌, List, ℕ, arith, rules, subst}
+use Rattle.std.proofs.Common.{◌+◌, ◌∙◌, List, ℕ, arith, refl, rules, subst}
 use Rattle.markdown_plain.specs.TextLines.{IsTextFrom}
 use Rattle.markdown_plain.proofs.TextStepsLemmas.{AddsText}
 use Rattle.markdown_plain.proofs.TurnsLemmas.{BeginsThere, before_turns, last_turn, next_turn, text_turn}
@@ -9,14 +9,16 @@ use Rattle.markdown_plain.proofs.pass.Pass.read_rest.Goals as goal
 pub blocks-2-init : goal.blocks-2-init
 blocks-2-init c = record {
   text = search rules;
+  tables = refl;
   fitted = λ fitted. fitted;
   keeps = before_turns c.args.self.now c.args.rest.now;
-  fits = λ s turn source blocks here row fitted. fitted;
+  fits = λ s turn source blocks here fitted. fitted;
 }
 
 pub blocks-2-preserved : goal.blocks-2-preserved
 blocks-2-preserved c = record {
   text = search rules;
+  tables = c.in_ok-read_block.ensures.tables ∙ c.blocks-2.invariant.tables;
   fitted = λ fitted. c.blocks-2.invariant.fitted (c.in_ok-read_block.ensures.fitted fitted);
   keeps = next_turn c.args.self.now c.blocks-2.self c.read_block.new.self c.args.rest.now c.blocks-2.rest
       c.read_block.new.rest c.blocks-2._turn c.blocks-2.invariant.keeps c.in_ok-read_block.ensures.fitted
@@ -43,6 +45,7 @@ adds c =
       first = done.first;
       further = done.further;
       task = done.task;
+      untried = done.untried;
       here = done.here;
       fits = done.fits;
       lines = done.line;
@@ -69,9 +72,9 @@ returns-then-not-branch-clause-places c =
     c.if-not-branch.true c.in_ok-read_block.ensures.begins)
 
 pub returns-after-blocks-2-clause-places : goal.returns-after-blocks-2-clause-places
-returns-after-blocks-2-clause-places c = λ s turn source blocks here row fitted.
+returns-after-blocks-2-clause-places c = λ s turn source blocks here fitted.
     absurd (turns_end c.args.self.now c.blocks-2.self c.args.rest.now c.blocks-2.rest c.blocks-2._turn
-    c.blocks-2.invariant.keeps (omega arith) s turn source blocks here row fitted)
+    c.blocks-2.invariant.keeps (omega arith) s turn source blocks here fitted)
 
 pub returns-in_ok-add_text-clause-fits : goal.returns-in_ok-add_text-clause-fits
 returns-in_ok-add_text-clause-fits c =

@@ -8,6 +8,7 @@ use Rattle.markdown_plain.proofs.pass.Pass.read_rest.Given as goal
 abbrev pub invariant-blocks-2 : goal.invariant-blocks-2
 invariant-blocks-2 l = record {
   text : l.self.placing.builder.text ≡ l.fn.self.placing.builder.text;
+  tables : l.self.tables ≡ l.fn.self.tables;
   fitted : FittedBefore l.fn.self.placing l.self.placing;
   keeps : KeepsReading l.fn.self l.self l.fn.rest l.rest l._turn;
   fits : KeepsFitting l.fn.self l.self l.fn.rest;

@@ -21,6 +21,7 @@ adds c =
       first = done.first;
       further = done.further;
       task = done.task;
+      untried = done.untried;
       here = done.here;
       fits = done.fits;
       lines = done.line;

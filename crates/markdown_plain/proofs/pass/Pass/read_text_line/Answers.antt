@@ -20,6 +20,7 @@ adds c =
       first = done.first;
       further = done.further;
       task = done.task;
+      untried = done.untried;
       here = done.here;
       fits = done.fits;
       lines = done.line;
@@ -27,13 +28,13 @@ adds c =
     }
 
 pub returns-clause-stands : goal.returns-clause-stands
-returns-clause-stands c = λ s before source tables stands is here fitted.
+returns-clause-stands c = λ s before source stands is here untabled fitted.
     let placed = text_places s c.args.self.now c.add_text.new.self c.args.line c.args.start c.args.depth source (adds c)
-    is tables before.frames before.inside before.last
+    is before.frames before.inside before.last untabled
     (stands_holds s c.args.self.now before.frames before.inside before.last c.args.line.start stands) here
     (subst AllFitted c.see_content.ensures.placing fitted) in
     (placed.0, c.see_content.ensures.stands s _ placed.1)
 
 pub returns-clause-fits : goal.returns-clause-fits
-returns-clause-fits c = λ s before source tables stands is here fitted.
+returns-clause-fits c = λ s before source stands is here fitted.
     subst AllFitted (sym c.see_content.ensures.placing) (c.in_ok-add_text.ensures.fits stands.ready.closable fitted)

@@ -1,0 +1,281 @@
+-- What is remembered of a paragraph with one more line, or with its first: whether it was tried if only definitions
+-- precede a table's head, and that its last line may be read again.
+use Rattle.std.proofs.Common.{◌≡◌, ℕ, zero, suc, ◌<◌, ◌-◌, Bool, true, false, not, ◌||◌, List, [], ◌∷◌, ◌++◌, Option, Some, None}
+use Rattle.std.proofs.Common.{arith, length, length-append, slice_get, refl, sym, ap, ◌∙◌, subst, append-nil}
+use Rattle.std.specs.Prelude.{if◌then◌else◌}
+use Rattle.std.specs.Option.{option_map_or}
+use Rattle.markdown_base.specs.Forest.{Forest}
+use Rattle.markdown_builder.specs.TreeLevels.{followed_by}
+use Rattle.markdown_scan.specs.LineStart.{leading_space}
+use Rattle.markdown_lines.specs.BlockBeginnings.{Source}
+use Rattle.markdown_lines.specs.SourceLines.{SourceLine, is_blank_rest, text_line}
+use Rattle.markdown_lines.specs.declared.held_line.HeldLine.{HeldLine}
+use Rattle.markdown_lines.specs.declared.line.Line.{Line}
+use Rattle.markdown_block_rules.specs.BlockGrowth as was
+use Rattle.markdown_block_rules.specs.BlockGrowth.{Block, Kind, table_with}
+use Rattle.markdown_block_rules.specs.TableLines.{further_line, reads_tables}
+use Rattle.markdown_plain.specs.declared.pass.Pass.{Pass}
+use Rattle.markdown_plain.specs.Beginning.{Holds}
+use Rattle.markdown_plain.specs.Closing.{MayEnd}
+use Rattle.markdown_plain.specs.Frames.{Frame, Reached, reached}
+use Rattle.markdown_plain.specs.HeldSources.{IsTextLine}
+use Rattle.markdown_plain.specs.OpenLeaves.{ComesAfter, leaf_block}
+use Rattle.markdown_plain.specs.Paragraphs.{end_of, lines_end}
+use Rattle.markdown_plain.specs.ReachedFrames.{IsBefore, are_none}
+use Rattle.markdown_plain.specs.Standing.{IsSource}
+use Rattle.markdown_plain.specs.TableHeads.{IfParagraph, IfParagraphLast, IsFurther, IsUntabled, Remembers}
+use Rattle.markdown_plain.specs.TableHeads.{indent_of, last_of, next_line}
+use Rattle.markdown_plain.specs.TableHeads.{whole_head}
+use Rattle.markdown_plain.specs.TextLines.{held_line}
+use Rattle.markdown_plain.proofs.AddedLinesLemmas.{end_after}
+
+-- ---- the next line
+
+-- it has the bytes of the rest of the line
+further_same : (s : Source) (l : SourceLine) → (further_line s l ≡ record (text_line l) { indent = (further_line s l).indent })
+further_same s l = either (reads_tables s)
+  where
+    either : (reads : Bool)
+        → (if reads then record (text_line l) { indent = Some (leading_space 4 l.left).columns } else text_line l)
+        ≡ record (text_line l) {
+          indent = (if reads then record (text_line l) { indent = Some (leading_space 4 l.left).columns }
+              else text_line l).indent;
+        }
+    either true = refl
+    either false = refl
+
+pub next_same : (s : Source) (r : Reached) → next_line s r ≡ record (text_line r.rest) { indent = (next_line s r).indent }
+next_same s r = either (are_none r.inner)
+  where
+    either : (all : Bool) → (if all then further_line s r.rest else text_line r.rest)
+        ≡ record (text_line r.rest) { indent = (if all then further_line s r.rest else text_line r.rest).indent }
+    either true = further_same s r.rest
+    either false = refl
+
+pub next_of : (s : Source) (r : Reached) → (next_line s r).next ≡ r.rest.next
+next_of s r = ap (λ (l : SourceLine). l.next) (next_same s r)
+
+pub next_comes : (s : Source) (r : Reached) (text : List ℕ) (lines : List HeldLine) (line : HeldLine)
+    → ComesAfter text lines line (text_line r.rest) → ComesAfter text lines line (next_line s r)
+next_comes s r text lines line comes = record {
+  is = subst (IsTextLine text line) (sym (next_same s r))
+      (record { start = comes.is.start; bytes = comes.is.bytes; next = comes.is.next });
+  held = comes.held;
+  after = comes.after;
+}
+
+-- its indentation is that of the rest of the line, if it reaches the paragraph
+next_indent : (s : Source) (r : Reached) → reads_tables s ≡ true → r.rest.indent ≡ None
+    → (next_line s r).indent ≡ indent_of r
+next_indent s r reads none = either (are_none r.inner)
+  where
+    either : (all : Bool) → (if all then further_line s r.rest else text_line r.rest).indent
+        ≡ (if all then Some (leading_space 4 r.rest.left).columns else None)
+    either true =
+        ap (λ (test : Bool). (if test then record (text_line r.rest) {
+          indent = Some (leading_space 4 r.rest.left).columns;
+        }
+        else text_line r.rest).indent) reads
+    either false = none
+
+-- where no tables are read, a line makes none
+pub untabled_off : (s : Source) (l : SourceLine) (b : Block) (kind : Kind) → reads_tables s ≡ false
+    → table_with s l b kind ≡ None
+untabled_off s l b (was.paragraph_leaf lines) off =
+    ap (λ (test : Bool). if is_blank_rest l || not test then None else was.table_of_lines s l b b.first [] lines) off
+    ∙ either (is_blank_rest l)
+  where
+    either : (blank : Bool)
+        → (if blank || true then None else was.table_of_lines s l b b.first [] lines) ≡ None
+    either true = refl
+    either false = refl
+untabled_off s l b other off = refl
+
+-- a line makes no table of the paragraph of these lines, if it reaches that
+abbrev pub MakesNoTable : Source → Reached → List SourceLine → Type 0
+MakesNoTable s r lines =
+    are_none r.inner ≡ true → (b : Block) → table_with s r.rest b (was.paragraph_leaf lines) ≡ None
+
+pub makes_no_table : (s : Source) (pass : Pass) (from : ℕ) (r : Reached) (sources : List SourceLine)
+    → (reads_tables s ≡ true → IsUntabled s pass from r sources) → MakesNoTable s r sources
+makes_no_table s pass from r sources untabled = decided (reads_tables s) refl
+  where
+    decided : (reads : Bool) → reads_tables s ≡ reads → MakesNoTable s r sources
+    decided true reads = (untabled reads).none
+    decided false off = λ all b. untabled_off s r.rest b (was.paragraph_leaf sources) off
+
+-- ---- lists
+
+-- two lists that are the same have the same last element
+last_alike : {A : Type 0} (xs ys : List A) (x y : A) → xs ++ x ∷ [] ≡ ys ++ y ∷ [] → x ≡ y
+last_alike {A = A} xs ys x y same = inside (sym (there xs x) ∙ (ap (λ (zs : List A). last zs) same ∙ there ys y))
+  where
+    last : {A : Type 0} → List A → Option A
+    last [] = None
+    last (z ∷ []) = Some z
+    last (z ∷ w ∷ zs) = last (w ∷ zs)
+
+    there : {A : Type 0} (zs : List A) (z : A) → last (zs ++ z ∷ []) ≡ Some z
+    there [] z = refl
+    there (w ∷ []) z = refl
+    there (w ∷ v ∷ zs) z = there (v ∷ zs) z
+
+    inside : {A : Type 0} {a b : A} → Some a ≡ Some b → a ≡ b
+    inside e = cc
+
+-- the last of some lines and one more
+got_last : (lines : List HeldLine) (line : HeldLine) → slice_get (lines ++ line ∷ []) (length lines) ≡ Some line
+got_last [] line = refl
+got_last (m ∷ lines) line = got_last lines line
+
+last_added : (lines : List HeldLine) (line : HeldLine) → last_of (lines ++ line ∷ []) ≡ Some line
+last_added lines line =
+    let size = length-append lines (line ∷ []) in
+    ap (slice_get (lines ++ line ∷ [])) (omega (arith, size)) ∙ got_last lines line
+
+-- where the lines before it end
+front_end : (lines : List HeldLine) (line : HeldLine) (n : ℕ) → 0 < length lines → n ≡ length lines
+    → end_of (lines ++ line ∷ []) n ≡ lines_end lines
+front_end lines line n some size =
+    ap (λ (found : Option HeldLine). option_map_or (λ line. line.next) found 0)
+    (ap (λ k. slice_get (lines ++ line ∷ []) (k - 1)) size ∙ front lines (length lines - 1) (omega (arith, some)))
+  where
+    front : (lines : List HeldLine) (k : ℕ) → k < length lines
+        → slice_get (lines ++ line ∷ []) k ≡ slice_get lines k
+    front [] k less = absurd (omega (arith, less))
+    front (m ∷ lines) zero less = refl
+    front (m ∷ lines) (suc k) less = front lines k (omega (arith, less))
+
+-- ---- what is remembered
+
+-- of a paragraph that begins
+pub first_remembered : (s : Source) (pass : Pass) (to : ℕ) (line : HeldLine) (source : SourceLine)
+    → pass.lines.items ≡ line ∷ [] → line.next ≡ to → pass.tried ≡ false → Remembers s pass to (source ∷ [])
+first_remembered s pass to line source lines next untried = record {
+  ends = ap lines_end lines ∙ next;
+  tried = untried;
+  further = λ head before last there same some.
+      let size = ap length same in
+      let parts = length-append before (last ∷ []) in
+      absurd (omega (arith, size, parts, some));
+}
+
+-- what is remembered of the last block, if that is a paragraph of these lines
+pub kind_remembered : (s : Source) (So : List SourceLine → Type 0) (kind : Kind) (sources : List SourceLine)
+    → kind ≡ was.paragraph_leaf sources → (reads_tables s ≡ true → So sources) → IfParagraph s So kind
+kind_remembered s So kind sources is so = subst (IfParagraph s So) (sym is) so
+
+pub remembered_kind : (s : Source) (So : List SourceLine → Type 0) (kind : Kind) (sources : List SourceLine)
+    → kind ≡ was.paragraph_leaf sources → IfParagraph s So kind → reads_tables s ≡ true → So sources
+remembered_kind s So kind sources is so = subst (IfParagraph s So) is so
+
+-- the containers before a line, where a paragraph is the last block
+pub held_before : (s : Source) (pass : Pass) (line : Line) (frames : List Frame) (inside : Forest Block) (b : Block)
+    (sources : List SourceLine) (source : SourceLine) → Holds s pass frames inside (Some b) line.start
+    → MayEnd s pass frames inside b (Some sources) → IsSource pass line source
+    → IsBefore pass line s frames (followed_by inside (leaf_block b)) source
+held_before s pass line frames inside b sources source holds may is = record {
+  containers = pass.placing.builder.blocks;
+  leaf = [];
+  blocks = sym (append-nil pass.placing.builder.blocks);
+  alone = tt;
+  are = may.unended.built.blocks;
+  empty = holds.loose.empty;
+  options = ap (λ (source : Source). source.options) holds.source;
+  left = is.left;
+  stop = is.stop;
+  next = is.next;
+}
+
+-- of a paragraph with one more line, which makes no table of it
+pub more_remembered : (s : Source) (old new : Pass) (line : Line) (start : ℕ) (frames : List Frame)
+    (now : Forest Block) (source : SourceLine) (sources : List SourceLine) → new ≡ record old { lines = new.lines }
+    → new.lines.items ≡ old.lines.items ++ held_line line start ∷ [] → 0 < length old.lines.items
+    → IsBefore old line s frames now source → (reached s frames now source).rest.indent ≡ None
+    → reads_tables s ≡ true → IsUntabled s old line.start (reached s frames now source) sources
+    → Remembers s new line.next (sources ++ next_line s (reached s frames now source) ∷ [])
+more_remembered s old new line start frames now source sources same lines some before indent reads untabled =
+    let r = reached s frames now source in
+    let held = held_line line start in
+    let size = length-append old.lines.items (held ∷ []) in
+    record {
+      ends = ap lines_end lines ∙ end_after old.lines.items held;
+      tried = ap (λ (p : Pass). p.tried) same ∙ untabled.tried;
+      further = λ head front last there all more.
+          let is_head : head ≡ held = inside (sym there ∙ (ap last_of lines ∙ last_added old.lines.items held)) in
+          let is_last : next_line s r ≡ last = last_alike sources front (next_line s r) last all in
+          let whole : whole_head new head ≡ line =
+          ap (λ (h : HeldLine). whole_head new h) is_head
+          ∙ ap (λ n. record { start = n; stop = line.stop; next = line.next })
+          (ap (λ (ls : List HeldLine). end_of ls (length ls - 1)) lines
+          ∙ (front_end old.lines.items held (length (old.lines.items ++ held ∷ []) - 1) some (omega (arith, size))
+          ∙ untabled.ends)) in
+          subst (λ (l : SourceLine). IsFurther s new (whole_head new head) l) is_last
+          (subst (λ (w : Line). IsFurther s new w (next_line s r)) (sym whole) (record {
+            frames = frames;
+            inside = now;
+            source = source;
+            before = subst (λ (p : Pass). IsBefore p line s frames now source) (sym same) (record {
+              containers = before.containers;
+              leaf = before.leaf;
+              blocks = before.blocks;
+              alone = before.alone;
+              are = before.are;
+              empty = before.empty;
+              options = before.options;
+              left = before.left;
+              stop = before.stop;
+              next = before.next;
+            });
+            indent = next_indent s r reads indent;
+          }));
+    }
+  where
+    inside : {a b : HeldLine} → Some a ≡ Some b → a ≡ b
+    inside e = cc
+
+-- ---- once a line that is not blank was read
+
+further_seen : (s : Source) (pass new : Pass) (line : Line) (last : SourceLine)
+    → new ≡ record pass { looseness = record pass.looseness { blank_from = new.looseness.blank_from }; placed = new.placed }
+    → IsFurther s pass line last → IsFurther s new line last
+further_seen s pass new line last same is = subst (λ (p : Pass). IsFurther s p line last) (sym same) (record {
+  frames = is.frames;
+  inside = is.inside;
+  source = is.source;
+  before = record {
+    containers = is.before.containers;
+    leaf = is.before.leaf;
+    blocks = is.before.blocks;
+    alone = is.before.alone;
+    are = is.before.are;
+    empty = is.before.empty;
+    options = is.before.options;
+    left = is.before.left;
+    stop = is.before.stop;
+    next = is.before.next;
+  };
+  indent = is.indent;
+})
+
+-- as much is remembered
+pub seen_remembered : (s : Source) (pass new : Pass) (to : ℕ) (last : Option Block)
+    → new ≡ record pass { looseness = record pass.looseness { blank_from = new.looseness.blank_from }; placed = new.placed }
+    → IfParagraphLast s (Remembers s pass to) last → IfParagraphLast s (Remembers s new to) last
+seen_remembered s pass new to None same is = tt
+seen_remembered s pass new to (Some b) same is = by_kind b.kind is
+  where
+    by_kind : (kind : Kind) → IfParagraph s (Remembers s pass to) kind → IfParagraph s (Remembers s new to) kind
+    by_kind (was.paragraph_leaf sources) is = λ reads.
+        let remembered = is reads in
+        record {
+          ends = ap (λ (p : Pass). lines_end p.lines.items) same ∙ remembered.ends;
+          tried = ap (λ (p : Pass). p.tried) same ∙ remembered.tried;
+          further = λ head before last there all more.
+              let here = subst (λ (p : Pass). last_of p.lines.items ≡ Some head) same there in
+              subst (λ (w : Line). IsFurther s new w last)
+              (ap (λ (p : Pass). whole_head p head) (sym same))
+              (further_seen s pass new (whole_head pass head) last same
+              (remembered.further head before last here all more));
+        }
+    by_kind other is = tt

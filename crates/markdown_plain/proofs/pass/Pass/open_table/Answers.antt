@@ -1,0 +1,201 @@
+-- The lines before the head end, and then the table is opened, with its head.
+use Rattle.std.proofs.Common.{◌≡◌, ◌++◌, ◌∷◌, ◌<◌, [], ℕ, List, Some, arith, false, length, refl, sym, ap, ◌∙◌}
+use Rattle.std.proofs.Common.{subst}
+use Rattle.std.proofs.lemmas.Bool.Decides.{nat_tests}
+use Rattle.markdown_base.specs.Forest.{Forest}
+use Rattle.std.specs.Str.{IsCharBoundary}
+use Rattle.markdown_base.specs.declared.item.ItemBody.TheVariants as body
+use Rattle.markdown_builder.specs.BuilderView.{BuilderView}
+use Rattle.markdown_builder.specs.EvenRows.{open_columns}
+use Rattle.markdown_block_rules.specs.BlockRules.{shown_row}
+use Rattle.markdown_plain.specs.HeldSources.{IsTextLine}
+use Rattle.markdown_plain.specs.LeafTrees.{HasTrees}
+use Rattle.markdown_plain.proofs.FittingLemmas.{may_step, some_opened, step_done}
+use Rattle.markdown_lines.specs.BlockBeginnings.{Source}
+use Rattle.markdown_lines.specs.SourceLines.{SourceLine}
+use Rattle.markdown_block_rules.specs.BlockGrowth.{Block}
+use Rattle.markdown_plain.specs.declared.pass.Pass.{Pass}
+use Rattle.markdown_plain.specs.Closable.{AreAhead, HaveTask, IsInText}
+use Rattle.markdown_plain.specs.Fitting.{AllFitted}
+use Rattle.markdown_plain.specs.Frames.{Frame}
+use Rattle.markdown_plain.specs.Settled.{IsBuilt}
+use Rattle.markdown_plain.specs.TableHeads.{before_table, last_of}
+use Rattle.markdown_plain.proofs.AddedLinesLemmas.{past}
+use Rattle.markdown_plain.proofs.BegunTablesLemmas.{table_begun}
+use Rattle.markdown_plain.proofs.TableFrontsLemmas.{HasFront, IsEndedAt, ahead_front, ended_at, front_holds, front_none}
+use Rattle.markdown_plain.proofs.TableFrontsLemmas.{head_in_text, head_is, may_step_to_head, none_ended, task_front}
+use Rattle.markdown_plain.proofs.TableFrontsLemmas.{with_head}
+use Rattle.markdown_plain.proofs.pass.Pass.open_table.Goals.{then-not-is_empty+in_ok-end_paragraph, else-not-is_empty}
+use Rattle.markdown_plain.proofs.pass.Pass.open_table.Goals as goal
+
+-- the lines before the head
+all_of : (c : goal.In_ok-_found) → last_of c.args.self.now.lines.items ≡ Some c.args.head
+    → c.args.self.now.lines.items ≡ c.pop-head.new.self.items ++ c.args.head ∷ []
+all_of c there =
+    with_head c.args.self.now.lines.items c.pop-head.new.self.items _ c.pop-head.result c.args.head
+    c.args.self.now.lines.ok.0 c.pop-head.ensures.items c.pop-head.ensures.value there
+
+-- what is built once they have ended
+front_built : (c : goal.In_ok-_found) (s : Source) (frames : List Frame) (inside : Forest Block) (b : Block)
+    (before : List SourceLine) (from : SourceLine)
+    → HasFront s c.args.self.now frames inside b before from c.pop-head.new.self.items c.args.head
+    → s.options ≡ c.args.self.now.options → AllFitted c.if-not-is_empty.self.placing
+    → AllFitted c.args.self.now.placing
+    × IsBuilt s c.if-not-is_empty.self.placing.builder frames (before_table inside b before)
+front_built c s frames inside b before from has options fitted =
+    let front = c.pop-head.new.self.items in
+    elim c.if-not-is_empty.branch [
+      | then-not-is_empty+in_ok-end_paragraph w ↦
+          let some : 0 < length front = grind (arith, nat_tests, c.is_empty.ensures, w.if-not-is_empty.true) in
+          let now : Pass = record c.args.self.now { lines = c.pop-head.new.self } in
+          let held = front_holds s c.args.self.now now frames inside b before from front c.args.head has refl refl
+          some in
+          let ended = w.in_ok-end_paragraph.ensures.frame s frames inside _ before held.0 options
+          (subst (λ (p : Pass). AllFitted p.placing) w.self-is fitted) in (
+            ended.0,
+            subst (λ (p : Pass). IsBuilt s p.placing.builder frames (before_table inside b before)) (sym w.self-is)
+                (subst (IsBuilt s w.end_paragraph.new.self.placing.builder frames) (sym held.1) ended.1.built),
+          )
+      | else-not-is_empty w ↦
+          let none : length front ≡ 0 = grind (arith, nat_tests, c.is_empty.ensures, w.if-not-is_empty.false) in (
+            subst (λ (p : Pass). AllFitted p.placing) w.self-is fitted,
+            subst (λ (p : Pass). IsBuilt s p.placing.builder frames (before_table inside b before)) (sym w.self-is)
+                (subst (IsBuilt s c.args.self.now.placing.builder frames)
+                (sym (front_none s c.args.self.now frames inside b before from front c.args.head has none))
+                has.holds.built),
+          )
+    ]
+
+-- and where the builder is then
+front_ended : (c : goal.In_ok-_found) → c.args.self.now.placing.builder.leaf ≡ false
+    → AllFitted c.if-not-is_empty.self.placing
+    → IsEndedAt c.args.self.now.placing.builder c.if-not-is_empty.self.placing.builder
+    (past c.args.self.now.placing.builder.at c.pop-head.new.self.items)
+front_ended c outside fitted =
+    let old = c.args.self.now.placing.builder in
+    let front = c.pop-head.new.self.items in
+    elim c.if-not-is_empty.branch [
+      | then-not-is_empty+in_ok-end_paragraph w ↦
+          let some : 0 < length front = grind (arith, nat_tests, c.is_empty.ensures, w.if-not-is_empty.true) in
+          let fits = subst (λ (p : Pass). AllFitted p.placing) w.self-is fitted in
+          subst (λ (p : Pass). IsEndedAt old p.placing.builder (past old.at front)) (sym w.self-is)
+          (ended_at old w.end_paragraph.new.self.placing.builder front w.in_ok-end_paragraph.field-0 some outside
+          (λ left. (w.in_ok-end_paragraph.ensures.ends left fits).1)
+          (λ none. (w.in_ok-end_paragraph.ensures.defines none fits).1)
+          (λ none. (w.in_ok-end_paragraph.ensures.after none some fits).1))
+      | else-not-is_empty w ↦
+          let none : length front ≡ 0 = grind (arith, nat_tests, c.is_empty.ensures, w.if-not-is_empty.false) in
+          none_ended old c.if-not-is_empty.self.placing.builder front none outside
+          (ap (λ (p : Pass). p.placing.builder) w.self-is)
+    ]
+
+front_options : (c : goal.In_ok-_found) → c.if-not-is_empty.self.options ≡ c.args.self.now.options
+front_options c = elim c.if-not-is_empty.branch [
+  | then-not-is_empty+in_ok-end_paragraph w ↦
+      ap (λ (p : Pass). p.options) w.self-is ∙ ap (λ (p : Pass). p.options) w.end_paragraph.ensures.same
+  | else-not-is_empty w ↦ ap (λ (p : Pass). p.options) w.self-is
+]
+
+-- the end of the lines before the head fits
+front_fits : (c : goal.In_ok-_found) → c.args.self.now.placing.builder.leaf ≡ false
+    → AreAhead c.args.self.now.placing.builder c.pop-head.new.self.items
+    → HaveTask c.args.self.now.placing.builder.text c.args.self.now.task c.pop-head.new.self.items
+    → AllFitted c.args.self.now.placing → AllFitted c.if-not-is_empty.self.placing
+front_fits c outside ahead task fitted = elim c.if-not-is_empty.branch [
+  | then-not-is_empty+in_ok-end_paragraph w ↦
+      subst (λ (p : Pass). AllFitted p.placing) (sym w.self-is)
+      (w.in_ok-end_paragraph.ensures.fits outside ahead task tt fitted)
+  | else-not-is_empty w ↦ subst (λ (p : Pass). AllFitted p.placing) (sym w.self-is) fitted
+]
+
+front_before : (c : goal.In_ok-_found) → AllFitted c.if-not-is_empty.self.placing
+    → AllFitted c.args.self.now.placing
+front_before c fitted = elim c.if-not-is_empty.branch [
+  | then-not-is_empty+in_ok-end_paragraph w ↦
+      w.in_ok-end_paragraph.ensures.fitted (subst (λ (p : Pass). AllFitted p.placing) w.self-is fitted)
+  | else-not-is_empty w ↦ subst (λ (p : Pass). AllFitted p.placing) w.self-is fitted
+]
+
+pub returns-clause-frame : goal.returns-clause-frame
+returns-clause-frame c = λ s frames inside b before from holds source there ahead fitted.
+    let pass = c.args.self.now in
+    let text = pass.placing.builder.text in
+    let front = c.pop-head.new.self.items in
+    let all = all_of c there in
+    let has : HasFront s pass frames inside b before from front c.args.head = record { holds = holds; all = all } in
+    let first = c.if-not-is_empty.self.placing.builder in
+    let placed = c.in_ok-_found.ensures.placed fitted in
+    let opened = c.in_ok-open_table.ensures.opens placed.0 in
+    let moved = c.step_to.ensures.steps opened.0 in
+    let built = front_built c s frames inside b before from has (ap (λ (s : Source). s.options) (sym source)) moved.0 in
+    let same : c.open_table.new.self.builder.text ≡ text =
+    ap (λ (v : BuilderView). v.text) opened.1.2 ∙ (ap (λ (v : BuilderView). v.text) moved.1
+    ∙ (built.1.text ∙ sym holds.built.text)) in
+    let line = head_is s pass frames inside b before from front c.args.head has in
+    let inside_it = head_in_text pass.placing.builder front c.args.head
+    (subst (AreAhead pass.placing.builder) all ahead) in
+    let row : HasTrees c.open_table.new.self.builder c.place_row.new.placing.builder
+    (shown_row (record {
+      text = c.open_table.new.self.builder.text;
+      options = c.if-not-is_empty.self.options;
+    }) (open_columns c.open_table.new.self.builder) body.TableHead from) =
+    (c.in_ok-_found.ensures.tree refl
+    (subst (λ (t : List ℕ). IsInText t c.args.head) (sym same) inside_it) from
+    (subst (λ (t : List ℕ). IsTextLine t c.args.head from) (sym same) line) fitted).1 in (
+      built.0,
+      table_begun s frames (before_table inside b before) c.args.head from c.args.alignments.items first
+          c.step_to.new.self.builder c.open_table.new.self.builder c.place_row.new.placing.builder built.1 (record {
+            steps = moved.1;
+            opens = opened.1;
+            placed = placed.1;
+            texts = (c.in_ok-_found.ensures.texts fitted).1;
+            row = subst (λ (s : Source). HasTrees c.open_table.new.self.builder c.place_row.new.placing.builder
+                (shown_row s (open_columns c.open_table.new.self.builder) body.TableHead from))
+                (ap (λ (t : List ℕ). record { text = t; options = c.if-not-is_empty.self.options }) same
+                ∙ (ap (λ o. record { text = text; options = o }) (front_options c) ∙ source)) row;
+            is = subst (λ (t : List ℕ). IsTextLine t c.args.head from) holds.built.text line;
+          }),
+    )
+
+pub returns-clause-here : goal.returns-clause-here
+returns-clause-here c = λ fitted.
+    let placed = c.in_ok-_found.ensures.placed fitted in
+    let opened = c.in_ok-open_table.ensures.opens placed.0 in
+    let moved = c.step_to.ensures.steps opened.0 in (
+      front_before c moved.0,
+      (
+        ap (λ (v : BuilderView). v.at) placed.1,
+        some_opened c.place_row.new.placing.builder.blocks c.step_to.new.self.builder.blocks _
+            (ap (λ (v : BuilderView). v.blocks) placed.1 ∙ ap (λ (v : BuilderView). v.blocks) opened.1.2),
+      ),
+    )
+
+pub returns-clause-fits : goal.returns-clause-fits
+returns-clause-fits c = λ outside there ahead task fitted.
+    let old = c.args.self.now.placing.builder in
+    let front = c.pop-head.new.self.items in
+    let all = all_of c there in
+    let ahead_all = subst (AreAhead old) all ahead in
+    let first = front_fits c outside (ahead_front old front c.args.head ahead_all)
+    (task_front old.text c.args.self.now.task front c.args.head
+    (subst (HaveTask old.text c.args.self.now.task) all task)) fitted in
+    let ended = front_ended c outside first in
+    let moved = step_done c.if-not-is_empty.self.placing c.step_to.new.self c.args.head.start c.step_to.ensures.steps
+    c.step_to.ensures.fits
+    (may_step_to_head old c.if-not-is_empty.self.placing.builder front c.args.head ahead_all ended) first in
+    let opens = c.in_ok-open_table.ensures.fits (ap (λ (v : BuilderView). v.leaf) moved.1 ∙ ended.outside)
+    ∙ moved.0 in
+    let opened = (c.in_ok-open_table.ensures.opens opens).1 in
+    let is = head_in_text old front c.args.head ahead_all in
+    let same : c.open_table.new.self.builder.text ≡ old.text =
+    ap (λ (v : BuilderView). v.text) opened.2 ∙ (ap (λ (v : BuilderView). v.text) moved.1 ∙ ended.text) in
+    let here : c.open_table.new.self.builder.at ≡ c.args.head.start =
+    ap (λ (v : BuilderView). v.at) opened.2 ∙ ap (λ (v : BuilderView). v.at) moved.1 in
+    c.in_ok-_found.ensures.fits (record {
+      outside = ap (λ (v : BuilderView). v.leaf) opened.2;
+      begins = may_step c.open_table.new.self.builder c.args.head.start (omega (arith, here))
+          (subst (λ (t : List ℕ). IsCharBoundary t c.args.head.start) (sym same) is.start)
+          (some_opened c.open_table.new.self.builder.blocks c.step_to.new.self.builder.blocks _
+          (ap (λ (v : BuilderView). v.blocks) opened.2));
+      inside = subst (λ (t : List ℕ). IsInText t c.args.head) (sym same) is;
+    }) opens
