@@ -2,7 +2,6 @@ mod AddedCellsLemmas
 mod BlockLawsLemmas
 mod ExampleResultsLemmas
 mod IndentedLinesLemmas
-mod InlineItemsLemmas
 mod KeptLemmas
 mod LeafLawsLemmas
 mod LineLawsLemmas

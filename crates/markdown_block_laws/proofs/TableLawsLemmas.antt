@@ -29,8 +29,8 @@ use Rattle.markdown_block_rules.specs.LineContents.{cell_items, lines_items, sou
 use Rattle.markdown_block_laws.specs.TableLaws.{AreCells, AreRows, EachContains, KeepsRowsEven}
 use Rattle.markdown_block_laws.specs.TableLaws.{RowsAreEven}
 use Rattle.markdown_block_rules.specs.TableLines.{cells_added, cells_of}
-use Rattle.markdown_block_laws.proofs.InlineItemsLemmas.{AreUnmarked, cell_unmarked, content_unmarked, is_marked}
-use Rattle.markdown_block_laws.proofs.InlineItemsLemmas.{lines_unmarked, source_unmarked}
+use Rattle.markdown_block_rules.proofs.InlineItemsLemmas.{AreUnmarked, cell_unmarked, content_unmarked, is_marked}
+use Rattle.markdown_block_rules.proofs.InlineItemsLemmas.{lines_unmarked, source_unmarked}
 use Rattle.markdown_builder.specs.EvenRows.{is_table}
 use Rattle.markdown_builder.specs.Shown.{Shown, chain_of, plain_item}
 use Rattle.markdown_builder.specs.TreeLevels.{followed_by}

@@ -40,8 +40,8 @@ use Rattle.markdown_block_laws.specs.TaskLaws.{is_of_text, is_task_marker}
 use Rattle.markdown_block_rules.proofs.BlockBeginningsLemmas.{either}
 use Rattle.markdown_block_rules.proofs.GrowthLemmas.{Fresh, Held, KindGrows, fenced_more, html_more, indented_more}
 use Rattle.markdown_block_rules.proofs.GrowthLemmas.{metadata_closed, metadata_more, row_more, text_more, underlined}
-use Rattle.markdown_block_laws.proofs.InlineItemsLemmas.{AreUnmarked, cell_unmarked, content_unmarked, is_marked}
-use Rattle.markdown_block_laws.proofs.InlineItemsLemmas.{lines_unmarked, source_unmarked}
+use Rattle.markdown_block_rules.proofs.InlineItemsLemmas.{AreUnmarked, cell_unmarked, content_unmarked, is_marked}
+use Rattle.markdown_block_rules.proofs.InlineItemsLemmas.{lines_unmarked, source_unmarked}
 use Rattle.markdown_block_laws.proofs.KeptLemmas.{IsKept, IsWhole, text_held, text_whole}
 use Rattle.markdown_builder.specs.TreeLevels.{followed_by}
 use Rattle.markdown_builder.specs.Shown.{Shown, chain_of, plain_item}

@@ -12,6 +12,7 @@ ghost use Rattle.markdown_block_laws.specs.LeafLaws.{BlankLineEndsHtml, BlankLin
 ghost use Rattle.markdown_block_laws.specs.LeafLaws.{MetadataGoesOn, ClosingLineClosesMetadata, ClosedMetadataEnds};
 ghost use Rattle.markdown_block_laws.specs.LineLaws.{LineIsItsContent};
 ghost use Rattle.markdown_block_laws.specs.ListLaws.{ListIsLooseAsSaid};
+ghost use Rattle.markdown_block_rules.specs.MadeLater.{NothingIsMadeLater};
 ghost use Rattle.markdown_block_laws.specs.MetadataLaws.{MetadataIsOutermost};
 ghost use Rattle.markdown_block_laws.specs.TableLaws.{FewCellsAreAdded, RowsAreEven};
 ghost use Rattle.markdown_block_laws.specs.TaskLaws.{TaskMarkersComeFirst};
@@ -166,4 +167,9 @@ pub fn metadata_is_outermost()
 /// States that a block result of an example's text, whatever it is, is the blocks that are written with the example.
 pub fn examples_have_their_results()
     ensures { ResultsAreWritten }
+{}
+
+/// States that no item of a text's blocks refers to what only resolving a chain makes.
+pub fn nothing_is_made_later()
+    ensures { NothingIsMadeLater }
 {}

@@ -1,4 +1,4 @@
--- No inline item that lines consist of is a task marker, metadata or a table.
+-- No inline item that lines consist of is a task marker, metadata or a table, or refers to what only resolving makes.
 use Rattle.std.proofs.Common.{◌≡◌, ℕ, zero, suc, ◌+◌, ◌-◌, ◌%◌, Bool, true, false, not, ◌==◌, ◌&&◌, ◌||◌, List, [], ◌∷◌}
 use Rattle.std.proofs.Common.{◌++◌, Option, Some, None, refl, length, nat_le, nat_lt, slice_index, slice_range, codes}
 use Rattle.std.proofs.Common.{encode_utf8, replicate}
@@ -37,11 +37,17 @@ use Rattle.markdown_block_rules.proofs.BlockBeginningsLemmas.{either}
 use Rattle.markdown_builder.specs.Shown.{Shown, plain_item, run_items, synthesized_item}
 use Rattle.markdown_items.specs.ContentItems.{content_items, items_read_from, put_found, text_between}
 
--- a task marker, metadata or a table
+-- a task marker, metadata or a table, or what refers to what only resolving makes
 abbrev pub is_marked : ItemBody → Bool
 is_marked (body.TaskListMarker done) = true
 is_marked (body.MetadataBlock kind) = true
 is_marked (body.Table alignments) = true
+is_marked (body.Code ix) = true
+is_marked (body.Math ix display) = true
+is_marked (body.OwnedInlineHtml ix) = true
+is_marked (body.Link ix) = true
+is_marked (body.Image ix) = true
+is_marked (body.FootnoteReference ix) = true
 is_marked other = false
 
 -- none of some items is one of these

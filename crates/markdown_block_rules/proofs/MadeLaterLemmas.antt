@@ -1,0 +1,228 @@
+-- No item of a block result is one that refers to what only resolving makes.
+use Rattle.std.proofs.Common.{◌≡◌, ℕ, zero, suc, ◌+◌, Bool, true, false, not, ◌==◌, List, [], ◌∷◌, length, take}
+use Rattle.std.proofs.Common.{Option, Some, None, refl, sym, ◌∙◌, arith, length-take}
+use Rattle.std.specs.Prelude.{if◌then◌else◌}
+use Rattle.markdown_base.specs.Forest.{Forest, Each, nil, node}
+use Rattle.markdown_base.specs.declared.item.ItemBody.{ItemBody}
+use Rattle.markdown_base.specs.declared.item.ItemBody.TheVariants as body
+use Rattle.markdown_base.specs.declared.tag.Alignment.{Alignment}
+use Rattle.markdown_base.specs.declared.tag.HeadingLevel.{HeadingLevel}
+use Rattle.markdown_items.specs.ContentItems.{content_items}
+use Rattle.markdown_items.specs.LineItems.{item_extensions}
+use Rattle.markdown_lines.specs.BlockBeginnings.{Source}
+use Rattle.markdown_lines.specs.DefinitionRules.{divided}
+use Rattle.markdown_lines.specs.HeadingAttributes.{heading_of_words, words_in}
+use Rattle.markdown_lines.specs.SourceLines.{SourceLine, without_empty}
+use Rattle.markdown_lines.specs.TaskMarkers.{past_task, task_read}
+use Rattle.markdown_lines.specs.declared.braces.Braces.{Braces}
+use Rattle.markdown_lines.specs.declared.table_row.Cell.{Cell}
+use Rattle.markdown_scan.specs.Entity.{entity_names}
+use Rattle.markdown_block_rules.specs.BlockGrowth as was
+use Rattle.markdown_block_rules.specs.BlockGrowth.{Block, Kind, blocks_of}
+use Rattle.markdown_block_rules.specs.BlockRules.{Around, before_braces, block_end, cells_shown, code_lines}
+use Rattle.markdown_block_rules.specs.BlockRules.{empty_cells, in_no_item, info_of, is_loose, items_after_task}
+use Rattle.markdown_block_rules.specs.BlockRules.{last_braces, last_end, paragraph_body, paragraph_items, shown_block}
+use Rattle.markdown_block_rules.specs.BlockRules.{shown_blocks, shown_cells, shown_heading, shown_row, shown_rows}
+use Rattle.markdown_block_rules.specs.BlockRules.{shown_setext, shown_table, shown_text}
+use Rattle.markdown_block_rules.specs.LineContents.{cell_items, lines_items, source_lines}
+use Rattle.markdown_block_rules.specs.TableLines.{cells_added, cells_of}
+use Rattle.markdown_block_rules.specs.MadeLater.{NothingIsMadeLater, is_made_later}
+use Rattle.markdown_block_rules.proofs.InlineItemsLemmas.{AreUnmarked, cell_unmarked, content_unmarked, is_marked}
+use Rattle.markdown_block_rules.proofs.InlineItemsLemmas.{lines_unmarked, source_unmarked}
+use Rattle.markdown_builder.specs.Shown.{Shown, chain_of, plain_item}
+use Rattle.markdown_builder.specs.TreeLevels.{followed_by}
+
+abbrev Keep : Forest Shown → Type 0
+Keep f = Each (λ a. is_made_later a.item.body ≡ false) f
+
+-- items behind others
+joined : (f g : Forest Shown) → Keep f → Keep g → Keep (followed_by f g)
+joined nil g first second = second
+joined (node a below after) g first second = (first.0, first.1, joined after g first.2 second)
+
+-- a first item more
+one_more : (a : Shown) (below after : Forest Shown) → is_made_later a.item.body ≡ false → Keep below → Keep after
+    → Keep (node a below after)
+one_more a below after other inner rest = (other, inner, rest)
+
+-- inline items
+not_later : (b : ItemBody) → is_marked b ≡ false → is_made_later b ≡ false
+not_later (body.Code ix) is = is
+not_later (body.Math ix display) is = is
+not_later (body.OwnedInlineHtml ix) is = is
+not_later (body.Link ix) is = is
+not_later (body.Image ix) is = is
+not_later (body.FootnoteReference ix) is = is
+not_later other is = refl
+
+chain_kept : (items : List Shown) → AreUnmarked items → Keep (chain_of items)
+chain_kept [] none = tt
+chain_kept (a ∷ items) none =
+    one_more a nil (chain_of items) (not_later a.item.body none.0) tt (chain_kept items none.1)
+
+inline_kept : (a : Shown) (items : List Shown) → is_made_later a.item.body ≡ false → AreUnmarked items
+    → Keep (node a (chain_of items) nil)
+inline_kept a items other none = one_more a (chain_of items) nil other (chain_kept items none) tt
+
+-- those of a paragraph: there may be a task marker before the others
+task_kept : (s : Source) (l : SourceLine) (lines : List SourceLine) (task : Option Bool)
+    → Keep (chain_of (items_after_task s l lines task))
+task_kept s l lines None =
+    let extensions = item_extensions s.options in
+    chain_kept (lines_items s.text extensions (l ∷ lines)) (lines_unmarked s.text extensions (l ∷ lines))
+task_kept s l lines (Some done) =
+    let extensions = item_extensions s.options in
+    let rest = without_empty (past_task l ∷ lines) in
+    one_more (plain_item l.left.scanned (l.left.scanned + 3) (body.TaskListMarker done)) nil
+    (chain_of (lines_items s.text extensions rest)) refl tt
+    (chain_kept (lines_items s.text extensions rest) (lines_unmarked s.text extensions rest))
+
+items_kept : (s : Source) (marked : ℕ) (lines : List SourceLine) → Keep (chain_of (paragraph_items s marked lines))
+items_kept s marked [] = tt
+items_kept s marked (l ∷ lines) =
+    task_kept s l lines (if l.next == marked then task_read s.options l.left.bytes else None)
+
+-- blocks of text
+paragraph_kept : (s : Source) (around : Around) (b : Block) (lines : List SourceLine)
+    → Keep (shown_text s around.marked b (paragraph_body around.tight) lines)
+paragraph_kept s around b [] = tt
+paragraph_kept s around b (l ∷ lines) =
+    one_more (plain_item l.left.scanned b.last (paragraph_body around.tight))
+    (chain_of (paragraph_items s around.marked (l ∷ lines))) nil (is_other around.tight)
+    (items_kept s around.marked (l ∷ lines)) tt
+  where
+    is_other : (tight : Bool) → is_made_later (paragraph_body tight) ≡ false
+    is_other true = refl
+    is_other false = refl
+
+heading_kept : (s : Source) (start end : ℕ) (level : HeadingLevel) (braces : Option Braces) (below : Forest Shown)
+    → Keep below → Keep (shown_heading s start end level braces below)
+heading_kept s start end level None below inner =
+    one_more (plain_item start end (body.Heading level None)) below nil refl inner tt
+heading_kept s start end level (Some braces) below inner =
+    one_more (record {
+      item = record { start = start; end = end; body = body.Heading level (Some (record { 0 = 1 })) };
+      text = None;
+      heading = Some (heading_of_words level (words_in s.text braces));
+      alignments = [];
+    }) below nil refl inner tt
+
+setext_kept : (s : Source) (marked : ℕ) (b : Block) (level : HeadingLevel) (lines : List SourceLine)
+    → Keep (shown_setext s marked b level lines)
+setext_kept s marked b level [] = tt
+setext_kept s marked b level (l ∷ lines) =
+    let braces = last_braces s.options (l ∷ lines) in
+    let rest = before_braces braces (l ∷ lines) in
+    heading_kept s l.left.scanned b.last level braces (chain_of (paragraph_items s marked rest))
+    (items_kept s marked rest)
+
+-- cells
+cells_kept : (s : Source) (cells : List Cell) → Keep (shown_cells s cells)
+cells_kept s [] = tt
+cells_kept s (cell ∷ cells) =
+    let extensions = item_extensions s.options in
+    let items = cell_items s.text extensions cell.from cell.to in
+    one_more (plain_item cell.start cell.end body.TableCell) (chain_of items) (shown_cells s cells) refl
+    (chain_kept items (cell_unmarked s.text extensions cell.from cell.to)) (cells_kept s cells)
+
+empty_kept : (count at : ℕ) → Keep (empty_cells count at)
+empty_kept zero at = tt
+empty_kept (suc count) at =
+    one_more (plain_item at at body.TableCell) nil (empty_cells count at) refl tt (empty_kept count at)
+
+row_kept : (s : Source) (columns : ℕ) (b : ItemBody) (l : SourceLine) → is_made_later b ≡ false
+    → Keep (shown_row s columns b l)
+row_kept s columns b l other =
+    one_more (plain_item l.left.scanned l.next b) (cells_shown s columns l) nil other
+    (joined (shown_cells s (take columns (cells_of l))) (empty_cells (cells_added columns l) l.next)
+    (cells_kept s (take columns (cells_of l))) (empty_kept (cells_added columns l) l.next)) tt
+
+-- rows
+rows_kept : (s : Source) (columns : ℕ) (rows : List SourceLine) → Keep (shown_rows s columns rows)
+rows_kept s columns [] = tt
+rows_kept s columns (l ∷ rows) =
+    joined (shown_row s columns body.TableRow l) (shown_rows s columns rows)
+    (row_kept s columns body.TableRow l refl) (rows_kept s columns rows)
+
+-- a table
+table_kept : (s : Source) (start end : ℕ) (head : SourceLine) (alignments : List Alignment) (rows : List SourceLine)
+    → Keep (shown_table s start end head alignments rows)
+table_kept s start end head alignments rows =
+    let columns = length alignments in
+    one_more (record {
+      item = record { start = start; end = end; body = body.Table (record { 0 = 0 }) };
+      text = None;
+      heading = None;
+      alignments = alignments;
+    }) (followed_by (shown_row s columns body.TableHead head) (shown_rows s columns rows)) nil refl
+    (joined (shown_row s columns body.TableHead head) (shown_rows s columns rows)
+    (row_kept s columns body.TableHead head refl) (rows_kept s columns rows)) tt
+
+-- lines of code, of HTML or of metadata
+lines_kept : (a : Shown) (b : ItemBody) (lines : List SourceLine) → is_made_later a.item.body ≡ false
+    → is_marked b ≡ false
+    → Keep (node a (chain_of (source_lines b lines)) nil)
+lines_kept a b lines other is = inline_kept a (source_lines b lines) other (source_unmarked b lines is)
+
+-- one block, from what the blocks in it become
+block_kept : (s : Source) (around : Around) (b : Block) (end : ℕ) (below : Forest Block)
+    (inside : Around → Forest Shown) → ((around : Around) → Keep (inside around)) → (kind : Kind)
+    → Keep (shown_block s around b end below inside kind)
+block_kept s around b end below inside kept was.blank_line = tt
+block_kept s around b end below inside kept (was.paragraph_leaf lines) =
+    paragraph_kept s around b (divided (entity_names s.options) s.text lines).lines
+block_kept s around b end below inside kept (was.underlined_leaf level lines) =
+    setext_kept s around.marked b level (divided (entity_names s.options) s.text lines).lines
+block_kept s around b end below inside kept (was.heading_leaf found) =
+    let extensions = item_extensions s.options in
+    let items = content_items s.text extensions found.from found.to in
+    heading_kept s b.start end found.level found.braces (chain_of items)
+    (chain_kept items (content_unmarked s.text extensions found.from found.to))
+block_kept s around b end below inside kept was.break_leaf =
+    one_more (plain_item b.start end body.Rule) nil nil refl tt tt
+block_kept s around b end below inside kept (was.indented_leaf lines) =
+    lines_kept (plain_item b.start end body.IndentCodeBlock) (body.Text false) (code_lines lines) refl refl
+block_kept s around b end below inside kept (was.fenced_leaf opening closed lines) =
+    lines_kept (record {
+      item = record { start = b.start; end = end; body = body.FencedCodeBlock (record { 0 = 0 }) };
+      text = Some (info_of s opening);
+      heading = None;
+      alignments = [];
+    }) (body.Text false) lines refl refl
+block_kept s around b end below inside kept (was.html_leaf kind closed lines) =
+    lines_kept (plain_item b.start end body.HtmlBlock) body.Html lines refl refl
+block_kept s around b end below inside kept (was.metadata_leaf kind closed lines) =
+    lines_kept (plain_item b.start end (body.MetadataBlock kind)) (body.Text false) lines refl refl
+block_kept s around b end below inside kept (was.table_leaf ended head alignments rows) =
+    table_kept s b.start end head alignments rows
+block_kept s around b end below inside kept was.quote_container =
+    one_more (plain_item b.start end (body.BlockQuote None)) (inside in_no_item) nil refl (kept in_no_item) tt
+block_kept s around b end below inside kept (was.alert_container kind) =
+    one_more (plain_item b.start end (body.BlockQuote (Some kind))) (inside in_no_item) nil refl (kept in_no_item) tt
+block_kept s around b end below inside kept (was.list_container marker) =
+    let items : Around = record { tight = not (is_loose below); marked = 0 } in
+    one_more (plain_item b.start end (body.List (not (is_loose below)) marker.character marker.first)) (inside items)
+    nil refl (kept items) tt
+block_kept s around b end below inside kept (was.item_container indent) =
+    let blocks : Around = record { tight = around.tight; marked = b.first } in
+    one_more (plain_item b.start end (body.ListItem indent)) (inside blocks) nil refl (kept blocks) tt
+block_kept s around b end below inside kept (was.footnote_container label) =
+    one_more (record {
+      item = record { start = b.start; end = end; body = body.FootnoteDefinition (record { 0 = 0 }) };
+      text = Some label;
+      heading = None;
+      alignments = [];
+    }) (inside in_no_item) nil refl (kept in_no_item) tt
+
+blocks_kept : (s : Source) (blocks : Forest Block) (around : Around) → Keep (shown_blocks s around blocks)
+unfolding shown_blocks
+blocks_kept s nil around = tt
+blocks_kept s (node b below after) around =
+    let end = block_end b (last_end b.first below) b.kind in
+    joined (shown_block s around b end below (λ inside. shown_blocks s inside below) b.kind)
+    (shown_blocks s around after)
+    (block_kept s around b end below (λ inside. shown_blocks s inside below)
+    (λ inside. blocks_kept s below inside) b.kind) (blocks_kept s after around)
+
+pub nothing_made_later : NothingIsMadeLater
+nothing_made_later s = blocks_kept s (blocks_of s) in_no_item
