@@ -7,7 +7,7 @@ use Rattle.std.specs.Option.{option_map}
 use Rattle.markdown_base.specs.Questions.{Question, Answers, Answer}
 use Rattle.markdown_base.specs.declared.item.Item.{Item}
 use Rattle.markdown_document.specs.ChainRest.{as_item, end_of}
-use Rattle.markdown_defs.specs.Definitions.{Labelled}
+use Rattle.markdown_document.specs.Setting.{DefinitionsByLabel}
 use Rattle.markdown_brackets.specs.BracketDecision.{BracketContext, Becomes, Closing, Decision, Written, LinkReference}
 use Rattle.markdown_brackets.specs.BracketDecision.{Progress, a_text, block_text, carried_out, decided, form_of, found}
 use Rattle.markdown_brackets.specs.BracketDecision.{left_for_one, lines, link_reference, past_second, question_at}
@@ -30,7 +30,7 @@ AtMostOneTo end (q ∷ []) = q.span.end ≡ end
 AtMostOneTo end (q ∷ r ∷ more) = ⊥
 
 -- a look-up asks at most its own question
-look_up_asks : (defined : List Labelled) (asks : Bool) (limit : ℕ) (answers : Answers) (q : Question)
+look_up_asks : (defined : DefinitionsByLabel) (asks : Bool) (limit : ℕ) (answers : Answers) (q : Question)
     → AtMostOneTo q.span.end (look_up defined asks limit answers q).questions
 look_up_asks defined asks limit answers q =
     of_look_up limit answers q (λ l. AtMostOneTo q.span.end l.questions) tt (λ d. tt) by defined asks

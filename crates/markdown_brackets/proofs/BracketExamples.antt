@@ -88,7 +88,7 @@ bracket_context options asks source = record {
     text = source;
     rules = record {
       options = record { 0 = options };
-      definitions = [];
+      definitions = λ label. None;
       is_footnote = bytes_eq (codes "a");
       asks = asks;
     };

@@ -13,11 +13,10 @@ use Rattle.markdown_base.specs.declared.tag.LinkType.TheVariants as kind
 use Rattle.markdown_document.specs.ChainRest.{start_of}
 use Rattle.markdown_document.specs.LinkOrigins.{IsTitleFrom, titles_for}
 use Rattle.markdown_document.specs.Origins.{origin_of}
-use Rattle.markdown_document.specs.Setting.{uses_of}
+use Rattle.markdown_document.specs.Setting.{DefinitionsByLabel, by_label, uses_of}
 use Rattle.markdown_document.specs.declared.chain_place.ChainPlace.{ChainPlace}
 use Rattle.markdown_defs.specs.CallbackViews.{question_of}
 use Rattle.markdown_defs.specs.declared.callback.BrokenLink.{BrokenLink}
-use Rattle.markdown_defs.specs.Definitions.{Labelled}
 use Rattle.markdown_defs.specs.Folding.{is_match}
 use Rattle.markdown_defs.specs.Footnotes.{footnote_at}
 use Rattle.markdown_defs.specs.FootnoteCounts as footnotes
@@ -61,7 +60,7 @@ unknown_looked_up other h = h
 abbrev pub IsNoInline : Option LinkView → Type 0
 IsNoInline target = IfSome target (λ t. IsLookedUp t.kind)
 
-none_inline : (defined : List Labelled) (asks : Bool) (limit : ℕ) (answers : Answers) (q : Question)
+none_inline : (defined : DefinitionsByLabel) (asks : Bool) (limit : ℕ) (answers : Answers) (q : Question)
     → IsLookedUp q.link_type
     → IsNoInline (look_up defined asks limit answers q).target
 none_inline defined asks limit answers q h =
@@ -167,7 +166,8 @@ module _ {C : Type 0} (step : C → Question → Option Answer → C → Type 0)
         ap (λ (l : LookedUp). looked_up o r l before) (looks.finds later) ∙ rw same refl;
     spends = spent_so;
     is = is (subst (λ (f : LookedUp). IsNoInline f.target) (looks.finds [])
-        (none_inline old.tables.refdefs (is_some old.callback) old.limit (looks.answers ++ []) (question_at o r) kind));
+        (none_inline (by_label old.tables.refdefs) (is_some old.callback) old.limit (looks.answers ++ [])
+        (question_at o r) kind));
   }
     where
       r : LinkReference

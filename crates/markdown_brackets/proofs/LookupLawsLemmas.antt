@@ -1,35 +1,34 @@
 -- The laws of look-ups, case by case.
-use Rattle.std.proofs.Common.{◌≡◌, ℕ, ◌+◌, ◌-◌, ◌≤◌, ◌==◌, ◌++◌, Bool, true, false, List, [], ◌∷◌, Option, Some, None}
+use Rattle.std.proofs.Common.{◌≡◌, ℕ, ◌+◌, ◌-◌, ◌≤◌, ◌==◌, ◌++◌, Bool, true, false, [], ◌∷◌, Option, Some, None}
 use Rattle.std.proofs.Common.{IfSome, cond, length, refl, ◌∙◌, ap, arith, lit≤}
 use Rattle.std.proofs.lemmas.Bool.{cond_both}
+use Rattle.markdown_base.specs.BlockParts.{DefinitionView}
 use Rattle.markdown_base.specs.Questions.{Question, Answer, Answers}
-use Rattle.markdown_base.specs.declared.block_parts.LinkDef.{LinkDef}
-use Rattle.markdown_defs.specs.Definitions as definitions
-use Rattle.markdown_defs.specs.Definitions.{Labelled}
+use Rattle.markdown_document.specs.Setting.{DefinitionsByLabel}
 use Rattle.markdown_brackets.specs.Lookup.{LookedUp, look_up, finds_nothing, defined_or_asked, asked, answered, size_of}
 use Rattle.markdown_brackets.specs.LookupLaws.{AsksOnceAtMost, FindsNothingAtZero, HandsOnLaterAnswers, TakesItsBytes}
 
 -- what holds of nothing, of each definition and of each answer holds of what a look-up finds
 pub of_look_up : (limit : ℕ) (answers : Answers) (q : Question) (P : LookedUp → Type 0)
     → P (finds_nothing limit answers [])
-    → ((d : LinkDef) → P (defined_or_asked true limit answers q (Some d)))
+    → ((d : DefinitionView) → P (defined_or_asked true limit answers q (Some d)))
     → ((a : Option Answer) (later : Answers) → P (answered limit later q a))
-    → (defined : List Labelled) (asks : Bool) → P (look_up defined asks limit answers q)
+    → (defined : DefinitionsByLabel) (asks : Bool) → P (look_up defined asks limit answers q)
 of_look_up limit answers q P nothing found answer defined asks =
     cond_both (limit == 0) (finds_nothing limit answers [])
-    (defined_or_asked asks limit answers q (definitions.find_definition q.reference defined)) P
-    (λ e. nothing) (λ e. by asks (definitions.find_definition q.reference defined))
+    (defined_or_asked asks limit answers q (defined q.reference)) P
+    (λ e. nothing) (λ e. by asks (defined q.reference))
   where
     first : (answers : Answers) → P (asked limit answers q)
     first [] = answer None []
     first (a ∷ later) = answer a later
 
-    by : (asks : Bool) (o : Option LinkDef) → P (defined_or_asked asks limit answers q o)
+    by : (asks : Bool) (o : Option DefinitionView) → P (defined_or_asked asks limit answers q o)
     by asks (Some d) = found d
     by false None = nothing
     by true None = first answers
 
-pub asks_once : (defined : List Labelled) (asks : Bool) (limit : ℕ) (answers : Answers) (q : Question)
+pub asks_once : (defined : DefinitionsByLabel) (asks : Bool) (limit : ℕ) (answers : Answers) (q : Question)
     → AsksOnceAtMost defined asks limit answers q
 asks_once defined asks limit answers q =
     of_look_up limit answers q (λ l. length l.questions ≤ 1) (lit≤ tt) (λ d. lit≤ tt) by defined asks
@@ -38,11 +37,11 @@ asks_once defined asks limit answers q =
     by None later = lit≤ tt
     by (Some a) later = lit≤ tt
 
-pub nothing_at_zero : (defined : List Labelled) (asks : Bool) (answers : Answers) (q : Question)
+pub nothing_at_zero : (defined : DefinitionsByLabel) (asks : Bool) (answers : Answers) (q : Question)
     → FindsNothingAtZero defined asks answers q
 nothing_at_zero defined asks answers q = refl
 
-pub takes_bytes : (defined : List Labelled) (asks : Bool) (limit : ℕ) (answers : Answers) (q : Question)
+pub takes_bytes : (defined : DefinitionsByLabel) (asks : Bool) (limit : ℕ) (answers : Answers) (q : Question)
     → TakesItsBytes defined asks limit answers q
 takes_bytes defined asks limit answers q =
     of_look_up limit answers q (λ l. IfSome l.target (λ t. limit ≤ l.limit + size_of t)) tt (λ d. omega arith) by
@@ -64,7 +63,7 @@ by_answer : (limit : ℕ) (rest later : Answers) (q : Question) (a : Option Answ
 by_answer limit rest later q None = record { once = omega arith; takes = omega arith; hands_on = λ e. refl }
 by_answer limit rest later q (Some a) = record { once = omega arith; takes = omega arith; hands_on = λ e. refl }
 
-looks_on_in : (asks : Bool) (limit : ℕ) (q : Question) (o : Option LinkDef) (answers later : Answers)
+looks_on_in : (asks : Bool) (limit : ℕ) (q : Question) (o : Option DefinitionView) (answers later : Answers)
     → LooksOn answers later (defined_or_asked asks limit answers q o)
     (defined_or_asked asks limit (answers ++ later) q o)
 looks_on_in asks limit q (Some d) answers later = record
@@ -74,24 +73,24 @@ looks_on_in true limit q None [] later = record
     { once = omega arith; takes = omega arith; hands_on = λ e. absurd (omega (arith, e)) }
 looks_on_in true limit q None (a ∷ answers) later = by_answer limit answers later q a
 
-pub looks_on : (defined : List Labelled) (asks : Bool) (limit : ℕ) (q : Question) (answers later : Answers)
+pub looks_on : (defined : DefinitionsByLabel) (asks : Bool) (limit : ℕ) (q : Question) (answers later : Answers)
     → LooksOn answers later (look_up defined asks limit answers q) (look_up defined asks limit (answers ++ later) q)
 looks_on defined asks limit q answers later = by (limit == 0)
   where
     by : (b : Bool) → LooksOn answers later
         (cond b (finds_nothing limit answers [])
-        (defined_or_asked asks limit answers q (definitions.find_definition q.reference defined)))
+        (defined_or_asked asks limit answers q (defined q.reference)))
         (cond b (finds_nothing limit (answers ++ later) []) (defined_or_asked asks limit (answers ++ later) q
-        (definitions.find_definition q.reference defined)))
+        (defined q.reference)))
     by true = record { once = omega arith; takes = omega arith; hands_on = λ e. refl }
-    by false = looks_on_in asks limit q (definitions.find_definition q.reference defined) answers later
+    by false = looks_on_in asks limit q (defined q.reference) answers later
 
 -- with one answer for each question none is left
 none_left : (answers : Answers) → length answers ≡ 0 → answers ≡ []
 none_left [] e = refl
 none_left (a ∷ answers) e = absurd (omega (arith, e))
 
-pub hands_on : (defined : List Labelled) (asks : Bool) (limit : ℕ) (q : Question) (answers later : Answers)
+pub hands_on : (defined : DefinitionsByLabel) (asks : Bool) (limit : ℕ) (q : Question) (answers later : Answers)
     → HandsOnLaterAnswers defined asks limit q answers later
 hands_on defined asks limit q answers later e =
     let alone : LookedUp = look_up defined asks limit answers q in

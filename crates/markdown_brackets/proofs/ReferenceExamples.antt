@@ -77,17 +77,17 @@ abbrev about : List ℕ → Question
 about label = record { span = record { start = 0; end = 3 }; link_type = Shortcut; reference = label }
 
 -- nobody is asked at a limit of 0
-at_zero : lookup.look_up [] true 0 (None ∷ []) (about (codes "a"))
+at_zero : lookup.look_up (λ label. None) true 0 (None ∷ []) (about (codes "a"))
     ≡ record { target = None; questions = []; limit = 0; answers = None ∷ [] }
 at_zero = refl
 
-nobody_to_ask : lookup.look_up [] false 9 [] (about (codes "a"))
+nobody_to_ask : lookup.look_up (λ label. None) false 9 [] (about (codes "a"))
     ≡ record { target = None; questions = []; limit = 9; answers = [] }
 nobody_to_ask = refl
 
 -- an answer may be longer than what is left of the limit
-long_answer : lookup.look_up [] true 4 (Some (record { destination = codes "http"; title = codes "t" }) ∷ None ∷ [])
-    (about (codes "a"))
+long_answer : lookup.look_up (λ label. None) true 4
+    (Some (record { destination = codes "http"; title = codes "t" }) ∷ None ∷ []) (about (codes "a"))
     ≡ record {
       target = Some (record {
         kind = ShortcutUnknown;
@@ -101,6 +101,6 @@ long_answer : lookup.look_up [] true 4 (Some (record { destination = codes "http
     }
 long_answer = refl
 
-no_answer : lookup.look_up [] true 4 (None ∷ []) (about (codes "a"))
+no_answer : lookup.look_up (λ label. None) true 4 (None ∷ []) (about (codes "a"))
     ≡ record { target = None; questions = about (codes "a") ∷ []; limit = 4; answers = [] }
 no_answer = refl

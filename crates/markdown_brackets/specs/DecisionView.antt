@@ -6,6 +6,7 @@ use Rattle.markdown_base.specs.Questions.{Answers}
 use Rattle.markdown_base.specs.declared.item.ItemBody.{ItemBody}
 use Rattle.markdown_document.specs.ChainRest.{past_byte, start_of}
 use Rattle.markdown_document.specs.Document.{TreeNode}
+use Rattle.markdown_document.specs.Setting.{by_label}
 use Rattle.markdown_document.specs.Places.{follows_pipe}
 use Rattle.markdown_defs.specs.Allocations.{Allocated}
 use Rattle.markdown_defs.specs.Definitions.{Labelled}
@@ -38,7 +39,7 @@ bracket_context_at place skipped bodies definitions footnotes asks = record {
     text = place.text.now;
     rules = record {
       options = place.options;
-      definitions = definitions;
+      definitions = by_label definitions;
       is_footnote = λ name. is_some (footnote_at footnotes name);
       asks = asks;
     };

@@ -1,14 +1,12 @@
 -- Look-ups of link labels: definitions, and questions about labels that are not defined.
 use Rattle.std.specs.Prelude.{ℕ, ◌+◌, ◌-◌, Bool, ◌==◌, List, [], ◌∷◌, Option, Some, None, if◌then◌else◌, length}
 use Rattle.std.specs.Prelude.{unwrap_or}
-use Rattle.markdown_base.specs.BlockParts.{DefinitionView, definition_view}
+use Rattle.markdown_base.specs.BlockParts.{DefinitionView}
 use Rattle.markdown_base.specs.Event.{LinkView}
 use Rattle.markdown_base.specs.Questions.{Question, Answer, Answers}
-use Rattle.markdown_base.specs.declared.block_parts.LinkDef.{LinkDef}
 use Rattle.markdown_base.specs.declared.tag.LinkType.{LinkType}
 use Rattle.markdown_base.specs.declared.tag.LinkType.TheVariants as link
-use Rattle.markdown_defs.specs.Definitions as definitions
-use Rattle.markdown_defs.specs.Definitions.{Labelled}
+use Rattle.markdown_document.specs.Setting.{DefinitionsByLabel}
 
 -- the result of a look-up: the target, the questions asked, the number of bytes that references may still expand to,
 -- and the answers that are left
@@ -60,14 +58,14 @@ asked limit [] q = answered limit [] q None
 asked limit (a ∷ answers) q = answered limit answers q a
 
 -- the result by the definition of the label, if there is one; otherwise by a question, if there is a callback
-abbrev pub defined_or_asked : Bool → ℕ → Answers → Question → Option LinkDef → LookedUp
+abbrev pub defined_or_asked : Bool → ℕ → Answers → Question → Option DefinitionView → LookedUp
 defined_or_asked asks limit answers q (Some d) =
-    finds limit answers [] (defined_target q.link_type (definition_view d) q.reference)
+    finds limit answers [] (defined_target q.link_type d q.reference)
 defined_or_asked asks limit answers q None =
     if asks then asked limit answers q else finds_nothing limit answers []
 
 -- the look-up of the link label in a question: at a limit of 0, nothing is found and no question is asked
-abbrev pub look_up : List Labelled → Bool → ℕ → Answers → Question → LookedUp
+abbrev pub look_up : DefinitionsByLabel → Bool → ℕ → Answers → Question → LookedUp
 look_up defined asks limit answers q =
     if limit == 0 then finds_nothing limit answers []
-    else defined_or_asked asks limit answers q (definitions.find_definition q.reference defined)
+    else defined_or_asked asks limit answers q (defined q.reference)

@@ -7,6 +7,7 @@ use Rattle.markdown_base.specs.Questions.{Question, Answer, Answers}
 use Rattle.markdown_defs.specs.Callback.{Asks}
 use Rattle.markdown_defs.specs.Definitions as definitions
 use Rattle.markdown_defs.specs.Definitions.{Labelled}
+use Rattle.markdown_document.specs.Setting.{by_label}
 use Rattle.markdown_brackets.specs.Lookup.{look_up, answered_target, defined_target, size_of}
 use Rattle.markdown_brackets.specs.declared.look_up.LabelLookup.{LabelLookup}
 use Rattle.markdown_brackets.specs.declared.look_up.Target.{Target}
@@ -52,5 +53,6 @@ pub record LooksUp {C : Type 0} (step : C → Question → Option Answer → C �
   pub answers : Answers
   pub questions : List Question
   pub asked : Asks step old.callback questions answers new.callback
-  pub finds : (later : Answers) → look_up old.tables.refdefs (is_some old.callback) old.limit (answers ++ later) q
+  pub finds : (later : Answers)
+      → look_up (by_label old.tables.refdefs) (is_some old.callback) old.limit (answers ++ later) q
       ≡ record { target = target; questions = questions; limit = new.limit; answers = later }

@@ -1,8 +1,8 @@
 //! Laws of look-ups and of closing brackets, in a reader's words: functions without code.
-ghost use Rattle.std.specs.Prelude.{ℕ, ⊤, Bool, List};
+ghost use Rattle.std.specs.Prelude.{ℕ, ⊤, Bool};
 ghost use Rattle.markdown_base.specs.Questions.{Question, Answers};
 ghost use Rattle.markdown_brackets.specs.NoLinkInLink.{NoLinkLaw};
-ghost use Rattle.markdown_defs.specs.Definitions.{Labelled};
+ghost use Rattle.markdown_document.specs.Setting.{DefinitionsByLabel};
 ghost use Rattle.markdown_brackets.specs.BracketLaws.{ClosedLaw, ChainLaw};
 ghost use Rattle.markdown_brackets.specs.BracketNotes.{BracketNoteLaw};
 ghost use Rattle.markdown_brackets.specs.BracketWeight.{BracketWeightLaw};
@@ -15,22 +15,22 @@ ghost use Rattle.markdown_brackets.specs.LookupLaws.{TakesItsBytes};
 
 /// States that a look-up asks at most one question, and that at a limit of 0 it asks none and finds nothing.
 pub fn look_up_asks_once_at_most(limit: usize)
-    ensures once { (defined : List Labelled) (asks : Bool) (answers : Answers) (q : Question)
+    ensures once { (defined : DefinitionsByLabel) (asks : Bool) (answers : Answers) (q : Question)
         → AsksOnceAtMost defined asks limit answers q }
-    ensures zero { (defined : List Labelled) (asks : Bool) (answers : Answers) (q : Question)
+    ensures zero { (defined : DefinitionsByLabel) (asks : Bool) (answers : Answers) (q : Question)
         → FindsNothingAtZero defined asks answers q }
 {}
 
 /// States that a look-up with one answer for each question has the same result whatever answers follow, and leaves
 /// those.
 pub fn look_up_hands_on_later_answers(limit: usize)
-    ensures { (defined : List Labelled) (asks : Bool) (q : Question) (answers later : Answers)
+    ensures { (defined : DefinitionsByLabel) (asks : Bool) (q : Question) (answers later : Answers)
         → HandsOnLaterAnswers defined asks limit q answers later }
 {}
 
 /// States that a look-up lowers the limit by at most the number of bytes of what it finds.
 pub fn look_up_takes_its_bytes(limit: usize)
-    ensures { (defined : List Labelled) (asks : Bool) (answers : Answers) (q : Question)
+    ensures { (defined : DefinitionsByLabel) (asks : Bool) (answers : Answers) (q : Question)
         → TakesItsBytes defined asks limit answers q }
 {}
 

@@ -13,6 +13,7 @@ use Rattle.markdown_base.specs.Item.{is_block, LiesIn}
 use Rattle.markdown_base.specs.declared.item.Item.{Item}
 use Rattle.markdown_base.specs.declared.item.ItemBody.{ItemBody}
 use Rattle.markdown_base.specs.declared.node.Node.{Node}
+use Rattle.markdown_builder.specs.Shown.{unnumbered}
 use Rattle.markdown_document.specs.Document.{TreeNode, block_of, part_of}
 use Rattle.markdown_document.specs.ItemRules.{ComesBefore, KeepsItemRules}
 use Rattle.markdown_document.specs.Places.{origin_start}
@@ -236,7 +237,7 @@ none_moved s nodes (node ix below after) =
       none_moved s nodes below,
       none_moved s nodes after,
       block_stays (is_block (item_at nodes ix).body)
-          (item_at nodes ix).body,
+          (unnumbered (item_at nodes ix).body),
     )
 
 block_was : (b c : Bool) (x : ItemBody) → if_block b (none_of (if c then Some x else None)) ≡ 0 → c ≡ false → b ≡ false
@@ -256,7 +257,7 @@ still_before s old new first (node ix below after) t none a h =
     let zero : ((item_at old ix).start - (item_at new ix).start) + if_block (is_block (item_at old ix).body)
     (none_of (block_of (item_at new ix).body)) ≡ 0 = omega (arith, none) in
     let was : is_block (item_at old ix).body ≡ false =
-    block_was (is_block (item_at old ix).body) (is_block (item_at new ix).body) (item_at new ix).body
+    block_was (is_block (item_at old ix).body) (is_block (item_at new ix).body) (unnumbered (item_at new ix).body)
     (omega (arith, zero))
     (subst (λ n. is_block (item_at new n).body ≡ false) e other) in
     let stood = h inline (subst (λ n. is_block (item_at old n).body ≡ false) (sym e) was) in

@@ -12,6 +12,7 @@ use Rattle.markdown_base.specs.Item.{is_block, range_of}
 use Rattle.markdown_base.specs.declared.item.Item.{Item}
 use Rattle.markdown_base.specs.declared.item.ItemBody.{ItemBody}
 use Rattle.markdown_base.specs.declared.node.Node.{Node}
+use Rattle.markdown_builder.specs.Shown.{unnumbered}
 pub use Rattle.markdown_document.specs.Origins.{Origin, sliced, inlined, made, origin_at}
 use Rattle.markdown_document.specs.Tables.{Tables, text_at, link_at, titles_at, alignments_at, heading_for}
 
@@ -31,7 +32,7 @@ abbrev pub is_unresolved : Shape → Bool
 is_unresolved (unresolved b) = true
 is_unresolved other = false
 
--- a shape with its range of bytes, and the body where it is a block
+-- a shape with its range of bytes, and the body where it is a block, without the number by which it refers to a part
 pub record Part : Type 0 where
   pub shape : Shape
   pub range : Range ℕ
@@ -125,9 +126,9 @@ shape_of tables source body.Root = plain
 shape_of tables source body.TightParagraph = plain
 shape_of tables source body.MaybeDefinitionListTitle = plain
 
--- the body, where it is that of a block
+-- the body, where it is that of a block; no rule of chains reads what it refers to
 abbrev pub block_of : ItemBody → Option ItemBody
-block_of b = if is_block b then Some b else None
+block_of b = if is_block b then Some (unnumbered b) else None
 
 -- the part of an item: its shape, its range, and its body where it is a block
 abbrev pub part_of : List ℕ → Tables → Item → Part

@@ -1,19 +1,28 @@
 -- What resolving a chain depends on: what stays the same over a whole document, and what passes from one chain to the
 -- next.
 use Rattle.std.specs.Prelude.{ℕ, Bool, List, Option, Some, None, is_some}
+use Rattle.std.specs.Option.{option_map}
+use Rattle.markdown_base.specs.BlockParts.{DefinitionView, definition_view}
 use Rattle.markdown_base.specs.Questions.{Answers}
 use Rattle.markdown_base.specs.declared.options.Options.{Options}
 use Rattle.markdown_defs.specs.Allocations.{Allocated}
-use Rattle.markdown_defs.specs.Definitions.{Labelled}
+use Rattle.markdown_defs.specs.Definitions.{Labelled, find_definition}
 use Rattle.markdown_defs.specs.Footnotes.{footnote_at}
 use Rattle.markdown_defs.specs.declared.footnotes.FootnoteDef.{FootnoteDef}
 use Rattle.markdown_defs.specs.declared.footnotes.FootnoteDefs.{FootnoteDefs}
 
--- the options, the reference definitions that can be found, which names are those of footnotes, and whether there is a
--- callback
+-- what each link label refers to, if it is defined
+abbrev pub DefinitionsByLabel : Type 0
+DefinitionsByLabel = List ℕ → Option DefinitionView
+
+-- what labels refer to by these definitions
+abbrev pub by_label : List Labelled → DefinitionsByLabel
+by_label definitions = λ label. option_map definition_view (find_definition label definitions)
+
+-- the options, what link labels refer to, which names are those of footnotes, and whether there is a callback
 pub record Rules : Type 0 where
   pub options : Options
-  pub definitions : List Labelled
+  pub definitions : DefinitionsByLabel
   pub is_footnote : List ℕ → Bool
   pub asks : Bool
 
@@ -21,7 +30,7 @@ pub record Rules : Type 0 where
 abbrev pub rules_from : Options → Allocated → Bool → Rules
 rules_from options held asks = record {
   options = options;
-  definitions = held.refdefs;
+  definitions = by_label held.refdefs;
   is_footnote = λ name. is_some (footnote_at held.footdefs name);
   asks = asks;
 }

@@ -1,7 +1,7 @@
 -- Examples: a text, and its HTML.
 use Rattle.std.specs.Prelude.{◌≡◌, ℕ, List, map}
 use Rattle.markdown_block_laws.specs.ExampleTrees.{commonmark}
-use Rattle.markdown_html_rules.specs.HtmlOfText.{html_of_text}
+use Rattle.markdown_render.specs.HtmlOfText.{html_of_text}
 
 pub record HtmlExample : Type 0 where
   pub text : List ℕ

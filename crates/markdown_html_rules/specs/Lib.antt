@@ -1,5 +1,3 @@
--- the definition
-pub mod HtmlOfText
 -- examples
 pub mod ExampleHtml
 pub mod HtmlOfLines

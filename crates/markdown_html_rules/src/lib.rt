@@ -1,4 +1,4 @@
-//! What the HTML of a text is: the definition, and CommonMark's examples.
+//! What the HTML of CommonMark's examples is, by the definition.
 #![tactic(auto)]
 
 pub mod examples;

@@ -10,6 +10,8 @@ pub mod TakingLemmas
 pub mod WalkStepsLemmas
 pub mod ParserLemmas
 pub mod StartLemmas
+pub mod DocumentOfTextLemmas
+pub mod ReadingOfTextLemmas
 pub mod RunLemmas
 pub mod OneForestLemmas
 pub mod StepsLemmas

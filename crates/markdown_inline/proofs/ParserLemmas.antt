@@ -31,7 +31,7 @@ use Rattle.markdown_inline.specs.NextGives.{NextGives, IsEventOf, IsPlacedOf, Gi
 use Rattle.markdown_inline.specs.ParserLeft.{parser_state, parser_counts, parser_work, parser_callback, parser_steps}
 use Rattle.markdown_inline.specs.ParserLeft.{parser_setting}
 use Rattle.markdown_inline.specs.ParserLeft.{elements, parser_left, parser_text, IsOver}
-use Rattle.markdown_document.specs.Setting.{Setting, rules_from, setting_of}
+use Rattle.markdown_document.specs.Setting.{Setting, by_label, rules_from, setting_of}
 use Rattle.markdown_document.specs.Tables.{tables_of}
 use Rattle.markdown_inline.specs.Walk.{left_of}
 use Rattle.markdown_inline.specs.WalkSteps.{HasEnded, TreeStands, Went, Gives, PassedBeginning, OpensWith, IsRefused}
@@ -241,7 +241,7 @@ setting_kept s t x o some tables names =
     (ap (λ (f : List ℕ → Bool). let g : Setting = setting_of s.resolver.text.now
     (record {
       options = s.resolver.options;
-      definitions = s.resolver.lookup.tables.refdefs;
+      definitions = by_label s.resolver.lookup.tables.refdefs;
       is_footnote = f;
       asks = is_some s.resolver.lookup.callback;
     }) in g) same)

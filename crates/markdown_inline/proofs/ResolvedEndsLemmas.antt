@@ -11,15 +11,13 @@ use Rattle.std.specs.Option.{option_map}
 use Rattle.markdown_base.specs.Event.{LinkView, link, image, text, code, inline_html, footnote_reference}
 use Rattle.markdown_base.specs.Forest.{Forest, nil, node, Each}
 use Rattle.markdown_base.specs.Questions.{Answers, Question, Answer}
-use Rattle.markdown_base.specs.declared.block_parts.LinkDef.{LinkDef}
+use Rattle.markdown_base.specs.BlockParts.{DefinitionView}
 use Rattle.markdown_base.specs.declared.item.ItemBody.{ItemBody}
 use Rattle.markdown_base.specs.declared.item.ItemBody.TheVariants as body
-use Rattle.markdown_defs.specs.Definitions as definitions
-use Rattle.markdown_defs.specs.Definitions.{Labelled}
 use Rattle.markdown_document.specs.EnclosingBlocks.{EnclosingBlocks}
 use Rattle.markdown_document.specs.ChainRest.{begun_at, cut_shape, end_of, open_body, past_byte, start_of}
 use Rattle.markdown_document.specs.Document.{Origin, made, sliced, Notes, Shape, leaf, enclosed, TreeNode, math}
-use Rattle.markdown_document.specs.Setting.{Setting, ReferenceState}
+use Rattle.markdown_document.specs.Setting.{DefinitionsByLabel, Setting, ReferenceState}
 use Rattle.markdown_document.specs.Waiting.{is_quiet}
 use Rattle.markdown_spans.specs.AfterLess.{Markup, autolink, html_markup}
 use Rattle.markdown_spans.specs.Finds.{Find, SpanText, address, code_span, code_trees, find, is_escaped, markup}
@@ -83,7 +81,7 @@ takes_if_answered : (limit : ℕ) (answers : Answers) (q : Question) (a : Option
 takes_if_answered limit answers q None h = refl
 takes_if_answered limit answers q (Some a) h = (h, refl)
 
-takes_if_found : (asks : Bool) (limit : ℕ) (answers : Answers) (q : Question) (o : Option LinkDef) → 1 ≤ limit
+takes_if_found : (asks : Bool) (limit : ℕ) (answers : Answers) (q : Question) (o : Option DefinitionView) → 1 ≤ limit
     → TakesFrom limit (defined_or_asked asks limit answers q o)
 takes_if_found asks limit answers q (Some d) h = (h, refl)
 takes_if_found false limit answers q None h = refl
@@ -93,13 +91,13 @@ takes_if_found true limit (a ∷ answers) q None h = takes_if_answered limit ans
 some_left : (n : ℕ) → (n == 0) ≡ false → 1 ≤ n
 some_left n e = grind (arith, nat_tests)
 
-pub takes_from : (defined : List Labelled) (asks : Bool) (limit : ℕ) (answers : Answers) (q : Question)
+pub takes_from : (defined : DefinitionsByLabel) (asks : Bool) (limit : ℕ) (answers : Answers) (q : Question)
     → TakesFrom limit (look_up defined asks limit answers q)
 takes_from defined asks limit answers q =
     cond_both (limit == 0) (finds_nothing limit answers [])
-    (defined_or_asked asks limit answers q (definitions.find_definition q.reference defined)) (TakesFrom limit)
+    (defined_or_asked asks limit answers q (defined q.reference)) (TakesFrom limit)
     (λ e. refl)
-    (λ e. takes_if_found asks limit answers q (definitions.find_definition q.reference defined) (some_left limit e))
+    (λ e. takes_if_found asks limit answers q (defined q.reference) (some_left limit e))
 
 -- math stands for itself, displayed or not
 lone_math : (display : Bool) (bytes : List ℕ) → IsMadeEvent (math display bytes)

@@ -10,7 +10,6 @@ use Rattle.markdown_base.specs.declared.fault.Fault.{Fault}
 use Rattle.markdown_base.specs.declared.options.Options.{Options}
 use Rattle.markdown_defs.specs.Allocations.{Allocated}
 use Rattle.markdown_defs.specs.AllocationCalls.{HoldsParts}
-use Rattle.markdown_defs.specs.Definitions.{firsts}
 use Rattle.markdown_defs.specs.Folding.{is_match}
 use Rattle.markdown_defs.specs.Footnotes.{footnote_at}
 use Rattle.markdown_defs.specs.FootnoteCounts.{unused}
@@ -37,12 +36,12 @@ use Rattle.markdown_base.specs.Questions.{Answers}
 use Rattle.markdown_blocks.specs.Blocks.{text_of_blocks, block_arena, block_parts, IsOfEntry}
 use Rattle.markdown_blocks.specs.declared.blocks.Blocks.{Blocks}
 use Rattle.markdown_inline.specs.ParserLeft.{elements, rules_of, reading_of, expansion_limit, ReadsBlocks, ReadsEntry}
-use Rattle.markdown_inline.specs.ParserLeft.{findable_definitions, options_read, parser_definitions}
+use Rattle.markdown_inline.specs.ParserLeft.{findable_definitions, options_read, parser_callback, parser_definitions}
 use Rattle.markdown_inline.specs.Walk.{left_of}
 use Rattle.markdown_document.specs.Places.{tree_node_at, trees_from, origin_start}
 use Rattle.markdown_document.specs.PlacedNodes.{IsPlaced, HasSlices}
 use Rattle.markdown_document.specs.Document.{block_of, tree_node_of, document, shape_of}
-use Rattle.markdown_document.specs.Setting.{Rules, rules_from, use_count, uses_of}
+use Rattle.markdown_document.specs.Setting.{Rules, by_label, rules_from, use_count, uses_of}
 use Rattle.markdown_resolver.specs.Kept.{IsQuiet, IsQuietBelow}
 use Rattle.markdown_resolver.specs.Unread.{IsUnmade, IsUnread, is_made}
 use Rattle.markdown_resolver.specs.KeptChains.{IsKept}
@@ -55,6 +54,7 @@ use Rattle.markdown_inline.specs.declared.walk.Parser.{Parser}
 use Rattle.markdown_document.specs.Tables.{Tables, tables_of, tables_at_start}
 use Rattle.markdown_document.proofs.PlaceLemmas.{named-past, open-unresolved}
 use Rattle.markdown_inline.proofs.ParserLemmas.{elements-left}
+use Rattle.markdown_inline.proofs.ReadingOfTextLemmas.{text-law}
 
 -- the texts that are referred to
 listed-cons : (n : ℕ) (o : Option ℕ) (xs : List ℕ) → listed (same n) (cons_option o xs)
@@ -339,8 +339,7 @@ rules_held blocks held options asks h o =
     let named : is_held ≡ is_name = fun_ext (λ name. ap is_some (h.footnotes name) ∙ some_if unused (is_name name)) in
     rw (o, h.definitions) (ap (λ (f : List ℕ → Bool). let r : Rules = record {
       options = options_read blocks;
-      definitions =
-          firsts (block_parts blocks).definitions.items;
+      definitions = by_label (findable_definitions blocks);
       is_footnote = f;
       asks = asks;
     } in r) named)
@@ -386,6 +385,12 @@ pub of_some_text : {F : Type 0} (extended : Bool) (text : List ℕ) (options : O
     (made : Result (Parser F) Fault) → IsOfEntry extended text options blocks
     → IfOk made (ReadsBlocks blocks) → IfOk made (λ p. parser_definitions p ≡ findable_definitions blocks)
     → IfOk made (ReadsEntry extended text options)
-of_some_text extended text options blocks (Ok p) of left found = record
-    { blocks = blocks; of_text = of; left = left; definitions = found }
+of_some_text extended text options blocks (Ok p) of left found = record {
+  blocks = blocks;
+  of_text = of;
+  left = left;
+  definitions = found;
+  by_rules = λ none answers.
+      left answers ∙ text-law extended text options blocks of none (is_some (parser_callback p)) answers;
+}
 of_some_text extended text options blocks (Err fault) of left found = tt

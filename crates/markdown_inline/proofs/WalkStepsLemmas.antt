@@ -40,7 +40,12 @@ over source item = slice_range source item.start item.end
 
 -- some rules, for what does not depend on the rules of a chain
 any_rules : Rules
-any_rules = record { options = record { 0 = 0 }; definitions = []; is_footnote = λ name. false; asks = false }
+any_rules = record {
+  options = record { 0 = 0 };
+  definitions = λ label. None;
+  is_footnote = λ name. false;
+  asks = false;
+}
 
 -- an entry that is taken after a move, and is no longer referred to, changes nothing of what is left
 taken_after : (source : List ℕ) (nodes : List (Node Item)) (ix : ℕ) (held held' : Allocated) (m : Option ℕ)

@@ -3,6 +3,10 @@ pub mod Elements
 pub mod Reading
 pub mod ReadingLaw
 pub mod QuestionLaws
+-- how a text reads, by definition
+pub mod DocumentOfText
+pub mod ReadingOfText
+pub mod TextLaw
 -- the terms of contracts
 pub mod ParserLeft
 pub mod Slices

@@ -1,6 +1,6 @@
 -- What a parser holds, and what is left of it: the elements of its reading that it has not given yet, for the answers
 -- that its callback will give.
-use Rattle.std.specs.Prelude.{◌≡◌, ℕ, max, Bool, true, false, List, [], length, Option, is_some}
+use Rattle.std.specs.Prelude.{◌≡◌, ℕ, Bool, true, false, List, [], Option, is_some}
 use Rattle.std.specs.List.{list_any}
 use Rattle.markdown_base.specs.Arena.{Arena}
 use Rattle.markdown_base.specs.CowText.{text_of}
@@ -9,7 +9,7 @@ use Rattle.markdown_base.specs.declared.item.Item.{Item}
 use Rattle.markdown_base.specs.declared.options.Options.{Options}
 use Rattle.markdown_base.specs.ExtendedOptions.{with_extended}
 use Rattle.markdown_blocks.specs.Blocks.{text_of_blocks, block_options, block_extended, block_arena, block_parts}
-use Rattle.markdown_blocks.specs.Blocks.{IsOfEntry}
+use Rattle.markdown_blocks.specs.Blocks.{IsOfEntry, source_for, tables_are_read}
 use Rattle.markdown_defs.specs.Definitions.{Labelled, firsts}
 use Rattle.markdown_defs.specs.Folding.{is_match}
 use Rattle.markdown_blocks.specs.declared.blocks.Blocks.{Blocks}
@@ -18,21 +18,15 @@ use Rattle.markdown_document.specs.Document.{no_notes, document}
 use Rattle.markdown_document.specs.Counts.{ChainCounts}
 use Rattle.markdown_inline.specs.Elements.{Element, Passage, nothing_read}
 use Rattle.markdown_inline.specs.Reading.{reading}
-use Rattle.markdown_document.specs.Setting.{Rules, Setting, ReferenceState, rules_from, setting_of, uses_of}
+use Rattle.markdown_inline.specs.ReadingOfText.{reading_of_text}
+pub use Rattle.markdown_inline.specs.ReadingOfText.{expansion_limit, state_at_start}
+use Rattle.markdown_document.specs.Setting.{Rules, Setting, ReferenceState, by_label, rules_from, setting_of, uses_of}
 use Rattle.markdown_document.specs.Tables.{tables_of, tables_at_start}
 use Rattle.markdown_inline.specs.Walk.{tree_left}
 use Rattle.markdown_inline.specs.WalkTotals.{tree_steps}
 use Rattle.markdown_inline.specs.declared.walk.Parser.{Parser}
 use Rattle.markdown_inline.specs.declared.walk.OffsetIter.{OffsetIter}
 use Rattle.markdown_document.specs.declared.work.Work.{Work}
-
--- the number of bytes that references may expand to, at the start
-abbrev pub expansion_limit : List ℕ → ℕ
-expansion_limit source = max (length source) 100000
-
--- what is known before any chain is resolved
-abbrev pub state_at_start : List ℕ → Answers → ReferenceState
-state_at_start source answers = record { limit = expansion_limit source; answers = answers; uses = λ name. 0 }
 
 -- the reference definitions of a block result that can be found: of those whose labels match, the first
 abbrev pub findable_definitions : Blocks → List Labelled
@@ -46,7 +40,7 @@ options_read blocks = with_extended (block_extended blocks) (block_options block
 abbrev pub rules_of : Blocks → Bool → Rules
 rules_of blocks asks = record {
   options = options_read blocks;
-  definitions = findable_definitions blocks;
+  definitions = by_label (findable_definitions blocks);
   is_footnote = λ name. list_any (λ n. is_match (text_of n) name) (block_parts blocks).footnotes.items;
   asks = asks;
 }
@@ -114,12 +108,16 @@ ReadsBlocks blocks p = (answers : Answers)
     → elements p answers ≡ reading_of blocks (is_some (parser_callback p)) answers
 
 -- the same of some block result of a text and options, of one of the entries: one that is well formed and covers the
--- text. The reference definitions that can be found are those of this block result.
+-- text. The reference definitions that can be found are those of this block result. Where no tables are read, what is
+-- left is the reading that is defined of the text.
 pub record ReadsEntry {F : Type 0} (extended : Bool) (text : List ℕ) (options : Options) (p : Parser F) : Type 0 where
   pub blocks : Blocks
   pub of_text : IsOfEntry extended text options blocks
   pub left : ReadsBlocks blocks p
   pub definitions : parser_definitions p ≡ findable_definitions blocks
+  pub by_rules : tables_are_read extended options ≡ false → (answers : Answers)
+      → elements p answers
+      ≡ reading_of_text (source_for extended text options) (is_some (parser_callback p)) answers
 
 -- the same of the present entry, and of the extended one
 abbrev pub ReadsText : {F : Type 0} → (text : List ℕ) → Options → Parser F → Type 0

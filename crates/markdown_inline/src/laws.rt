@@ -5,6 +5,7 @@ ghost use Rattle.markdown_inline.specs.LimitLaw.{LimitLaw, LookUpLaw};
 ghost use Rattle.markdown_inline.specs.NoLinkInLinkEvents.{NoLinkInLinkLaw};
 ghost use Rattle.markdown_inline.specs.QuestionLaws.{DocumentCountLaw, DocumentEndsLaw};
 ghost use Rattle.markdown_inline.specs.ReadingLaw.{ReadingLaw};
+ghost use Rattle.markdown_inline.specs.TextLaw.{TextLaw};
 ghost use Rattle.markdown_inline.specs.ResolvedShapes.{ShapesLaw};
 ghost use Rattle.markdown_inline.specs.SlicesOfTree.{BlockSlicesLaw};
 ghost use Rattle.markdown_inline.specs.TreeReading.{BlockTreeLaw, SplitLaw, TreeLaw};
@@ -76,4 +77,10 @@ pub fn questions_of_one_chain_end_apart()
 /// all but those of the first item that a wikilink shows after its pipe.
 pub fn slices_of_blocks_are_in_place()
     ensures { BlockSlicesLaw }
+{}
+
+/// States that where no tables are read, each block result of a text has the reading that is defined of the text: what is
+/// read is a function of the text, its options, and the callback's answers.
+pub fn reading_of_blocks_is_that_of_the_text()
+    ensures { TextLaw }
 {}

@@ -1,8 +1,9 @@
 -- What a parser gives, up to its first None, is all that was left of it, for the answers that its callback gave.
-use Rattle.std.proofs.Common.{◌≡◌, ℕ, Bool, false, List, [], ◌∷◌, ◌++◌, map, Err, Option, None, Result, ◌⊎◌, inl, inr}
-use Rattle.std.proofs.Common.{ap, refl, subst, sym, ◌∙◌, append_assoc, append-nil}
+use Rattle.std.proofs.Common.{◌≡◌, ℕ, Bool, false, List, [], ◌∷◌, ◌++◌, map, Err, Option, Some, None, Result, ◌⊎◌, inl}
+use Rattle.std.proofs.Common.{inr, ap, refl, subst, sym, ◌∙◌, append_assoc, append-nil}
 use Rattle.std.proofs.lemmas.List.{map-append}
 use Rattle.std.specs.Iterator.{Drains, Yields}
+use Rattle.std.specs.Prelude.{is_some}
 use Rattle.std.specs.Str.{IsUtf8}
 use Rattle.markdown_base.specs.Event.{EventView, event_view}
 use Rattle.markdown_base.specs.Questions.{Question, Answer, Answers}
@@ -10,13 +11,16 @@ use Rattle.markdown_base.specs.declared.event.Event.{Event}
 use Rattle.markdown_base.specs.declared.fault.Fault.{Fault}
 use Rattle.markdown_base.specs.declared.fault.Fault.TheVariants.{Memory, Blocks, Depth}
 use Rattle.markdown_base.specs.declared.options.Options.{Options}
+use Rattle.markdown_blocks.specs.Blocks.{source_for, tables_are_read}
 use Rattle.markdown_defs.specs.Callback.{Asks}
 use Rattle.markdown_inline.specs.Elements.{Placed, events_of, questions_of}
 use Rattle.markdown_inline.specs.NextGives.{NextGives, IsEventOf}
 use Rattle.markdown_inline.specs.ParserLeft.{ReadsEntry, elements, parser_text, parser_callback, reading_of}
+use Rattle.markdown_inline.specs.ReadingOfText.{events_of_text, reading_of_text}
 use Rattle.markdown_inline.specs.Runs.{AreOf}
 use Rattle.markdown_inline.specs.declared.walk.Parser.{Parser}
 use Rattle.markdown_inline.proofs.RunLemmas.{GaveFirst, gave_none, gave_more, gave_rest}
+use Rattle.markdown_lines.specs.BlockBeginnings.{Source}
 use Rattle.markdown_out.specs.EventHtml.{html_of}
 use Rattle.markdown_out.specs.HtmlCorrect.{GoesTooDeep, IsRendered, StopsAtError, IsOwnFault, items}
 use Rattle.markdown_out.specs.LookBacks.{IsTooDeep}
@@ -121,6 +125,35 @@ module _ {F : Type 0} (step : F → Question → Option Answer → F → Type 0)
   of_deep p old new d =
       (map event_view d.events, record { left = first_drained p d.left d.events d.read; stands = d.stands }, d.deep)
 
+  -- without a callback there are no answers
+  unasked : (questions : List Question) (answers : Answers) (after : Option F) → Asks step None questions answers after
+      → answers ≡ []
+  unasked [] [] after a = refl
+  unasked [] (x ∷ answers) after a = absurd a
+  unasked (q ∷ questions) [] after a = absurd a
+  unasked (q ∷ questions) (x ∷ answers) after a = absurd a
+
+  -- so the events that are read of a text are those that are defined of it
+  pub events_alone : (callback : Option F) (s : Source) (events : List EventView)
+      → AreEventsFor step callback (reading_of_text s (is_some callback)) events → callback ≡ None
+      → events ≡ map (λ e. e.0) (events_of_text s)
+  events_alone None s events r none =
+      let nobody = unasked _ r.answers r.after r.asked in sym (rw nobody at (r.are []))
+  events_alone (Some f) s events r none = absurd (cc none)
+
+  -- a new parser's events are those of the reading that is defined of its text
+  pub read_by_rules : (extended : Bool) (text : List ℕ) (options : Options) (p : Parser F)
+      → ReadsEntry extended text options p → (events : List EventView)
+      → AreEventsFor step (parser_callback p) (elements p) events → tables_are_read extended options ≡ false
+      → AreEventsFor step (parser_callback p)
+      (reading_of_text (source_for extended text options) (is_some (parser_callback p))) events
+  read_by_rules extended text options p of events d none = record {
+    answers = d.answers;
+    after = d.after;
+    asked = rw (← of.by_rules none d.answers) d.asked;
+    are = λ later. rw (← of.by_rules none (d.answers ++ later)) (d.are later);
+  }
+
   -- and where all of a document's reading was left, that of the document
   pub of_document : (extended : Bool) (text : List ℕ) (options : Options) (p : Parser F) (old new : List ℕ)
       → ReadsEntry extended text options p → IsRendered Steps p old new
@@ -140,6 +173,11 @@ module _ {F : Type 0} (step : F → Question → Option Answer → F → Type 0)
             are = λ later. rw (← of.left (d.answers ++ later)) (d.are later);
           };
           rendered = refl;
+          by_rules = read_by_rules extended text options p of (map event_view r.events) d;
+          alone = λ none nobody.
+              ap html_of (events_alone (parser_callback p) (source_for extended text options)
+              (map event_view r.events) (read_by_rules extended text options p of (map event_view r.events) d none)
+              nobody);
         },
       )
 
@@ -199,14 +237,6 @@ module _ {F : Type 0} (step : F → Question → Option Answer → F → Type 0)
   faults extended text old new options callback p fault of holds (inr own) =
       own_faults extended text old new options callback p fault of holds own
 
-  -- without a callback there are no answers
-  unasked : (questions : List Question) (answers : Answers) (after : Option F) → Asks step None questions answers after
-      → answers ≡ []
-  unasked [] [] after a = refl
-  unasked [] (x ∷ answers) after a = absurd a
-  unasked (q ∷ questions) [] after a = absurd a
-  unasked (q ∷ questions) (x ∷ answers) after a = absurd a
-
   -- so the rendering is the same for all answers
   pub rendering_alone : (extended : Bool) (text html : List ℕ) (options : Options) → IsUtf8 text
       → IsEntryRenderingFor extended step None text options html
@@ -218,6 +248,7 @@ module _ {F : Type 0} (step : F → Question → Option Answer → F → Type 0)
         blocks = r.blocks;
         of_text = r.of_text;
         rendered = λ answers. r.rendered ∙ ap html_of (sym (rw none at (r.read.are answers)));
+        by_rules = λ none. r.alone none refl;
       }
 
   -- and so is where too many Starts are open

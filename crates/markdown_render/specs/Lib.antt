@@ -1,4 +1,5 @@
 -- the definitions that contracts cite
+pub mod HtmlOfText
 pub mod Rendering
 pub mod RenderingFor
 pub mod Words

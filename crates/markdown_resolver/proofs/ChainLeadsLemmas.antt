@@ -22,6 +22,7 @@ use Rattle.markdown_spans.proofs.LearnedElsewhereLemmas.{holds_alike, holds_from
 use Rattle.markdown_spans.proofs.LearnedLemmas as before
 use Rattle.markdown_resolver.specs.Chains.{CanResolve}
 use Rattle.markdown_resolver.specs.Kept.{IsQuietBelow}
+use Rattle.markdown_builder.specs.Shown.{unnumbered}
 use Rattle.markdown_resolver.specs.Rewritten.{numbered_past, numbered_past_byte, begun_item}
 
 -- the items of a chain, each with its number
@@ -33,7 +34,7 @@ items_along nodes (node ix below after) = numbered nodes ix ∷ items_along node
 pub no_block : (b : ItemBody) → is_some (block_of b) ≡ false → is_block b ≡ false
 no_block b h = by_block (is_block b) h
   where
-    by_block : (x : Bool) → is_some (if x then Some b else None) ≡ false → x ≡ false
+    by_block : (x : Bool) → is_some (if x then Some (unnumbered b) else None) ≡ false → x ≡ false
     by_block true h = cc h
     by_block false h = refl
 

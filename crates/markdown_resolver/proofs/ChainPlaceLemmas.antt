@@ -16,6 +16,7 @@ use Rattle.markdown_base.specs.declared.item.ItemBody.TheVariants as body
 use Rattle.markdown_base.specs.declared.node.Node.{Node}
 use Rattle.markdown_document.specs.EnclosingBlocks.{EnclosingBlocks, inside_block, inside_all, inside_item, no_blocks}
 use Rattle.markdown_document.specs.ResolverStates.{above_cursor}
+use Rattle.markdown_builder.specs.Shown.{unnumbered}
 use Rattle.markdown_document.specs.Document.{block_of}
 use Rattle.markdown_document.specs.Setting.{Setting}
 use Rattle.markdown_spans.specs.BlocksAbove.{HasBlocks}
@@ -60,6 +61,24 @@ takes_nothing gfm (body.DefinitionListDefinition indent) line h = cc h
 takes_nothing gfm (body.FootnoteDefinition name) line h = cc h
 takes_nothing gfm other line h = refl
 
+-- what a block takes of a line, and whether it is a cell, does not depend on the part that it refers to
+same_taken : (gfm : Bool) (b : ItemBody) (line : LineLeft) → past_block gfm (unnumbered b) line ≡ past_block gfm b line
+same_taken gfm (body.SynthesizeText ix) line = refl
+same_taken gfm (body.FencedCodeBlock ix) line = refl
+same_taken true (body.FootnoteDefinition ix) line = refl
+same_taken false (body.FootnoteDefinition ix) line = refl
+same_taken gfm (body.Heading level (Some ix)) line = refl
+same_taken gfm (body.Table ix) line = refl
+same_taken gfm other line = refl
+
+same_cell : (b : ItemBody) → is_table_cell (unnumbered b) ≡ is_table_cell b
+same_cell (body.SynthesizeText ix) = refl
+same_cell (body.FencedCodeBlock ix) = refl
+same_cell (body.FootnoteDefinition ix) = refl
+same_cell (body.Heading level (Some ix)) = refl
+same_cell (body.Table ix) = refl
+same_cell other = refl
+
 -- so all nodes of a spine take what the blocks among them take
 same_left : (gfm : Bool) (nodes : List (Node Item)) (spine : List ℕ) (line : LineLeft)
     → past_blocks gfm (map (λ ix. (item_at nodes ix).body) spine) line ≡ past_blocks gfm (blocks_in nodes spine) line
@@ -81,8 +100,13 @@ same_left gfm nodes (ix ∷ deeper) line = by_block (is_block (item_at nodes ix)
         ≡ past_blocks gfm (blocks_in nodes deeper)
         after) → elim (past_block gfm (item_at nodes ix).body line) as (λ x. LineLeft)
         [ Some after ↦ past_blocks gfm (map (λ n. (item_at nodes n).body) deeper) after | None ↦ line ]
-        ≡ past_blocks gfm (with_block (if is then Some (item_at nodes ix).body else None) (blocks_in nodes deeper)) line
-    by_block true e later = read (past_block gfm (item_at nodes ix).body line) later
+        ≡ past_blocks gfm
+        (with_block (if is then Some (unnumbered (item_at nodes ix).body) else None) (blocks_in nodes deeper)) line
+    by_block true e later =
+        read (past_block gfm (item_at nodes ix).body line) later
+        ∙ sym (ap (λ (found : Option LineLeft). elim found as (λ x. LineLeft)
+        [ Some after ↦ past_blocks gfm (blocks_in nodes deeper) after | None ↦ line ])
+        (same_taken gfm (item_at nodes ix).body line))
     by_block false e later = rw (takes_nothing gfm (item_at nodes ix).body line e) (later line)
 
 -- the container prefix that is read over all nodes of the spine is that of the blocks alone
@@ -155,13 +179,15 @@ pub block_read : (source : List ℕ) (place place' : ChainPlace) (nodes : List (
     → IsReadUpTo source place nodes spine i → IsReadUpTo source place' nodes spine (i + 1)
 block_read source place place' nodes l spine i item above within same is text ends table r =
     let here = item_at nodes (get_or spine i 0) in
-    let block : block_of here.body ≡ Some here.body = ap (λ (x : Bool). if x then Some here.body else None)
+    let block : block_of here.body ≡ Some (unnumbered here.body) =
+    ap (λ (x : Bool). if x then Some (unnumbered here.body) else None)
     (ap (λ (t : Item). is_block t.body) (sym same) ∙ is) in
     let below : EnclosingBlocks = record { block_end = place.block_end; in_table = place.in_table; bodies = r.bodies }
     in
     record {
-      bodies = r.bodies ++ here.body ∷ [];
-      reads = rw (ends, table, same) (sym (read_next nodes spine i below (Some here.body) within block) ∙ r.reads);
+      bodies = r.bodies ++ unnumbered here.body ∷ [];
+      reads = rw (ends, table, same, ← same_cell here.body)
+          (sym (read_next nodes spine i below (Some (unnumbered here.body)) within block) ∙ r.reads);
       boundary = rw (ends, same) (lies_above source nodes l spine i above within).end;
       text = text ∙ r.text;
     }
@@ -173,7 +199,7 @@ pub other_read : (source : List ℕ) (place : ChainPlace) (nodes : List (Node It
     → IsReadUpTo source place nodes spine (i + 1)
 other_read source place nodes spine i item within same is r =
     let here = item_at nodes (get_or spine i 0) in
-    let block : block_of here.body ≡ None = ap (λ (x : Bool). if x then Some here.body else None)
+    let block : block_of here.body ≡ None = ap (λ (x : Bool). if x then Some (unnumbered here.body) else None)
     (ap (λ (t : Item). is_block t.body) (sym same) ∙ is) in
     let below : EnclosingBlocks = record { block_end = place.block_end; in_table = place.in_table; bodies = r.bodies }
     in

@@ -14,7 +14,7 @@ use Rattle.markdown_brackets.specs.Openers.{Waiting}
 use Rattle.markdown_brackets.specs.declared.spent_ends.SpentEnds.{SpentEnds}
 use Rattle.markdown_document.specs.EnclosingBlocks.{EnclosingBlocks, above_at, inside_all, inside_item, no_blocks}
 use Rattle.markdown_document.specs.Document.{no_notes}
-use Rattle.markdown_document.specs.Setting.{Setting, rules_from, setting_of}
+use Rattle.markdown_document.specs.Setting.{Setting, by_label, rules_from, setting_of}
 use Rattle.markdown_document.specs.ResolverStates.{resolver_state, above_cursor}
 use Rattle.markdown_document.specs.Tables.{Tables, tables_of}
 use Rattle.markdown_document.proofs.CallbackLemmas.{Asks-some}
@@ -44,7 +44,7 @@ same_setting text text' options options' held held' asks asks' of_text of_option
     rw (of_text, of_options, definitions, same) (ap (λ (names : List ℕ → Bool). let x : Setting =
     record {
       text = text;
-      rules = record { options = options; definitions = held.refdefs; is_footnote = names; asks = asks };
+      rules = record { options = options; definitions = by_label held.refdefs; is_footnote = names; asks = asks };
     } in x) names)
 
 -- the blocks above a chain stay where it is changed

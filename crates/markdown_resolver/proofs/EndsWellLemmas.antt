@@ -15,7 +15,7 @@ use Rattle.markdown_base.specs.Forest.{Forest, first_root, nil, node, relabelled
 use Rattle.markdown_base.specs.declared.item.Item.{Item}
 use Rattle.markdown_base.specs.declared.node.Node.{Node}
 use Rattle.markdown_base.specs.Questions.{Question, Answer, Answers}
-use Rattle.markdown_base.specs.declared.block_parts.LinkDef.{LinkDef}
+use Rattle.markdown_base.specs.BlockParts.{DefinitionView}
 use Rattle.markdown_base.specs.declared.tag.LinkType.{LinkType}
 use Rattle.markdown_base.specs.declared.tag.LinkType.TheVariants as kind
 use Rattle.markdown_brackets.specs.BracketDecision.{BracketContext, Becomes, Closing, Decision, Written, LinkReference}
@@ -40,8 +40,7 @@ use Rattle.markdown_document.specs.Document.{TreeNode}
 use Rattle.markdown_document.specs.LinkOrigins.{destination_origin}
 use Rattle.markdown_document.specs.Origins.{made}
 use Rattle.markdown_document.specs.Tables.{Tables}
-use Rattle.markdown_defs.specs.Definitions as definitions
-use Rattle.markdown_defs.specs.Definitions.{Labelled}
+use Rattle.markdown_document.specs.Setting.{DefinitionsByLabel}
 use Rattle.markdown_document.proofs.OriginLemmas.{slice_wider}
 use Rattle.markdown_resolver.specs.Closes.{CanGoOn, EndsWell, IsNamedIn, ShowsWell}
 use Rattle.markdown_resolver.specs.PutsTrees.{numbered_from, numbered_node}
@@ -115,7 +114,7 @@ unknown_made other e = e
 unfoldable pub IsNoSlice : Option LinkView → Type 0
 IsNoSlice target = IfSome target (λ t. destination_origin t.kind ≡ made)
 
-pub looked_up_made : (defined : List Labelled) (asks : Bool) (limit : ℕ) (answers : Answers) (q : Question)
+pub looked_up_made : (defined : DefinitionsByLabel) (asks : Bool) (limit : ℕ) (answers : Answers) (q : Question)
     → destination_origin q.link_type ≡ made → IsNoSlice (look_up defined asks limit answers q).target
 unfolding IsNoSlice
 looked_up_made defined asks limit answers q e = by_limit (limit == 0)
@@ -133,15 +132,15 @@ looked_up_made defined asks limit answers q e = by_limit (limit == 0)
     by_asking true = by_answers answers
     by_asking false = tt
 
-    by_definition : (d : Option LinkDef) → IsNoSlice (defined_or_asked asks limit answers q d).target
+    by_definition : (d : Option DefinitionView) → IsNoSlice (defined_or_asked asks limit answers q d).target
     by_definition None = by_asking asks
     by_definition (Some d) = e
 
     by_limit : (none : Bool)
         → IsNoSlice (if none then finds_nothing limit answers [] else defined_or_asked asks limit answers q
-        (definitions.find_definition q.reference defined)).target
+        (defined q.reference)).target
     by_limit true = tt
-    by_limit false = by_definition (definitions.find_definition q.reference defined)
+    by_limit false = by_definition (defined q.reference)
 
 module _ (source : List ℕ) (w : BracketContext) (c : Closing ℕ) (may : MayGoOn source w c) where
   ends_so : (i : ℕ) → CanGoOn source c i → EndsSo source c i i

@@ -35,7 +35,7 @@ abbrev setting_by : (options : ℕ) → (asks : Bool) → List ℕ → Setting
 setting_by options asks source =
     setting_of source (record {
       options = record { 0 = options };
-      definitions = [];
+      definitions = λ label. None;
       is_footnote = λ name. false;
       asks = asks;
     })

@@ -21,7 +21,7 @@ use Rattle.markdown_spans.specs.Finds.{address, node_over, read_tree, text_node}
 abbrev setting : List ℕ → Setting
 setting source = record {
   text = source;
-  rules = record { options = record { 0 = 4 }; definitions = []; is_footnote = λ name. false; asks = false };
+  rules = record { options = record { 0 = 4 }; definitions = λ label. None; is_footnote = λ name. false; asks = false };
 }
 
 -- a paragraph, and one in a block quote

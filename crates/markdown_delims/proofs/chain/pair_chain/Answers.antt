@@ -1,5 +1,5 @@
 -- The quotes first, and then the runs; and what that leaves in place.
-use Rattle.std.proofs.Common.{◌≡◌, ℕ, List, [], Option, Some, length, false, refl, ap, sym, ◌∙◌, arith, Ok, Err}
+use Rattle.std.proofs.Common.{◌≡◌, ℕ, List, [], Option, Some, None, length, false, refl, ap, sym, ◌∙◌, arith, Ok, Err}
 use Rattle.std.specs.Prelude.{OnOk, Result, ◌+◌, ◌*◌, ◌^◌, ◌≤◌}
 use Rattle.markdown_base.specs.Arena.{Arena}
 use Rattle.markdown_base.specs.BlockTree.{trees_at}
@@ -29,7 +29,7 @@ on_ok (Err e) f h = h
 
 -- some rules with these options
 abbrev rules_by : Options → Rules
-rules_by options = record { options = options; definitions = []; is_footnote = λ name. false; asks = false }
+rules_by options = record { options = options; definitions = λ label. None; is_footnote = λ name. false; asks = false }
 
 -- all else of the tree stays
 place_is : (old new : Arena Item) → new.spine ≡ old.spine → new.cursor ≡ old.cursor → new

@@ -9,7 +9,6 @@ use Rattle.markdown_raw_html.specs.HtmlTag.{all, both, either, nonempty, often, 
 use Rattle.markdown_items.specs.Found.{entity_at, escape_at, found_at, image_at, mark_at, run_at}
 use Rattle.std.specs.Str.{chars}
 use lib.Utf8.{encode}
-use Rattle.markdown_defs.specs.Definitions.{firsts}
 use Rattle.markdown_defs.specs.Folding.{case_folding}
 use Rattle.markdown_spans.specs.CodeText.{replaced_past}
 use Rattle.markdown_spans.specs.Finds.{read_tree}
@@ -43,7 +42,6 @@ unfolding
     entity_at escape_at found_at image_at mark_at run_at
     chars
     encode
-    firsts
     case_folding
     replaced_past
     read_tree
