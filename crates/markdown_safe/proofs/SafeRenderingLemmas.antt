@@ -11,6 +11,7 @@ use Rattle.markdown_base.specs.declared.fault.Fault.{Fault}
 use Rattle.markdown_base.specs.declared.fault.Fault.TheVariants.{Memory, Blocks, Depth}
 use Rattle.markdown_base.specs.declared.options.Options.{Options}
 use Rattle.markdown_base.specs.declared.tag.TagEnd.{TagEnd}
+use Rattle.markdown_blocks.specs.Blocks.{source_for}
 use Rattle.markdown_blocks.specs.declared.blocks.Blocks as block
 use Rattle.markdown_defs.specs.Callback.{Asks}
 use Rattle.markdown_inline.specs.Balanced.{Ranged, Awaited, EndsInTurn, AreBalancedFrom, ranged}
@@ -22,7 +23,7 @@ use Rattle.markdown_inline.proofs.BalancedLemmas.{balanced-law}
 use Rattle.markdown_out.specs.EventHtml.{html_of}
 use Rattle.markdown_out.specs.HtmlCorrect.{IsRendered, IsOwnFault, GoesTooDeep, StopsAtError, items}
 use Rattle.markdown_render.specs.Rendering.{views_of}
-use Rattle.markdown_render.proofs.RenderingLemmas.{drained, first_drained, memory_alone}
+use Rattle.markdown_render.proofs.RenderingLemmas.{drained, events_alone, first_drained, memory_alone, read_by_rules}
 use Rattle.markdown_safe.specs.HtmlTree.{IsSafeTree}
 use Rattle.markdown_safe.specs.NestedEvents.{IsAwaited, awaited_after, NestFrom, AreNested}
 use Rattle.markdown_safe.specs.SafeEvents.{safe_events}
@@ -83,12 +84,14 @@ rendering {F} extended step text old new options callback p s same empty of hold
     let drains : Drains (NextGives step IsEventOf) p (items a.0) =
     subst (λ (q : Parser F). Drains (NextGives step IsEventOf) q (items a.0)) same a.1 in
     let d = drained step p a.0 drains in
-    let alone : new ≡ html_of (safe_events (map event_view a.0)) =
+    let events : List EventView = map event_view a.0 in
+    let source = source_for extended text options in
+    let alone : new ≡ html_of (safe_events events) =
     r.stands ∙ (ap (λ bytes. bytes ++ html_of (map event_view r.events)) empty ∙ ap html_of a.2) in
     subst (λ (c : Option F). IsSafeEntryRenderingFor extended step c text options new) holds (record {
       blocks = of.blocks;
       of_text = of.of_text;
-      events = map event_view a.0;
+      events = events;
       read = record {
         answers = d.answers;
         after = d.after;
@@ -96,9 +99,13 @@ rendering {F} extended step text old new options callback p s same empty of hold
         are = λ later. rw (← of.left (d.answers ++ later)) (d.are later);
       };
       rendered = alone;
-      tree = λ whole. subst IsSafeTree (sym alone) (html_is_tree (map event_view a.0)
-          (nested_reading of.blocks (is_some (parser_callback p)) d.answers (map event_view a.0)
+      tree = λ whole. subst IsSafeTree (sym alone) (html_is_tree events
+          (nested_reading of.blocks (is_some (parser_callback p)) d.answers events
           (λ later. rw (← of.left (d.answers ++ later)) (d.are later))) whole);
+      by_rules = read_by_rules step extended text options p of events d;
+      alone = λ none nobody. alone ∙ ap (λ (es : List EventView). html_of (safe_events es))
+          (events_alone step (parser_callback p) source events
+          (read_by_rules step extended text options p of events d none) nobody);
     })
 
 -- and it is safe HTML
@@ -187,6 +194,7 @@ module _ {F : Type 0} (step : F → Question → Option Answer → F → Type 0)
         read = λ answers. rw none at (r.read.are answers);
         rendered = r.rendered;
         tree = r.tree;
+        by_rules = λ none. r.alone none refl;
       }
 
   -- and so is where too many Starts are open
