@@ -9,6 +9,8 @@ use Rattle.markdown_base.specs.Questions.{Question, Answer, Answers}
 use Rattle.markdown_base.specs.declared.fault.Fault.{Fault}
 use Rattle.markdown_base.specs.declared.fault.Fault.TheVariants.{Memory}
 use Rattle.markdown_base.specs.declared.options.Options.{Options}
+use Rattle.markdown_blocks.specs.Blocks.{IsOfEntry, source_for, tables_are_read}
+use Rattle.markdown_blocks.specs.declared.blocks.Blocks.{Blocks}
 use Rattle.markdown_defs.specs.Callback.{Asks}
 use Rattle.markdown_inline.specs.Balanced.{ranged}
 use Rattle.markdown_inline.specs.Elements.{Element, event, events_of}
@@ -17,6 +19,8 @@ use Rattle.markdown_inline.specs.NextGives.{NextGives, IsPlacedOf}
 use Rattle.markdown_inline.specs.ParserLeft.{ReadsEntry, elements, parser_callback, offset_parser, reading_of}
 use Rattle.markdown_inline.specs.declared.walk.OffsetIter.{OffsetIter}
 use Rattle.markdown_inline.specs.declared.walk.Parser.{Parser}
+use Rattle.markdown_inline.specs.ReadingOfText.{reading_of_text}
+use Rattle.markdown_inline.proofs.ReadingOfTextLemmas.{text-law}
 use Rattle.markdown_inline.proofs.RunLemmas.{events_of-questions}
 use Rattle.markdown_json.specs.JsonLines.{PlacedEvent, IsWritten, StopsAtError, placed_items, lines_of}
 use Rattle.markdown_json.specs.Json.{line_json}
@@ -90,19 +94,31 @@ module _ {F : Type 0} (step : F → Question → Option Answer → F → Type 0)
       ∙ ap (λ (q : Parser F). ranged (events_of (elements q answers))) is
       ∙ ap (λ (es : List Element). ranged (events_of es)) left
 
+  -- lines of a block result are those of the reading that is defined of its text
+  lines_by_rules : (lines : List Element → List ℕ) (extended : Bool) (text json : List ℕ) (options : Options)
+      (blocks : Blocks) → IsOfEntry extended text options blocks
+      → ((answers : Answers) → json ≡ lines (reading_of blocks false answers))
+      → tables_are_read extended options ≡ false
+      → json ≡ lines (reading_of_text (source_for extended text options) false [])
+  lines_by_rules lines extended text json options blocks of are none =
+      are [] ∙ ap lines (text-law extended text options blocks of none false [])
+
   pub json_of_text : (extended : Bool) (p : Parser F) (o : OffsetIter F) (text old new : List ℕ) (options : Options)
       → IsUtf8 text → offset_parser o ≡ p → ReadsEntry extended text options p → parser_callback p ≡ None → old ≡ []
       → IsWritten Steps o old new → AreEntryLinesOf reading_lines extended text options new
-  json_of_text extended p o text old new options utf8 is reads none empty w = record {
-    is_text = utf8;
-    blocks = reads.blocks;
-    of_text = reads.of_text;
-    written = λ answers.
-        w.stands ∙ ap (λ bytes. bytes ++ lines_of w.events) empty
-        ∙ lines_seen w.events
-        ∙ ap (flat_map ranged_line) (events_of_text extended p o text options w.events is reads none w.read answers)
-        ∙ lines_placed (events_of (reading_of reads.blocks false answers));
-  }
+  json_of_text extended p o text old new options utf8 is reads none empty w =
+      let written : (answers : Answers) → new ≡ reading_lines (reading_of reads.blocks false answers) = λ answers.
+      w.stands ∙ ap (λ bytes. bytes ++ lines_of w.events) empty
+      ∙ lines_seen w.events
+      ∙ ap (flat_map ranged_line) (events_of_text extended p o text options w.events is reads none w.read answers)
+      ∙ lines_placed (events_of (reading_of reads.blocks false answers)) in
+      record {
+        is_text = utf8;
+        blocks = reads.blocks;
+        of_text = reads.of_text;
+        written = written;
+        by_rules = lines_by_rules reading_lines extended text new options reads.blocks reads.of_text written;
+      }
 
   -- and the entries of them are those of the text
   pub outline_of_text : (extended : Bool) (p : Parser F) (o : OffsetIter F) (text old new : List ℕ)
@@ -110,12 +126,15 @@ module _ {F : Type 0} (step : F → Question → Option Answer → F → Type 0)
       → IsUtf8 text → offset_parser o ≡ p → ReadsEntry extended text options p → parser_callback p ≡ None → old ≡ []
       → IsOutlineOfAll Steps o entries → new ≡ old ++ outline_lines entries
       → AreEntryLinesOf heading_lines extended text options new
-  outline_of_text extended p o text old new entries options utf8 is reads none empty all stands = record {
-    is_text = utf8;
-    blocks = reads.blocks;
-    of_text = reads.of_text;
-    written = λ answers.
-        stands ∙ ap (λ bytes. bytes ++ outline_lines entries) empty
-        ∙ ap outline_lines (all.are
-        ∙ ap entries_of (events_of_text extended p o text options all.events is reads none all.read answers));
-  }
+  outline_of_text extended p o text old new entries options utf8 is reads none empty all stands =
+      let written : (answers : Answers) → new ≡ heading_lines (reading_of reads.blocks false answers) = λ answers.
+      stands ∙ ap (λ bytes. bytes ++ outline_lines entries) empty
+      ∙ ap outline_lines (all.are
+      ∙ ap entries_of (events_of_text extended p o text options all.events is reads none all.read answers)) in
+      record {
+        is_text = utf8;
+        blocks = reads.blocks;
+        of_text = reads.of_text;
+        written = written;
+        by_rules = lines_by_rules heading_lines extended text new options reads.blocks reads.of_text written;
+      }
