@@ -2,13 +2,18 @@
 
 -- a block result
 pub use Rattle.markdown_blocks.specs.Blocks.{text_of_blocks, block_options, block_extended, block_arena, block_parts}
-pub use Rattle.markdown_blocks.specs.Blocks.{IsOfEntry, IsOfText, IsOfExtended}
+pub use Rattle.markdown_blocks.specs.Blocks.{IsOfEntry, IsOfText, IsOfExtended, source_for, tables_are_read}
 pub use Rattle.markdown_blocks.specs.declared.blocks.Blocks.{Blocks}
 pub use Rattle.markdown_base.specs.WellFormed.{IsWellFormed, KeepsRules, AllKeepRules, PartCounts, counts_of}
 pub use Rattle.markdown_base.specs.Coverage.{Covers, is_covered, is_in_block, is_inside}
 pub use Rattle.markdown_builder.specs.HeadingsHoldInline.{HeadingsHoldInline, is_heading_block}
 pub use Rattle.markdown_builder.specs.EvenRows.{HasEvenRows, KeepsRows, EachRowContains, is_table, is_table_row}
 pub use Rattle.markdown_builder.specs.Shown.{Shown, shown_result}
+-- the block result of a text, by definition
+pub use Rattle.markdown_block_rules.specs.BlockResults.{IsBlockResult}
+pub use Rattle.markdown_block_rules.specs.BlockRules.{block_tree, block_definitions, block_footnotes}
+pub use Rattle.markdown_builder.specs.BuilderView.{Definition}
+pub use Rattle.markdown_lines.specs.BlockBeginnings.{Source}
 -- a tree, as nodes by number and as a forest of items
 pub use Rattle.markdown_base.specs.Arena.{Arena, items_of, child_of, sibling_of}
 pub use Rattle.markdown_base.specs.ArenaChanges.{innermost, single, changed_at, follower, led_to, appended}

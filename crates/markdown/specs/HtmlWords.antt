@@ -9,6 +9,7 @@ pub use Rattle.markdown_out.specs.ImageHtml.{ImagesHaveParts, AreMatched, alt_te
 pub use Rattle.markdown_out.specs.HtmlCorrect.{items, IsRendered, StopsAtError, IsOwnFault}
 pub use Rattle.markdown_out.specs.HtmlCorrect.{IsCutShort, IsCutAtEnd, GoesTooDeep}
 -- the HTML of a text, and of what is left of a parser
+pub use Rattle.markdown_render.specs.HtmlOfText.{html_of_text}
 pub use Rattle.markdown_render.specs.Rendering.{views_of, IsRenderingOf, IsTooDeepOf}
 pub use Rattle.markdown_render.specs.Rendering.{IsEntryRenderingOf, IsEntryTooDeepOf}
 pub use Rattle.markdown_render.specs.RenderingFor.{AreEventsFor, IsRenderingFor, AreFirstEventsFor, IsTooDeepFor}

@@ -8,6 +8,10 @@ pub use Rattle.markdown_document.specs.LinkOrigins.{LinkOrigins, destination_ori
 pub use Rattle.markdown_document.specs.Places.{follows_pipe, origin_start}
 pub use Rattle.markdown_document.specs.LinkOrigins.{LeadsToSlice, titles_for}
 pub use Rattle.markdown_document.specs.LinkTitle.{Title, title_at, title_origin}
+-- the reading of a text, by definition
+pub use Rattle.markdown_inline.specs.DocumentOfText.{document_of}
+pub use Rattle.markdown_inline.specs.ReadingOfText.{reading_of_text, events_of_text, rules_of_text}
+pub use Rattle.markdown_inline.specs.TextLaw.{TextLaw}
 -- the tree of a block result, and the reading of it
 pub use Rattle.markdown_inline.specs.ResolvedDocument.{Resolution, Resolving, resolved_blocks, resolved_document}
 pub use Rattle.markdown_inline.specs.ResolvedDocument.{resolved_chain}

@@ -67,9 +67,9 @@ pub mod laws {
     pub use markdown_inline::laws::{
         document_asks_once_for_each_bracket, events_are_balanced, look_ups_expand_to_few_bytes,
         no_link_starts_in_a_link, questions_of_one_chain_end_apart, reading_goes_part_by_part,
-        reading_is_that_of_the_tree, reading_of_blocks_is_that_of_their_tree,
-        references_expand_to_few_bytes, resolving_makes_no_block, slices_of_blocks_are_in_place,
-        walk_reads_what_is_defined,
+        reading_is_that_of_the_tree, reading_of_blocks_is_that_of_the_text,
+        reading_of_blocks_is_that_of_their_tree, references_expand_to_few_bytes,
+        resolving_makes_no_block, slices_of_blocks_are_in_place, walk_reads_what_is_defined,
     };
     pub use markdown_out::laws::{
         a_mapped_iterator_can_be_merged, a_mapped_iterator_stays_ended, a_stream_can_be_merged,

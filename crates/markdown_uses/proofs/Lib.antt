@@ -5,3 +5,5 @@ pub mod LinkRewriterLemmas
 pub mod TextReadingLemmas
 pub mod LinkCheckerLemmas
 pub mod LinterLemmas
+-- the HTML of one text, computed
+pub mod HelloLemmas

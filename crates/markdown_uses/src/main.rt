@@ -3,6 +3,7 @@
 
 mod comments;
 mod contents;
+mod hello;
 mod link_checker;
 mod link_rewriter;
 mod linter;
@@ -50,6 +51,8 @@ Glaze & fruit
 /// Returns the output of each use, one after another.
 fn report(alloc: Global, source: &str) -> Result<String, Fault> {
     let mut notes = String::new(alloc);
+    let html = hello::hello_page(alloc)?;
+    notes.push_str(html.as_str())?;
     let html = site_generator::page_html(alloc, source, Options::empty())?;
     notes.push_str(html.as_str())?;
     let html = comments::comment_html(alloc, COMMENT, Options::empty())?;
