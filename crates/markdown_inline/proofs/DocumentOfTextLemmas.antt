@@ -1,5 +1,5 @@
 -- The document of a text is that of each of its block results, whatever the numbers by which items refer to parts.
-use Rattle.std.proofs.Common.{◌≡◌, ℕ, zero, suc, ◌-◌, Bool, true, false, List, [], ◌∷◌, Option, Some, None, refl, sym}
+use Rattle.std.proofs.Common.{◌≡◌, ℕ, zero, suc, ◌-◌, false, List, [], ◌∷◌, Some, None, refl, sym}
 use Rattle.std.proofs.Common.{ap, ◌∙◌, map, subst}
 use Rattle.std.specs.Option.{option_map}
 use Rattle.std.specs.Prelude.{slice_get, slice_range, unwrap_or}
@@ -23,11 +23,10 @@ use Rattle.markdown_base.specs.declared.tag.HeadingLevel.{HeadingLevel}
 use Rattle.markdown_block_rules.proofs.MadeLaterLemmas.{nothing_made_later}
 use Rattle.markdown_block_rules.specs.MadeLater.{is_made_later}
 use Rattle.markdown_block_rules.specs.BlockResults.{IsBlockResult}
-use Rattle.markdown_block_rules.specs.BlockRules.{block_tree}
 use Rattle.markdown_builder.specs.Shown.{Parts, Shown, alignments_shown, heading_shown, shown_item, shown_result}
 use Rattle.markdown_builder.specs.Shown.{stored_parts, text_shown, unnumbered}
-use Rattle.markdown_document.specs.Document.{Plain, Shape, block_of, document, enclosed, shape_of, tree_node_of}
-use Rattle.markdown_document.specs.Tables.{Tables, alignments_at, heading_at, tables_at_start, text_at}
+use Rattle.markdown_document.specs.Document.{Shape, block_of, document, enclosed, shape_of, tree_node_of}
+use Rattle.markdown_document.specs.Tables.{alignments_at, heading_at, tables_at_start, text_at}
 use Rattle.markdown_inline.specs.DocumentOfText.{document_of, node_shown, shape_with, tables_for}
 use Rattle.markdown_lines.specs.BlockBeginnings.{Source}
 

@@ -1,5 +1,5 @@
 -- A block result that the rules of blocks make of a text has the reading of the text.
-use Rattle.std.proofs.Common.{◌≡◌, ℕ, Bool, true, false, List, [], ◌∷◌, Option, Some, None, cond, map, refl, sym, ap}
+use Rattle.std.proofs.Common.{◌≡◌, ℕ, Bool, true, false, List, [], ◌∷◌, Some, cond, map, refl, ap}
 use Rattle.std.proofs.Common.{◌∙◌}
 use Rattle.std.proofs.Math.Path.{fun_ext}
 use Rattle.std.specs.List.{list_any}
@@ -28,7 +28,6 @@ use Rattle.markdown_inline.specs.ParserLeft.{rules_of}
 use Rattle.markdown_inline.specs.Reading.{reading}
 use Rattle.markdown_inline.specs.TextLaw.{TextLaw}
 use Rattle.markdown_inline.specs.ReadingOfText.{defined_by, rules_of_text, state_at_start, unlabelled}
-use Rattle.markdown_lines.specs.BlockBeginnings.{Source}
 
 -- a label refers to the same by definitions as they are stored
 same_found : (label : List ℕ) (definitions : List Labelled)
