@@ -9,7 +9,8 @@ use Rattle.markdown_lines.specs.BlockBeginnings as line
 use Rattle.markdown_lines.specs.BlockBeginnings.{Source, begins}
 use Rattle.markdown_lines.specs.SourceLines.{SourceLine, is_blank_rest, text_line}
 use Rattle.markdown_block_rules.specs.BlockGrowth as was
-use Rattle.markdown_block_rules.specs.BlockGrowth.{Block, Kind, goes_on, is_nil, is_text, table_with, with_lazy, with_line}
+use Rattle.markdown_block_rules.specs.BlockGrowth.{Block, Kind, goes_on, is_nil, is_text, table_with, with_lazy}
+use Rattle.markdown_block_rules.specs.BlockGrowth.{with_line}
 use Rattle.markdown_block_rules.specs.BlockRules.{are_separated, is_blank_block, is_loose}
 use Rattle.markdown_block_rules.specs.TableLines.{further_line}
 use Rattle.markdown_plain.specs.declared.looseness.Looseness.{Looseness}

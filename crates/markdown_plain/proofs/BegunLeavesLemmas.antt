@@ -86,11 +86,13 @@ no_paragraph lines to none = subst (λ (ls : List HeldLine). lines_end ls ≤ to
 pub line_places : (s : Source) (now : Pass) (to : ℕ) (frames : List Frame) (before blocks : Forest Block) (b : Block)
     (inside : Forest Block) (last : Option Block) → with_last inside last ≡ followed_by before (leaf_block b)
     → IsLeafOf b → source_of now ≡ s → PlacesLast s now frames inside last → MetadataAlone last frames
-    → IfParagraphLast s (Remembers s now to) last → QuotesEnd to frames → AreOpenedBefore to frames → IsLooseBefore now.looseness frames before
+    → IfParagraphLast s (Remembers s now to) last → QuotesEnd to frames → AreOpenedBefore to frames
+    → IsLooseBefore now.looseness frames before
     → now.blanks.items ≡ [] → lines_end now.lines.items ≤ to
     → blocks ≡ rebuilt frames (followed_by before (leaf_block b)) → AreItemsInLists false blocks
     → IsReadyAfter now to → PlacesFor s now to blocks
-line_places s now to frames before blocks b inside last is leaf source unended alone remembers quotes earlier loose blanks ends
+line_places s now to frames before blocks b inside last is leaf source unended alone remembers quotes earlier loose
+    blanks ends
     begins items ready =
     let whole : blocks ≡ rebuilt frames (with_last inside last) = begins ∙ ap (rebuilt frames) (sym is) in
     record {
@@ -120,10 +122,12 @@ leaf_in_room : (s : Source) (room now : Pass) (rest : LineRest) (source : Source
     (blocks : Forest Block) (b : Block) (inside : Forest Block) (last : Option Block)
     (has : HasRoom s room rest source begun blocks) → MayBegin s now rest.line has.frames has.inside → IsLeafOf b
     → with_last inside last ≡ followed_by has.inside (leaf_block b) → PlacesLast s now has.frames inside last
-    → MetadataAlone last has.frames → IfParagraphLast s (Remembers s now rest.line.next) last → new_blocks (inside_of (begun_by s) source) source begun ≡ leaf_block b
+    → MetadataAlone last has.frames → IfParagraphLast s (Remembers s now rest.line.next) last
+    → new_blocks (inside_of (begun_by s) source) source begun ≡ leaf_block b
     → now.placing.builder.at ≡ rest.line.next → PlacesFor s now rest.line.next blocks
 leaf_in_room s room now rest source begun blocks b inside last has may leaf is unended alone remembers begins here =
-    line_places s now rest.line.next has.frames has.inside blocks b inside last is leaf may.source unended alone remembers
+    line_places s now rest.line.next has.frames has.inside blocks b inside last is leaf may.source unended alone
+        remembers
     may.quotes may.earlier may.loose may.blanks (no_paragraph now.lines.items rest.line.next may.lines)
     (begun_in_room s room rest source begun blocks has
     ∙ ap (λ made. rebuilt has.frames (followed_by has.inside made)) begins)

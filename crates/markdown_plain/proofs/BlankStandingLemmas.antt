@@ -38,7 +38,8 @@ use Rattle.markdown_plain.specs.Settled.{AreOpen, BlanksKnown, IsLooseAs, Quotes
 use Rattle.markdown_plain.specs.ReachedLines.{Before, IsReachedBy, LeavesOff, blocks_before, blocks_in, is_indented}
 use Rattle.markdown_plain.specs.ReachedLines.{reached_of}
 use Rattle.markdown_plain.specs.declared.containers.Reached as code
-use Rattle.markdown_plain.specs.Standing.{AreOpenedBefore, GoesOnBy, HasLast, HoldsBlanks, IsLeafKind, IsSource, KnowsLast}
+use Rattle.markdown_plain.specs.Standing.{AreOpenedBefore, GoesOnBy, HasLast, HoldsBlanks, IsLeafKind, IsSource}
+use Rattle.markdown_plain.specs.Standing.{KnowsLast}
 use Rattle.markdown_plain.specs.Standing.{StandsFor, with_last}
 use Rattle.markdown_plain.proofs.AppendedBlocksLemmas.{blank_is_at_end, blank_is_built}
 use Rattle.markdown_plain.proofs.BlankLinesLemmas.{blank_quotes, empty_blank, item_reached}
@@ -501,7 +502,8 @@ closed_to_reached s old mid line found before source by closes fitted =
 
 -- ---- whether the open leaf is indented code
 
-indented_is : (how : LeafKind) (kind : Kind) → GoesOnBy how kind → (how ≡ leaf.Indented → not (is_table kind) ≡ true → ⊥)
+indented_is : (how : LeafKind) (kind : Kind) → GoesOnBy how kind
+    → (how ≡ leaf.Indented → not (is_table kind) ≡ true → ⊥)
     → is_indented kind ≡ false
 indented_is leaf.Indented (was.indented_leaf lines) is other = absurd (other refl refl)
 indented_is how (was.indented_leaf lines) is other = absurd is

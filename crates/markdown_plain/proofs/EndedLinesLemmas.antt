@@ -1,5 +1,5 @@
--- A line in which the last block does not go on, if that is a leaf block: no cell is added, and what is counted of cells
--- does not matter.
+-- A line in which the last block does not go on, if that is a leaf block: no cell is added, and what is counted of
+-- cells does not matter.
 use Rattle.std.proofs.Common.{◌≡◌, Bool, true, false, not, ◌&&◌, List, [], ◌∷◌, Option, Some, None, refl, sym}
 use Rattle.std.proofs.Common.{ap, ◌∙◌, arith, subst, true≢false}
 use Rattle.std.proofs.Math.Bool.{and-false}

@@ -18,7 +18,8 @@ use Rattle.markdown_lines.specs.declared.held_line.HeldLine.{HeldLine}
 use Rattle.markdown_lines.specs.declared.line.Line.{Line}
 use Rattle.markdown_block_rules.specs.BlockGrowth as was
 use Rattle.markdown_block_rules.specs.BlockGrowth.{Block, Kind, leaf_with, with_line}
-use Rattle.markdown_block_rules.specs.BlockRules.{Around, in_no_item, is_blank_block, shown_blocks, shown_row, shown_rows}
+use Rattle.markdown_block_rules.specs.BlockRules.{Around, in_no_item, is_blank_block, shown_blocks, shown_row}
+use Rattle.markdown_block_rules.specs.BlockRules.{shown_rows}
 use Rattle.markdown_plain.specs.declared.containers.Reached as code
 use Rattle.markdown_plain.specs.declared.pass.Pass.{Pass}
 use Rattle.markdown_plain.specs.Closing.{AreItemsInLists, MayEnd}
@@ -53,7 +54,8 @@ rows_more : (s : Source) (columns : ℕ) (rows : List SourceLine) (l : SourceLin
     → shown_rows s columns (rows ++ l ∷ [])
     ≡ followed_by (shown_rows s columns rows) (shown_row s columns body.TableRow l)
 rows_more s columns [] l = refl
-rows_more s columns (row ∷ rows) l = ap (followed_by (shown_row s columns body.TableRow row)) (rows_more s columns rows l)
+rows_more s columns (row ∷ rows) l = ap (followed_by (shown_row s columns body.TableRow row))
+    (rows_more s columns rows l)
 
 -- an item that ends at a byte offset
 abbrev ended_at : ℕ → Shown → Shown

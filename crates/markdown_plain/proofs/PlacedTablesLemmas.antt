@@ -1,4 +1,5 @@
--- What the pass has placed with the delimiter row of a table: the table, which is open, after the lines before its head.
+-- What the pass has placed with the delimiter row of a table: the table, which is open, after the lines before its
+-- head.
 use Rattle.std.proofs.Common.{◌≡◌, ℕ, ◌≤◌, Bool, true, false, not, ◌&&◌, ◌||◌, List, [], ◌∷◌, ◌++◌, Option, Some, None}
 use Rattle.std.proofs.Common.{map, arith, refl, sym, ap, ◌∙◌, subst, append-nil, true≢false}
 use Rattle.std.specs.Prelude.{if◌then◌else◌}
@@ -96,7 +97,8 @@ module _ (one other : Forest Block) (apart : are_separated one ≡ are_separated
     (same : is_loose one ≡ is_loose other) where
   separated_alike : (frames : List Frame) → are_separated (rebuilt frames one) ≡ are_separated (rebuilt frames other)
   separated_alike [] = apart
-  separated_alike (f ∷ frames) = closed_separated f (rebuilt frames one) ∙ sym (closed_separated f (rebuilt frames other))
+  separated_alike (f ∷ frames) = closed_separated f (rebuilt frames one)
+      ∙ sym (closed_separated f (rebuilt frames other))
 
   loose_alike : (frames : List Frame) → is_loose (rebuilt frames one) ≡ is_loose (rebuilt frames other)
   loose_alike [] = same

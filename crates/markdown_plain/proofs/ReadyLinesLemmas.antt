@@ -192,7 +192,8 @@ leaf_ready s pass frames inside b true to leaf is lines blanks end boundary =
       boundary = boundary;
       lines = lines;
       blanks = blanks;
-      containers = subst AreContainers (sym (without_built s view frames (followed_by inside (leaf_block b)) is.built)) are;
+      containers = subst AreContainers
+          (sym (without_built s view frames (followed_by inside (leaf_block b)) is.built)) are;
       leaf = λ there. absurd (true≢false (sym there ∙ is.built.outside));
       plain = built_plain s view frames (followed_by inside (leaf_block b)) is.built;
     })

@@ -1,6 +1,7 @@
 -- What is remembered of a paragraph with one more line, or with its first: whether it was tried if only definitions
 -- precede a table's head, and that its last line may be read again.
-use Rattle.std.proofs.Common.{◌≡◌, ℕ, zero, suc, ◌<◌, ◌-◌, Bool, true, false, not, ◌||◌, List, [], ◌∷◌, ◌++◌, Option, Some, None}
+use Rattle.std.proofs.Common.{◌≡◌, ℕ, zero, suc, ◌<◌, ◌-◌, Bool, true, false, not, ◌||◌, List, [], ◌∷◌, ◌++◌, Option}
+use Rattle.std.proofs.Common.{Some, None}
 use Rattle.std.proofs.Common.{arith, length, length-append, slice_get, refl, sym, ap, ◌∙◌, subst, append-nil}
 use Rattle.std.specs.Prelude.{if◌then◌else◌}
 use Rattle.std.specs.Option.{option_map_or}
@@ -32,7 +33,8 @@ use Rattle.markdown_plain.proofs.AddedLinesLemmas.{end_after}
 -- ---- the next line
 
 -- it has the bytes of the rest of the line
-further_same : (s : Source) (l : SourceLine) → (further_line s l ≡ record (text_line l) { indent = (further_line s l).indent })
+further_same : (s : Source) (l : SourceLine)
+    → (further_line s l ≡ record (text_line l) { indent = (further_line s l).indent })
 further_same s l = either (reads_tables s)
   where
     either : (reads : Bool)
@@ -44,7 +46,8 @@ further_same s l = either (reads_tables s)
     either true = refl
     either false = refl
 
-pub next_same : (s : Source) (r : Reached) → next_line s r ≡ record (text_line r.rest) { indent = (next_line s r).indent }
+pub next_same : (s : Source) (r : Reached)
+    → next_line s r ≡ record (text_line r.rest) { indent = (next_line s r).indent }
 next_same s r = either (are_none r.inner)
   where
     either : (all : Bool) → (if all then further_line s r.rest else text_line r.rest)
@@ -237,7 +240,8 @@ more_remembered s old new line start frames now source sources same lines some b
 -- ---- once a line that is not blank was read
 
 further_seen : (s : Source) (pass new : Pass) (line : Line) (last : SourceLine)
-    → new ≡ record pass { looseness = record pass.looseness { blank_from = new.looseness.blank_from }; placed = new.placed }
+    → new ≡ record pass
+    { looseness = record pass.looseness { blank_from = new.looseness.blank_from }; placed = new.placed }
     → IsFurther s pass line last → IsFurther s new line last
 further_seen s pass new line last same is = subst (λ (p : Pass). IsFurther s p line last) (sym same) (record {
   frames = is.frames;
@@ -260,7 +264,8 @@ further_seen s pass new line last same is = subst (λ (p : Pass). IsFurther s p 
 
 -- as much is remembered
 pub seen_remembered : (s : Source) (pass new : Pass) (to : ℕ) (last : Option Block)
-    → new ≡ record pass { looseness = record pass.looseness { blank_from = new.looseness.blank_from }; placed = new.placed }
+    → new ≡ record pass
+    { looseness = record pass.looseness { blank_from = new.looseness.blank_from }; placed = new.placed }
     → IfParagraphLast s (Remembers s pass to) last → IfParagraphLast s (Remembers s new to) last
 seen_remembered s pass new to None same is = tt
 seen_remembered s pass new to (Some b) same is = by_kind b.kind is

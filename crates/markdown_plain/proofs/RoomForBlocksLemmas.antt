@@ -138,7 +138,8 @@ module _ (s : Source) (frames : List Frame) (inside : Forest Block) (b : Block) 
           → goes_on s (rebuilt (reached s frames blocks l).inner blocks) rest ≡ None
       by_inner [] same =
           ap (λ (fs : List Frame). goes_on s (rebuilt fs blocks) rest) same
-          ∙ reached_stops s rest inside b lines begun (untabled (ap are_none same)) kind filled (begins_where [] same) block
+          ∙ reached_stops s rest inside b lines begun (untabled (ap are_none same)) kind filled (begins_where [] same)
+          block
       by_inner (f ∷ others) same =
           inner_goes_lazily s frames blocks l f others are same
           ∙ lazily_stops s rest (rebuilt (reached s frames blocks l).inner blocks) begun

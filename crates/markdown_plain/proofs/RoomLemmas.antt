@@ -109,7 +109,8 @@ built_open s pass frames inside blocks built items =
     let view = pass.placing.builder in
     record {
       texts = view.texts;
-      are = subst (λ blocks. AreOpen view.texts blocks frames) (sym (without_built s view frames inside built)) built.blocks;
+      are = subst (λ blocks. AreOpen view.texts blocks frames) (sym (without_built s view frames inside built))
+          built.blocks;
       nested = built.nested;
       items = items;
     }

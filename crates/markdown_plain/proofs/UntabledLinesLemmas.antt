@@ -106,7 +106,8 @@ untabled_lazily s pass from r sources lazy indent remembers =
     ap (λ test. if test then further_line s r.rest else text_line r.rest) lazy in
     record {
       ends = remembers.ends;
-      tried = remembers.tried ∙ (sym (hold_none s sources (text_line r.rest) (λ head. lazy_row s head (text_line r.rest) indent))
+      tried = remembers.tried
+          ∙ (sym (hold_none s sources (text_line r.rest) (λ head. lazy_row s head (text_line r.rest) indent))
           ∙ ap (λ row. hold_fitting s (sources ++ row ∷ [])) (sym next));
       none = λ all. absurd (true≢false (sym all ∙ lazy));
     }

@@ -1,5 +1,5 @@
--- A line whose first byte shows that it is text is no delimiter row: it makes no table of the open paragraph, and what is
--- remembered of that stays.
+-- A line whose first byte shows that it is text is no delimiter row: it makes no table of the open paragraph, and what
+-- is remembered of that stays.
 use Rattle.std.proofs.Common.{◌≡◌, ℕ, Bool, true, false, not, ◌||◌, List, [], ◌∷◌, ◌++◌, Option, Some, None}
 use Rattle.std.proofs.Common.{refl, sym, ap, ◌∙◌}
 use Rattle.std.specs.Prelude.{if◌then◌else◌}

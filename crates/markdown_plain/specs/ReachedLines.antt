@@ -55,8 +55,8 @@ pub record IsReachedBy (s : Source) (pass : Pass) (line : Line) (reached : Reach
 
 -- Before a line in which the last block does not go on, if that is a leaf block, the pass stands for blocks from which
 -- the line makes the next ones. They are those that were made so far; but where the line is no row of the open table
--- only since too many cells would be added, that is ended. No cell is added in any case, and no table that takes no rows
--- is at the end.
+-- only since too many cells would be added, that is ended. No cell is added in any case, and no table that takes no
+-- rows is at the end.
 pub record GoesOffAs (s : Source) (pass : Pass) (line : Line) (reached : Reached) (made : Before)
     (source : SourceLine) : Type 0 where
   pub before : Before

@@ -1,5 +1,5 @@
--- What the pass stands for between two lines: the blocks of the lines so far. And what it stands for once a line that is
--- not blank is placed, before that is recorded.
+-- What the pass stands for between two lines: the blocks of the lines so far. And what it stands for once a line that
+-- is not blank is placed, before that is recorded.
 use Rattle.std.specs.Prelude.{◌≡◌, ℕ, ◌<◌, ◌≤◌, Bool, true, false, List, [], ◌∷◌, ◌++◌, Option, Some, None}
 use Rattle.std.specs.Str.{IsCharBoundary, IsUtf8}
 use Rattle.markdown_base.specs.Forest.{Forest}
@@ -49,7 +49,8 @@ HoldsBlanks held (was.indented_leaf lines) =
     (blank : List SourceLine) × (lines ≡ code_lines lines ++ blank) × AreHeld held blank
 HoldsBlanks held other = held ≡ []
 
--- the pass remembers how the last block goes on: a paragraph's lines are held back, or a leaf block is open and none are
+-- the pass remembers how the last block goes on: a paragraph's lines are held back, or a leaf block is open and none
+-- are
 abbrev pub KnowsLast : Pass → Block → Option (List SourceLine) → Type 0
 KnowsLast pass b (Some sources) = Unit
 KnowsLast pass b None =

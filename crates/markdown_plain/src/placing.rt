@@ -1,7 +1,7 @@
 //! The block pass's calls of its builder, each made only where it fits: byte offsets are not before the current one and
 //! lie between characters, inline items are put into a leaf, and blocks outside one. A call that does not fit is
-//! counted, and makes nothing; there is none where no tables are read, and the tests show that there is none elsewhere.
-//! Functions that return a `Result` fail only where memory is refused.
+//! counted, and makes nothing; no text has one (`misfits` of `block_pass`). Functions that return a `Result` fail only
+//! where memory is refused.
 ghost use Rattle.std.specs.Prelude.{◌≡◌, true, false, length};
 ghost use Rattle.markdown_builder.specs.Bodies.{is_leaf, is_plain_block};
 ghost use Rattle.markdown_builder.specs.EvenRows.{InnermostRowIsEven, is_table_row};

@@ -6,7 +6,8 @@ use Rattle.markdown_lines.specs.HeldDefinitions.{IsFirstDefinition}
 use Rattle.markdown_lines.specs.SourceLines.{SourceLine}
 use Rattle.markdown_lines.specs.declared.definition.Definition.{Definition}
 use Rattle.markdown_plain.specs.HeldSources.{IsParagraph}
-use Rattle.markdown_plain.proofs.DefinitionLinesLemmas.{IsLeftOf, left_after, left_all, left_empty, left_none, left_other}
+use Rattle.markdown_plain.proofs.DefinitionLinesLemmas.{IsLeftOf, left_after, left_all, left_empty, left_none}
+use Rattle.markdown_plain.proofs.DefinitionLinesLemmas.{left_other}
 use Rattle.markdown_plain.proofs.DefinitionLinesLemmas.{read_next}
 use Rattle.markdown_plain.proofs.tables.are_definitions.Goals as goal
 

@@ -1,5 +1,6 @@
 -- What has not ended is the last block in the innermost open container: a leaf that is closed, or a paragraph.
-use Rattle.std.proofs.Common.{◌≡◌, ◌∙◌, List, Option, Some, None, ◌==◌, true, false, not, arith, length, rules, sym, true≢false}
+use Rattle.std.proofs.Common.{◌≡◌, ◌∙◌, List, Option, Some, None, ◌==◌, true, false, not, arith, length, rules, sym}
+use Rattle.std.proofs.Common.{true≢false}
 use Rattle.std.proofs.lemmas.Bool.Decides.{nat_tests}
 use Rattle.markdown_base.specs.Forest.{Forest}
 use Rattle.markdown_builder.specs.TreeLevels.{followed_by}
