@@ -2,7 +2,7 @@
 
 -- a block result
 pub use Rattle.markdown_blocks.specs.Blocks.{text_of_blocks, block_options, block_extended, block_arena, block_parts}
-pub use Rattle.markdown_blocks.specs.Blocks.{IsOfEntry, IsOfText, IsOfExtended, source_for, tables_are_read}
+pub use Rattle.markdown_blocks.specs.Blocks.{IsOfEntry, IsOfText, IsOfExtended, source_for}
 pub use Rattle.markdown_blocks.specs.declared.blocks.Blocks.{Blocks}
 pub use Rattle.markdown_base.specs.WellFormed.{IsWellFormed, KeepsRules, AllKeepRules, PartCounts, counts_of}
 pub use Rattle.markdown_base.specs.Coverage.{Covers, is_covered, is_in_block, is_inside}

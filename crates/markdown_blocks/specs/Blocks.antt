@@ -1,13 +1,11 @@
 -- What contracts see of a `Blocks`, and what it means that it is the block result of a text.
-use Rattle.std.specs.Prelude.{◌≡◌, ◌&&◌, ℕ, Bool, true, false, List}
+use Rattle.std.specs.Prelude.{◌≡◌, ℕ, Bool, true, false, List}
 use Rattle.markdown_base.specs.declared.block_parts.BlockParts.{BlockParts}
 use Rattle.markdown_base.specs.declared.item.Item.{Item}
 use Rattle.markdown_base.specs.declared.options.Options.{Options}
-use Rattle.markdown_base.specs.declared.options.TheConstants.Options.{ENABLE_TABLES}
 use Rattle.markdown_base.specs.Arena.{Arena}
 use Rattle.markdown_base.specs.BlockTree.{tree_of}
 use Rattle.markdown_base.specs.Coverage.{Covers}
-use Rattle.markdown_base.specs.EnabledOptions.{is_on}
 use Rattle.markdown_base.specs.ExtendedOptions.{with_extended}
 use Rattle.markdown_base.specs.WellFormed.{IsWellFormed}
 use Rattle.markdown_builder.specs.EvenRows.{HasEvenRows}
@@ -41,13 +39,9 @@ block_parts b = b.parts
 abbrev pub source_for : (extended : Bool) → (text : List ℕ) → Options → Source
 source_for extended text options = record { text = text; options = with_extended extended options }
 
--- the entry reads tables with these options: the present one reads none
-abbrev pub tables_are_read : (extended : Bool) → Options → Bool
-tables_are_read extended options = extended && is_on ENABLE_TABLES options
-
 -- b has this text and these options, is of the extended entry or of the present one, and is a well-formed block result
 -- that covers the text, whose headings hold inline items alone, and whose tables have rows with as many cells as the
--- table has alignments; and where no tables are read, it is the one that the rules of blocks make of the text
+-- table has alignments; and it is the one that the rules of blocks make of the text
 pub record IsOfEntry (extended : Bool) (text : List ℕ) (options : Options) (b : Blocks) : Type 0 where
   pub holds_text : text_of_blocks b ≡ text
   pub holds_options : block_options b ≡ options
@@ -56,8 +50,7 @@ pub record IsOfEntry (extended : Bool) (text : List ℕ) (options : Options) (b 
   pub covers : Covers (text_of_blocks b) (block_arena b).nodes (block_parts b)
   pub headings_hold_inline : HeadingsHoldInline (tree_of (block_arena b).nodes)
   pub has_even_rows : HasEvenRows (shown_result (block_arena b).nodes (block_parts b))
-  pub by_rules : tables_are_read extended options ≡ false
-      → IsBlockResult (source_for extended text options) (block_arena b).nodes (block_parts b)
+  pub by_rules : IsBlockResult (source_for extended text options) (block_arena b).nodes (block_parts b)
 
 -- the same of the present entry, and of the extended one
 abbrev pub IsOfText : (text : List ℕ) → Options → Blocks → Type 0

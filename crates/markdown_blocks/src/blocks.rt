@@ -155,9 +155,8 @@ impl<'a> Blocks<'a> {
         Blocks::of_entry(alloc, text, options, false)
     }
 
-    /// Returns the block result of a text that is read by the extended entry: the same is true of it, except that where
-    /// tables are read it is not proved to be the one that the rules give. The rows of a table have as many cells as the
-    /// table has alignments.
+    /// Returns the block result of a text that is read by the extended entry: the same is true of it. The rows of a table
+    /// have as many cells as the table has alignments.
     ///
     /// # Errors
     ///

@@ -87,8 +87,8 @@ read_with text rules trees answers =
 
 pub text-law : TextLaw
 unfolding read_with
-text-law extended text options blocks of none asks answers =
-    let is = of.by_rules none in
+text-law extended text options blocks of asks answers =
+    let is = of.by_rules in
     let source = source_for extended text options in
     let nodes = (block_arena blocks).nodes in
     let tables = tables_at_start (block_parts blocks) in

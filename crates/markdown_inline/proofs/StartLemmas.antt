@@ -390,7 +390,7 @@ of_some_text extended text options blocks (Ok p) of left found = record {
   of_text = of;
   left = left;
   definitions = found;
-  by_rules = λ none answers.
-      left answers ∙ text-law extended text options blocks of none (is_some (parser_callback p)) answers;
+  by_rules = λ answers.
+      left answers ∙ text-law extended text options blocks of (is_some (parser_callback p)) answers;
 }
 of_some_text extended text options blocks (Err fault) of left found = tt

@@ -9,7 +9,7 @@ use Rattle.markdown_base.specs.declared.item.Item.{Item}
 use Rattle.markdown_base.specs.declared.options.Options.{Options}
 use Rattle.markdown_base.specs.ExtendedOptions.{with_extended}
 use Rattle.markdown_blocks.specs.Blocks.{text_of_blocks, block_options, block_extended, block_arena, block_parts}
-use Rattle.markdown_blocks.specs.Blocks.{IsOfEntry, source_for, tables_are_read}
+use Rattle.markdown_blocks.specs.Blocks.{IsOfEntry, source_for}
 use Rattle.markdown_defs.specs.Definitions.{Labelled, firsts}
 use Rattle.markdown_defs.specs.Folding.{is_match}
 use Rattle.markdown_blocks.specs.declared.blocks.Blocks.{Blocks}
@@ -108,14 +108,14 @@ ReadsBlocks blocks p = (answers : Answers)
     → elements p answers ≡ reading_of blocks (is_some (parser_callback p)) answers
 
 -- the same of some block result of a text and options, of one of the entries: one that is well formed and covers the
--- text. The reference definitions that can be found are those of this block result. Where no tables are read, what is
--- left is the reading that is defined of the text.
+-- text. The reference definitions that can be found are those of this block result. What is left is the reading that is
+-- defined of the text.
 pub record ReadsEntry {F : Type 0} (extended : Bool) (text : List ℕ) (options : Options) (p : Parser F) : Type 0 where
   pub blocks : Blocks
   pub of_text : IsOfEntry extended text options blocks
   pub left : ReadsBlocks blocks p
   pub definitions : parser_definitions p ≡ findable_definitions blocks
-  pub by_rules : tables_are_read extended options ≡ false → (answers : Answers)
+  pub by_rules : (answers : Answers)
       → elements p answers
       ≡ reading_of_text (source_for extended text options) (is_some (parser_callback p)) answers
 

@@ -11,7 +11,7 @@ use Rattle.markdown_base.specs.declared.event.Event.{Event}
 use Rattle.markdown_base.specs.declared.fault.Fault.{Fault}
 use Rattle.markdown_base.specs.declared.fault.Fault.TheVariants.{Memory, Blocks, Depth}
 use Rattle.markdown_base.specs.declared.options.Options.{Options}
-use Rattle.markdown_blocks.specs.Blocks.{source_for, tables_are_read}
+use Rattle.markdown_blocks.specs.Blocks.{source_for}
 use Rattle.markdown_defs.specs.Callback.{Asks}
 use Rattle.markdown_inline.specs.Elements.{Placed, events_of, questions_of}
 use Rattle.markdown_inline.specs.NextGives.{NextGives, IsEventOf}
@@ -144,14 +144,14 @@ module _ {F : Type 0} (step : F → Question → Option Answer → F → Type 0)
   -- a new parser's events are those of the reading that is defined of its text
   pub read_by_rules : (extended : Bool) (text : List ℕ) (options : Options) (p : Parser F)
       → ReadsEntry extended text options p → (events : List EventView)
-      → AreEventsFor step (parser_callback p) (elements p) events → tables_are_read extended options ≡ false
+      → AreEventsFor step (parser_callback p) (elements p) events
       → AreEventsFor step (parser_callback p)
       (reading_of_text (source_for extended text options) (is_some (parser_callback p))) events
-  read_by_rules extended text options p of events d none = record {
+  read_by_rules extended text options p of events d = record {
     answers = d.answers;
     after = d.after;
-    asked = rw (← of.by_rules none d.answers) d.asked;
-    are = λ later. rw (← of.by_rules none (d.answers ++ later)) (d.are later);
+    asked = rw (← of.by_rules d.answers) d.asked;
+    are = λ later. rw (← of.by_rules (d.answers ++ later)) (d.are later);
   }
 
   -- and where all of a document's reading was left, that of the document
@@ -174,9 +174,9 @@ module _ {F : Type 0} (step : F → Question → Option Answer → F → Type 0)
           };
           rendered = refl;
           by_rules = read_by_rules extended text options p of (map event_view r.events) d;
-          alone = λ none nobody.
+          alone = λ nobody.
               ap html_of (events_alone (parser_callback p) (source_for extended text options)
-              (map event_view r.events) (read_by_rules extended text options p of (map event_view r.events) d none)
+              (map event_view r.events) (read_by_rules extended text options p of (map event_view r.events) d)
               nobody);
         },
       )
@@ -248,7 +248,7 @@ module _ {F : Type 0} (step : F → Question → Option Answer → F → Type 0)
         blocks = r.blocks;
         of_text = r.of_text;
         rendered = λ answers. r.rendered ∙ ap html_of (sym (rw none at (r.read.are answers)));
-        by_rules = λ none. r.alone none refl;
+        by_rules = r.alone refl;
       }
 
   -- and so is where too many Starts are open

@@ -4,7 +4,7 @@ use Rattle.std.specs.Str.{IsUtf8}
 use Rattle.markdown_base.specs.Questions.{Answers}
 use Rattle.markdown_base.specs.Event.{EventView}
 use Rattle.markdown_base.specs.declared.options.Options.{Options}
-use Rattle.markdown_blocks.specs.Blocks.{IsOfEntry, source_for, tables_are_read}
+use Rattle.markdown_blocks.specs.Blocks.{IsOfEntry, source_for}
 use Rattle.markdown_blocks.specs.declared.blocks.Blocks.{Blocks}
 use Rattle.markdown_inline.specs.Elements.{Element, events_of}
 use Rattle.markdown_inline.specs.ParserLeft.{reading_of}
@@ -17,13 +17,13 @@ abbrev pub views_of : List Element → List EventView
 views_of elements = map (λ e. e.0) (events_of elements)
 
 -- the input is UTF-8, and this is the HTML of the events of a block result of it with these options, of one of the
--- entries, read without a callback; where no tables are read, it is the HTML that is defined of the input
+-- entries, read without a callback; it is the HTML that is defined of the input
 pub record IsEntryRenderingOf (extended : Bool) (bytes : List ℕ) (options : Options) (html : List ℕ) : Type 0 where
   pub is_text : IsUtf8 bytes
   pub blocks : Blocks
   pub of_text : IsOfEntry extended bytes options blocks
   pub rendered : (answers : Answers) → html ≡ html_of (views_of (reading_of blocks false answers))
-  pub by_rules : tables_are_read extended options ≡ false → html ≡ html_of_text (source_for extended bytes options)
+  pub by_rules : html ≡ html_of_text (source_for extended bytes options)
 
 -- the input is UTF-8, and among the first events of such a block result, more Starts are open in an image than can be
 -- counted

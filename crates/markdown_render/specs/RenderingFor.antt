@@ -3,7 +3,7 @@ use Rattle.std.specs.Prelude.{◌≡◌, ℕ, Bool, true, false, List, ◌++◌,
 use Rattle.markdown_base.specs.Questions.{Question, Answer, Answers}
 use Rattle.markdown_base.specs.Event.{EventView}
 use Rattle.markdown_base.specs.declared.options.Options.{Options}
-use Rattle.markdown_blocks.specs.Blocks.{IsOfEntry, source_for, tables_are_read}
+use Rattle.markdown_blocks.specs.Blocks.{IsOfEntry, source_for}
 use Rattle.markdown_blocks.specs.declared.blocks.Blocks.{Blocks}
 use Rattle.markdown_defs.specs.Callback.{Asks}
 use Rattle.markdown_inline.specs.Elements.{Element, questions_of}
@@ -36,8 +36,8 @@ pub record AreFirstEventsFor {F : Type 0} (step : F → Question → Option Answ
   pub are_first : (later : Answers) → (more : List EventView) × (views_of (read (answers ++ later)) ≡ events ++ more)
 
 -- This is the HTML of the events of a block result of the text with these options, of one of the entries, read with the
--- callback's answers. Where no tables are read, they are the events of the reading that is defined of the text, and
--- where there is no callback either, it is the HTML that is defined of the text.
+-- callback's answers. They are the events of the reading that is defined of the text, and where there is no callback,
+-- it is the HTML that is defined of the text.
 pub record IsEntryRenderingFor {F : Type 0} (extended : Bool) (step : F → Question → Option Answer → F → Type 0)
     (callback : Option F) (text : List ℕ) (options : Options) (html : List ℕ) : Type 0 where
   pub blocks : Blocks
@@ -45,9 +45,9 @@ pub record IsEntryRenderingFor {F : Type 0} (extended : Bool) (step : F → Ques
   pub events : List EventView
   pub read : AreEventsFor step callback (reading_of blocks (is_some callback)) events
   pub rendered : html ≡ html_of events
-  pub by_rules : tables_are_read extended options ≡ false
-      → AreEventsFor step callback (reading_of_text (source_for extended text options) (is_some callback)) events
-  pub alone : tables_are_read extended options ≡ false → callback ≡ None
+  pub by_rules : AreEventsFor step callback (reading_of_text (source_for extended text options) (is_some callback))
+      events
+  pub alone : callback ≡ None
       → html ≡ html_of_text (source_for extended text options)
 
 -- among the first events of such a block result, more Starts are open in an image than can be counted

@@ -103,9 +103,9 @@ rendering {F} extended step text old new options callback p s same empty of hold
           (nested_reading of.blocks (is_some (parser_callback p)) d.answers events
           (λ later. rw (← of.left (d.answers ++ later)) (d.are later))) whole);
       by_rules = read_by_rules step extended text options p of events d;
-      alone = λ none nobody. alone ∙ ap (λ (es : List EventView). html_of (safe_events es))
+      alone = λ nobody. alone ∙ ap (λ (es : List EventView). html_of (safe_events es))
           (events_alone step (parser_callback p) source events
-          (read_by_rules step extended text options p of events d none) nobody);
+          (read_by_rules step extended text options p of events d) nobody);
     })
 
 -- and it is safe HTML
@@ -194,7 +194,7 @@ module _ {F : Type 0} (step : F → Question → Option Answer → F → Type 0)
         read = λ answers. rw none at (r.read.are answers);
         rendered = r.rendered;
         tree = r.tree;
-        by_rules = λ none. r.alone none refl;
+        by_rules = r.alone refl;
       }
 
   -- and so is where too many Starts are open

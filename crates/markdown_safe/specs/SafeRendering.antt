@@ -4,7 +4,7 @@ use Rattle.std.specs.Str.{IsUtf8}
 use Rattle.markdown_base.specs.Questions.{Question, Answer, Answers}
 use Rattle.markdown_base.specs.Event.{EventView}
 use Rattle.markdown_base.specs.declared.options.Options.{Options}
-use Rattle.markdown_blocks.specs.Blocks.{IsOfEntry, source_for, tables_are_read}
+use Rattle.markdown_blocks.specs.Blocks.{IsOfEntry, source_for}
 use Rattle.markdown_blocks.specs.declared.blocks.Blocks.{Blocks}
 use Rattle.markdown_inline.specs.ParserLeft.{reading_of}
 use Rattle.markdown_inline.specs.ReadingOfText.{events_of_text, reading_of_text}
@@ -23,9 +23,9 @@ abbrev pub safe_html_of_text : Source → List ℕ
 safe_html_of_text s = html_of (safe_events (map (λ e. e.0) (events_of_text s)))
 
 -- This is the HTML of the events of a block result of the text with these options, of one of the entries, read with the
--- callback's answers, each made safe; and where the tables among these events are whole, it is a tree. Where no tables
--- are read, they are the events of the reading that is defined of the text, and where there is no callback either, it
--- is the safe HTML that is defined of the text.
+-- callback's answers, each made safe; and where the tables among these events are whole, it is a tree. They are the
+-- events of the reading that is defined of the text, and where there is no callback, it is the safe HTML that is
+-- defined of the text.
 pub record IsSafeEntryRenderingFor {F : Type 0} (extended : Bool) (step : F → Question → Option Answer → F → Type 0)
     (callback : Option F) (text : List ℕ) (options : Options) (html : List ℕ) : Type 0 where
   pub blocks : Blocks
@@ -34,9 +34,9 @@ pub record IsSafeEntryRenderingFor {F : Type 0} (extended : Bool) (step : F → 
   pub read : AreEventsFor step callback (reading_of blocks (is_some callback)) events
   pub rendered : html ≡ html_of (safe_events events)
   pub tree : tables_are_whole events ≡ true → IsSafeTree html
-  pub by_rules : tables_are_read extended options ≡ false
-      → AreEventsFor step callback (reading_of_text (source_for extended text options) (is_some callback)) events
-  pub alone : tables_are_read extended options ≡ false → callback ≡ None
+  pub by_rules : AreEventsFor step callback (reading_of_text (source_for extended text options) (is_some callback))
+      events
+  pub alone : callback ≡ None
       → html ≡ safe_html_of_text (source_for extended text options)
 
 -- among the first events of such a block result, more Starts are open in an image than can be counted
@@ -50,7 +50,7 @@ pub record IsSafeEntryTooDeepFor {F : Type 0} (extended : Bool) (step : F → Qu
 
 -- the same without a callback: the bytes are UTF-8, and this is safe HTML, that of the events of a block result of them
 -- with these options, of one of the entries, each made safe; and where the tables among these events are whole, it is a
--- tree. Where no tables are read, it is the safe HTML that is defined of the text.
+-- tree. It is the safe HTML that is defined of the text.
 pub record IsSafeEntryRenderingOf (extended : Bool) (bytes : List ℕ) (options : Options) (html : List ℕ) : Type 0 where
   pub is_text : IsUtf8 bytes
   pub safe : IsSafeHtml html
@@ -60,8 +60,7 @@ pub record IsSafeEntryRenderingOf (extended : Bool) (bytes : List ℕ) (options 
   pub read : (answers : Answers) → views_of (reading_of blocks false answers) ≡ events
   pub rendered : html ≡ html_of (safe_events events)
   pub tree : tables_are_whole events ≡ true → IsSafeTree html
-  pub by_rules : tables_are_read extended options ≡ false
-      → html ≡ safe_html_of_text (source_for extended bytes options)
+  pub by_rules : html ≡ safe_html_of_text (source_for extended bytes options)
 
 -- and among the first events of such a block result, more Starts are open in an image than can be counted
 pub record IsSafeEntryTooDeepOf (extended : Bool) (bytes : List ℕ) (options : Options) : Type 0 where

@@ -9,7 +9,7 @@ use Rattle.markdown_base.specs.Questions.{Question, Answer, Answers}
 use Rattle.markdown_base.specs.declared.fault.Fault.{Fault}
 use Rattle.markdown_base.specs.declared.fault.Fault.TheVariants.{Memory}
 use Rattle.markdown_base.specs.declared.options.Options.{Options}
-use Rattle.markdown_blocks.specs.Blocks.{IsOfEntry, source_for, tables_are_read}
+use Rattle.markdown_blocks.specs.Blocks.{IsOfEntry, source_for}
 use Rattle.markdown_blocks.specs.declared.blocks.Blocks.{Blocks}
 use Rattle.markdown_defs.specs.Callback.{Asks}
 use Rattle.markdown_inline.specs.Balanced.{ranged}
@@ -98,10 +98,9 @@ module _ {F : Type 0} (step : F → Question → Option Answer → F → Type 0)
   lines_by_rules : (lines : List Element → List ℕ) (extended : Bool) (text json : List ℕ) (options : Options)
       (blocks : Blocks) → IsOfEntry extended text options blocks
       → ((answers : Answers) → json ≡ lines (reading_of blocks false answers))
-      → tables_are_read extended options ≡ false
       → json ≡ lines (reading_of_text (source_for extended text options) false [])
-  lines_by_rules lines extended text json options blocks of are none =
-      are [] ∙ ap lines (text-law extended text options blocks of none false [])
+  lines_by_rules lines extended text json options blocks of are =
+      are [] ∙ ap lines (text-law extended text options blocks of false [])
 
   pub json_of_text : (extended : Bool) (p : Parser F) (o : OffsetIter F) (text old new : List ℕ) (options : Options)
       → IsUtf8 text → offset_parser o ≡ p → ReadsEntry extended text options p → parser_callback p ≡ None → old ≡ []

@@ -4,7 +4,7 @@ use Rattle.std.specs.List.{flat_map}
 use Rattle.std.specs.Str.{IsUtf8}
 use Rattle.markdown_base.specs.Questions.{Answers}
 use Rattle.markdown_base.specs.declared.options.Options.{Options}
-use Rattle.markdown_blocks.specs.Blocks.{IsOfEntry, source_for, tables_are_read}
+use Rattle.markdown_blocks.specs.Blocks.{IsOfEntry, source_for}
 use Rattle.markdown_blocks.specs.declared.blocks.Blocks.{Blocks}
 use Rattle.markdown_inline.specs.Elements.{Element, Placed, events_of}
 use Rattle.markdown_inline.specs.ParserLeft.{reading_of}
@@ -20,15 +20,14 @@ abbrev pub reading_lines : List Element → List ℕ
 reading_lines elements = flat_map placed_line (events_of elements)
 
 -- the input is UTF-8, and these are the lines of the reading of a block result of it with these options, of one of the
--- entries, without a callback; where no tables are read, of the reading that is defined of the input
+-- entries, without a callback, and of the reading that is defined of the input
 pub record AreEntryLinesOf (lines : List Element → List ℕ) (extended : Bool) (bytes : List ℕ) (options : Options)
     (json : List ℕ) : Type 0 where
   pub is_text : IsUtf8 bytes
   pub blocks : Blocks
   pub of_text : IsOfEntry extended bytes options blocks
   pub written : (answers : Answers) → json ≡ lines (reading_of blocks false answers)
-  pub by_rules : tables_are_read extended options ≡ false
-      → json ≡ lines (reading_of_text (source_for extended bytes options) false [])
+  pub by_rules : json ≡ lines (reading_of_text (source_for extended bytes options) false [])
 
 -- the same of the present entry
 abbrev pub AreLinesOf : (lines : List Element → List ℕ) → (bytes : List ℕ) → Options → (json : List ℕ) → Type 0

@@ -22,4 +22,4 @@ pub written : {F : Type 0} (step : F → Question → Option Answer → F → Ty
     → options ≡ no_options → IsRenderingFor step None (codes "hello world") options html
     → html ≡ codes "<p>hello world</p>\n"
 written step options html none r =
-    r.alone refl refl ∙ ap (λ (o : Options). html_of_text (source_for false (codes "hello world") o)) none ∙ computed
+    r.alone refl ∙ ap (λ (o : Options). html_of_text (source_for false (codes "hello world") o)) none ∙ computed
