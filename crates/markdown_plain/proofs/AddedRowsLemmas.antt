@@ -155,7 +155,7 @@ module _ (s : Source) (old : Pass) (line : Line) (found : code.Reached) (frames 
 
   -- it is a row
   module _ (text : is_text_beginning (begins s paragraph.Lazy row) ≡ true) (some : nat_lt 0 (length (cells_of row))
-    ≡ true)
+      ≡ true)
     where
       goes : leaf_with s rest b.kind ≡ Some (was.table_leaf false head alignments (rows ++ row ∷ []))
       goes =
@@ -377,7 +377,7 @@ read_counted s old new line found before source table reaches =
     → IsCounted s new (with_next_line s (blocks_before before) source)) s old before reaches.by.stands.unended table
     (λ b ended head alignments rows kind may knows reaches text fits adds.
     let apart = table_apart s old line found before.frames before.inside b source ended head alignments rows kind
-        reaches
+    reaches
     in
     row_counted s old line found before.frames before.inside b source head alignments rows apart.0 may knows reaches.by
     reaches.none reaches.filled reaches.counted text fits new adds) reaches
@@ -396,7 +396,7 @@ read_places s old new line found before source table reaches =
     reaches.by.stands.unended table
     (λ b ended head alignments rows kind may knows reaches text fits adds puts.
     let apart = table_apart s old line found before.frames before.inside b source ended head alignments rows kind
-        reaches
+    reaches
     in
     row_placed s old line found before.frames before.inside b source head alignments rows apart.0 may knows reaches.by
     reaches.none reaches.filled reaches.counted text fits new adds puts) reaches
@@ -413,7 +413,7 @@ read_off s old line found before source table reaches =
     → GoesOffAs s old line found before source) s old before reaches.by.stands.unended table
     (λ b ended head alignments rows kind may knows reaches missed.
     let apart = table_apart s old line found before.frames before.inside b source ended head alignments rows kind
-        reaches
+    reaches
     in
     goes_off s old line found before.frames before.inside b source head alignments rows apart.0 may knows reaches.by
     reaches.none reaches.filled reaches.counted apart.1 missed) reaches

@@ -127,7 +127,7 @@ leaf_in_room : (s : Source) (room now : Pass) (rest : LineRest) (source : Source
     → now.placing.builder.at ≡ rest.line.next → PlacesFor s now rest.line.next blocks
 leaf_in_room s room now rest source begun blocks b inside last has may leaf is unended alone remembers begins here =
     line_places s now rest.line.next has.frames has.inside blocks b inside last is leaf may.source unended alone
-        remembers
+    remembers
     may.quotes may.earlier may.loose may.blanks (no_paragraph now.lines.items rest.line.next may.lines)
     (begun_in_room s room rest source begun blocks has
     ∙ ap (λ made. rebuilt has.frames (followed_by has.inside made)) begins)

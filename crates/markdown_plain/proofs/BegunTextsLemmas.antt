@@ -108,5 +108,5 @@ text_inside s now line at frames before blocks b source kind same holds quotes e
     (λ is. absurd (true≢false (sym is ∙ ap is_metadata kind)))
     (kind_remembered s (Remembers s now line.next) b.kind (source ∷ []) kind
     (λ reads. first_remembered s now line.next (held_from line at) source lines refl untried)) quotes earlier loose
-        blanks
+    blanks
     (subst (λ (ls : List HeldLine). lines_end ls ≤ line.next) (sym lines) (omega arith)) begins items ready

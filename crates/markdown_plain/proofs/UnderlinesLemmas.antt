@@ -228,7 +228,7 @@ module _ (s : Source) (old new : Pass) (rest : LineRest) (level : HeadingLevel) 
       subst (λ (m : SourceLine). (c : Block) → table_with s m c (was.paragraph_leaf sources) ≡ None) (sym here.reached)
       (makes_no_table s old rest.line.start r sources
       (remembered_kind s (IsUntabled s old rest.line.start r) b.kind sources holds.kind here.untabled)
-          (ap are_none all))
+      (ap are_none all))
 
   defining : (some : Bool) → some ≡ not (length (divided_of old sources).lines == 0)
       → some ≡ not (is_defining s sources)

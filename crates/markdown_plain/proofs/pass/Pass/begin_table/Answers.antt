@@ -176,7 +176,7 @@ returns-clause-fits c = λ is outside ahead task low boundary fitted.
     let at = here.0 in
     (step_done c.open_table.new.self.placing c.step_to.new.self c.args.line.next c.step_to.ensures.steps
     c.step_to.ensures.fits
-        (may_step c.open_table.new.self.placing.builder c.args.line.next (omega (arith, at, end, low))
+    (may_step c.open_table.new.self.placing.builder c.args.line.next (omega (arith, at, end, low))
     (subst (λ (t : List ℕ). IsCharBoundary t c.args.line.next)
     (sym (c.in_ok-open_table.ensures.text ∙ ap (λ (p : Pass). p.placing.builder.text) same)) boundary)
     here.1) opened).0

@@ -34,7 +34,7 @@ returns-in-Nothing-clause-begins c =
     let met = met_with (goal.at.returns-in-Nothing-clause-begins c).In_ok-begun
     s turn source blocks start.Nothing c.in-Nothing.is state in
     begun_places s c.args.self.now _ rest (record rest { reader = reader }) blocks more told.1
-        (told.0 s (record rest { reader = reader }) turn source at blocks met.here refl met.found fitted))
+    (told.0 s (record rest { reader = reader }) turn source at blocks met.here refl met.found fitted))
     (both_ok c.skip_blank.result _ _ c.skip_blank.ensures.places c.skip_blank.ensures.more)
 
 pub returns-in-Text-clause-begins : goal.returns-in-Text-clause-begins
@@ -45,7 +45,7 @@ returns-in-Text-clause-begins c =
     let met = met_with (goal.at.returns-in-Text-clause-begins c).In_ok-begun
     s turn source blocks start.Text c.in-Text.is state in
     begun_places s c.args.self.now _ rest (record rest { reader = reader }) blocks more told.1
-        (told.0 s turn source blocks met.here met.found met.stands fitted))
+    (told.0 s turn source blocks met.here met.found met.stands fitted))
     (both_ok c.read_text.result _ _ c.read_text.ensures.places c.read_text.ensures.more)
 
 pub returns-in-IndentedCode-clause-begins : goal.returns-in-IndentedCode-clause-begins
@@ -57,7 +57,7 @@ returns-in-IndentedCode-clause-begins c =
     let met = met_with (goal.at.returns-in-IndentedCode-clause-begins c).In_ok-begun
     s turn source blocks (start.IndentedCode c.in-IndentedCode.code) c.in-IndentedCode.is state in
     begun_places s c.args.self.now _ rest (record rest { reader = reader }) blocks more told.1
-        (told.0 s turn source at blocks met.here met.found fitted))
+    (told.0 s turn source at blocks met.here met.found fitted))
     (both_ok c.read_indented.result _ _ c.read_indented.ensures.places c.read_indented.ensures.more)
 
 pub returns-in-Quote-clause-begins : goal.returns-in-Quote-clause-begins
@@ -79,7 +79,7 @@ returns-in-Alert-clause-begins c =
     let met = met_with (goal.at.returns-in-Alert-clause-begins c).In_ok-begun
     s turn source blocks (start.Alert c.in-Alert.kind) c.in-Alert.is state in
     begun_places s c.args.self.now _ rest (record rest { reader = reader }) blocks more told.1
-        (told.0 s turn source blocks met.here met.found fitted))
+    (told.0 s turn source blocks met.here met.found fitted))
     (both_ok c.read_alert.result _ _ c.read_alert.ensures.places c.read_alert.ensures.more)
 
 pub returns-in-Heading-clause-begins : goal.returns-in-Heading-clause-begins
@@ -90,7 +90,7 @@ returns-in-Heading-clause-begins c =
     let met = met_with (goal.at.returns-in-Heading-clause-begins c).In_ok-begun
     s turn source blocks (start.Heading c.in-Heading.heading) c.in-Heading.is state in
     begun_places s c.args.self.now _ rest (record rest { reader = reader }) blocks more told.1
-        (told.0 s turn source blocks met.here met.found met.stands fitted))
+    (told.0 s turn source blocks met.here met.found met.stands fitted))
     (both_ok c.read_heading.result _ _ c.read_heading.ensures.places c.read_heading.ensures.more)
 
 pub returns-in-Fence-clause-begins : goal.returns-in-Fence-clause-begins
@@ -101,7 +101,7 @@ returns-in-Fence-clause-begins c =
     let met = met_with (goal.at.returns-in-Fence-clause-begins c).In_ok-begun
     s turn source blocks (start.Fence c.in-Fence.opening) c.in-Fence.is state in
     begun_places s c.args.self.now _ rest (record rest { reader = reader }) blocks more told.1
-        (told.0 s turn source blocks met.here met.found met.stands fitted))
+    (told.0 s turn source blocks met.here met.found met.stands fitted))
     (both_ok c.read_fence.result _ _ c.read_fence.ensures.places c.read_fence.ensures.more)
 
 pub returns-in-Html-clause-begins : goal.returns-in-Html-clause-begins
@@ -113,7 +113,7 @@ returns-in-Html-clause-begins c =
     let met = met_with (goal.at.returns-in-Html-clause-begins c).In_ok-begun
     s turn source blocks (start.Html c.in-Html.kind) c.in-Html.is state in
     begun_places s c.args.self.now _ rest (record rest { reader = reader }) blocks more told.1
-        (told.0 s turn source at blocks met.here met.found met.stands fitted))
+    (told.0 s turn source at blocks met.here met.found met.stands fitted))
     (both_ok c.read_html.result _ _ c.read_html.ensures.places c.read_html.ensures.more)
 
 pub returns-in-Footnote-clause-begins : goal.returns-in-Footnote-clause-begins
@@ -137,7 +137,7 @@ returns-in-ThematicBreak-clause-begins c =
     let met = met_with (goal.at.returns-in-ThematicBreak-clause-begins c).In_ok-begun
     s turn source blocks start.ThematicBreak c.in-ThematicBreak.is state in
     begun_places s c.args.self.now _ rest (record rest { reader = reader }) blocks more told.1
-        (told.0 s turn source blocks met.here met.found fitted))
+    (told.0 s turn source blocks met.here met.found fitted))
     (both_ok c.read_break.result _ _ c.read_break.ensures.places c.read_break.ensures.more)
 
 pub returns-in-Item-clause-begins : goal.returns-in-Item-clause-begins
@@ -160,7 +160,7 @@ returns-in-Metadata-clause-begins c =
     let met = met_with (goal.at.returns-in-Metadata-clause-begins c).In_ok-begun
     s turn source blocks (start.Metadata c.in-Metadata.kind) c.in-Metadata.is state in
     begun_places s c.args.self.now _ rest (record rest { reader = reader }) blocks more told.1
-        (told.0 s turn source at blocks met.here met.found fitted))
+    (told.0 s turn source at blocks met.here met.found fitted))
     (both_ok c.read_metadata.result _ _ c.read_metadata.ensures.places c.read_metadata.ensures.more)
 
 pub returns-in-Underline-clause-begins : goal.returns-in-Underline-clause-begins
