@@ -1,20 +1,17 @@
 """Random documents of nested blocks through the program and `cmark --unsafe`: `random_blocks.py PROGRAM [--count N]
-[--seed SEED] [--fits PROGRAM] [--text FILE]`.
+[--seed SEED]`.
 
 A document is lists, quotes, fences, HTML blocks, definitions, headings, tabs and blank lines, each in others, and then a
 few characters of it are changed. What the profile writes otherwise everywhere is made the same. A document on which the
 two still differ is made small by deletion, and then it is one of the differences that docs/DIFFERENCES.md lists
 (`KNOWN`, each with the row's first cell), or it is printed. The last lines say how many of each were found. The exit
-status is 1 where a difference is not listed, or where a call that the block pass makes does not fit: that is what the
-program given by `--fits`, as "markdown_benchmarks fits", says of each document by its own exit status. With `--text` only
-that is asked, of a file.
+status is 1 where a difference is not listed.
 """
 import argparse
 import collections
 import os
 import random
 import re
-import shlex
 import subprocess
 import sys
 
@@ -138,10 +135,10 @@ def known(text, ours, theirs):
 
 
 class Pair:
-    """The two programs, and perhaps the one that says whether all calls fit."""
+    """The two programs."""
 
-    def __init__(self, program, fits):
-        self.program, self.fits = program, fits
+    def __init__(self, program):
+        self.program = program
 
     def both(self, text):
         return same_written(html_of([self.program], text)), same_written(html_of(["cmark", "--unsafe"], text))
@@ -149,9 +146,6 @@ class Pair:
     def differ(self, text):
         ours, theirs = self.both(text)
         return ours != theirs
-
-    def misfits(self, text):
-        return self.fits is not None and html_of(shlex.split(self.fits), text).startswith("exit status")
 
 
 def small(text, fails):
@@ -182,21 +176,11 @@ def main():
     parser.add_argument("program")
     parser.add_argument("--count", type=int, default=5000)
     parser.add_argument("--seed", default="1")
-    parser.add_argument("--fits")
-    parser.add_argument("--text")
     options = parser.parse_args()
-    pair = Pair(options.program, options.fits)
-    if options.text:
-        with open(options.text, newline="") as file:
-            missed = pair.misfits(file.read())
-        print("a call does not fit" if missed else "each call fits")
-        return 1 if missed else 0
+    pair = Pair(options.program)
     listed, others = collections.Counter(), 0
     for number in range(options.count):
         text = document(random.Random(f"{options.seed}.{number}"))
-        if pair.misfits(text):
-            others += 1
-            print("does not fit:", repr(small(text, pair.misfits)), flush=True)
         if pair.differ(text):
             text = small(text, pair.differ)
             ours, theirs = pair.both(text)

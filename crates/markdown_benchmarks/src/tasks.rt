@@ -1,7 +1,7 @@
 //! The tasks by their names.
 use crate::labels::LabelKind;
 use crate::scans::{self, Beginning};
-use crate::{events, fits, look_ups};
+use crate::{events, look_ups};
 use std::alloc::Global;
 
 /// Returns the task that a line names, and its size.
@@ -34,7 +34,6 @@ pub fn run(alloc: Global, task: &str, size: usize) -> Option<usize> {
         "tags" => scans::found(alloc, Beginning::Tag, size),
         "labels" => scans::found(alloc, Beginning::Label, size),
         "entities" => scans::found(alloc, Beginning::Entity, size),
-        "misfits" => fits::misfits_of_scans(alloc, size),
         _ => None,
     }
 }

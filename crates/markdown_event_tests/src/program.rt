@@ -1,23 +1,12 @@
 //! What the two programs print for texts, with arguments and without.
 use crate::runs::{Given, Input, Printed, Program, words_of};
-use markdown_render::words::options_of;
 use markdown_test_helpers::rows::gives;
-use markdown_test_parsers::fits::fits;
 use std::alloc::Global;
 use std::test::Fail;
-
-/// Checks that each call of the block pass fits for a text, with the options of these words.
-fn fits_with(alloc: Global, words: &[String], input: &str) -> Result<(), Fail> {
-    match options_of(words) {
-        Ok(options) => fits(alloc, input, options),
-        Err(word) => Err(Fail::new(format_args!("unknown option: {word}"))),
-    }
-}
 
 /// Returns what a program prints for a text, with these arguments.
 fn printed(alloc: Global, program: Program, words: &[&str], input: &str) -> Result<Printed, Fail> {
     let words = words_of(alloc, words)?;
-    fits_with(alloc, &words, input)?;
     let given = Given {
         words: &words,
         input: Input::Bytes(input.as_bytes()),

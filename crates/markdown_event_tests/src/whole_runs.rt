@@ -5,7 +5,6 @@ use markdown_render::{merged_html, render};
 use markdown_test_helpers::rows::gives;
 use markdown_test_parsers::callbacks::{Recording, Reply};
 use markdown_test_parsers::faults::or_fail;
-use markdown_test_parsers::fits::fits;
 use markdown_test_parsers::parsers::{all_noted, parser_asking};
 use std::alloc::Global;
 use std::test::Fail;
@@ -13,7 +12,6 @@ use std::test::Fail;
 /// Checks the rendering of a text, without a callback.
 fn is_rendered(alloc: Global, source: &str, wanted: &str) -> Result<(), Fail> {
     let options = Options::ENABLE_SUBSCRIPT;
-    fits(alloc, source, options)?;
     let html = or_fail(render(alloc, source, options, None::<DefaultBrokenLinkCallback>))?;
     gives(source, html.as_str(), wanted)
 }
@@ -42,7 +40,6 @@ const WEBSITE: Reply = Reply::Target("http://example.com", "my example website")
 #[test]
 fn html_with_a_callback(rt: HostRuntime) -> Result<(), Fail> {
     let (source, wanted) = ASKING;
-    fits(rt.alloc(), source, Options::empty())?;
     let callback = Recording::replying(rt.alloc(), WEBSITE);
     let html = or_fail(render(rt.alloc(), source, Options::empty(), Some(callback)))?;
     gives(source, html.as_str(), wanted)

@@ -205,6 +205,8 @@ impl<'a> LineReader<'a> {
     }
 
     /// Returns what the rest of the line begins that is not blank.
+    // inlined, as `beginning`
+    #[inline(always)]
     fn begun_at(&mut self, position: Position, before: Before) -> Result<BlockStart<'a>, AllocError>
         ensures begins { IfOk result (λ start. beginning_found self.old start
             ≡ Some (line.begins (source_read self.old) before (line_at self.old position))) }

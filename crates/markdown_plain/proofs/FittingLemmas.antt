@@ -56,10 +56,10 @@ may_step view to low boundary some =
 
 -- a step that fits leads there
 pub step_done : (old new : Placing) (to : ℕ) → IfFitted old new (new.builder ≡ stepped old.builder to)
-    → (IsAhead old.builder to → IsWhiteOutside old.builder to → new.misfits ≡ old.misfits)
+    → (IsAhead old.builder to → IsWhiteOutside old.builder to → AllFitted old → AllFitted new)
     → MayStep old.builder to → AllFitted old → AllFitted new × (new.builder ≡ stepped old.builder to)
 step_done old new to steps fits may fitted =
-    let now : AllFitted new = fits may.ahead may.white ∙ fitted in (now, (steps now).1)
+    let now : AllFitted new = fits may.ahead may.white fitted in (now, (steps now).1)
 
 -- a block is open after one was opened
 pub some_opened : (blocks outer : List OpenBlock) (block : OpenBlock) → blocks ≡ outer ++ block ∷ []
@@ -123,7 +123,7 @@ goes_at text at to old new goes is = record {
 -- a step in the leaf fits
 pub stepped_at : (text : List ℕ) (at to : ℕ) (old new : Placing)
     → IfFitted old new (new.builder ≡ stepped old.builder to)
-    → (IsAhead old.builder to → IsWhiteOutside old.builder to → new.misfits ≡ old.misfits)
+    → (IsAhead old.builder to → IsWhiteOutside old.builder to → AllFitted old → AllFitted new)
     → IsInLeafAt text at old.builder → at ≤ to → IsCharBoundary text to → AllFitted old
     → AllFitted new × IsInLeafAt text to new.builder
 stepped_at text at to old new steps fits is low boundary fitted =
@@ -161,13 +161,13 @@ goes_on_fits old new at from to goes inside low boundary next =
 -- a leaf that begins after a step is opened there
 pub leaf_opened : (old mid now : Placing) (b : ItemBody) (from to : ℕ) → is_leaf b ≡ true
     → IfFitted old mid (mid.builder ≡ stepped old.builder from)
-    → (IsAhead old.builder from → IsWhiteOutside old.builder from → mid.misfits ≡ old.misfits)
-    → IfFitted mid now (Opens mid.builder now.builder b) → (mid.builder.leaf ≡ false → now.misfits ≡ mid.misfits)
+    → (IsAhead old.builder from → IsWhiteOutside old.builder from → AllFitted old → AllFitted mid)
+    → IfFitted mid now (Opens mid.builder now.builder b) → (mid.builder.leaf ≡ false → AllFitted mid → AllFitted now)
     → MayOpenLeaf old.builder from to → AllFitted old
     → AllFitted now × IsInLeafAt old.builder.text from now.builder
 leaf_opened old mid now b from to leaf steps step_fits opens open_fits may fitted =
     let done = step_done old mid from steps step_fits may.begins fitted in
-    let all : AllFitted now = open_fits (ap (λ (v : BuilderView). v.leaf) done.1 ∙ may.outside) ∙ done.0 in
+    let all : AllFitted now = open_fits (ap (λ (v : BuilderView). v.leaf) done.1 ∙ may.outside) done.0 in
     let is = opened_at mid.builder now.builder b (opens all).1 leaf in (
       all,
       record {
@@ -181,13 +181,13 @@ leaf_opened old mid now b from to leaf steps step_fits opens open_fits may fitte
 pub named_opened : (old mid now : Placing) (b : CowIndex → ItemBody) (name : List ℕ) (from to : ℕ)
     → ((ix : CowIndex) → is_leaf (b ix) ≡ true)
     → IfFitted old mid (mid.builder ≡ stepped old.builder from)
-    → (IsAhead old.builder from → IsWhiteOutside old.builder from → mid.misfits ≡ old.misfits)
+    → (IsAhead old.builder from → IsWhiteOutside old.builder from → AllFitted old → AllFitted mid)
     → IfFitted mid now (OpensNaming mid.builder now.builder b name)
-    → (mid.builder.leaf ≡ false → now.misfits ≡ mid.misfits) → MayOpenLeaf old.builder from to → AllFitted old
+    → (mid.builder.leaf ≡ false → AllFitted mid → AllFitted now) → MayOpenLeaf old.builder from to → AllFitted old
     → AllFitted now × IsInLeafAt old.builder.text from now.builder
 named_opened old mid now b name from to leaf steps step_fits opens open_fits may fitted =
     let done = step_done old mid from steps step_fits may.begins fitted in
-    let all : AllFitted now = open_fits (ap (λ (v : BuilderView). v.leaf) done.1 ∙ may.outside) ∙ done.0 in
+    let all : AllFitted now = open_fits (ap (λ (v : BuilderView). v.leaf) done.1 ∙ may.outside) done.0 in
     let is = (opens all).1 in
     let block : OpenBlock =
     record { start = mid.builder.at; body = b (record { 0 = length mid.builder.texts }) } in (

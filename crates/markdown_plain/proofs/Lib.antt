@@ -89,6 +89,7 @@ pub mod FirstTurnsLemmas
 pub mod RoomForBlocksLemmas
 pub mod UnderlinesLemmas
 pub mod TextHereLemmas
+pub mod HasRoomLemmas
 pub mod TurnsLemmas
 -- on calls that fit, and on readiness between two lines
 pub mod DefinitionEndsLemmas

@@ -282,26 +282,34 @@ row_places s old new line found frames inside (Some b) source reaches filled sam
           table.1,
     )
 
-pub row_fits : (s : Source) (old new : Pass) (line : Line) (found : code.Reached) (frames : List Frame)
+-- a head may be read of the lines that are held back
+pub record MayBeginTable (pass : Pass) (line : Line) : Type 0 where
+  pub outside : pass.placing.builder.leaf ≡ false
+  pub ahead : AreAhead pass.placing.builder pass.lines.items
+  pub task : HaveTask pass.placing.builder.text pass.task pass.lines.items
+  pub before : lines_end pass.lines.items ≤ line.next
+  pub next : IsCharBoundary pass.placing.builder.text line.next
+
+pub row_fits : (s : Source) (old : Pass) (line : Line) (found : code.Reached) (frames : List Frame)
     (inside : Forest Block) (last : Option Block) (source : SourceLine)
     → ReachesParagraph s old line found (record { frames = frames; inside = inside; last = last }) source
-    → (old.placing.builder.leaf ≡ false → AreAhead old.placing.builder old.lines.items
-    → HaveTask old.placing.builder.text old.task old.lines.items → lines_end old.lines.items ≤ line.next
-    → IsCharBoundary old.placing.builder.text line.next → AllFitted old.placing → AllFitted new.placing)
-    → AllFitted old.placing → AllFitted new.placing
-row_fits s old new line found frames inside None source reaches fits fitted =
+    → MayBeginTable old line
+row_fits s old line found frames inside None source reaches =
     let has = reaches.by.stands.unended in
     absurd (true≢false (sym reaches.some ∙ no_paragraph old has.1))
-row_fits s old new line found frames inside (Some b) source reaches fits fitted =
+row_fits s old line found frames inside (Some b) source reaches =
     let by = reaches.by in
     let open_block = open_paragraph s old frames inside b line.start by.stands.unended by.stands.remembers
     reaches.some reaches.reads in
     let before = by.stands.before in
     let next = next_after old line source by.is in
-    fits open_block.may.unended.built.outside
-    (lines_ahead s old frames inside b line.start by.stands.ready open_block)
-    by.stands.ready.closable.task (omega (arith, before, next))
-    (next_between old.placing.builder.text line.start line by.is.utf8 by.is.from) fitted
+    record {
+      outside = open_block.may.unended.built.outside;
+      ahead = lines_ahead s old frames inside b line.start by.stands.ready open_block;
+      task = by.stands.ready.closable.task;
+      before = omega (arith, before, next);
+      next = next_between old.placing.builder.text line.start line by.is.utf8 by.is.from;
+    }
 
 pub row_untabled : (s : Source) (old new : Pass) (line : Line) (found : code.Reached) (frames : List Frame)
     (inside : Forest Block) (last : Option Block) (source : SourceLine)

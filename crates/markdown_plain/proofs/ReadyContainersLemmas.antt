@@ -25,9 +25,9 @@ use Rattle.markdown_plain.specs.declared.beginnings.LineRest.{LineRest}
 use Rattle.markdown_plain.specs.declared.pass.Pass.{Pass}
 use Rattle.markdown_plain.specs.Beginning as turn
 use Rattle.markdown_plain.specs.Beginning.{IsFirst, IsFound, IsHere, IsInside, IsLeft, Turn}
-use Rattle.markdown_plain.specs.Closable.{IsClosable, IsInText, IsReadyAfter}
+use Rattle.markdown_plain.specs.Closable.{IsInText, IsReadyAfter, MayOpenItem, MayOpenItemAfter, by_closing, in_room}
 use Rattle.markdown_plain.specs.Fits.{MayStep}
-use Rattle.markdown_plain.specs.Fitting.{AllFitted, IsAhead, IsWhiteOutside, opened}
+use Rattle.markdown_plain.specs.Fitting.{opened}
 use Rattle.markdown_plain.specs.Frames.{Frame, innermost_is, is_list, room_depth}
 use Rattle.markdown_plain.specs.HeldSources.{AreInParagraph}
 use Rattle.markdown_plain.specs.OpenBlocks as own
@@ -36,7 +36,7 @@ use Rattle.markdown_plain.specs.Paragraphs.{task_at}
 use Rattle.markdown_plain.specs.ReachedLines.{Before, blocks_in, reached_of}
 use Rattle.markdown_plain.specs.Settled.{AreOpen, IsBodyOf, IsBuilt, placed_end}
 use Rattle.markdown_plain.specs.TextLines.{held_line}
-use Rattle.markdown_plain.proofs.OpenTablesLemmas.{built_outside}
+use Rattle.markdown_plain.proofs.HasRoomLemmas.{room_inside}
 use Rattle.markdown_plain.proofs.BegunContainersLemmas.{content_before}
 use Rattle.markdown_plain.proofs.BegunTextsLemmas.{end_begins}
 use Rattle.markdown_plain.proofs.ClosableLemmas.{white_both}
@@ -45,7 +45,7 @@ use Rattle.markdown_plain.proofs.FittingLemmas.{some_opened}
 use Rattle.markdown_plain.proofs.FoundBlocksLemmas.{found_begins}
 use Rattle.markdown_plain.proofs.FoundPlacesLemmas.{left_content}
 use Rattle.markdown_plain.proofs.LeafTreesLemmas.{on_test}
-use Rattle.markdown_plain.proofs.OpenedFramesLemmas.{as_many_containers, list_innermost}
+use Rattle.markdown_plain.proofs.OpenedFramesLemmas.{as_many_containers}
 use Rattle.markdown_plain.proofs.ReachedLemmas.{reached_parts}
 use Rattle.markdown_plain.proofs.ReadyPlacesLemmas.{are_bodies}
 use Rattle.markdown_plain.proofs.ReadyTextsLemmas.{first_ready, line_in_text, line_white}
@@ -102,23 +102,11 @@ room_outside texts (suc (suc n)) (block ∷ blocks) (f ∷ frames) are few none 
 
 -- ---- the item
 
--- an item that is opened at a byte offset, inside the outermost `depth` of the open blocks, fits
-pub record FitsItem (old new : Pass) (at depth : ℕ) : Type 0 where
-  pub fits : IsClosable old → old.placed ≤ at → IsCharBoundary old.placing.builder.text at
-      → (room_in depth (without_leaf old.placing.builder) ≡ []
-      → AllPass is_in_blank_line old.placing.builder.text old.placed at)
-      → AllFitted old.placing → AllFitted new.placing
-  pub inside : own.has_leaf old.placing.builder ≡ false → old.lines.items ≡ []
-      → length old.placing.builder.blocks ≤ depth
-      → own.innermost_is own.is_list old.placing.builder.blocks ≡ false
-      → IsAhead old.placing.builder at → IsWhiteOutside old.placing.builder at
-      → AllFitted old.placing → AllFitted new.placing
-
 -- after the containers that go on in the line
-first_fits : (s : Source) (old new : Pass) (rest : LineRest) (before : Before) (l source : SourceLine)
+first_may_open : (s : Source) (old : Pass) (rest : LineRest) (before : Before) (l source : SourceLine)
     (blocks : Forest Block) (at : ℕ) → IsFirst s old rest before l source blocks → at ≡ content_of source
-    → FitsItem old new at rest.depth → AllFitted old.placing → AllFitted new.placing
-first_fits s old new rest before l source blocks at state place opens =
+    → MayOpenItemAfter old rest.depth at
+first_may_open s old rest before l source blocks at state place =
     let text : old.placing.builder.text ≡ s.text = ap (λ (r : Source). r.text) state.holds.source in
     let ready = state.holds.ready in
     let low = ready.low in
@@ -130,9 +118,11 @@ first_fits s old new rest before l source blocks at state place opens =
     let r = reached_of s before l in
     let parts = ap length (reached_parts s before.frames (blocks_in before) l) in
     let sum = length-append r.outer r.inner in
-    opens.fits ready.closable (omega (arith, low, after, here, place))
-    (subst (λ t. IsCharBoundary t at) (sym text) content.boundary)
-    (λ none.
+    record {
+      closable = ready.closable;
+      low = omega (arith, low, after, here, place);
+      boundary = subst (λ t. IsCharBoundary t at) (sym text) content.boundary;
+      white = λ none.
     let all = nothing_taken s before.frames (blocks_in before) l
     (room_outside around.texts (length r.outer) (without_leaf old.placing.builder) before.frames around.are
     (omega (arith, parts, sum))
@@ -142,7 +132,8 @@ first_fits s old new rest before l source blocks at state place opens =
     ∙ sym (ap (λ (left : LineLeft). left.scanned) state.is.left) in
     white_both old.placing.builder.text old.placed rest.line.start at ready.white
     (subst (λ t. AllPass is_in_blank_line t rest.line.start at) (sym text)
-    (line_white s.text rest.line source at content state.left.from state.left.utf8 begins)))
+    (line_white s.text rest.line source at content state.left.from state.left.utf8 begins));
+    }
 
 -- inside containers that the line opened, a step to what begins fits
 later_may_step : (s : Source) (pass : Pass) (rest : LineRest) (frames : List Frame) (source : SourceLine)
@@ -159,28 +150,17 @@ later_may_step s pass rest frames source blocks at state filled place =
     some [] first none = let after = line_some s rest source state.left filled in absurd (omega (arith, first, after))
     some (f ∷ fs) first none = absurd (omega (arith, none))
 
-later_fits : (s : Source) (old new : Pass) (rest : LineRest) (frames : List Frame) (source : SourceLine)
-    (blocks : Forest Block) (at : ℕ) → IsInside s old rest frames source blocks → is_blank_rest source ≡ false
-    → at ≡ content_of source → FitsItem old new at rest.depth → AllFitted old.placing → AllFitted new.placing
-later_fits s old new rest frames source blocks at state filled place opens =
-    let free = state.opened.free in
-    let may = later_may_step s old rest frames source blocks at state filled place in
-    let many = as_many_containers s old.placing.builder frames nil free.built in
-    let depth = state.depth in
-    opens.inside (built_outside s old.placing.builder frames nil free.built) free.lines (omega (arith, many, depth))
-    (list_innermost s old.placing.builder frames nil free.built ∙ free.free) may.ahead may.white
-
 -- in either case
-pub item_fits : (s : Source) (old new : Pass) (rest : LineRest) (turn : Turn) (source : SourceLine)
+pub may_open_item : (s : Source) (old : Pass) (rest : LineRest) (turn : Turn) (source : SourceLine)
     (blocks : Forest Block) (item : ItemStart) (at : ℕ) → IsHere s old rest turn source blocks
-    → IsFound s rest source at (start.Item item) → FitsItem old new at rest.depth
-    → AllFitted old.placing → AllFitted new.placing
-item_fits s old new rest (turn.first before l) source blocks item at state found opens =
-    first_fits s old new rest before l source blocks at state found.begins opens
-item_fits s old new rest (turn.later frames) source blocks item at state found opens =
+    → IsFound s rest source at (start.Item item) → MayOpenItem old rest.depth at
+may_open_item s old rest (turn.first before l) source blocks item at state found =
+    by_closing (first_may_open s old rest before l source blocks at state found.begins)
+may_open_item s old rest (turn.later frames) source blocks item at state found =
     let b = line.begins_item item.marker item.indent (left_at rest.reader item.inside) in
-    later_fits s old new rest frames source blocks at state
-    (found_begins s rest source at (start.Item item) b found refl).0 found.begins opens
+    in_room (room_inside s old frames rest.depth state.opened.free state.depth)
+    (later_may_step s old rest frames source blocks at state
+    (found_begins s rest source at (start.Item item) b found refl).0 found.begins)
 
 -- ---- the paragraph that may follow an alert's marker
 

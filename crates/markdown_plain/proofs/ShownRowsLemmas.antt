@@ -425,9 +425,9 @@ pub piece_added : (text : List ℕ) (first before moved new : Placing) (from to 
     → IsLeafOpen first.builder → GoesOn first.builder before.builder before.builder.at
     → MayAddPiece text before.builder from to → from ≤ stop → stop ≤ to → IsPieceCut text to stop next
     → IfFitted before moved (moved.builder ≡ stepped before.builder from)
-    → (IsAhead before.builder from → IsWhiteOutside before.builder from → moved.misfits ≡ before.misfits)
+    → (IsAhead before.builder from → IsWhiteOutside before.builder from → AllFitted before → AllFitted moved)
     → IfFitted moved new (GoesOn moved.builder new.builder stop)
-    → (moved.builder.leaf ≡ true → IsAhead moved.builder stop → new.misfits ≡ moved.misfits)
+    → (moved.builder.leaf ≡ true → IsAhead moved.builder stop → AllFitted moved → AllFitted new)
     → first.builder.text ≡ text → AllFitted before → AllFitted new × MayAddPiece text new.builder next to
 piece_added text first before moved new from to stop next less inside goes may low high cut steps step_fits appends fits
     same fitted =
@@ -440,7 +440,7 @@ piece_added text first before moved new from to stop next less inside goes may l
     let here : moved.builder.at ≡ from = ap (λ (v : BuilderView). v.at) step.1 in
     let text_then : moved.builder.text ≡ text = ap (λ (v : BuilderView). v.text) step.1 ∙ text_now in
     let done : AllFitted new = fits (ap (λ (v : BuilderView). v.leaf) step.1 ∙ open_now.leaf)
-    (ahead_of text from stop moved.builder text_then here low cut.stop_at) ∙ step.0 in
+    (ahead_of text from stop moved.builder text_then here low cut.stop_at) step.0 in
     let there : new.builder.at ≡ stop = ap (λ (v : BuilderView). v.at) (appends done).1 in
     let further = cut.low in (
       done,
@@ -917,7 +917,7 @@ pub cell_added : (s : Source) (outer : List (Forest Shown)) (cells rest : List C
     → IfFitted before after (HasTrees before.builder after.builder (shown_cells s (cell ∷ [])))
     → IfFitted first now (HasPlaced s outer cells next (count + 1) at now)
 cell_added s outer cells rest cell found count next at first before after now is same one left placed puts fitted =
-    let put = puts (ap (λ (p : Placing). p.misfits) (sym is) ∙ fitted) in
+    let put = puts tt in
     let has = placed put.0 in (
       has.0,
       ap (λ (p : Placing). p.builder.levels) is
@@ -936,7 +936,7 @@ pub empty_added : (s : Source) (outer : List (Forest Shown)) (cells : List Cell)
     → IfFitted before after (HasTrees before.builder after.builder (empty_cells 1 at))
     → IfFitted first now (HasPlaced s outer cells next (count + 1) at now)
 empty_added s outer cells found count next at first before after now is same few placed puts fitted =
-    let put = puts (ap (λ (p : Placing). p.misfits) (sym is) ∙ fitted) in
+    let put = puts tt in
     let has = placed put.0 in (
       has.0,
       ap (λ (p : Placing). p.builder.levels) is

@@ -73,7 +73,7 @@ pub cell_counted : (outer : List (Forest Shown)) (count : ℕ) (first before aft
     → IfFitted before after (PutsTree before.builder after.builder)
     → IfFitted first now (HasCells outer (count + 1) now.builder.levels)
 cell_counted outer count first before after now is had puts fitted =
-    let put = puts (ap (λ (p : Placing). p.misfits) (sym is) ∙ fitted) in
+    let put = puts tt in
     let has = had put.0 in (
       has.0,
       subst (λ (p : Placing). HasCells outer (count + 1) p.builder.levels) (sym is)

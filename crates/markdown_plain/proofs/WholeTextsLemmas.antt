@@ -26,6 +26,7 @@ use Rattle.markdown_plain.specs.Closing.{MayClose, MayEnd}
 use Rattle.markdown_plain.specs.Fitting.{AllFitted, IfFitted, stepped}
 use Rattle.markdown_plain.specs.Frames.{Frame, rebuilt}
 use Rattle.markdown_plain.specs.OpenLeaves.{leaf_block}
+use Rattle.markdown_plain.specs.Readable.{MayReadLine}
 use Rattle.markdown_plain.specs.Standing.{HasLast, IsSource, Stands, StandsFor, with_last}
 use Rattle.markdown_plain.specs.ReachedLines.{Before, blocks_before}
 use Rattle.markdown_plain.specs.Settled.{AreOpen, IsBuilt}
@@ -131,21 +132,21 @@ stands_next s old new at line same less is boundary utf8 so_far reads counts fit
       },
     )
 
--- where the pass reads a line, the calls fit
-abbrev pub FitsLine : Source → Pass → Pass → Line → Type 0
-FitsLine s old new line =
-    (before : Before) (source : SourceLine) → Stands s old before.frames before.inside before.last line.start
-    → IsSource old line source → IsCounted s old (blocks_before before) → AllFitted old.placing → AllFitted new.placing
-
--- so they do in the next line
-pub fits_next : (s : Source) (old new : Pass) (at : ℕ) (line : Line) → old.placing.builder.text ≡ s.text
-    → IsLineFrom s.text at line → IsCharBoundary s.text at → IsUtf8 s.text → StandsAt s old at
-    → FitsLine s old new line → AllFitted old.placing → AllFitted new.placing
-fits_next s old new at line same is boundary utf8 so_far fits =
-    let before = before_at s old at so_far in
-    fits before (first_line at (drop at s.text))
-    (subst (Stands s old before.frames before.inside before.last) (sym is.begins) so_far.stands.stands)
-    (own_line s old at line same is boundary utf8) (subst (IsCounted s old) so_far.stands.whole so_far.counted)
+-- so that the next line may be read
+pub may_read_next : (s : Source) (old : Pass) (at : ℕ) (line : Line) (text : List ℕ) → text ≡ s.text
+    → old.placing.builder.text ≡ s.text → IsLineFrom s.text at line → IsCharBoundary s.text at → IsUtf8 s.text
+    → StandsAt s old at → MayReadLine text old line
+may_read_next s old at line text own same is boundary utf8 so_far =
+    let made = before_at s old at so_far in
+    record {
+      s = s;
+      before = made;
+      source = first_line at (drop at s.text);
+      same = own;
+      stands = subst (Stands s old made.frames made.inside made.last) (sym is.begins) so_far.stands.stands;
+      is = own_line s old at line same is boundary utf8;
+      counted = subst (IsCounted s old) so_far.stands.whole so_far.counted;
+    }
 
 -- ---- the end
 

@@ -194,6 +194,25 @@ abbrev pub IsHere : Source → Pass → LineRest → Turn → SourceLine → For
 IsHere s pass rest (first before line) source blocks = IsFirst s pass rest before line source blocks
 IsHere s pass rest (later frames) source blocks = IsInside s pass rest frames source blocks
 
+-- the pass stands for the blocks so far, and the rest of a line may be read
+pub record MayRead (pass : Pass) (rest : LineRest) : Type 0 where
+  pub s : Source
+  pub turn : Turn
+  pub source : SourceLine
+  pub blocks : Forest Block
+  pub here : IsHere s pass rest turn source blocks
+
+-- the same, and this block was found to begin with it, at a byte offset
+pub record MayBeginBlock (pass : Pass) (rest : LineRest) (at : ℕ) (start : BlockStart) : Type 0 where
+  pub s : Source
+  pub turn : Turn
+  pub source : SourceLine
+  pub blocks : Forest Block
+  pub here : IsHere s pass rest turn source blocks
+  pub found : IsFound s rest source at start
+  pub stands : FoundStands pass.placing.builder.text rest.line at start
+  pub fits : FoundFits pass.placing.builder.text rest.line at start
+
 -- A number that grows from turn to turn: the place, and one more where no paragraph is left that the line may go on
 -- with.
 abbrev pub turn_place : LineRest → ℕ

@@ -1,7 +1,7 @@
 -- What the calls that end a paragraph and close blocks need to fit: where the lines held back are, what is around them,
 -- and which blocks are open.
-use Rattle.std.specs.Prelude.{◌≡◌, ℕ, ◌≤◌, ◌<◌, ◌-◌, ◌==◌, ◌||◌, Bool, true, false, List, [], ◌∷◌, Option}
-use Rattle.std.specs.Prelude.{Some, None, IfSome, drop, length, slice_get, slice_range, if◌then◌else◌}
+use Rattle.std.specs.Prelude.{◌≡◌, ℕ, ◌≤◌, ◌<◌, ◌-◌, ◌==◌, ◌||◌, ◌&&◌, not, nat_le, Bool, true, false, List, [], ◌∷◌}
+use Rattle.std.specs.Prelude.{Option, Some, None, IfSome, drop, length, slice_get, slice_range, if◌then◌else◌}
 use Rattle.std.specs.Str.{IsCharBoundary}
 use Rattle.markdown_base.specs.declared.tag.HeadingLevel.{HeadingLevel}
 use Rattle.markdown_builder.specs.BuilderView.{BuilderView}
@@ -13,9 +13,9 @@ use Rattle.markdown_lines.specs.declared.braces.Braces.{Braces}
 use Rattle.markdown_lines.specs.declared.held_line.HeldLine.{HeldLine}
 use Rattle.markdown_lines.specs.declared.line.Line.{Line}
 use Rattle.markdown_plain.specs.Containers.{is_container}
-use Rattle.markdown_plain.specs.Fits.{MayAddBefore}
+use Rattle.markdown_plain.specs.Fits.{MayAddBefore, MayStep}
 use Rattle.markdown_plain.specs.HeldSources.{AreInParagraph}
-use Rattle.markdown_plain.specs.OpenBlocks.{has_leaf, is_quote, without_leaf}
+use Rattle.markdown_plain.specs.OpenBlocks.{has_leaf, innermost_is, is_list, is_quote, room_in, without_leaf}
 use Rattle.markdown_plain.specs.Paragraphs.{has_paragraph, lines_end}
 use Rattle.markdown_plain.specs.declared.paragraph.Ends.{Ends}
 use Rattle.markdown_plain.specs.declared.pass.Pass.{Pass}
@@ -151,6 +151,44 @@ pub record IsClosable (pass : Pass) : Type 0 where
   pub boundary : IsCharBoundary pass.placing.builder.text pass.placed
   pub white : has_quote (without_leaf pass.placing.builder) ≡ false
       → AllPass is_in_blank_line pass.placing.builder.text (leaf_end pass) pass.placed
+
+-- no leaf block is open, and no lines are held back
+abbrev pub has_ended : Pass → Bool
+has_ended pass = not (has_leaf pass.placing.builder) && (length pass.lines.items == 0)
+
+-- nothing is open but the outermost blocks, up to a number of them
+abbrev pub is_down : Pass → ℕ → Bool
+is_down pass depth = has_ended pass && nat_le (length pass.placing.builder.blocks) depth
+
+-- and the innermost of them is no list, so that any block may begin there
+abbrev pub has_room : Pass → ℕ → Bool
+has_room pass depth = is_down pass depth && not (innermost_is is_list pass.placing.builder.blocks)
+
+-- what has not ended may be ended
+abbrev pub MayEndLeaf : Pass → Type 0
+MayEndLeaf pass = has_ended pass ≡ false → IsClosable pass
+
+-- the open blocks may be closed except the outermost ones, up to a number of them
+abbrev pub MayCloseDown : Pass → ℕ → Type 0
+MayCloseDown pass depth = is_down pass depth ≡ false → IsClosable pass
+
+-- room may be made inside these
+abbrev pub MayMakeRoom : Pass → ℕ → Type 0
+MayMakeRoom pass depth = has_room pass depth ≡ false → IsClosable pass
+
+-- an item may be opened at a byte offset once the blocks around it are closed
+pub record MayOpenItemAfter (pass : Pass) (depth at : ℕ) : Type 0 where
+  pub closable : IsClosable pass
+  pub low : pass.placed ≤ at
+  pub boundary : IsCharBoundary pass.placing.builder.text at
+  pub white : room_in depth (without_leaf pass.placing.builder) ≡ []
+      → AllPass is_in_blank_line pass.placing.builder.text pass.placed at
+
+-- an item may be opened at a byte offset inside the outermost blocks, up to a number of them: once the others are closed,
+-- or where no others are open
+pub data MayOpenItem (pass : Pass) (depth at : ℕ) : Type 0 where
+  by_closing : MayOpenItemAfter pass depth at → MayOpenItem pass depth at
+  in_room : has_room pass depth ≡ true → MayStep pass.placing.builder at → MayOpenItem pass depth at
 
 -- Between two lines: all up to a byte offset was read, where a line begins, and every call fits that the pass may
 -- make of the lines that it holds back.

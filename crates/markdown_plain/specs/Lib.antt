@@ -17,6 +17,7 @@ pub mod ParagraphItems
 pub mod Closable
 -- the blocks that it stands for
 pub mod Frames
+pub mod Readable
 pub mod Settled
 pub mod ReachedFrames
 pub mod OpenedFrames

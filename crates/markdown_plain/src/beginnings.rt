@@ -15,6 +15,9 @@ ghost use Rattle.markdown_lines.specs.declared.block_start.BlockStart.{BlockStar
 ghost use Rattle.markdown_lines.specs.declared.block_start.BlockStart.TheVariants as start;
 ghost use Rattle.markdown_plain.specs.Beginning.{HasBegun, HasRoom, IsFound, IsHeadingIn, IsHere, NeedsRoom};
 ghost use Rattle.markdown_plain.specs.Beginning.{ReadsOn, Turn};
+ghost use Rattle.markdown_plain.specs.Beginning.{MayBeginBlock, MayRead};
+ghost use Rattle.markdown_plain.specs.Closable.{MayMakeRoom};
+ghost use Rattle.markdown_plain.specs.Fits.{MayStep};
 ghost use Rattle.markdown_plain.specs.Fitting.{AllFitted, BracesStand, FittedBefore, IfFitted};
 ghost use Rattle.markdown_plain.specs.OpenLeaves.{InfoStands};
 ghost use Rattle.markdown_plain.specs.Paragraphs.{source_of};
@@ -66,6 +69,7 @@ impl<'a> Pass<'a> {
     /// Reads the block that begins here. Returns whether the rest of the line is still to be read: inside a container,
     /// or once more.
     pub fn read_block(&mut self, rest: &mut LineRest<'a>) -> Result<bool, AllocError>
+        requires { MayRead self.old rest.old }
         ensures text { IfOk result (λ _. self.new.placing.builder.text
             ≡ self.old.placing.builder.text) }
         ensures fitted { IfOk result (λ _. FittedBefore self.old.placing self.new.placing) }
@@ -101,6 +105,7 @@ impl<'a> Pass<'a> {
     /// containers that it is not in.
     #[inline(always)]
     fn make_room_for(&mut self, rest: &LineRest<'a>) -> Result<(), AllocError>
+        requires { MayMakeRoom self.old rest.now.depth }
         ensures text { IfOk result (λ _. self.new.placing.builder.text
             ≡ self.old.placing.builder.text) }
         ensures fitted { IfOk result (λ _. FittedBefore self.old.placing self.new.placing) }
@@ -143,6 +148,7 @@ impl<'a> Pass<'a> {
 
     /// Passes over the rest of a line that is blank. Returns false, as for all blocks that are not containers.
     fn skip_blank(&mut self, line: Line) -> Result<bool, AllocError>
+        requires { MayStep self.old.placing.builder line.next }
         ensures text { IfOk result (λ _. self.new.placing.builder.text
             ≡ self.old.placing.builder.text) }
         ensures fitted { IfOk result (λ _. FittedBefore self.old.placing self.new.placing) }
@@ -165,6 +171,7 @@ impl<'a> Pass<'a> {
 
     /// Reads text, from its first byte on. Returns false.
     fn read_text(&mut self, rest: &LineRest<'a>, at: usize) -> Result<bool, AllocError>
+        requires { MayMakeRoom self.old rest.now.depth }
         ensures text { IfOk result (λ _. self.new.placing.builder.text
             ≡ self.old.placing.builder.text) }
         ensures fitted { IfOk result (λ _. FittedBefore self.old.placing self.new.placing) }
@@ -198,6 +205,7 @@ impl<'a> Pass<'a> {
 
     /// Reads the first line of indented code, from a place on. Returns false.
     fn read_indented(&mut self, rest: &LineRest<'a>, code: Position) -> Result<bool, AllocError>
+        requires { (at : ℕ) × MayBeginBlock self.old rest.now at (start.IndentedCode code) }
         ensures text { IfOk result (λ _. self.new.placing.builder.text
             ≡ self.old.placing.builder.text) }
         ensures fitted { IfOk result (λ _. FittedBefore self.old.placing self.new.placing) }
@@ -226,6 +234,7 @@ impl<'a> Pass<'a> {
         at: usize,
         inside: Position,
     ) -> Result<bool, AllocError>
+        requires { MayBeginBlock self.old rest.old at (start.Quote inside) }
         ensures text { IfOk result (λ _. self.new.placing.builder.text
             ≡ self.old.placing.builder.text) }
         ensures fitted { IfOk result (λ _. FittedBefore self.old.placing self.new.placing) }
@@ -256,6 +265,7 @@ impl<'a> Pass<'a> {
         at: usize,
         kind: BlockQuoteKind,
     ) -> Result<bool, AllocError>
+        requires { MayBeginBlock self.old rest.now at (start.Alert kind) }
         ensures text { IfOk result (λ _. self.new.placing.builder.text
             ≡ self.old.placing.builder.text) }
         ensures fitted { IfOk result (λ _. FittedBefore self.old.placing self.new.placing) }
@@ -284,6 +294,7 @@ impl<'a> Pass<'a> {
         at: usize,
         heading: AtxHeading,
     ) -> Result<bool, AllocError>
+        requires { MayBeginBlock self.old rest.now at (start.Heading heading) }
         ensures text { IfOk result (λ _. self.new.placing.builder.text
             ≡ self.old.placing.builder.text) }
         ensures fitted { IfOk result (λ _. FittedBefore self.old.placing self.new.placing) }
@@ -315,6 +326,7 @@ impl<'a> Pass<'a> {
         at: usize,
         opening: OpeningFence,
     ) -> Result<bool, AllocError>
+        requires { MayBeginBlock self.old rest.now at (start.Fence opening) }
         ensures text { IfOk result (λ _. self.new.placing.builder.text
             ≡ self.old.placing.builder.text) }
         ensures fitted { IfOk result (λ _. FittedBefore self.old.placing self.new.placing) }
@@ -339,6 +351,7 @@ impl<'a> Pass<'a> {
 
     /// Reads the first line of an HTML block. Returns false.
     fn read_html(&mut self, rest: &LineRest<'a>, kind: HtmlKind) -> Result<bool, AllocError>
+        requires { (at : ℕ) × MayBeginBlock self.old rest.now at (start.Html kind) }
         ensures text { IfOk result (λ _. self.new.placing.builder.text
             ≡ self.old.placing.builder.text) }
         ensures fitted { IfOk result (λ _. FittedBefore self.old.placing self.new.placing) }
@@ -379,6 +392,7 @@ impl<'a> Pass<'a> {
         label: CowStr<'a>,
         inside: Position,
     ) -> Result<bool, AllocError>
+        requires { MayBeginBlock self.old rest.old at (start.Footnote label inside) }
         ensures text { IfOk result (λ _. self.new.placing.builder.text
             ≡ self.old.placing.builder.text) }
         ensures fitted { IfOk result (λ _. FittedBefore self.old.placing self.new.placing) }
@@ -408,6 +422,7 @@ impl<'a> Pass<'a> {
         rest: &mut LineRest<'a>,
         level: HeadingLevel,
     ) -> Result<bool, AllocError>
+        requires { (at : ℕ) × MayBeginBlock self.old rest.old at (start.Underline level) }
         ensures text { IfOk result (λ _. self.new.placing.builder.text
             ≡ self.old.placing.builder.text) }
         ensures fitted { IfOk result (λ _. FittedBefore self.old.placing self.new.placing) }
@@ -429,6 +444,7 @@ impl<'a> Pass<'a> {
 
     /// Reads a thematic break. Returns false.
     fn read_break(&mut self, rest: &LineRest<'a>, at: usize) -> Result<bool, AllocError>
+        requires { MayBeginBlock self.old rest.now at start.ThematicBreak }
         ensures text { IfOk result (λ _. self.new.placing.builder.text
             ≡ self.old.placing.builder.text) }
         ensures fitted { IfOk result (λ _. FittedBefore self.old.placing self.new.placing) }
@@ -457,6 +473,7 @@ impl<'a> Pass<'a> {
         at: usize,
         item: ItemStart,
     ) -> Result<bool, AllocError>
+        requires { MayBeginBlock self.old rest.old at (start.Item item) }
         ensures text { IfOk result (λ _. self.new.placing.builder.text
             ≡ self.old.placing.builder.text) }
         ensures fitted { IfOk result (λ _. FittedBefore self.old.placing self.new.placing) }
@@ -484,6 +501,7 @@ impl<'a> Pass<'a> {
         rest: &LineRest<'a>,
         kind: MetadataBlockKind,
     ) -> Result<bool, AllocError>
+        requires { (at : ℕ) × MayBeginBlock self.old rest.now at (start.Metadata kind) }
         ensures text { IfOk result (λ _. self.new.placing.builder.text
             ≡ self.old.placing.builder.text) }
         ensures fitted { IfOk result (λ _. FittedBefore self.old.placing self.new.placing) }

@@ -19,6 +19,9 @@ ghost use Rattle.markdown_lines.specs.Lines.{AllPass, is_in_blank_line, is_space
 ghost use Rattle.markdown_lines.specs.SourceLines.{SourceLine, is_blank_rest};
 ghost use Rattle.markdown_lines.specs.declared.position.Position.{Position};
 ghost use Rattle.markdown_plain.specs.Beginning.{IsHere, IsMadeOf, Turn, reads_metadata};
+ghost use Rattle.markdown_plain.specs.Beginning.{MayRead};
+ghost use Rattle.markdown_plain.specs.Closable.{MayMakeRoom};
+ghost use Rattle.markdown_plain.specs.Readable.{MayGoOn, MayReadLine, MayReadOn, MayReadRest, MayReadText};
 ghost use Rattle.markdown_plain.specs.Fitting.{AllFitted, FittedBefore, IfFitted};
 ghost use Rattle.markdown_plain.specs.ListLooseness.{blank_from};
 ghost use Rattle.markdown_plain.specs.OpenBlocks.{is_list};
@@ -114,7 +117,8 @@ impl<'a> Pass<'a> {
     /// Reads a line, where `ahead` are the lines of the text. Where no block is open, the first byte of most lines shows
     /// that they are text.
     fn read_line(&mut self, line: Line, ahead: &mut LinesAhead<'a>) -> Result<(), AllocError>
-        requires { IsCharBoundary ahead.old.text.now line.stop }
+        requires stop { IsCharBoundary ahead.old.text.now line.stop }
+        requires may { MayReadLine ahead.old.text.now self.old line }
         ensures text { IfOk result (λ _. self.new.placing.builder.text
             ≡ self.old.placing.builder.text) }
         ensures fitted { IfOk result (λ _. FittedBefore self.old.placing self.new.placing) }
@@ -149,6 +153,7 @@ impl<'a> Pass<'a> {
     // inlined, as `add_text`
     #[inline(always)]
     fn read_text_line(&mut self, line: Line, start: usize, depth: usize) -> Result<(), AllocError>
+        requires { MayMakeRoom self.old depth }
         ensures text { IfOk result (λ _. self.new.placing.builder.text
             ≡ self.old.placing.builder.text) }
         ensures fitted { IfOk result (λ _. FittedBefore self.old.placing self.new.placing) }
@@ -189,7 +194,8 @@ impl<'a> Pass<'a> {
     /// Reads a line, whatever blocks continue or begin in it.
     #[inline(never)]
     fn read_any_line(&mut self, line: Line, ahead: &mut LinesAhead<'a>) -> Result<(), AllocError>
-        requires { IsCharBoundary ahead.old.text.now line.stop }
+        requires stop { IsCharBoundary ahead.old.text.now line.stop }
+        requires may { MayReadLine ahead.old.text.now self.old line }
         ensures text { IfOk result (λ _. self.new.placing.builder.text
             ≡ self.old.placing.builder.text) }
         ensures fitted { IfOk result (λ _. FittedBefore self.old.placing self.new.placing) }
@@ -230,7 +236,8 @@ impl<'a> Pass<'a> {
         reached: Reached,
         ahead: &mut LinesAhead<'a>,
     ) -> Result<bool, AllocError>
-        requires { IsCharBoundary ahead.old.text.now line.stop }
+        requires stop { IsCharBoundary ahead.old.text.now line.stop }
+        requires may { MayReadOn ahead.old.text.now self.old line reached }
         ensures text { IfOk result (λ _. self.new.placing.builder.text
             ≡ self.old.placing.builder.text) }
         ensures fitted { IfOk result (λ _. FittedBefore self.old.placing self.new.placing) }
@@ -270,13 +277,16 @@ impl<'a> Pass<'a> {
 
     /// Reads a line that is not blank for the innermost blocks that continue in it, and in which no open leaf block goes
     /// on.
+    // inlined: it is called for most lines
+    #[inline(always)]
     fn read_filled(
         &mut self,
         line: Line,
         reached: Reached,
         ahead: &mut LinesAhead<'a>,
     ) -> Result<(), AllocError>
-        requires { IsCharBoundary ahead.old.text.now line.stop }
+        requires stop { IsCharBoundary ahead.old.text.now line.stop }
+        requires may { MayReadRest ahead.old.text.now self.old line reached false }
         ensures text { IfOk result (λ _. self.new.placing.builder.text
             ≡ self.old.placing.builder.text) }
         ensures fitted { IfOk result (λ _. FittedBefore self.old.placing self.new.placing) }
@@ -312,6 +322,7 @@ impl<'a> Pass<'a> {
     /// Reads a line as the delimiter row of a table, where it is one for the last line of the open paragraph, and returns
     /// whether it is.
     fn read_delimiter_row(&mut self, line: Line, reached: Reached) -> Result<bool, AllocError>
+        requires { MayReadRest self.old.placing.builder.text self.old line reached false }
         ensures text { IfOk result (λ _. self.new.placing.builder.text
             ≡ self.old.placing.builder.text) }
         ensures fitted { IfOk result (λ _. FittedBefore self.old.placing self.new.placing) }
@@ -361,6 +372,8 @@ impl<'a> Pass<'a> {
 
     /// Adds a line to the open code or HTML block, if that continues in it, and returns whether it does.
     fn goes_on(&mut self, line: Line, reached: Reached) -> Result<bool, AllocError>
+        requires may { MayGoOn self.old.placing.builder.text self.old line reached }
+        requires leaf { self.old.placing.builder.leaf ≡ true }
         ensures text { IfOk result (λ _. self.new.placing.builder.text
             ≡ self.old.placing.builder.text) }
         ensures fitted { IfOk result (λ _. FittedBefore self.old.placing self.new.placing) }
@@ -403,6 +416,7 @@ impl<'a> Pass<'a> {
 
     /// Reads a line that is blank for the innermost blocks that continue in it.
     fn read_blank(&mut self, line: Line, reached: Reached) -> Result<(), AllocError>
+        requires { MayReadRest self.old.placing.builder.text self.old line reached true }
         ensures text { IfOk result (λ _. self.new.placing.builder.text
             ≡ self.old.placing.builder.text) }
         ensures fitted { IfOk result (λ _. FittedBefore self.old.placing self.new.placing) }
@@ -459,6 +473,7 @@ impl<'a> Pass<'a> {
     /// Reads what the open containers left of a line: opens blocks as long as some begin.
     #[inline(always)]
     fn read_rest(&mut self, rest: &mut LineRest<'a>) -> Result<(), AllocError>
+        requires { MayRead self.old rest.old }
         ensures text { IfOk result (λ _. self.new.placing.builder.text
             ≡ self.old.placing.builder.text) }
         ensures fitted { IfOk result (λ _. FittedBefore self.old.placing self.new.placing) }
@@ -487,6 +502,7 @@ impl<'a> Pass<'a> {
 
     /// Reads all lines of the text, and closes all blocks.
     fn read_lines(&mut self) -> Result<(), AllocError>
+        requires { MayReadText self.old }
         ensures text { IfOk result (λ _. self.new.placing.builder.text
             ≡ self.old.placing.builder.text) }
         ensures made { IfOk result (λ _. (s : Source) → Stands s self.old [] nil None 0
@@ -525,8 +541,7 @@ fn place_all<'a>(alloc: Global, text: &'a str, options: Options) -> Result<Placi
     let mut pass = Pass::new(alloc, text, options)?;
     pass.read_lines()?;
     let mut placing = pass.into_placing();
-    placing.close_all();
-    placing.step_to_end()?;
+    placing.step_to(text.as_bytes().len());
     Ok(placing)
 }
 
@@ -570,18 +585,9 @@ pub fn blocks<'a>(
     let placing = place_all(alloc, text, options)?;
     let Placing {
         builder,
-        misfits: _,
         stretches,
         alloc: _,
     } = placing;
     drop(stretches);
     Ok(builder.finish())
-}
-
-/// Returns the number of builder calls of the block pass that did not fit, so that nothing was made: 0. Fails where memory
-/// is refused.
-pub fn misfits(alloc: Global, text: &str, options: Options) -> Result<usize, AllocError>
-    ensures { IfOk result (λ count. count ≡ 0) }
-{
-    Ok(place_all(alloc, text, options)?.misfits)
 }

@@ -10,8 +10,9 @@ ghost use Rattle.markdown_lines.specs.SourceLines.{SourceLine};
 ghost use Rattle.markdown_plain.specs.Containers as spec;
 ghost use Rattle.markdown_plain.specs.NewContainers as opening;
 ghost use Rattle.markdown_lines.specs.Lines.{AllPass, is_in_blank_line};
-ghost use Rattle.markdown_plain.specs.Closable.{AreClosable, IsClosable, IsInList, IsWhiteBefore};
+ghost use Rattle.markdown_plain.specs.Closable.{AreClosable, IsClosable, IsInList, IsWhiteBefore, MayOpenItem};
 ghost use Rattle.markdown_plain.specs.Fitting.{AllFitted, IfFitted, IsAhead, IsWhiteOutside, opened};
+ghost use Rattle.markdown_plain.specs.Fits.{MayStep};
 ghost use Rattle.markdown_plain.specs.Frames.{Frame, reached};
 ghost use Rattle.markdown_plain.specs.ReachedFrames.{IsBefore, IsReached};
 ghost use Rattle.markdown_plain.specs.OpenBlocks as open_blocks;
@@ -297,6 +298,8 @@ impl<'a> Pass<'a> {
 
     /// Opens a block quote, an alert of a kind or none, whose marker is at the byte offset `at`.
     pub fn open_quote(&mut self, at: usize, kind: Option<BlockQuoteKind>) -> Result<(), AllocError>
+        requires step { MayStep self.old.placing.builder at }
+        requires outside { self.old.placing.builder.leaf ≡ false }
         ensures text { IfOk result (λ _. self.new.placing.builder.text
             ≡ self.old.placing.builder.text) }
         ensures opens { IfOk result (λ _.
@@ -320,6 +323,7 @@ impl<'a> Pass<'a> {
     /// Opens an item whose marker is at the byte offset `at`, and a list unless one continues, inside the outermost
     /// `depth` of the open blocks.
     pub fn open_item(&mut self, item: ItemStart, at: usize, depth: usize) -> Result<(), AllocError>
+        requires { MayOpenItem self.old depth at }
         ensures text { IfOk result (λ _. self.new.placing.builder.text
             ≡ self.old.placing.builder.text) }
         ensures around { IfOk result (λ _. IfFitted self.old.placing self.new.placing
@@ -395,6 +399,10 @@ impl<'a> Pass<'a> {
     /// Adds an item to the innermost open block, if that is a list with this character, and otherwise opens a list. The
     /// item itself is not opened yet.
     fn open_list(&mut self, marker: ListMarker, at: usize) -> Result<(), AllocError>
+        requires outside { self.old.placing.builder.leaf ≡ false }
+        requires ahead { IsAhead self.old.placing.builder at }
+        requires white { without_list self.old.placing.builder.blocks ≡ [] → IsWhiteBefore self.old.placing.builder at }
+        requires closable { open_blocks.innermost_is open_blocks.is_list self.old.placing.builder.blocks ≡ true → AreClosable self.old.placing.builder self.old.placed }
         ensures text { IfOk result (λ _. self.new.placing.builder.text
             ≡ self.old.placing.builder.text) }
         ensures around { IfOk result (λ _. IfFitted self.old.placing self.new.placing
@@ -463,6 +471,8 @@ impl<'a> Pass<'a> {
 
     /// Opens a footnote definition whose marker is at the byte offset `at`.
     pub fn open_footnote(&mut self, at: usize, label: CowStr<'a>) -> Result<(), AllocError>
+        requires step { MayStep self.old.placing.builder at }
+        requires outside { self.old.placing.builder.leaf ≡ false }
         ensures text { IfOk result (λ _. self.new.placing.builder.text
             ≡ self.old.placing.builder.text) }
         ensures opens { IfOk result (λ _.

@@ -55,6 +55,7 @@ use std::alloc::{AllocError, Global};
 
 /// Appends a line of a code block, with its line ending: a Text, after the columns that a partly read tab owes.
 fn add_code(placing: &mut Placing<'_>, line: HeldLine) -> Result<(), AllocError>
+    requires { MayAddLine placing.old.builder line.start line.next }
     ensures text { IfOk result (λ _. placing.new.builder.text ≡ placing.old.builder.text) }
     ensures goes_on { IfOk result (λ _. IfFitted placing.old placing.new
         (GoesOn placing.old.builder placing.new.builder (after_line line.start line.next))) }
@@ -79,6 +80,7 @@ fn add_code(placing: &mut Placing<'_>, line: HeldLine) -> Result<(), AllocError>
 
 /// Appends lines of a code block.
 fn add_codes(placing: &mut Placing<'_>, lines: &[HeldLine]) -> Result<(), AllocError>
+    requires { MayAddLines placing.old.builder lines.now }
     ensures text { IfOk result (λ _. placing.new.builder.text ≡ placing.old.builder.text) }
     ensures goes_on { IfOk result (λ _. IfFitted placing.old placing.new
         (GoesOn placing.old.builder placing.new.builder placing.new.builder.at)) }
@@ -106,6 +108,7 @@ pub fn open_heading(
     level: HeadingLevel,
     braces: Option<Braces>,
 ) -> Result<(), AllocError>
+    requires { placing.old.builder.leaf ≡ false }
     ensures text { IfOk result (λ _. placing.new.builder.text ≡ placing.old.builder.text) }
     ensures opens { IfOk result (λ _. IfFitted placing.old placing.new
         (OpensHeading placing.old.builder placing.new.builder level)) }
@@ -150,6 +153,8 @@ fn whole_of(line: Line) -> HeldLine
 impl<'a> Pass<'a> {
     /// Adds a thematic break that begins here.
     pub fn add_thematic_break(&mut self, line: Line) -> Result<(), AllocError>
+        requires outside { self.old.placing.builder.leaf ≡ false }
+        requires ahead { IsAhead self.old.placing.builder line.next }
         ensures text { IfOk result (λ _. self.new.placing.builder.text
             ≡ self.old.placing.builder.text) }
         ensures adds { IfOk result (λ _. IfFitted self.old.placing self.new.placing
@@ -174,6 +179,7 @@ impl<'a> Pass<'a> {
     /// Adds an ATX heading that begins here.
     #[tactic(auto, using(crate::proofs::OpenBlocksLemmas::outer_of_opened))]
     pub fn add_heading(&mut self, line: Line, heading: AtxHeading) -> Result<(), AllocError>
+        requires { MayAddHeading self.old.placing.builder line heading }
         ensures text { IfOk result (λ _. self.new.placing.builder.text
             ≡ self.old.placing.builder.text) }
         ensures adds { IfOk result (λ _. IfFitted self.old.placing self.new.placing
@@ -212,6 +218,7 @@ impl<'a> Pass<'a> {
         at: usize,
         opening: OpeningFence,
     ) -> Result<(), AllocError>
+        requires { MayOpenLeaf self.old.placing.builder at line.next }
         ensures text { IfOk result (λ _. self.new.placing.builder.text
             ≡ self.old.placing.builder.text) }
         ensures opens { IfOk result (λ _. (info : List ℕ)
@@ -248,6 +255,8 @@ impl<'a> Pass<'a> {
         line: Line,
         position: Position,
     ) -> Result<(), AllocError>
+        requires line { MayAddLine self.old.placing.builder position.at line.next }
+        requires ordered { position.at ≤ line.next }
         ensures text { IfOk result (λ _. self.new.placing.builder.text
             ≡ self.old.placing.builder.text) }
         ensures fitted { IfOk result (λ _. FittedBefore self.old.placing self.new.placing) }
@@ -302,6 +311,7 @@ impl<'a> Pass<'a> {
     /// Opens metadata of a kind with a line.
     #[tactic(auto, using(crate::proofs::OpenBlocksLemmas::outer_of_opened))]
     pub fn open_metadata(&mut self, kind: MetadataBlockKind, line: Line) -> Result<(), AllocError>
+        requires { MayOpenLeaf self.old.placing.builder line.start line.next }
         ensures text { IfOk result (λ _. self.new.placing.builder.text
             ≡ self.old.placing.builder.text) }
         ensures opens { IfOk result (λ _. IfFitted self.old.placing self.new.placing
@@ -329,6 +339,8 @@ impl<'a> Pass<'a> {
 
     /// Adds a line to the open metadata, or closes it with the line.
     pub fn add_metadata(&mut self, kind: MetadataBlockKind, line: Line) -> Result<(), AllocError>
+        requires line { MayAddLine self.old.placing.builder line.start line.next }
+        requires ordered { line.start ≤ line.next }
         ensures text { IfOk result (λ _. self.new.placing.builder.text
             ≡ self.old.placing.builder.text) }
         ensures fitted { IfOk result (λ _. FittedBefore self.old.placing self.new.placing) }
@@ -384,6 +396,7 @@ impl<'a> Pass<'a> {
         position: Position,
         kind: HtmlKind,
     ) -> Result<(), AllocError>
+        requires { MayOpenHtml self.old.placing.builder line position }
         ensures text { IfOk result (λ _. self.new.placing.builder.text
             ≡ self.old.placing.builder.text) }
         ensures fitted { IfOk result (λ _. FittedBefore self.old.placing self.new.placing) }
@@ -442,6 +455,7 @@ impl<'a> Pass<'a> {
         line: Line,
         position: Position,
     ) -> Result<(), AllocError>
+        requires { MayAddLine self.old.placing.builder position.at line.next }
         ensures text { IfOk result (λ _. self.new.placing.builder.text
             ≡ self.old.placing.builder.text) }
         ensures fitted { IfOk result (λ _. FittedBefore self.old.placing self.new.placing) }
@@ -491,6 +505,7 @@ impl<'a> Pass<'a> {
 
     /// Appends the rest of a line from a place on: an Html, after the columns that a partly read tab owes.
     fn add_html_line(&mut self, line: Line, position: Position) -> Result<(), AllocError>
+        requires { MayAddLine self.old.placing.builder position.at line.next }
         ensures text { IfOk result (λ _. self.new.placing.builder.text
             ≡ self.old.placing.builder.text) }
         ensures goes_on { IfOk result (λ _. IfFitted self.old.placing self.new.placing
@@ -518,6 +533,7 @@ impl<'a> Pass<'a> {
 
     /// Closes the open HTML block, if a block of its kind ends with the rest of a line from a place on.
     fn end_html(&mut self, kind: HtmlKind, line: Line, position: Position)
+        requires { IsInLeaf self.old.placing.builder }
         ensures text { self.new.placing.builder.text ≡ self.old.placing.builder.text }
         ensures ends { ends_html_at self.old.placing.builder.text position line kind ≡ true
             → IfFitted self.old.placing self.new.placing
@@ -539,6 +555,7 @@ impl<'a> Pass<'a> {
 
     /// Opens an indented code block with a line whose code begins at a place.
     pub fn open_indented(&mut self, line: Line, position: Position) -> Result<(), AllocError>
+        requires { MayOpenLeaf self.old.placing.builder position.at line.next }
         ensures text { IfOk result (λ _. self.new.placing.builder.text
             ≡ self.old.placing.builder.text) }
         ensures opens { IfOk result (λ _. IfFitted self.old.placing self.new.placing
@@ -575,6 +592,7 @@ impl<'a> Pass<'a> {
 
     /// Adds a line to the open indented code block, after the blank lines that were held back.
     pub fn add_indented(&mut self, line: Line, position: Position) -> Result<(), AllocError>
+        requires { MayAddAfter self.old.placing.builder self.old.blanks.items position.at line.next }
         ensures text { IfOk result (λ _. self.new.placing.builder.text
             ≡ self.old.placing.builder.text) }
         ensures goes_on { IfOk result (λ _. IfFitted self.old.placing self.new.placing

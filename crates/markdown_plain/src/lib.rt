@@ -13,4 +13,4 @@ mod stretches;
 mod table_state;
 mod tables;
 
-pub use block_pass::{blocks, misfits};
+pub use block_pass::blocks;

@@ -7,6 +7,7 @@ ghost use Rattle.markdown_builder.specs.BuilderView.{Opens};
 ghost use Rattle.markdown_plain.specs.Fitting.{AllFitted, BracesStand, FittedBefore, IfFitted, GoesOn};
 ghost use Rattle.markdown_plain.specs.Fitting.{OpensHeading, OpensHeadingOf, defining};
 ghost use Rattle.markdown_plain.specs.Closable.{AreAhead, AreClosable, EndsHeading, HasRoomFor, HasTask};
+ghost use Rattle.markdown_plain.specs.Closable.{MayMakeRoom};
 ghost use Rattle.markdown_plain.specs.Closable.{HaveBraces, HaveTask, IsClosable, IsInText, IsLastInText};
 ghost use Rattle.markdown_plain.specs.Closable.{IsLeafOpen, IsPlaceable};
 ghost use Rattle.markdown_plain.specs.OpenBlocks.{room_in, without_leaf};
@@ -64,6 +65,7 @@ fn take_definition<'a>(
     lines: &[HeldLine],
     names: EntityNames,
 ) -> Result<usize, AllocError>
+    requires { AreAhead placing.old.builder lines.now }
     ensures text { IfOk result (λ _. placing.new.builder.text ≡ placing.old.builder.text) }
     ensures steps { IfOk result (λ _. IfFitted placing.old placing.new
         (placing.new.builder ≡ defining placing.old.builder placing.new.builder.definitions
@@ -113,6 +115,7 @@ fn take_definitions<'a>(
     lines: &[HeldLine],
     names: EntityNames,
 ) -> Result<usize, AllocError>
+    requires { AreAhead placing.old.builder lines.now }
     ensures text { IfOk result (λ _. placing.new.builder.text ≡ placing.old.builder.text) }
     ensures steps { IfOk result (λ _. IfFitted placing.old placing.new
         (placing.new.builder ≡ defining placing.old.builder placing.new.builder.definitions
@@ -148,6 +151,9 @@ fn add_broken_line(
     line: HeldLine,
     options: Options,
 ) -> Result<(), AllocError>
+    requires inside { IsLeafOpen placing.old.builder }
+    requires ahead { placing.old.builder.at ≤ line.start }
+    requires line { IsInText placing.old.builder.text line }
     ensures text { IfOk result (λ _. placing.new.builder.text ≡ placing.old.builder.text) }
     ensures goes_on { IfOk result (λ _. IfFitted placing.old placing.new
         (GoesOn placing.old.builder placing.new.builder line.next)) }
@@ -169,10 +175,6 @@ fn add_broken_line(
         return Ok(());
     }
     let text = placing.text();
-    if line.stop < line.start || !text.is_char_boundary(line.stop) {
-        placing.miss();
-        return Ok(());
-    }
     let between = line_break(text, line.start, line.stop);
     placing.add_items(between.text_end, options)?;
     placing.step_to(between.start);
@@ -185,6 +187,9 @@ fn add_last_line(
     line: HeldLine,
     options: Options,
 ) -> Result<(), AllocError>
+    requires inside { IsLeafOpen placing.old.builder }
+    requires ahead { placing.old.builder.at ≤ line.start }
+    requires line { IsLastInText placing.old.builder.text line }
     ensures text { IfOk result (λ _. placing.new.builder.text ≡ placing.old.builder.text) }
     ensures goes_on { IfOk result (λ _. IfFitted placing.old placing.new
         (GoesOn placing.old.builder placing.new.builder line.next)) }
@@ -221,6 +226,10 @@ fn begin_line(
     line: HeldLine,
     task: Option<bool>,
 ) -> Result<HeldLine, AllocError>
+    requires inside { IsLeafOpen placing.old.builder }
+    requires ahead { placing.old.builder.at ≤ line.start }
+    requires line { IsInText placing.old.builder.text line }
+    requires task { HasTask placing.old.builder.text task line }
     ensures text { IfOk result (λ _. placing.new.builder.text ≡ placing.old.builder.text) }
     ensures goes_on { IfOk result (λ rest. IfFitted placing.old placing.new
         (GoesOn placing.old.builder placing.new.builder rest.start)) }
@@ -277,7 +286,8 @@ fn add_line(
     ends: Ends,
     options: Options,
 ) -> Result<(), AllocError>
-    requires { number < length lines.now }
+    requires within { number < length lines.now }
+    requires room { HasRoomFor placing.old.builder lines.now number ends }
     ensures text { IfOk result (λ _. placing.new.builder.text ≡ placing.old.builder.text) }
     ensures goes_on { IfOk result (λ _. IfFitted placing.old placing.new
         (GoesOn placing.old.builder placing.new.builder
@@ -314,6 +324,7 @@ fn add_lines(
     ends: Ends,
     options: Options,
 ) -> Result<(), AllocError>
+    requires { HasRoomFor placing.old.builder lines.now from ends }
     ensures text { IfOk result (λ _. placing.new.builder.text ≡ placing.old.builder.text) }
     ensures goes_on { IfOk result (λ _. from < length lines.now → IfFitted placing.old placing.new
         (GoesOn placing.old.builder placing.new.builder (lines_end lines.now))) }
@@ -352,6 +363,7 @@ fn open_text(
     heading: Option<(HeadingLevel, Line)>,
     braces: Option<Braces>,
 ) -> Result<(), AllocError>
+    requires { placing.old.builder.leaf ≡ false }
     ensures text { IfOk result (λ _. placing.new.builder.text ≡ placing.old.builder.text) }
     ensures opens { IfOk result (λ _. IfFitted placing.old placing.new
         (MatchOption heading
@@ -390,6 +402,7 @@ impl<'a> Pass<'a> {
     // inlined: it is called for each line of a paragraph
     #[inline(always)]
     pub fn add_text(&mut self, line: Line, start: usize, depth: usize) -> Result<(), AllocError>
+        requires { MayMakeRoom self.old depth }
         ensures text { IfOk result (λ _. self.new.placing.builder.text
             ≡ self.old.placing.builder.text) }
         ensures fitted { IfOk result (λ _. FittedBefore self.old.placing self.new.placing) }
@@ -508,6 +521,7 @@ impl<'a> Pass<'a> {
         from: usize,
         heading: Option<(HeadingLevel, Line)>,
     ) -> Result<(), AllocError>
+        requires { IsPlaceable self.old from heading }
         ensures text { IfOk result (λ _. self.new.placing.builder.text
             ≡ self.old.placing.builder.text) }
         ensures placed { IfOk result (λ _. from < length self.old.lines.items
@@ -551,6 +565,10 @@ impl<'a> Pass<'a> {
         &mut self,
         heading: Option<(HeadingLevel, Line)>,
     ) -> Result<bool, AllocError>
+        requires outside { self.old.placing.builder.leaf ≡ false }
+        requires ahead { AreAhead self.old.placing.builder self.old.lines.items }
+        requires task { HaveTask self.old.placing.builder.text self.old.task self.old.lines.items }
+        requires heading { EndsHeading self.old.placing.builder.text self.old.lines.items heading }
         ensures text { IfOk result (λ _. self.new.placing.builder.text
             ≡ self.old.placing.builder.text) }
         ensures fitted { IfOk result (λ _. FittedBefore self.old.placing self.new.placing) }

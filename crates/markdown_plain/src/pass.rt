@@ -18,6 +18,7 @@ ghost use Rattle.markdown_plain.specs.OpenedFrames.{MayOpen};
 ghost use Rattle.markdown_plain.specs.OpenBlocks.{has_leaf, innermost_is, is_list, room_in};
 ghost use Rattle.markdown_plain.specs.OpenBlocks.{without_leaf};
 ghost use Rattle.markdown_plain.specs.Closable.{AreClosable, IsClosable};
+ghost use Rattle.markdown_plain.specs.Closable.{MayCloseDown, MayEndLeaf, MayMakeRoom};
 ghost use Rattle.markdown_plain.specs.Containers.{closing_place};
 ghost use Rattle.markdown_plain.specs.Paragraphs.{has_paragraph};
 ghost use Rattle.markdown_plain.specs.Settled.{AreOpen, BlanksKnown, IsLooseAs, IsLooseBefore};
@@ -138,6 +139,8 @@ impl<'a> Pass<'a> {
 
     /// Closes the innermost open block, whose last line was read.
     pub fn close_block(&mut self)
+        requires closable { AreClosable self.old.placing.builder self.old.placed }
+        requires some { self.old.placing.builder.blocks ≡ [] → ⊥ }
         ensures text { self.new.placing.builder.text ≡ self.old.placing.builder.text }
         ensures closes { IfFitted self.old.placing self.new.placing (self.new.placing.builder
             ≡ record (closed self.old.placing.builder self.new.placing.builder.levels)
@@ -184,6 +187,7 @@ impl<'a> Pass<'a> {
     /// Ends the open leaf, and closes the open blocks except the outermost `depth`.
     #[inline(always)]
     pub fn close_down(&mut self, depth: usize) -> Result<(), AllocError>
+        requires { MayCloseDown self.old depth }
         ensures text { IfOk result (λ _. self.new.placing.builder.text
             ≡ self.old.placing.builder.text) }
         ensures kept { IfOk result (λ _. has_leaf self.old.placing.builder ≡ false
@@ -239,6 +243,7 @@ impl<'a> Pass<'a> {
     /// Makes room for a block that is not an item: ends the open leaf, closes the open blocks except the outermost
     /// `depth`, and also closes the innermost of these if it is a list.
     pub fn make_room(&mut self, depth: usize) -> Result<(), AllocError>
+        requires { MayMakeRoom self.old depth }
         ensures text { IfOk result (λ _. self.new.placing.builder.text
             ≡ self.old.placing.builder.text) }
         ensures kept { IfOk result (λ _. has_leaf self.old.placing.builder ≡ false
@@ -311,6 +316,7 @@ impl<'a> Pass<'a> {
     // inlined: it is called for each block
     #[inline(always)]
     pub fn end_leaf(&mut self) -> Result<(), AllocError>
+        requires { MayEndLeaf self.old }
         ensures text { IfOk result (λ _. self.new.placing.builder.text
             ≡ self.old.placing.builder.text) }
         ensures ends { IfOk result (λ _. IfFitted self.old.placing self.new.placing
@@ -368,6 +374,8 @@ pub fn innermost(placing: &Placing<'_>) -> Option<ItemBody>
 /// Closes the innermost open block, which is a list, loose or tight.
 #[tactic(auto, using(crate::proofs::OpenBlocksLemmas::outer_of_opened))]
 fn close_list(placing: &mut Placing<'_>, character: u8, first: u64, loose: bool)
+    requires outside { placing.old.builder.leaf ≡ false }
+    requires some { placing.old.builder.blocks ≡ [] → ⊥ }
     ensures text { placing.new.builder.text ≡ placing.old.builder.text }
     ensures settles { IfFitted placing.old placing.new ((settled : BuilderView)
         × HasBody placing.old.builder settled (body.List (not loose) character first)

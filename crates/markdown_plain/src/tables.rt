@@ -1,10 +1,11 @@
 //! Tables: how one begins at its delimiter row, and its rows. Functions that return a `Result` fail only where memory is
 //! refused.
-ghost use Rattle.std.specs.Prelude.{◌≡◌, ◌≤◌, ◌+◌, ◌-◌, ◌==◌, ◌&&◌, ◌||◌, ◌++◌, ◌∷◌, [], ℕ, None, Some, List};
+ghost use Rattle.std.specs.Prelude.{◌≡◌, ◌≤◌, ◌<◌, ◌+◌, ◌-◌, ◌==◌, ◌&&◌, ◌||◌, ◌++◌, ◌∷◌, [], ℕ, None, Some, List};
 ghost use Rattle.std.specs.Prelude.{false, true, not, length, min, slice_get, take, IfOk};
 ghost use Rattle.std.specs.Option.{is_some, option_map};
 ghost use Rattle.markdown_builder.specs.Bodies.{is_leaf, is_plain_block};
 ghost use Rattle.markdown_builder.specs.EvenRows.{is_table_row, open_columns};
+ghost use Rattle.markdown_plain.specs.Readable.{MayGoOn};
 ghost use Rattle.markdown_plain.specs.Fitting.{AllFitted, FittedBefore, GoesOn, IfFitted};
 ghost use Rattle.markdown_items.specs.ContentItems.{AddsItems};
 ghost use Rattle.markdown_items.specs.LineItems.{item_extensions};
@@ -68,6 +69,9 @@ fn add_cell_items(
     escapes: bool,
     options: Options,
 ) -> Result<(), AllocError>
+    requires inside { IsLeafOpen placing.old.builder }
+    requires ahead { placing.old.builder.at ≤ cell.from }
+    requires cell { IsCellIn placing.old.builder.text cell }
     ensures text { IfOk result (λ _. placing.new.builder.text ≡ placing.old.builder.text) }
     ensures goes_on { IfOk result (λ _. IfFitted placing.old placing.new
         (GoesOn placing.old.builder placing.new.builder placing.new.builder.at)) }
@@ -108,6 +112,8 @@ fn place_cell(
     escapes: bool,
     options: Options,
 ) -> Result<(), AllocError>
+    requires may { MayAddCell placing.old.builder cell.start }
+    requires cell { IsCellIn placing.old.builder.text cell }
     ensures text { IfOk result (λ _. placing.new.builder.text ≡ placing.old.builder.text) }
     ensures placed { IfOk result (λ _. IfFitted placing.old placing.new
         (IsPlacedTo placing.old.builder placing.new.builder cell.end)) }
@@ -134,6 +140,7 @@ fn place_cell(
 /// Places an empty cell at a byte offset.
 #[tactic(auto, using(crate::proofs::OpenBlocksLemmas::outer_of_opened))]
 fn place_empty_cell(placing: &mut Placing<'_>, at: usize) -> Result<(), AllocError>
+    requires { MayAddCell placing.old.builder at }
     ensures text { IfOk result (λ _. placing.new.builder.text ≡ placing.old.builder.text) }
     ensures placed { IfOk result (λ _. IfFitted placing.old placing.new
         (IsPlacedTo placing.old.builder placing.new.builder at)) }
@@ -163,6 +170,7 @@ fn place_row(
 ) -> Result<usize, AllocError>
     requires block { is_plain_block row ≡ true }
     requires outside { is_leaf row ≡ false }
+    requires may { MayAddRow placing.old.builder line }
     ensures text { IfOk result (λ _. placing.new.builder.text ≡ placing.old.builder.text) }
     ensures placed { IfOk result (λ _. IfFitted placing.old placing.new
         (IsPlacedTo placing.old.builder placing.new.builder line.next)) }
@@ -300,6 +308,11 @@ impl<'a> Pass<'a> {
     /// Makes the last line of the open paragraph the head of a table, if the rest of a line from a place on is the
     /// delimiter row for it, and returns whether it is. The lines before the head end as a paragraph.
     pub fn begin_table(&mut self, line: Line, position: Position) -> Result<bool, AllocError>
+        requires outside { self.old.placing.builder.leaf ≡ false }
+        requires ahead { AreAhead self.old.placing.builder self.old.lines.items }
+        requires task { HaveTask self.old.placing.builder.text self.old.task self.old.lines.items }
+        requires before { lines_end self.old.lines.items ≤ line.next }
+        requires next { IsCharBoundary self.old.placing.builder.text line.next }
         ensures text { IfOk result (λ _. self.new.placing.builder.text
             ≡ self.old.placing.builder.text) }
         ensures fitted { IfOk result (λ _. FittedBefore self.old.placing self.new.placing) }
@@ -430,6 +443,10 @@ impl<'a> Pass<'a> {
 
     /// Opens a table with the last line of the open paragraph as its head; the lines before it end as a paragraph.
     fn open_table(&mut self, head: HeldLine, alignments: Vec<Alignment>) -> Result<(), AllocError>
+        requires outside { self.old.placing.builder.leaf ≡ false }
+        requires head { last_of self.old.lines.items ≡ Some head }
+        requires ahead { AreAhead self.old.placing.builder self.old.lines.items }
+        requires task { HaveTask self.old.placing.builder.text self.old.task self.old.lines.items }
         ensures text { IfOk result (λ _. self.new.placing.builder.text
             ≡ self.old.placing.builder.text) }
         ensures fitted { IfOk result (λ _. FittedBefore self.old.placing self.new.placing) }
@@ -471,7 +488,10 @@ impl<'a> Pass<'a> {
         reached: Reached,
         ahead: &mut LinesAhead<'a>,
     ) -> Result<bool, AllocError>
-        requires { IsCharBoundary ahead.old.text.now line.stop }
+        requires stop { IsCharBoundary ahead.old.text.now line.stop }
+        requires may { MayGoOn ahead.old.text.now self.old line reached }
+        requires filled { reached.content < line.stop }
+        requires table { innermost_is is_table self.old.placing.builder.blocks ≡ true }
         ensures text { IfOk result (λ _. self.new.placing.builder.text
             ≡ self.old.placing.builder.text) }
         ensures fitted { IfOk result (λ _. FittedBefore self.old.placing self.new.placing) }
@@ -522,6 +542,7 @@ impl<'a> Pass<'a> {
     // apart, so that lines outside tables take fewer instructions
     #[inline(never)]
     pub fn add_row(&mut self, line: Line, start: usize) -> Result<bool, AllocError>
+        requires { MayAddRow self.old.placing.builder (held_line line start) }
         ensures text { IfOk result (λ _. self.new.placing.builder.text
             ≡ self.old.placing.builder.text) }
         ensures fitted { IfOk result (λ _. FittedBefore self.old.placing self.new.placing) }

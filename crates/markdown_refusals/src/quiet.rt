@@ -13,7 +13,6 @@ use markdown_defs::{
 };
 use markdown_inline::walk::Parser;
 use markdown_out::merge::{TextMergeStream, TextMergeWithOffset};
-use markdown_plain::misfits;
 use markdown_test_helpers::lists::is_nothing;
 use markdown_test_helpers::parts::{no_attributes, no_parts};
 use std::alloc::Global;
@@ -28,20 +27,6 @@ fn lists_the_definition(definitions: &RefDefs<'_>) -> bool {
         None => false,
     };
     first && is_nothing(items.next())
-}
-
-/// Returns whether each call that the block pass makes for a text fits.
-fn fits(alloc: Global, text: &str, options: Options) -> Result<bool, Fault> {
-    Ok(misfits(alloc, text, options)? == 0)
-}
-
-/// Returns whether each call that the block pass makes for the texts of this module fits.
-fn texts_fit(alloc: Global) -> Result<bool, Fault> {
-    Ok(
-        fits(alloc, "", Options::empty())?
-            && fits(alloc, DEFINING, Options::empty())?
-            && fits(alloc, DEFINING, Options::ENABLE_MATH)?,
-    )
 }
 
 /// Calls the accessors of a new parser, with ranges and without.
@@ -188,8 +173,7 @@ fn callbacks(calls: bool) -> bool {
 /// Returns whether all calls return what they should; no allocation is refused.
 fn all_give(alloc: Global, calls: bool) -> Result<bool, Fault> {
     Ok(
-        texts_fit(alloc)?
-            && parsers(alloc, calls)?
+        parsers(alloc, calls)?
             && ended_parsers(alloc, calls)?
             && merges(alloc, calls)?
             && blocks(alloc, calls)?

@@ -7,7 +7,6 @@ use markdown_blocks::Blocks;
 use markdown_inline::walk::Parser;
 use markdown_out::merge::{TextMergeStream, TextMergeWithOffset};
 use markdown_outline::{Entry, outline, outline_of};
-use markdown_plain::misfits;
 use markdown_render::render;
 use markdown_test_parsers::parsers::all_events;
 use std::alloc::Global;
@@ -229,12 +228,6 @@ fn writes_html(alloc: Global, source: Source, html: &str) -> Option<bool> {
     }
 }
 
-/// Returns whether each call that the block pass makes fits, or None where an allocation was refused.
-fn fits(alloc: Global, source: Source) -> Option<bool> {
-    let count = misfits(alloc, source.text, source.options()).ok()?;
-    Some(count == 0)
-}
-
 /// Returns the outline of the events of a text.
 fn outline_read(alloc: Global, source: Source) -> Result<Vec<Entry>, Fault> {
     outline(alloc, parser(alloc, source)?.into_offset_iter())
@@ -290,7 +283,6 @@ fn outlines_blocks(alloc: Global, source: Source) -> Option<bool> {
 /// A way to read a text.
 #[derive(Clone, Copy, Drop)]
 enum Reading {
-    Fitting,
     Making,
     Walking,
     WalkingWithRanges,
@@ -303,8 +295,7 @@ enum Reading {
     OutliningBlocks,
 }
 
-static READINGS: [(&str, Reading); 11] = [
-    ("the calls of the block pass", Reading::Fitting),
+static READINGS: [(&str, Reading); 10] = [
     ("making a parser", Reading::Making),
     ("next", Reading::Walking),
     ("next with ranges", Reading::WalkingWithRanges),
@@ -321,7 +312,6 @@ static READINGS: [(&str, Reading); 11] = [
 /// is compared with.
 fn stands(alloc: Global, reading: Reading, source: Source) -> Option<bool> {
     match reading {
-        Reading::Fitting => fits(alloc, source),
         Reading::Making => Some(makes(alloc, source)),
         Reading::Walking => walks(alloc, source),
         Reading::WalkingWithRanges => walks_with_ranges(alloc, source),

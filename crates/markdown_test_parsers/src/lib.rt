@@ -3,7 +3,6 @@
 
 pub mod callbacks;
 pub mod faults;
-pub mod fits;
 pub mod html;
 pub mod made;
 pub mod parsers;

@@ -3,7 +3,6 @@ ghost use Rattle.std.specs.Prelude.{IfOk, IfSome};
 ghost use Rattle.markdown_inline.specs.ParserLeft.{parser_callback};
 
 use crate::faults::or_fail;
-use crate::fits::fits;
 use markdown_base::block_parts::BlockParts;
 use markdown_base::event::Event;
 use markdown_base::fault::Fault;
@@ -38,7 +37,6 @@ pub fn text_parser<'a>(
     source: &'a str,
     options: Options,
 ) -> Result<Parser<'a>, Fail> {
-    fits(alloc, source, options)?;
     or_fail(Parser::new_ext(alloc, source, options))
 }
 
@@ -48,13 +46,11 @@ pub fn extended_parser<'a>(
     source: &'a str,
     options: Options,
 ) -> Result<Parser<'a>, Fail> {
-    fits(alloc, source, options.with_extended(true))?;
     or_fail(Parser::new_extended(alloc, source, options, None))
 }
 
 /// Returns a parser of a text with no options.
 pub fn plain_parser<'a>(alloc: Global, source: &'a str) -> Result<Parser<'a>, Fail> {
-    fits(alloc, source, Options::empty())?;
     or_fail(Parser::new(alloc, source))
 }
 
@@ -68,7 +64,6 @@ pub fn parser_asking<'a, F: BrokenLinkCallback<'a>>(
     ensures { IfOk result (λ parser. IfSome (parser_callback parser) F.can_ask) }
 {
     let options = Options::empty();
-    fits(alloc, source, options)?;
     Ok(Parser::new_with_broken_link_callback(alloc, source, options, Some(callback))?)
 }
 

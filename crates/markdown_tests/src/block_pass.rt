@@ -1,5 +1,4 @@
 //! The block pass on small texts.
-use crate::rows::fits;
 use markdown_base::block_parts::BlockParts;
 use markdown_base::item::{Item, ItemBody};
 use markdown_base::options::Options;
@@ -26,7 +25,6 @@ fn name_of(alloc: Global, body: ItemBody) -> Result<String, AllocError> {
 
 /// Checks the items of the blocks of a text.
 fn has_blocks(alloc: Global, text: &str, want: &str) -> Result<(), Fail> {
-    fits(alloc, text, Options::empty())?;
     let list = listed(alloc, text)?;
     gives(text, list.as_str(), want)
 }
@@ -105,7 +103,6 @@ fn breaks(rt: HostRuntime) -> Result<(), Fail> {
 #[test]
 fn nothing_is_named(rt: HostRuntime) -> Result<(), Fail> {
     let text = "a  \nb\\\n\nc";
-    fits(rt.alloc(), text, Options::empty())?;
     let (tree, parts) = blocks(rt.alloc(), text, Options::empty())?;
     let nodes = tree.len();
     let named = [
@@ -162,10 +159,8 @@ fn count_in_parts(text: &str, parts: &BlockParts<'_>) -> usize {
     count
 }
 
-/// Checks that each letter `é` of a text is in an item, in an info string or in a definition, and in only one; and that
-/// each call of the block pass fits.
+/// Checks that each letter `é` of a text is in an item, in an info string or in a definition, and in only one.
 fn keeps_letters(alloc: Global, text: &str, options: Options) -> Result<(), Fail> {
-    fits(alloc, text, options)?;
     let (mut tree, parts) = blocks(alloc, text, options)?;
     let in_items = count_in_items(text, &mut tree);
     let in_parts = count_in_parts(text, &parts);

@@ -1,6 +1,5 @@
 //! Block results: empty, large and deep ones; the parts of one, and its entry; and the blocks of a text.
 use crate::block_rules::is_well_formed;
-use crate::rows::fits;
 use bitflags::Flags;
 use markdown_base::block_parts::BlockParts;
 use markdown_base::cow_str::CowStr;
@@ -104,7 +103,6 @@ fn listed(alloc: Global, tree: Tree<Item>, parts: BlockParts<'_>) -> Result<Stri
 
 /// Checks the items of the blocks of a text, and that the text and the options are returned.
 fn has_items(alloc: Global, source: &str, items: &str) -> Result<(), Fail> {
-    fits(alloc, source, Options::ENABLE_MATH)?;
     let blocks = Blocks::of_text(alloc, source, Options::ENABLE_MATH)?;
     let (text, options, tree, parts) = blocks.into_parts();
     let held = listed(alloc, tree, parts);

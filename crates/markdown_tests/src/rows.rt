@@ -4,7 +4,7 @@ use markdown_base::block_parts::LinkDef;
 use markdown_base::cow_str::CowStr;
 use markdown_base::item::ItemBody;
 use markdown_base::options::Options;
-use markdown_plain::{blocks, misfits};
+use markdown_plain::blocks;
 use markdown_test_helpers::rows::gives;
 use markdown_test_helpers::trees::push_items;
 use std::alloc::{AllocError, Global};
@@ -73,15 +73,8 @@ fn shown(alloc: Global, text: &str, options: Options) -> Result<String, AllocErr
     short
 }
 
-/// Checks that each call that the block pass makes for a text fits where it is made.
-pub fn fits(alloc: Global, text: &str, options: Options) -> Result<(), Fail> {
-    let count = misfits(alloc, text, options)?;
-    gives((text, "calls that do not fit"), count, 0)
-}
-
 /// Checks the items and the definitions of a text.
 pub fn assert_made(alloc: Global, text: &str, options: Options, want: &str) -> Result<(), Fail> {
-    fits(alloc, text, options)?;
     let made = shown(alloc, text, options)?;
     gives(text, made.as_str(), want)
 }

@@ -13,7 +13,6 @@ use markdown_test_helpers::rows::gives;
 use markdown_test_helpers::trees::{item, text, tree_of};
 use markdown_test_parsers::callbacks::{Recording, Reply, Replying, questions_in};
 use markdown_test_parsers::faults::or_fail;
-use markdown_test_parsers::fits::fits;
 use markdown_test_parsers::parsers::{all_noted, parser_asking, parser_gives, parser_of};
 use std::alloc::Global;
 use std::test::Fail;
@@ -310,7 +309,6 @@ fn is_given<'a, F: BrokenLinkCallback<'a>>(
     match given {
         Given::Html(wanted) => {
             let options = Options::empty();
-            fits(alloc, source, options)?;
             let html = or_fail(render(alloc, source, options, Some(callback)))?;
             gives(source, html.as_str(), wanted)
         }

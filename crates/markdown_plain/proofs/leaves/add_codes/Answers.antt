@@ -46,17 +46,19 @@ lines-preserved c =
             ap (λ (v : BuilderView). v.at) goes.1
                 ∙ sym (after_one_more c.args.placing.now.builder.at c.args.lines.now c.lines.line-index _ line),
           );
-      fits = λ may fitted.
-          let line = slice_get-get_or c.args.lines.now c.lines.line-index _ c.lines-test.true in
-          let now = before.fits may fitted in
-          let goes = before.goes_on now in
-          let at = (before.reached now).1 in
-          let next = comes_next _ c.args.placing.now.builder.at c.args.lines.now c.lines.line-index _ may.are line in
-          let low = next.low in
-          c.in_ok-add_code.ensures.fits
-          (goes_on_fits c.args.placing.now.builder c.lines.placing.builder c.lines.placing.builder.at _ _ goes.1
-          may.inside (omega (arith, at, low)) next.boundary next.next) now;
+      fits = λ may fitted. tt;
     }
+
+-- the next line fits
+pub add_code-requires : goal.add_code-requires
+add_code-requires c =
+    let before = c.lines.invariant in
+    let line = slice_get-get_or c.args.lines.now c.lines.line-index _ c.lines-test.true in
+    let at = (before.reached tt).1 in
+    let next = comes_next _ c.args.placing.now.builder.at c.args.lines.now c.lines.line-index _ c.requires.are line in
+    let low = next.low in
+    goes_on_fits c.args.placing.now.builder c.lines.placing.builder c.lines.placing.builder.at _ _
+    (before.goes_on tt).1 c.requires.inside (omega (arith, at, low)) next.boundary next.next
 
 pub returns-clause-items : goal.returns-clause-items
 returns-clause-items c = λ sources are fitted.

@@ -61,34 +61,18 @@ returns-clause-texts c =
           ∙ ap (λ (b : BuilderView). b.texts) stepped.1)),
     )) c.add_inline.ensures.appends
 
-pub returns-then-line-clause-fits : goal.returns-then-line-clause-fits
-returns-then-line-clause-fits c = λ within low is fitted.
-    let content = is.content in
-    let ending = is.ending in
-    c.step_to.ensures.fits (omega (arith, low, content, ending), is.next) (inside_leaf _ _ within) ∙ fitted
-
-pub returns-clause-fits : goal.returns-clause-fits
-returns-clause-fits c =
-    IfOk-weaker c.add_inline.result _ _ (λ done fits within low is fitted.
+-- the break begins after the content
+pub step_to-requires-2 : goal.step_to-requires-2
+step_to-requires-2 c =
     let old = c.args.placing.now.builder in
-    let between = break_in old.text c.args.line.start c.args.line.stop c.line_break-between.result is.stop is.content
+    let line = c.requires.line in
+    let between = break_in old.text c.args.line.start c.args.line.stop c.line_break-between.result line.stop line.content
     (search rules) in
-    let read_to = between.low in
-    let ordered = between.ordered in
-    let high = between.high in
-    let ending = is.ending in
-    let first = c.in_ok-add_items.ensures.fits within.leaf (omega (arith, low, read_to), between.end) ∙ fitted in
-    let read = (c.in_ok-add_items.ensures.appends first).1 in
+    let read = (c.in_ok-add_items.ensures.appends tt).1 in
     let begun = still_open old c.add_items.new.self.builder (ap (λ (b : BuilderView). b.leaf) read)
-    (ap (λ (b : BuilderView). b.blocks) read) within in
-    let second = c.step_to-2.ensures.fits
-    (ahead_of old.text c.line_break-between.result.text_end _ c.add_items.new.self.builder
-    c.in_ok-add_items.ensures.text
-    (ap (λ (b : BuilderView). b.at) read) ordered between.start) (inside_leaf _ _ begun) ∙ first in
-    let stepped = (c.step_to-2.ensures.steps second).1 in
-    let still = still_open c.add_items.new.self.builder c.step_to-2.new.self.builder
-    (ap (λ (b : BuilderView). b.leaf) stepped) (ap (λ (b : BuilderView). b.blocks) stepped) begun in
-    fits still.leaf
-    (ahead_of old.text c.line_break-between.result.start _ c.step_to-2.new.self.builder
-    (c.step_to-2.ensures.text ∙ c.in_ok-add_items.ensures.text)
-    (ap (λ (b : BuilderView). b.at) stepped) (omega (arith, high, ending)) is.next) ∙ second) c.add_inline.ensures.fits
+    (ap (λ (b : BuilderView). b.blocks) read) c.requires.inside in
+    record {
+      ahead = ahead_of old.text c.line_break-between.result.text_end _ c.add_items.new.self.builder
+          c.in_ok-add_items.ensures.text (ap (λ (b : BuilderView). b.at) read) between.ordered between.start;
+      white = inside_leaf _ _ begun;
+    }

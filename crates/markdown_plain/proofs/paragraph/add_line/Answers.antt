@@ -27,7 +27,7 @@ returns-then-number-lines-clause-left c =
     let levels = c.args.placing.now.builder.levels in
     let ends = c.args.ends in
     let same = c.in_ok-line.ensures.text in
-    let t = takes_line text c.args.lines.now sources c.args.number _ are c.requires in
+    let t = takes_line text c.args.lines.now sources c.args.number _ are c.requires.within in
     let none = none_behind sources (c.args.number + 1)
     (omega (arith, as_many text c.args.lines.now sources are, c.if-number-lines.true)) in
     let alone : IsLeft s ends (t.source ∷ []) levels all =
@@ -58,7 +58,7 @@ returns-else-number-lines-clause-goes_on c =
     let added = on fitted in
     let begun = c.in_ok-line.ensures.goes_on added.0 in
     let next = ap (λ (l : HeldLine). l.next) c.in_ok-line.ensures.rest
-    ∙ sym (got c.args.lines.now c.args.number _ c.requires) in (
+    ∙ sym (got c.args.lines.now c.args.number _ c.requires.within) in (
       begun.0,
       goes_on_twice c.args.placing.now.builder c.begin_line.new.placing.builder
           c.add_broken_line.new.placing.builder _ c.in_ok-line.line.next _ begun.1 added.1 next,
@@ -72,10 +72,10 @@ returns-else-number-lines-clause-left c =
     let levels = c.args.placing.now.builder.levels in
     let ends = c.args.ends in
     let same = c.in_ok-line.ensures.text in
-    let t = takes_line text c.args.lines.now sources c.args.number _ are c.requires in
+    let t = takes_line text c.args.lines.now sources c.args.number _ are c.requires.within in
     let other = c.if-number-lines.false in
     let less : c.args.number + 1 < length sources =
-    grind (arith, nat_tests, as_many text c.args.lines.now sources are, other, c.requires) in
+    grind (arith, nat_tests, as_many text c.args.lines.now sources are, other, c.requires.within) in
     let behind = some_behind sources (c.args.number + 1) less in
     let whole : IsLeft s ends (t.source ∷ behind.first ∷ behind.more) levels all =
     subst (λ (ls : List SourceLine). IsLeft s ends (t.source ∷ ls) levels all) behind.are
@@ -109,34 +109,28 @@ returns-else-number-lines-clause-texts c =
     let begun = c.in_ok-line.ensures.texts added.0 in
     (begun.0, texts_after _ _ _ begun.1 added.1)) c.add_broken_line.ensures.texts
 
-pub returns-then-number-lines-clause-fits : goal.returns-then-number-lines-clause-fits
-returns-then-number-lines-clause-fits c =
-    IfOk-weaker c.add_last_line.result _ _ (λ done fits room fitted.
-    let old = c.args.placing.now.builder in
-    let lines = c.args.lines.now in
-    let t = line_at old.text old.at c.args.ends.task lines c.args.number _ c.requires room.order room.task in
-    let last : c.args.number ≡ length lines - 1 = search rules in
-    let first = c.in_ok-line.ensures.fits room.inside t.low t.is t.marked fitted in
-    let begun = (c.in_ok-line.ensures.goes_on first).1 in
-    let is = c.in_ok-line.ensures.within t.is t.marked in
-    let here = ap (λ (b : BuilderView). b.at) begun ∙ sym (ap (λ (l : HeldLine). l.start) c.cut_off.ensures) in
-    fits (still_open old c.begin_line.new.placing.builder (ap (λ (b : BuilderView). b.leaf) begun)
-    (ap (λ (b : BuilderView). b.blocks) begun) room.inside)
-    (omega (arith, here)) (subst (λ text. IsLastInText text c.cut_off.result) (sym c.in_ok-line.ensures.text)
-    (last_cut old lines c.args.number c.args.ends _ c.in_ok-line.line c.cut_off.result last t.there room
-    (ap (λ (l : HeldLine). l.stop) c.in_ok-line.ensures.rest) is c.cut_off.ensures)) first) c.add_last_line.ensures.fits
+pub returns-then-number-lines-clause-goes_on : goal.returns-then-number-lines-clause-goes_on
+returns-then-number-lines-clause-goes_on c =
+    IfOk-weaker c.add_last_line.result _ _ (λ done on fitted.
+    let added = on fitted in
+    let begun = c.in_ok-line.ensures.goes_on added.0 in
+    let next = ap (λ (l : HeldLine). l.next) c.cut_off.ensures
+    ∙ (ap (λ (l : HeldLine). l.next) c.in_ok-line.ensures.rest
+    ∙ sym (got c.args.lines.now c.args.number _ c.requires.within)) in (
+      begun.0,
+      goes_on_twice c.args.placing.now.builder c.begin_line.new.placing.builder
+          c.add_last_line.new.placing.builder _ c.cut_off.result.next _ begun.1 added.1 next,
+    )) c.add_last_line.ensures.goes_on
 
-pub returns-else-number-lines-clause-fits : goal.returns-else-number-lines-clause-fits
-returns-else-number-lines-clause-fits c =
-    IfOk-weaker c.add_broken_line.result _ _ (λ done fits room fitted.
+-- the last line is cut off at braces
+pub add_last_line-requires-clause-line : goal.add_last_line-requires-clause-line
+add_last_line-requires-clause-line c =
     let old = c.args.placing.now.builder in
     let lines = c.args.lines.now in
-    let t = line_at old.text old.at c.args.ends.task lines c.args.number _ c.requires room.order room.task in
-    let first = c.in_ok-line.ensures.fits room.inside t.low t.is t.marked fitted in
-    let begun = (c.in_ok-line.ensures.goes_on first).1 in
-    let is = c.in_ok-line.ensures.within t.is t.marked in
-    let here = ap (λ (b : BuilderView). b.at) begun in
-    fits (still_open old c.begin_line.new.placing.builder (ap (λ (b : BuilderView). b.leaf) begun)
-    (ap (λ (b : BuilderView). b.blocks) begun) room.inside)
-    (omega (arith, here)) (subst (λ text. IsInText text c.in_ok-line.line) (sym c.in_ok-line.ensures.text) is) first)
-    c.add_broken_line.ensures.fits
+    let room = c.requires.room in
+    let t = line_at old.text old.at c.args.ends.task lines c.args.number _ c.requires.within room.order room.task in
+    let last : c.args.number ≡ length lines - 1 = search rules in
+    subst (λ text. IsLastInText text c.cut_off.result) (sym c.in_ok-line.ensures.text)
+    (last_cut old lines c.args.number c.args.ends _ c.in_ok-line.line c.cut_off.result last t.there room
+    (ap (λ (l : HeldLine). l.stop) c.in_ok-line.ensures.rest) (c.in_ok-line.ensures.within t.is t.marked)
+    c.cut_off.ensures)

@@ -12,6 +12,7 @@ use Rattle.markdown_plain.proofs.LeafTreesLemmas.{no_text}
 use Rattle.markdown_plain.proofs.ClosableLemmas.{IsPastTask, ahead_of, inside_leaf, past_task, rest_in_text, still_open}
 use Rattle.markdown_plain.specs.Closable.{HasTask, IsInText}
 use Rattle.std.specs.Str.{IsCharBoundary, IsUtf8}
+use Rattle.markdown_plain.proofs.paragraph.begin_line.Goals.{After-task_length-length}
 use Rattle.markdown_plain.proofs.paragraph.begin_line.Goals as goal
 
 pub returns-in_default-clause-items : goal.returns-in_default-clause-items
@@ -73,15 +74,11 @@ returns-clause-texts c = λ fitted.
           ∙ ap (λ (b : BuilderView). b.texts) before.1)),
     )
 
-pub returns-in_default-clause-fits : goal.returns-in_default-clause-fits
-returns-in_default-clause-fits c = λ within low is task fitted.
-    c.step_to.ensures.fits (low, is.start) (inside_leaf _ _ within) ∙ fitted
-
 pub returns-in_default-clause-within : goal.returns-in_default-clause-within
 returns-in_default-clause-within c = λ is task. is
 
 -- where a task marker ends
-past : (c : goal.After-step_to-2) → IsInText c.args.placing.now.builder.text c.args.line
+past : (c : After-task_length-length) → IsInText c.args.placing.now.builder.text c.args.line
     → HasTask c.args.placing.now.builder.text c.args.task c.args.line
     → IsPastTask c.args.placing.now.builder.text c.args.line
 past c is task =
@@ -91,37 +88,42 @@ past c is task =
 
 pub returns-clause-within : goal.returns-clause-within
 returns-clause-within c = λ is task.
-    let after = past c is task in
+    let after = past (goal.at.returns-clause-within c).After-task_length-length is task in
     let end = after.past in
     let high = is.stop.0 in
     let start : c.saturating_add-start.result ≡ c.args.line.start
     + task_length (slice_range c.args.placing.now.builder.text c.args.line.start c.args.line.stop) = search rules in
     rest_in_text c.args.placing.now.builder.text c.args.line c.saturating_add-start.result is after start
 
-pub returns-clause-fits : goal.returns-clause-fits
-returns-clause-fits c = λ within low is task fitted.
+-- the marker ends in the line
+pub add_inline-requires-clause-ahead : goal.add_inline-requires-clause-ahead
+add_inline-requires-clause-ahead c =
+    let text = c.args.placing.now.builder.text in
+    let after = past (goal.at.add_inline-requires-clause-ahead c).After-task_length-length c.requires.line
+    c.requires.task in
+    let marker : c.saturating_add.result ≡ c.args.line.start + 3 = search rules in
+    ahead_of text c.args.line.start _ c.step_to.new.self.builder c.step_to.ensures.text
+    (ap (λ (b : BuilderView). b.at) (c.step_to.ensures.steps tt).1) (omega (arith, marker))
+    (subst (IsCharBoundary text) (sym marker) after.marker)
+
+-- and what is left of the line begins after it
+pub step_to-requires-2 : goal.step_to-requires-2
+step_to-requires-2 c =
     let old = c.args.placing.now.builder in
-    let after = past c is task in
-    let end = after.past in
+    let after = past (goal.at.step_to-requires-2 c).After-task_length-length c.requires.line c.requires.task in
     let three = after.three in
-    let high = is.stop.0 in
     let marker : c.saturating_add.result ≡ c.args.line.start + 3 = search rules in
     let start : c.saturating_add-start.result ≡ c.args.line.start
     + task_length (slice_range old.text c.args.line.start c.args.line.stop) = search rules in
-    let first = c.step_to.ensures.fits (low, is.start) (inside_leaf _ _ within) ∙ fitted in
-    let stepped = (c.step_to.ensures.steps first).1 in
+    let stepped = (c.step_to.ensures.steps tt).1 in
     let begun = still_open old c.step_to.new.self.builder (ap (λ (b : BuilderView). b.leaf) stepped)
-    (ap (λ (b : BuilderView). b.blocks) stepped) within in
-    let second = c.in_ok-add_inline.ensures.fits begun.leaf
-    (ahead_of old.text c.args.line.start _ c.step_to.new.self.builder c.step_to.ensures.text
-    (ap (λ (b : BuilderView). b.at) stepped) (omega (arith, marker))
-    (subst (IsCharBoundary old.text) (sym marker) after.marker)) ∙ first in
-    let added = (c.in_ok-add_inline.ensures.appends second).1 in
+    (ap (λ (b : BuilderView). b.blocks) stepped) c.requires.inside in
+    let added = (c.in_ok-add_inline.ensures.appends tt).1 in
     let marked = still_open c.step_to.new.self.builder c.add_inline.new.self.builder
     (ap (λ (b : BuilderView). b.leaf) added) (ap (λ (b : BuilderView). b.blocks) added) begun in
-    c.step_to-2.ensures.fits
-    (ahead_of old.text c.saturating_add.result _ c.add_inline.new.self.builder
-    (c.in_ok-add_inline.ensures.text ∙ c.step_to.ensures.text)
-    (ap (λ (b : BuilderView). b.at) added) (omega (arith, marker, start, three))
-    (subst (IsCharBoundary old.text) (sym start) after.rest))
-    (inside_leaf _ _ marked) ∙ second
+    record {
+      ahead = ahead_of old.text c.saturating_add.result _ c.add_inline.new.self.builder
+          (c.in_ok-add_inline.ensures.text ∙ c.step_to.ensures.text) (ap (λ (b : BuilderView). b.at) added)
+          (omega (arith, marker, start, three)) (subst (IsCharBoundary old.text) (sym start) after.rest);
+      white = inside_leaf _ _ marked;
+    }

@@ -17,6 +17,7 @@ use Rattle.markdown_plain.proofs.DefinitionEndsLemmas.{IsSpanIn, are_sources, de
 use Rattle.markdown_plain.proofs.DividedLemmas.{as_many, bracket_byte, filled_of, first_read, no_bracket}
 use Rattle.markdown_plain.proofs.DividedLemmas.{no_bracket_byte, no_line, none_there, takes_empty, takes_first}
 use Rattle.markdown_plain.proofs.ParagraphsLemmas.{end_of_last}
+use Rattle.markdown_plain.proofs.paragraph.take_definition.Goals.{After-step_to-2}
 use Rattle.markdown_plain.proofs.paragraph.take_definition.Goals as goal
 
 pub returns-in_default-clause-over : goal.returns-in_default-clause-over
@@ -111,11 +112,12 @@ returns-clause-takes c =
           (takes_first c.args.names old new lines sources line.start found filled is_first definitions),
     )
 
-pub returns-then-first-clause-fits : goal.returns-then-first-clause-fits
-returns-then-first-clause-fits c = λ is fitted.
+pub step_to-requires : goal.step_to-requires
+step_to-requires c =
     let there = sym c.first.ensures.value ∙ ap option_copied c.in-Some.is in
-    let passes = may_pass c.args.placing.now.builder c.args.lines.now c.in-Some.first.now is there c.if-first.true in
-    c.step_to.ensures.fits passes.ahead passes.white ∙ fitted
+    let passes = may_pass c.args.placing.now.builder c.args.lines.now c.in-Some.first.now c.requires there
+    c.if-first.true in
+    record { ahead = passes.ahead; white = passes.white }
 
 pub returns-then-first-clause-ahead : goal.returns-then-first-clause-ahead
 returns-then-first-clause-ahead c = λ is fitted.
@@ -125,7 +127,7 @@ returns-then-first-clause-ahead c = λ is fitted.
     c.step_to.ensures.text (ap (λ (b : BuilderView). b.blocks) steps) (ap (λ (b : BuilderView). b.at) steps)
 
 -- where the definition ends
-span : (c : goal.After-step_to-3) → AreAhead c.args.placing.now.builder c.args.lines.now
+span : (c : After-step_to-2) → AreAhead c.args.placing.now.builder c.args.lines.now
     → IsSpanIn c.args.placing.now.builder.text c.args.lines.now c.in-Some-2.found.end c.min-taken.result
 span c is =
     let text = c.args.placing.now.builder.text in
@@ -149,7 +151,7 @@ span c is =
     (cuts_of text c.args.placing.now.builder.at lines is.order) is_first)
 
 -- the calls that take it
-defines : (c : goal.After-step_to-3) (is : AreAhead c.args.placing.now.builder c.args.lines.now)
+defines : (c : After-step_to-2) (is : AreAhead c.args.placing.now.builder c.args.lines.now)
     → MayDefine c.args.placing.now.builder c.in-Some.first.now (span c is).line c.in-Some-2.found.end
 defines c is =
     let there = sym c.first.ensures.value ∙ ap option_copied c.in-Some.is in
@@ -157,37 +159,32 @@ defines c is =
     c.min-taken.result is
     there (span c is)
 
-pub returns-clause-fits : goal.returns-clause-fits
-returns-clause-fits c = λ is fitted.
+pub add_definition-requires-clause-ahead : goal.add_definition-requires-clause-ahead
+add_definition-requires-clause-ahead c =
+    let d = defines (goal.at.add_definition-requires-clause-ahead c).After-step_to-2 c.requires in
+    ahead_of c.args.placing.now.builder.text c.in-Some.first.now.start c.in-Some-2.found.end c.step_to-2.new.self.builder
+    c.step_to-2.ensures.text (ap (λ (b : BuilderView). b.at) (c.step_to-2.ensures.steps tt).1) d.low d.boundary
+
+pub step_to-requires-3 : goal.step_to-requires-3
+step_to-requires-3 c =
     let old = c.args.placing.now.builder in
-    let line = c.in-Some.first.now in
     let end = c.in-Some-2.found.end in
-    let s = span c is in
-    let d = defines c is in
-    let first = c.step_to-2.ensures.fits d.ahead d.white ∙ fitted in
-    let stepped = (c.step_to-2.ensures.steps first).1 in
-    let bracket : slice_get old.text line.start ≡ Some 91 =
-    sym (c.byte_at.ensures ∙ ap (λ (t : List ℕ). slice_get t line.start) c.text-text.ensures)
-    ∙ bracket_byte c.byte_at.result (sym c.ne.ensures ∙ c.if-ne.false) in
-    let second = c.in_ok-add_definition.ensures.fits
-    (ahead_of old.text line.start end c.step_to-2.new.self.builder c.step_to-2.ensures.text
-    (ap (λ (b : BuilderView). b.at) stepped) d.low d.boundary)
-    (ap (λ (b : BuilderView). slice_get b.text b.at) stepped ∙ bracket) ∙ first in
-    let added = (c.in_ok-add_definition.ensures.adds second).1 in
+    let before = (goal.at.step_to-requires-3 c).After-step_to-2 in
+    let s = span before c.requires in
+    let d = defines before c.requires in
     let text = c.in_ok-add_definition.ensures.text ∙ c.step_to-2.ensures.text in
-    let at = ap (λ (b : BuilderView). b.at) added in
+    let at = ap (λ (b : BuilderView). b.at) (c.in_ok-add_definition.ensures.adds tt).1 in
     let now = c.add_definition.new.self.builder in
-    c.step_to-3.ensures.fits
-    (subst (IsAhead now) (sym (last_next c.args.lines.now s.number c.min-taken.result s.line _ s.count_is s.there))
-    (ahead_of old.text end s.line.next now text at d.high d.next))
-    (subst (IsWhiteOutside now)
-    (sym (last_next c.args.lines.now s.number c.min-taken.result s.line _ s.count_is s.there))
-    (white_ahead old.text end s.line.next now text at d.left)) ∙ second
+    let last = sym (last_next c.args.lines.now s.number c.min-taken.result s.line _ s.count_is s.there) in
+    record {
+      ahead = subst (IsAhead now) last (ahead_of old.text end s.line.next now text at d.high d.next);
+      white = subst (IsWhiteOutside now) last (white_ahead old.text end s.line.next now text at d.left);
+    }
 
 pub returns-clause-ahead : goal.returns-clause-ahead
 returns-clause-ahead c = λ is fitted.
     let old = c.args.placing.now.builder in
-    let s = span c is in
+    let s = span (goal.at.returns-clause-ahead c).After-step_to-2 is in
     let last = c.step_to-3.ensures.steps fitted in
     let adds = c.in_ok-add_definition.ensures.adds last.0 in
     let first = c.step_to-2.ensures.steps adds.0 in

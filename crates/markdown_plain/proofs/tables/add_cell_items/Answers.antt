@@ -5,6 +5,7 @@ use Rattle.std.proofs.Common.{arith, true≢false}
 use Rattle.std.proofs.lemmas.List.{length-take}
 use Rattle.markdown_builder.specs.BuilderView.{BuilderView}
 use Rattle.markdown_items.proofs.RestOfLineLemmas.{adds_none}
+use Rattle.markdown_plain.proofs.ClosableLemmas.{ahead_of}
 use Rattle.markdown_plain.proofs.LeafTreesLemmas.{no_text, texts_after}
 use Rattle.markdown_plain.proofs.TableRowsLemmas.{adds_later}
 use Rattle.markdown_items.specs.LineItems.{item_extensions}
@@ -121,6 +122,41 @@ pieces-preserved c =
           next less inside goes.1 may piece.low piece.high cut c.step_to.ensures.steps c.step_to.ensures.fits
           c.in_ok-add_items.ensures.appends c.in_ok-add_items.ensures.fits refl before.0;
     }
+
+-- the next piece fits
+pub add_items-requires-clause-ahead : goal.add_items-requires-clause-ahead
+add_items-requires-clause-ahead c =
+    let text = c.args.placing.now.builder.text in
+    let is = c.requires.cell in
+    let from = c.pieces.from in
+    let to = c.args.cell.to in
+    let stop = c.saturating_add-end.result in
+    let count = c.if-escapes.length in
+    let less : from < to = c.pieces-test.true in
+    let same : c.pieces.placing.builder.text ≡ text = c.pieces.invariant.text in
+    let within : count ≤ to - from = elim c.if-escapes.branch [
+      | then-escapes w ↦ omega (
+        arith,
+        w.length-is,
+        w.piece_length-length.ensures.within,
+        ap length w.bytes_of.ensures ∙ length-take (to - from) (drop from w.text.result.now),
+      )
+      | else-escapes w ↦ omega (arith, w.length-is)
+    ] in
+    let there : stop ≡ from + count = omega (arith, c.saturating_add-end.ensures, within, less) in
+    let piece : IsPieceIn text from to stop = elim c.if-escapes.branch [
+      | then-escapes w ↦ subst (IsPieceIn text from to)
+          (sym (there ∙ ap (λ n. from + n) (w.length-is ∙ (w.piece_length-length.ensures.value
+          ∙ (ap piece_length w.bytes_of.ensures
+          ∙ ap (λ t. piece_length (slice_range t from to)) (w.text.ensures ∙ same))))))
+          (piece_in text from to (omega (arith, less)) is.to.0)
+      | else-escapes w ↦ whole_piece text from to stop (omega (arith, less))
+          (omega (arith, w.length-is, there, less))
+    ] in
+    let cut = piece_cut text from to stop (stop + 2) is.to piece (λ more. refl) (λ over. omega (arith, over)) in
+    let steps = (c.step_to.ensures.steps tt).1 in
+    ahead_of text from stop c.step_to.new.self.builder (ap (λ (v : BuilderView). v.text) steps ∙ same)
+    (ap (λ (v : BuilderView). v.at) steps) piece.low cut.stop_at
 
 pub returns-clause-items : goal.returns-clause-items
 returns-clause-items c = λ once is none fitted.

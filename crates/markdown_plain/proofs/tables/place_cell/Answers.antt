@@ -60,23 +60,3 @@ returns-clause-shown c = λ once is fitted.
           c.step_to.new.self.builder c.open_block.new.self.builder c.add_cell_items.new.placing.builder
           c.step_to-2.new.self.builder c.close.new.self.builder begun.1 opened.1 goes.1 items moved.1 put.1,
     )
-
-pub returns-clause-fits : goal.returns-clause-fits
-returns-clause-fits c = λ may is fitted.
-    let text : List ℕ = c.args.placing.now.builder.text in
-    let after = is.after in
-    let before = is.before in
-    let there = leaf_opened c.args.placing.now c.step_to.new.self c.open_block.new.self body.TableCell c.args.cell.start
-    c.args.cell.start refl c.step_to.ensures.steps c.step_to.ensures.fits c.in_ok-open_block.ensures.opens
-    c.in_ok-open_block.ensures.fits (may_open_cell c.args.placing.now.builder c.args.cell.start may) fitted in
-    let here = there.1.here in
-    let filled = c.in_ok-add_cell_items.ensures.fits
-    (record { leaf = there.1.inside.leaf; some = there.1.inside.some }) (omega (arith, here, after))
-    (subst (λ (t : List ℕ). IsCellIn t c.args.cell) (sym there.1.same) is) there.0 in
-    let high = filled.1 in
-    let goes = c.in_ok-add_cell_items.ensures.goes_on filled.0 in
-    let ended = stepped_at text c.add_cell_items.new.placing.builder.at c.args.cell.end c.add_cell_items.new.placing
-    c.step_to-2.new.self c.step_to-2.ensures.steps c.step_to-2.ensures.fits
-    (goes_at text c.args.cell.start c.add_cell_items.new.placing.builder.at c.open_block.new.self.builder
-    c.add_cell_items.new.placing.builder goes.1 there.1) (omega (arith, high, before)) is.end filled.0 in
-    c.close.ensures.fits ended.1.inside.some ended.1.inside.plain ∙ ended.0

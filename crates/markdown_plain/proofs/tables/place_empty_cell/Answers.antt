@@ -41,11 +41,3 @@ returns-clause-shown c = λ fitted.
       empty_shown c.args.at c.args.placing.now.builder c.step_to.new.self.builder c.open_block.new.self.builder
           c.close.new.self.builder begun.1 opened.1 put.1,
     )
-
-pub returns-clause-fits : goal.returns-clause-fits
-returns-clause-fits c = λ may fitted.
-    let there = leaf_opened c.args.placing.now c.step_to.new.self c.open_block.new.self body.TableCell c.args.at
-    c.args.at
-    refl c.step_to.ensures.steps c.step_to.ensures.fits c.in_ok-open_block.ensures.opens
-    c.in_ok-open_block.ensures.fits (may_open_cell c.args.placing.now.builder c.args.at may) fitted in
-    c.close.ensures.fits there.1.inside.some there.1.inside.plain ∙ there.0

@@ -41,7 +41,7 @@ more_again : (first old now new : Placing) → new ≡ now → IfFitted first ol
     → IfFitted old now (HasMoreTexts old.builder now.builder)
     → IfFitted first new (HasMoreTexts first.builder new.builder)
 more_again first old now new same before cell = λ fitted.
-    let more = cell (ap (λ (p : Placing). p.misfits) (sym same) ∙ fitted) in
+    let more = cell tt in
     let kept = before more.0 in (
       kept.0,
       subst (λ (p : Placing). HasMoreTexts first.builder p.builder) (sym same)
@@ -86,10 +86,7 @@ cells-init c = record {
             (sym c.cells_start-start.ensures)
             (row_cells_in c.text-text.result.now c.args.line c.text-text.utf8 is);
       };
-  fits = λ may fitted.
-      let begun = step_done c.args.placing.now c.step_to.new.self c.args.line.start c.step_to.ensures.steps
-      c.step_to.ensures.fits may.begins fitted in
-      c.in_ok-open_block.ensures.fits (ap (λ (v : BuilderView). v.leaf) begun.1 ∙ may.outside) ∙ begun.0;
+  fits = λ may fitted. tt;
 }
 
 pub cells-preserved : goal.cells-preserved
@@ -184,41 +181,16 @@ cells-preserved c = record {
         (ap (λ n. cells_left c.text-text.result.now n c.args.line.stop) w.start-is)
         (λ fitted. ap (λ (p : Placing). p.builder.at) w.placing-is
         ∙ ap (λ (v : BuilderView). v.at) (w.in_ok-place_cell-in-Some.ensures.placed
-        (ap (λ (p : Placing). p.misfits) (sym w.placing-is) ∙ fitted)).1)
+        tt).1)
     | in-None+in_ok-place_empty_cell-in-None w ↦
         after_empty c.text-text.result.now c.args.line c.match-next_cell.placing _ is
         (ap (λ n. cells_left c.text-text.result.now n c.args.line.stop) w.start-is
         ∙ nothing_left c.text-text.result.now c.args.line.stop)
         (λ fitted. ap (λ (p : Placing). p.builder.at) w.placing-is
         ∙ ap (λ (v : BuilderView). v.at) (w.in_ok-place_empty_cell-in-None.ensures.placed
-        (ap (λ (p : Placing). p.misfits) (sym w.placing-is) ∙ fitted)).1)
+        tt).1)
   ];
-  fits = λ may fitted.
-      let before = c.cells.invariant.fits may fitted in
-      let in_row = row_opened c.args.placing.now.builder c.cells.placing.builder c.args.row c.args.line.start
-      c.requires.outside (c.cells.invariant.row before).1 in
-      let is = subst (λ (t : List ℕ). IsInText t c.args.line) (sym c.text-text.ensures) may.inside in
-      let row = c.cells.invariant.inside is in
-      let here = row.here before in
-      elim c.match-next_cell.branch [
-        | in-Some+in_ok-place_cell-in-Some w ↦
-            let cell = w.in-Some.cell in
-            let next = comes_next c.text-text.result.now c.args.line c.cells.placing _ _ cell w.in-Some.ensures.value
-            row in
-            let after = next.after in
-            let inside = subst (λ (t : List ℕ). IsCellIn t cell) c.text-text.ensures next.inside in
-            ap (λ (p : Placing). p.misfits) w.placing-is
-            ∙ w.in_ok-place_cell-in-Some.ensures.fits
-            (may_add_cell c.args.placing.now.builder c.cells.placing.builder c.args.row c.args.line.start cell.start
-            in_row (omega (arith, here, after)) inside.start)
-            (subst (λ (t : List ℕ). IsCellIn t cell) (sym c.cells.invariant.text) inside) before
-        | in-None+in_ok-place_empty_cell-in-None w ↦
-            let last = row.before in
-            ap (λ (p : Placing). p.misfits) w.placing-is
-            ∙ w.in_ok-place_empty_cell-in-None.ensures.fits
-            (may_add_cell c.args.placing.now.builder c.cells.placing.builder c.args.row c.args.line.start
-            c.args.line.next in_row (omega (arith, here, last)) may.inside.next) before
-      ];
+  fits = λ may fitted. tt;
 }
 
 pub returns-clause-texts : goal.returns-clause-texts
@@ -262,27 +234,55 @@ returns-clause-tree c = λ is inside source stands fitted.
           (subst (λ (t : List ℕ). IsTextLine t c.args.line source) (sym c.text-text.ensures) stands) put.1),
     )
 
-pub returns-clause-fits : goal.returns-clause-fits
-returns-clause-fits c = λ may fitted.
-    let before = c.cells.invariant.fits may fitted in
-    let in_row = row_opened c.args.placing.now.builder c.cells.placing.builder c.args.row c.args.line.start
-    c.requires.outside (c.cells.invariant.row before).1 in
+-- the next cell fits into the row, and so do the empty ones at its end
+pub place_cell-requires-clause-may : goal.place_cell-requires-clause-may
+place_cell-requires-clause-may c =
+    let may = c.requires.may in
     let row = c.cells.invariant.inside
     (subst (λ (t : List ℕ). IsInText t c.args.line) (sym c.text-text.ensures) may.inside) in
-    let here = row.here before in
-    let last = row.before in
-    let moved = step_done c.cells.placing c.step_to-2.new.self c.args.line.next c.step_to-2.ensures.steps
-    c.step_to-2.ensures.fits
-    (may_step c.cells.placing.builder c.args.line.next (omega (arith, here, last))
-    (subst (λ (t : List ℕ). IsCharBoundary t c.args.line.next) (sym c.cells.invariant.text) may.inside.next)
-    in_row.some) before in
-    let ended = row_stepped c.args.placing.now.builder c.cells.placing.builder c.step_to-2.new.self.builder c.args.row
-    c.args.line.start c.args.line.next moved.1 in_row in
-    c.close_row.ensures.fits ended.some moved.0 ∙ moved.0
+    let here = row.here tt in
+    let cell = c.in-Some.cell in
+    let next = comes_next c.text-text.result.now c.args.line c.cells.placing _ _ cell c.in-Some.ensures.value row in
+    let after = next.after in
+    may_add_cell c.args.placing.now.builder c.cells.placing.builder c.args.row c.args.line.start cell.start
+    (row_opened c.args.placing.now.builder c.cells.placing.builder c.args.row c.args.line.start c.requires.outside
+    (c.cells.invariant.row tt).1) (omega (arith, here, after))
+    (subst (λ (t : List ℕ). IsCellIn t cell) c.text-text.ensures next.inside).start
 
-pub close_row-requires : goal.close_row-requires
-close_row-requires c = λ fitted.
-    let moved = c.step_to-2.ensures.steps fitted in
+pub place_empty_cell-requires : goal.place_empty_cell-requires
+place_empty_cell-requires c =
+    let may = c.requires.may in
+    let row = c.cells.invariant.inside
+    (subst (λ (t : List ℕ). IsInText t c.args.line) (sym c.text-text.ensures) may.inside) in
+    let here = row.here tt in
+    let last = row.before in
+    may_add_cell c.args.placing.now.builder c.cells.placing.builder c.args.row c.args.line.start c.args.line.next
+    (row_opened c.args.placing.now.builder c.cells.placing.builder c.args.row c.args.line.start c.requires.outside
+    (c.cells.invariant.row tt).1) (omega (arith, here, last)) may.inside.next
+
+-- the line ends after its cells
+pub step_to-requires-2 : goal.step_to-requires-2
+step_to-requires-2 c =
+    let may = c.requires.may in
+    let in_row = row_opened c.args.placing.now.builder c.cells.placing.builder c.args.row c.args.line.start
+    c.requires.outside (c.cells.invariant.row tt).1 in
+    let row = c.cells.invariant.inside
+    (subst (λ (t : List ℕ). IsInText t c.args.line) (sym c.text-text.ensures) may.inside) in
+    let here = row.here tt in
+    let last = row.before in
+    may_step c.cells.placing.builder c.args.line.next (omega (arith, here, last))
+    (subst (λ (t : List ℕ). IsCharBoundary t c.args.line.next) (sym c.cells.invariant.text) may.inside.next) in_row.some
+
+pub close_row-requires-clause-some : goal.close_row-requires-clause-some
+close_row-requires-clause-some c =
+    (row_stepped c.args.placing.now.builder c.cells.placing.builder c.step_to-2.new.self.builder c.args.row
+    c.args.line.start c.args.line.next (c.step_to-2.ensures.steps tt).1
+    (row_opened c.args.placing.now.builder c.cells.placing.builder c.args.row c.args.line.start c.requires.outside
+    (c.cells.invariant.row tt).1)).some
+
+pub close_row-requires-clause-even : goal.close_row-requires-clause-even
+close_row-requires-clause-even c =
+    let moved = c.step_to-2.ensures.steps tt in
     let row = c.cells.invariant.row moved.0 in
     let cells = c.cells.invariant.cells moved.0 in
     let done : c.cells.count ≡ c.columns-columns.result =

@@ -87,17 +87,17 @@ returns-clause-leaf c =
           (all.third one held fitted).1),
     )) (ok_three c.add_code.result _ _ _ c.add_code.ensures.goes_on c.add_code.ensures.texts c.add_code.ensures.items)
 
-pub returns-clause-fits : goal.returns-clause-fits
-returns-clause-fits c =
-    IfOk-weaker c.add_code.result _ _ (λ done adds may ordered fitted.
+-- the rest of the line fits after the fence's indentation
+pub add_code-requires : goal.add_code-requires
+add_code-requires c =
     let old = c.args.self.now.placing.builder in
+    let may = c.requires.line in
     let there = space_ahead c.text-text.result.now c.args.position c.args.line.stop c.args.fence.indent
     c.read_space.result c.text-text.utf8 c.read_space.ensures.value
     (subst (λ t. IsCharBoundary t c.args.position.at) (sym c.text-text.ensures) may.ahead.1) in
     let low = may.ahead.0 in
     let after = there.1 in
-    adds (subst (λ (l : HeldLine). MayAddLine old l.start l.next) (sym c.rest_of.ensures)
+    subst (λ (l : HeldLine). MayAddLine old l.start l.next) (sym c.rest_of.ensures)
     (line_at old.text old.at c.read_space.result.after.at c.args.line.next old
     (record { inside = may.inside; same = refl; here = refl }) (omega (arith, low, after))
-    (subst (λ t. IsCharBoundary t c.read_space.result.after.at) c.text-text.ensures there.0) may.next)) fitted)
-    c.add_code.ensures.fits
+    (subst (λ t. IsCharBoundary t c.read_space.result.after.at) c.text-text.ensures there.0) may.next)

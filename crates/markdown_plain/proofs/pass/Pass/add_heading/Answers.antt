@@ -69,26 +69,3 @@ returns-clause-leaf c = λ s frames inside b built options kind start last stand
       heading_placed s old c.close.new.self.builder c.args.self.now.options frames inside b c.args.heading
           c.args.line.next built options kind start last placed texts made.1,
     )
-
-pub returns-clause-fits : goal.returns-clause-fits
-returns-clause-fits c = λ may fitted.
-    let old = c.args.self.now.placing in
-    let text = old.builder.text in
-    let now = c.open_heading.new.placing in
-    let all : AllFitted now = c.in_ok-open_heading.ensures.fits may.outside fitted in
-    let opens = (c.in_ok-open_heading.ensures.opens all).1 in
-    let there : IsInLeafAt text old.builder.at now.builder =
-    opened_at (record old.builder { headings = now.builder.headings }) now.builder
-    (body.Heading c.args.heading.level opens.0) opens.1 refl in
-    let first = stepped_at text old.builder.at c.args.heading.from now c.step_to.new.self c.step_to.ensures.steps
-    c.step_to.ensures.fits there may.from.0 may.from.1 all in
-    let to = line_at text c.args.heading.from c.args.heading.to c.args.heading.to c.step_to.new.self.builder first.1
-    may.ordered may.to may.to in
-    let filled : AllFitted c.add_items.new.self =
-    c.in_ok-add_items.ensures.fits first.1.inside.leaf to.ahead ∙ first.0 in
-    let goes = c.in_ok-add_items.ensures.appends filled in
-    let last = stepped_at text c.args.heading.to c.args.line.next c.add_items.new.self c.step_to-2.new.self
-    c.step_to-2.ensures.steps c.step_to-2.ensures.fits
-    (goes_at text c.args.heading.from c.args.heading.to c.step_to.new.self.builder c.add_items.new.self.builder goes.1
-    first.1) may.within may.next filled in
-    c.close.ensures.fits last.1.inside.some last.1.inside.plain ∙ last.0

@@ -53,12 +53,3 @@ returns-clause-leaf c =
           (subst (GoesOn old new) (after_held c.whole_of.result source held (omega (arith, within, ends))) goes.1)
           (all.second fitted).1 (all.third source held fitted).1,
     )) (ok_three c.add_code.result _ _ _ c.add_code.ensures.goes_on c.add_code.ensures.texts c.add_code.ensures.items)
-
-pub returns-then-closes_metadata-clause-fits : goal.returns-then-closes_metadata-clause-fits
-returns-then-closes_metadata-clause-fits c = λ may ordered fitted.
-    let old = c.args.self.now.placing in
-    let low = may.ahead.0 in
-    let done = stepped_at old.builder.text old.builder.at c.args.line.next old c.step_to.new.self
-    c.step_to.ensures.steps c.step_to.ensures.fits (record { inside = may.inside; same = refl; here = refl })
-    (omega (arith, low, ordered)) may.next fitted in
-    c.close.ensures.fits done.1.inside.some done.1.inside.plain ∙ done.0

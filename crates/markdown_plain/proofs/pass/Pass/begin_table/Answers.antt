@@ -150,7 +150,7 @@ returns-clause-frame c = λ is s frames inside b head before from l holds last_l
     (holds_tried s pass now frames inside b (before ++ from ∷ []) same holds)
     (ap source_of same ∙ last.source) (ap (λ (p : Pass). last_of p.lines.items) same ∙ last.there)
     (ahead_tried pass now same ahead) moved.0 in (
-      ap (λ (p : Pass). p.placing.misfits) (sym same) ∙ opened.0,
+      tt,
       record {
         found = found;
         begins = found_alignments s before from l found
@@ -170,7 +170,7 @@ returns-clause-fits c = λ is outside ahead task low boundary fitted.
     let opened = c.in_ok-open_table.ensures.fits (ap (λ (p : Pass). p.placing.builder.leaf) same ∙ outside)
     (ap (λ (p : Pass). last_of p.lines.items) same ∙ there)
     (ahead_tried pass now same ahead) (task_tried pass now same task)
-    (ap (λ (p : Pass). p.placing.misfits) same ∙ fitted) in
+    tt in
     let here = (c.in_ok-open_table.ensures.here opened).1 in
     let end = end_of_head pass.lines.items c.in-Some.head there in
     let at = here.0 in

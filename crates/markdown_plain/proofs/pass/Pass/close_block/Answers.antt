@@ -103,6 +103,5 @@ returns-in_default-clause-here c = λ is some fitted.
     { at = closing_place old }) = search rules in
     closed_here old.placing.builder new old.placed new.levels is some (closes fitted).1
 
-pub returns-in_default-clause-fits : goal.returns-in_default-clause-fits
-returns-in_default-clause-fits c = λ is some fitted.
-    c.close-in_default.ensures.fits some (innermost_no_row _ is.containers) ∙ fitted
+pub close-requires-in_default-clause-other : goal.close-requires-in_default-clause-other
+close-requires-in_default-clause-other c = innermost_no_row _ c.requires.closable.containers

@@ -1,5 +1,5 @@
 -- A turn closes the innermost block, which is not one of the outermost blocks that stay.
-use Rattle.std.proofs.Common.{◌≡◌, ◌∙◌, ◌<◌, suc, ap, refl, sym, subst, length, take, drop, arith, rules, ◌≤◌, List, []}
+use Rattle.std.proofs.Common.{◌≡◌, ◌∙◌, ◌<◌, ◌≤◌, suc, ap, refl, sym, subst, length, take, drop, arith, rules, List, []}
 use Rattle.markdown_base.specs.Forest.{Forest}
 use Rattle.markdown_builder.specs.BuilderView.{BuilderView}
 use Rattle.markdown_builder.specs.TreeLevels.{followed_by}
@@ -12,6 +12,7 @@ use Rattle.markdown_plain.specs.Frames.{Frame, rebuilt}
 use Rattle.markdown_plain.specs.OpenLeaves.{leaf_block}
 use Rattle.markdown_plain.specs.declared.pass.Pass.{Pass}
 use Rattle.markdown_plain.proofs.ClosedFramesLemmas.{all_kept, one_less, open_containers}
+use Rattle.markdown_plain.proofs.HasRoomLemmas.{not_down}
 use Rattle.markdown_plain.proofs.OpenTablesLemmas.{built_outside}
 use Rattle.markdown_builder.specs.declared.open_block.OpenBlock.{OpenBlock}
 use Rattle.markdown_plain.proofs.ClosedListsLemmas.{all_closed, none_closed, one_closed}
@@ -107,6 +108,18 @@ blocks-2-preserved c =
                 (record { loose = c.close_block.ensures.loose texts }) nested closed.1,
           );
     }
+
+-- what is open beyond the outermost blocks may be closed
+pub close_block-requires-clause-closable : goal.close_block-requires-clause-closable
+close_block-requires-clause-closable c =
+    let old = c.args.self.now in
+    let depth = c.args.depth in
+    let open_ = not_down old depth (λ leaf lines few.
+    let kept = c.in_ok-end_leaf.ensures.none leaf lines in
+    let none = subst (λ (p : Pass). length p.placing.builder.blocks ≤ depth) (sym kept) few in
+    absurd (omega (arith, none, c.blocks-2-test.true, c.blocks-2.auto._closed))) in
+    subst (AreClosable c.blocks-2.self.placing.builder) (sym (ap (λ (p : Pass). p.placed) c.blocks-2.invariant.same))
+    (c.blocks-2.invariant.here (c.requires open_) tt)
 
 pub blocks-2-init : goal.blocks-2-init
 blocks-2-init c = record {

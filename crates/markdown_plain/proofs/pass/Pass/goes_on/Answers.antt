@@ -96,42 +96,49 @@ returns-then-blank-2-clause-leaves_off c = λ goes. (
 
 -- ---- where it fits
 
-pub returns-in_ok-add_fenced-in-Fenced-clause-fits :
-    goal.returns-in_ok-add_fenced-in-Fenced-clause-fits
-returns-in_ok-add_fenced-in-Fenced-clause-fits c = λ goes s before source by leaf none.
-    let place = place_reached s c.args.self.now c.args.line c.args.reached before source by in
+pub add_fenced-requires-clause-line : goal.add_fenced-requires-clause-line
+add_fenced-requires-clause-line c =
+    let may = c.requires.may in
+    line_fits c.args.self.now c.args.line c.args.reached.position.at may.by.stands.ready c.requires.leaf
+    (place_reached may.s c.args.self.now c.args.line c.args.reached may.before may.source may.by)
+
+pub add_fenced-requires-clause-ordered : goal.add_fenced-requires-clause-ordered
+add_fenced-requires-clause-ordered c =
+    let may = c.requires.may in
+    let place = place_reached may.s c.args.self.now c.args.line c.args.reached may.before may.source may.by in
     let high = place.high in
     let ends = place.ends in
-    c.in_ok-add_fenced-in-Fenced.ensures.fits
-    (line_fits c.args.self.now c.args.line c.args.reached.position.at by.stands.ready leaf place)
-    (omega (arith, high, ends))
+    omega (arith, high, ends)
 
-pub returns-in_ok-add_html-in-Html-clause-fits : goal.returns-in_ok-add_html-in-Html-clause-fits
-returns-in_ok-add_html-in-Html-clause-fits c = λ goes s before source by leaf none.
-    c.in_ok-add_html-in-Html.ensures.fits
-    (line_fits c.args.self.now c.args.line c.args.reached.position.at by.stands.ready leaf
-    (place_reached s c.args.self.now c.args.line c.args.reached before source by))
+pub add_html-requires : goal.add_html-requires
+add_html-requires c =
+    let may = c.requires.may in
+    line_fits c.args.self.now c.args.line c.args.reached.position.at may.by.stands.ready c.requires.leaf
+    (place_reached may.s c.args.self.now c.args.line c.args.reached may.before may.source may.by)
 
-pub returns-in_ok-add_indented-in-Indented-clause-fits :
-    goal.returns-in_ok-add_indented-in-Indented-clause-fits
-returns-in_ok-add_indented-in-Indented-clause-fits c = λ goes s before source by leaf none.
+pub add_indented-requires : goal.add_indented-requires
+add_indented-requires c =
+    let may = c.requires.may in
     let old = c.args.self.now in
     let text = old.placing.builder.text in
     let read = c.read_space-before in
     let is : IsSpaceAt text c.args.reached.position c.args.line.stop 4 read.result =
     subst (λ t. IsSpaceAt t c.args.reached.position c.args.line.stop 4 read.result) c.text.ensures
     read.ensures.value in
-    c.in_ok-add_indented-in-Indented.ensures.fits
-    (line_fits_after old c.args.line read.result.after.at by.stands.ready leaf
-    (place_after_space text c.args.line c.args.reached.position 4 read.result by.is.utf8 is
-    (place_reached s old c.args.line c.args.reached before source by)))
+    line_fits_after old c.args.line read.result.after.at may.by.stands.ready c.requires.leaf
+    (place_after_space text c.args.line c.args.reached.position 4 read.result may.by.is.utf8 is
+    (place_reached may.s old c.args.line c.args.reached may.before may.source may.by))
 
-pub returns-in_ok-add_metadata-in-Metadata-clause-fits :
-    goal.returns-in_ok-add_metadata-in-Metadata-clause-fits
-returns-in_ok-add_metadata-in-Metadata-clause-fits c = λ goes s before source by leaf none.
-    let place = place_first s c.args.self.now c.args.line c.args.reached before source by in
+pub add_metadata-requires-clause-line : goal.add_metadata-requires-clause-line
+add_metadata-requires-clause-line c =
+    let may = c.requires.may in
+    line_fits c.args.self.now c.args.line c.args.line.start may.by.stands.ready c.requires.leaf
+    (place_first may.s c.args.self.now c.args.line c.args.reached may.before may.source may.by)
+
+pub add_metadata-requires-clause-ordered : goal.add_metadata-requires-clause-ordered
+add_metadata-requires-clause-ordered c =
+    let may = c.requires.may in
+    let place = place_first may.s c.args.self.now c.args.line c.args.reached may.before may.source may.by in
     let high = place.high in
     let ends = place.ends in
-    c.in_ok-add_metadata-in-Metadata.ensures.fits
-    (line_fits c.args.self.now c.args.line c.args.line.start by.stands.ready leaf place)
-    (omega (arith, high, ends))
+    omega (arith, high, ends)

@@ -11,6 +11,8 @@ use Rattle.markdown_plain.specs.Fitting.{AllFitted, IfFitted}
 use Rattle.markdown_plain.specs.Frames.{Frame, rebuilt, room_depth}
 use Rattle.markdown_plain.specs.OpenLeaves.{leaf_block}
 use Rattle.markdown_plain.specs.declared.pass.Pass.{Pass}
+use Rattle.markdown_plain.specs.Closable.{AreClosable}
+use Rattle.markdown_plain.proofs.HasRoomLemmas.{not_room}
 use Rattle.markdown_plain.proofs.OpenTablesLemmas.{built_outside}
 use Rattle.markdown_plain.proofs.ClosedFramesLemmas.{list_in_the_way, no_list_closed, stands_on}
 use Rattle.markdown_plain.proofs.OpenedFramesLemmas.{as_many_containers, list_innermost}
@@ -133,3 +135,16 @@ returns-clause-inside c = λ s frames may deep loose.
           (subst (λ (p : Pass). IsLooseAs p.looseness frames nil) (sym same) loose)
           (λ some. absurd (true≢false some)),
     )
+
+-- a list in the way is closed with what is in it
+pub close_block-requires-clause-closable : goal.close_block-requires-clause-closable
+close_block-requires-clause-closable c =
+    let old = c.args.self.now in
+    let down = c.close_down.new.self in
+    let list = sym c.is_in_list.ensures ∙ c.if-is_in_list.true in
+    let filled = not_room old c.args.depth (λ room.
+    let kept = c.in_ok-close_down.ensures.kept room.leaf room.lines room.few in
+    absurd (true≢false (sym list ∙ (ap (λ (p : Pass). innermost_is is_list p.placing.builder.blocks) kept
+    ∙ room.other)))) in
+    subst (AreClosable down.placing.builder) (sym (ap (λ (p : Pass). p.placed) c.in_ok-close_down.ensures.same))
+    (c.in_ok-close_down.ensures.here (c.requires filled) tt)

@@ -115,26 +115,3 @@ returns-clause-leaf c = λ s frames inside b source built is kind content last f
           (ap (λ (v : BuilderView). v.levels) c.begin_at_content.ensures.same
           ∙ (line.1 ∙ ap (λ (v : BuilderView). with_items v.levels (source_line body.Html source)) opened))),
     ))
-
-pub returns-clause-fits : goal.returns-clause-fits
-returns-clause-fits c = λ may fitted.
-    let old = c.args.self.now.placing in
-    let now = c.open_block.new.self in
-    let filled = c.add_html_line.new.self.placing in
-    let begun = c.begin_at_content.new.self in
-    let at = c.args.position.at in
-    let next = c.args.line.next in
-    let open_ = leaf_opened old c.step_to.new.self now body.HtmlBlock at next refl c.step_to.ensures.steps
-    c.step_to.ensures.fits c.in_ok-open_block.ensures.opens c.in_ok-open_block.ensures.fits may.0 fitted in
-    let all : AllFitted filled = c.in_ok-add_html_line.ensures.fits
-    (line_at old.builder.text at at next now.builder open_.1 (omega arith) may.0.begins.ahead.1 may.0.next) open_.0 in
-    let goes = c.in_ok-add_html_line.ensures.goes_on all in
-    let opens = c.in_ok-open_block.ensures.opens goes.0 in
-    let steps = c.step_to.ensures.steps opens.0 in
-    let has = has_content old.builder now.builder filled.builder body.HtmlBlock at next
-    (subst (λ (v : BuilderView). Opens v now.builder body.HtmlBlock) steps.1 opens.1) goes.1 may.0.begins.ahead.1
-    may.1 in
-    let last : AllFitted begun = c.begin_at_content.ensures.fits has ∙ all in
-    let begins = c.begin_at_content.ensures.begins last in
-    c.end_html.ensures.fits (begun_in_leaf filled.builder begun.builder begins.1 c.begin_at_content.ensures.same
-    (goes_at old.builder.text at (after_line at next) now.builder filled.builder goes.1 open_.1).inside) last

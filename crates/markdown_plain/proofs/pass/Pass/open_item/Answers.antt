@@ -1,5 +1,5 @@
 -- The item is one more open container, in a list that goes on or is one more as well.
-use Rattle.std.proofs.Common.{◌≡◌, ◌∙◌, List, Option, Some, None, sym, subst, ap, arith, true, take, drop, [], false}
+use Rattle.std.proofs.Common.{◌≡◌, ◌∙◌, ℕ, List, Option, Some, None, sym, subst, ap, arith, true, take, drop, [], false}
 use Rattle.std.proofs.lemmas.Bool.{true≢false}
 use Rattle.std.proofs.lemmas.Result.{IfOk-weaker}
 use Rattle.markdown_base.specs.Forest.{Forest, nil}
@@ -16,7 +16,7 @@ use Rattle.markdown_plain.specs.OpenedFrames.{with_frame}
 use Rattle.markdown_plain.specs.Settled.{BlanksKnown, IsBuilt, IsLooseAs}
 use Rattle.markdown_plain.specs.declared.looseness.Looseness.{Looseness}
 use Rattle.markdown_plain.specs.declared.pass.Pass.{Pass}
-use Rattle.markdown_plain.specs.Closable.{AreClosable, IsWhiteBefore}
+use Rattle.markdown_plain.specs.Closable.{AreClosable, IsWhiteBefore, MayOpenItem, by_closing, in_room}
 use Rattle.markdown_plain.specs.OpenBlocks as own
 use Rattle.markdown_plain.proofs.OpenBlocksLemmas.{no_leaf_there}
 use Rattle.markdown_plain.proofs.OpenTablesLemmas.{built_outside}
@@ -26,6 +26,8 @@ use Rattle.markdown_plain.proofs.FramesInsideLemmas.{inner_last}
 use Rattle.markdown_plain.proofs.OpenedFramesLemmas.{as_many_containers, item_is, item_placed, list_for_item}
 use Rattle.markdown_plain.proofs.OpenedFramesLemmas.{plain_is_built}
 use Rattle.markdown_plain.proofs.RoomLemmas.{last_open}
+use Rattle.markdown_plain.proofs.HasRoomLemmas.{room_is}
+use Rattle.markdown_plain.proofs.pass.Pass.open_item.Goals.{In_ok-close_down}
 use Rattle.markdown_plain.proofs.pass.Pass.open_item.Goals as goal
 
 -- once its list is the innermost open container
@@ -134,52 +136,75 @@ returns-clause-loose c =
           (known_of_outermost old.looseness.blank_from depth frames blocks known)) lists items first.0).1,
     )) c.open_block.ensures.opens
 
--- the item is opened in its list
-item_fits : (c : goal.After-open_block) → c.close_down.new.self.placing.builder.leaf ≡ false
-    → IsAhead c.close_down.new.self.placing.builder c.args.at
-    → (own.without_list c.close_down.new.self.placing.builder.blocks ≡ []
-    → IsWhiteBefore c.close_down.new.self.placing.builder c.args.at)
-    → (own.innermost_is own.is_list c.close_down.new.self.placing.builder.blocks ≡ true
-    → AreClosable c.close_down.new.self.placing.builder c.close_down.new.self.placed)
-    → AllFitted c.close_down.new.self.placing → AllFitted c.step_to.new.self
-    × (c.step_to.new.self.builder.leaf ≡ false)
-item_fits c outside ahead white closable fitted =
-    let second = c.in_ok-open_list.ensures.fits outside ahead white closable fitted in
-    let listed = c.in_ok-open_list.ensures.here outside ahead.0 second in
-    let third = c.step_to.ensures.fits
-    (listed_ahead c.close_down.new.self.placing.builder _ c.args.at c.in_ok-open_list.ensures.text ahead.1 listed)
-    (λ none. absurd (listed.some none)) ∙ second in
-    (third, ap (λ (b : BuilderView). b.leaf) (c.step_to.ensures.steps third).1 ∙ listed.outside)
+-- ---- the calls
 
-pub returns-clause-fits : goal.returns-clause-fits
-returns-clause-fits c =
-    IfOk-weaker c.open_block.result _ _ (λ done fits is low boundary white fitted.
+-- a list may be opened, or go on, once the containers are closed that the item is not in
+record MayBegin (down : Pass) (at : ℕ) : Type 0 where
+  outside : down.placing.builder.leaf ≡ false
+  ahead : IsAhead down.placing.builder at
+  white : own.without_list down.placing.builder.blocks ≡ [] → IsWhiteBefore down.placing.builder at
+  closable : own.innermost_is own.is_list down.placing.builder.blocks ≡ true
+      → AreClosable down.placing.builder down.placed
+
+may_begin : (c : In_ok-close_down) → MayOpenItem c.args.self.now c.args.depth c.args.at
+    → MayBegin c.close_down.new.self c.args.at
+may_begin c (by_closing may) =
     let old = c.args.self.now in
     let down = c.close_down.new.self in
-    let first = c.in_ok-close_down.ensures.fits is fitted in
-    let here = c.in_ok-close_down.ensures.here is first in
-    let placed : down.placed ≡ old.placed = ap (λ (p : Pass). p.placed) c.in_ok-close_down.ensures.same in
-    let text = c.in_ok-close_down.ensures.text in
-    let blocks = (c.in_ok-close_down.ensures.closes first).1 in
-    let opened = item_fits c here.outside
-    (item_ahead old.placing.builder down.placing.builder old.placed c.args.at text here low boundary)
-    (item_white old.placing.builder down.placing.builder old.placed c.args.at c.args.depth text blocks here white)
-    (λ list. subst (AreClosable down.placing.builder) (sym placed) here) first in
-    fits opened.1 ∙ opened.0) c.open_block.ensures.fits
-
--- nothing is closed inside a container that was opened last
-pub returns-clause-fits_inside : goal.returns-clause-fits_inside
-returns-clause-fits_inside c =
-    IfOk-weaker c.open_block.result _ _ (λ done fits outside none deep other ahead white fitted.
+    let done = c.in_ok-close_down.ensures in
+    let here = done.here may.closable tt in
+    record {
+      outside = here.outside;
+      ahead = item_ahead old.placing.builder down.placing.builder old.placed c.args.at done.text here may.low
+          may.boundary;
+      white = item_white old.placing.builder down.placing.builder old.placed c.args.at c.args.depth done.text
+          (done.closes tt).1 here may.white;
+      closable = λ list. subst (AreClosable down.placing.builder) (sym (ap (λ (p : Pass). p.placed) done.same)) here;
+    }
+may_begin c (in_room free may) =
     let old = c.args.self.now in
-    let kept : c.close_down.new.self ≡ old = c.in_ok-close_down.ensures.kept outside none deep in
-    let opened = item_fits c
-    (ap (λ (p : Pass). p.placing.builder.leaf) kept ∙ no_leaf_there old.placing.builder outside)
-    (subst (λ (p : Pass). IsAhead p.placing.builder c.args.at) (sym kept) ahead)
-    (subst (λ (p : Pass). own.without_list p.placing.builder.blocks ≡ [] → IsWhiteBefore p.placing.builder c.args.at)
-    (sym kept) (λ left. white (item_outside _ other left)))
-    (λ list. absurd (true≢false
-    (sym list ∙ (ap (λ (p : Pass). own.innermost_is own.is_list p.placing.builder.blocks) kept
-    ∙ other))))
-    (subst (λ (p : Pass). AllFitted p.placing) (sym kept) fitted) in
-    fits opened.1 ∙ opened.0) c.open_block.ensures.fits
+    let room = room_is old c.args.depth free in
+    let kept : c.close_down.new.self ≡ old = c.in_ok-close_down.ensures.kept room.leaf room.lines room.few in
+    record {
+      outside = ap (λ (p : Pass). p.placing.builder.leaf) kept ∙ no_leaf_there old.placing.builder room.leaf;
+      ahead = subst (λ (p : Pass). IsAhead p.placing.builder c.args.at) (sym kept) may.ahead;
+      white = subst (λ (p : Pass). own.without_list p.placing.builder.blocks ≡ []
+          → IsWhiteBefore p.placing.builder c.args.at)
+          (sym kept) (λ left. may.white (item_outside _ room.other left));
+      closable = λ list. absurd (true≢false
+          (sym list ∙ (ap (λ (p : Pass). own.innermost_is own.is_list p.placing.builder.blocks) kept
+          ∙ room.other)));
+    }
+
+pub open_list-requires-clause-outside : goal.open_list-requires-clause-outside
+open_list-requires-clause-outside c =
+    (may_begin (goal.at.open_list-requires-clause-outside c).In_ok-close_down c.requires).outside
+
+pub open_list-requires-clause-ahead : goal.open_list-requires-clause-ahead
+open_list-requires-clause-ahead c =
+    (may_begin (goal.at.open_list-requires-clause-ahead c).In_ok-close_down c.requires).ahead
+
+pub open_list-requires-clause-white : goal.open_list-requires-clause-white
+open_list-requires-clause-white c =
+    (may_begin (goal.at.open_list-requires-clause-white c).In_ok-close_down c.requires).white
+
+pub open_list-requires-clause-closable : goal.open_list-requires-clause-closable
+open_list-requires-clause-closable c =
+    (may_begin (goal.at.open_list-requires-clause-closable c).In_ok-close_down c.requires).closable
+
+-- the item is opened in its list
+pub step_to-requires : goal.step_to-requires
+step_to-requires c =
+    let may = may_begin (goal.at.step_to-requires c).In_ok-close_down c.requires in
+    let listed = c.in_ok-open_list.ensures.here may.outside may.ahead.0 tt in
+    record {
+      ahead = listed_ahead c.close_down.new.self.placing.builder _ c.args.at c.in_ok-open_list.ensures.text may.ahead.1
+          listed;
+      white = λ none. absurd (listed.some none);
+    }
+
+pub open_block-requires-clause-outside : goal.open_block-requires-clause-outside
+open_block-requires-clause-outside c =
+    let may = may_begin (goal.at.open_block-requires-clause-outside c).In_ok-close_down c.requires in
+    ap (λ (b : BuilderView). b.leaf) (c.step_to.ensures.steps tt).1
+    ∙ (c.in_ok-open_list.ensures.here may.outside may.ahead.0 tt).outside

@@ -226,12 +226,3 @@ may_begin c outside ahead white closable fitted =
           subst (λ (p : Pass). MayBeginList p.placing c.args.at) (sym w.self-is)
           (begins_list old.placing c.args.at other outside ahead white fitted)
     ]
-
-pub returns-clause-fits : goal.returns-clause-fits
-returns-clause-fits c =
-    IfOk-weaker c.open_list.result _ _ (λ done read outside ahead white closable fitted.
-    let m = may_begin c outside ahead white closable fitted in
-    let first = c.step_to.ensures.fits m.ahead m.white ∙ m.fitted in
-    let stepped = (c.step_to.ensures.steps first).1 in
-    c.in_ok-open_block.ensures.fits (ap (λ (b : BuilderView). b.leaf) stepped ∙ m.outside) ∙ first)
-    c.open_list.ensures.read

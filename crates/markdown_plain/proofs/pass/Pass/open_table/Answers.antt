@@ -26,6 +26,7 @@ use Rattle.markdown_plain.proofs.TableFrontsLemmas.{HasFront, IsEndedAt, ahead_f
 use Rattle.markdown_plain.proofs.TableFrontsLemmas.{head_in_text, head_is, may_step_to_head, none_ended, task_front}
 use Rattle.markdown_plain.proofs.TableFrontsLemmas.{with_head}
 use Rattle.markdown_plain.proofs.pass.Pass.open_table.Goals.{then-not-is_empty+in_ok-end_paragraph, else-not-is_empty}
+use Rattle.markdown_plain.proofs.pass.Pass.open_table.Goals.{After-step_to-arg-1, After-is_empty}
 use Rattle.markdown_plain.proofs.pass.Pass.open_table.Goals as goal
 
 -- the lines before the head
@@ -66,46 +67,11 @@ front_built c s frames inside b before from has options fitted =
           )
     ]
 
--- and where the builder is then
-front_ended : (c : goal.In_ok-_found) → c.args.self.now.placing.builder.leaf ≡ false
-    → AllFitted c.if-not-is_empty.self.placing
-    → IsEndedAt c.args.self.now.placing.builder c.if-not-is_empty.self.placing.builder
-    (past c.args.self.now.placing.builder.at c.pop-head.new.self.items)
-front_ended c outside fitted =
-    let old = c.args.self.now.placing.builder in
-    let front = c.pop-head.new.self.items in
-    elim c.if-not-is_empty.branch [
-      | then-not-is_empty+in_ok-end_paragraph w ↦
-          let some : 0 < length front = grind (arith, nat_tests, c.is_empty.ensures, w.if-not-is_empty.true) in
-          let fits = subst (λ (p : Pass). AllFitted p.placing) w.self-is fitted in
-          subst (λ (p : Pass). IsEndedAt old p.placing.builder (past old.at front)) (sym w.self-is)
-          (ended_at old w.end_paragraph.new.self.placing.builder front w.in_ok-end_paragraph.field-0 some outside
-          (λ left. (w.in_ok-end_paragraph.ensures.ends left fits).1)
-          (λ none. (w.in_ok-end_paragraph.ensures.defines none fits).1)
-          (λ none. (w.in_ok-end_paragraph.ensures.after none some fits).1))
-      | else-not-is_empty w ↦
-          let none : length front ≡ 0 = grind (arith, nat_tests, c.is_empty.ensures, w.if-not-is_empty.false) in
-          none_ended old c.if-not-is_empty.self.placing.builder front none outside
-          (ap (λ (p : Pass). p.placing.builder) w.self-is)
-    ]
-
 front_options : (c : goal.In_ok-_found) → c.if-not-is_empty.self.options ≡ c.args.self.now.options
 front_options c = elim c.if-not-is_empty.branch [
   | then-not-is_empty+in_ok-end_paragraph w ↦
       ap (λ (p : Pass). p.options) w.self-is ∙ ap (λ (p : Pass). p.options) w.end_paragraph.ensures.same
   | else-not-is_empty w ↦ ap (λ (p : Pass). p.options) w.self-is
-]
-
--- the end of the lines before the head fits
-front_fits : (c : goal.In_ok-_found) → c.args.self.now.placing.builder.leaf ≡ false
-    → AreAhead c.args.self.now.placing.builder c.pop-head.new.self.items
-    → HaveTask c.args.self.now.placing.builder.text c.args.self.now.task c.pop-head.new.self.items
-    → AllFitted c.args.self.now.placing → AllFitted c.if-not-is_empty.self.placing
-front_fits c outside ahead task fitted = elim c.if-not-is_empty.branch [
-  | then-not-is_empty+in_ok-end_paragraph w ↦
-      subst (λ (p : Pass). AllFitted p.placing) (sym w.self-is)
-      (w.in_ok-end_paragraph.ensures.fits outside ahead task tt fitted)
-  | else-not-is_empty w ↦ subst (λ (p : Pass). AllFitted p.placing) (sym w.self-is) fitted
 ]
 
 front_before : (c : goal.In_ok-_found) → AllFitted c.if-not-is_empty.self.placing
@@ -170,32 +136,68 @@ returns-clause-here c = λ fitted.
       ),
     )
 
-pub returns-clause-fits : goal.returns-clause-fits
-returns-clause-fits c = λ outside there ahead task fitted.
+-- the lines that are held back are those before the head, and the head
+ahead_with : (c : After-is_empty) → AreAhead c.args.self.now.placing.builder
+    (c.pop-head.new.self.items ++ c.args.head ∷ [])
+ahead_with c =
+    subst (AreAhead c.args.self.now.placing.builder)
+    (with_head c.args.self.now.lines.items c.pop-head.new.self.items _ c.pop-head.result c.args.head
+    c.args.self.now.lines.ok.0 c.pop-head.ensures.items c.pop-head.ensures.value c.requires.head) c.requires.ahead
+
+pub end_paragraph-requires-clause-ahead : goal.end_paragraph-requires-clause-ahead
+end_paragraph-requires-clause-ahead c =
+    ahead_front c.args.self.now.placing.builder c.pop-head.new.self.items c.args.head
+    (ahead_with (goal.at.end_paragraph-requires-clause-ahead c).After-is_empty)
+
+-- and where the builder is then
+front_ended : (c : After-step_to-arg-1)
+    → IsEndedAt c.args.self.now.placing.builder c.if-not-is_empty.self.placing.builder
+    (past c.args.self.now.placing.builder.at c.pop-head.new.self.items)
+front_ended c =
     let old = c.args.self.now.placing.builder in
     let front = c.pop-head.new.self.items in
-    let all = all_of c there in
-    let ahead_all = subst (AreAhead old) all ahead in
-    let first = front_fits c outside (ahead_front old front c.args.head ahead_all)
-    (task_front old.text c.args.self.now.task front c.args.head
-    (subst (HaveTask old.text c.args.self.now.task) all task)) fitted in
-    let ended = front_ended c outside first in
-    let moved = step_done c.if-not-is_empty.self.placing c.step_to.new.self c.args.head.start c.step_to.ensures.steps
-    c.step_to.ensures.fits
-    (may_step_to_head old c.if-not-is_empty.self.placing.builder front c.args.head ahead_all ended) first in
-    let opens = c.in_ok-open_table.ensures.fits (ap (λ (v : BuilderView). v.leaf) moved.1 ∙ ended.outside)
-    ∙ moved.0 in
-    let opened = (c.in_ok-open_table.ensures.opens opens).1 in
-    let is = head_in_text old front c.args.head ahead_all in
+    elim c.if-not-is_empty.branch [
+      | then-not-is_empty+in_ok-end_paragraph w ↦
+          let some : 0 < length front = grind (arith, nat_tests, c.is_empty.ensures, w.if-not-is_empty.true) in
+          subst (λ (p : Pass). IsEndedAt old p.placing.builder (past old.at front)) (sym w.self-is)
+          (ended_at old w.end_paragraph.new.self.placing.builder front w.in_ok-end_paragraph.field-0 some c.requires.outside
+          (λ left. (w.in_ok-end_paragraph.ensures.ends left tt).1)
+          (λ none. (w.in_ok-end_paragraph.ensures.defines none tt).1)
+          (λ none. (w.in_ok-end_paragraph.ensures.after none some tt).1))
+      | else-not-is_empty w ↦
+          let none : length front ≡ 0 = grind (arith, nat_tests, c.is_empty.ensures, w.if-not-is_empty.false) in
+          none_ended old c.if-not-is_empty.self.placing.builder front none c.requires.outside
+          (ap (λ (p : Pass). p.placing.builder) w.self-is)
+    ]
+
+pub step_to-requires : goal.step_to-requires
+step_to-requires c =
+    may_step_to_head c.args.self.now.placing.builder c.if-not-is_empty.self.placing.builder c.pop-head.new.self.items
+    c.args.head (ahead_with (goal.at.step_to-requires c).After-is_empty)
+    (front_ended (goal.at.step_to-requires c).After-step_to-arg-1)
+
+-- the head fits as a row
+pub place_row-requires-clause-may : goal.place_row-requires-clause-may
+place_row-requires-clause-may c =
+    let old = c.args.self.now.placing.builder in
+    let front = c.pop-head.new.self.items in
+    let ended = front_ended (goal.at.place_row-requires-clause-may c).After-step_to-arg-1 in
+    let moved = (c.step_to.ensures.steps tt).1 in
+    let opened = (c.in_ok-open_table.ensures.opens tt).1 in
+    let is = head_in_text old front c.args.head
+    (ahead_with (goal.at.place_row-requires-clause-may c).After-is_empty) in
     let same : c.open_table.new.self.builder.text ≡ old.text =
-    ap (λ (v : BuilderView). v.text) opened.2 ∙ (ap (λ (v : BuilderView). v.text) moved.1 ∙ ended.text) in
+    ap (λ (v : BuilderView). v.text) opened.2 ∙ (ap (λ (v : BuilderView). v.text) moved ∙ ended.text) in
     let here : c.open_table.new.self.builder.at ≡ c.args.head.start =
-    ap (λ (v : BuilderView). v.at) opened.2 ∙ ap (λ (v : BuilderView). v.at) moved.1 in
-    c.in_ok-_found.ensures.fits (record {
+    ap (λ (v : BuilderView). v.at) opened.2 ∙ ap (λ (v : BuilderView). v.at) moved in
+    record {
       outside = ap (λ (v : BuilderView). v.leaf) opened.2;
       begins = may_step c.open_table.new.self.builder c.args.head.start (omega (arith, here))
           (subst (λ (t : List ℕ). IsCharBoundary t c.args.head.start) (sym same) is.start)
           (some_opened c.open_table.new.self.builder.blocks c.step_to.new.self.builder.blocks _
           (ap (λ (v : BuilderView). v.blocks) opened.2));
       inside = subst (λ (t : List ℕ). IsInText t c.args.head) (sym same) is;
-    }) opens
+    }
+
+pub returns-clause-fits : goal.returns-clause-fits
+returns-clause-fits c = λ outside there ahead task fitted. tt

@@ -25,6 +25,7 @@ use Rattle.markdown_plain.proofs.ClosableLemmas.{IsTextOpened, ahead_of, first_l
 use Rattle.markdown_plain.proofs.ClosableLemmas.{text_opened}
 use Rattle.markdown_plain.specs.Closable.{AreInText, EndsHeading, HasRoomFor, HaveBraces, HaveTask, IsPlaceable}
 use Rattle.markdown_builder.specs.EvenRows.{is_in_row}
+use Rattle.markdown_plain.proofs.pass.Pass.place_paragraph.Goals.{After-last_braces, After-close-arg-1}
 use Rattle.markdown_plain.proofs.pass.Pass.place_paragraph.Goals as goal
 
 same : (c : goal.After-close) → c.match-get.self ≡ record c.args.self.now { placing = c.match-get.self.placing }
@@ -201,16 +202,38 @@ returns-clause-texts c = λ fitted.
           (no_text _ _ (ap (λ (v : BuilderView). v.texts) closed.1 ∙ over.1)),
     )
 
+same_early : (c : After-last_braces) → c.match-get.self ≡ record c.args.self.now { placing = c.match-get.self.placing }
+same_early c =
+    elim c.match-get.branch [
+      | in-Some w ↦ w.self-is ∙ ap (λ (p : Pass). record c.args.self.now { placing = p.placing }) (sym w.self-is)
+      | in_default w ↦ w.self-is ∙ ap (λ (p : Pass). record c.args.self.now { placing = p.placing }) (sym w.self-is)
+    ]
+
+task_early : (c : After-last_braces)
+    → c.if-from-eq0.ends ≡ (if c.args.from == 0 then c.args.self.now.task else None)
+task_early c =
+    let task = ap (λ (p : Pass). p.task) (same_early c) in
+    elim c.if-from-eq0.branch [
+      | then-from-eq0 w ↦ grind (arith, nat_tests, w.ends-is, w.if-from-eq0.true, task)
+      | else-from-eq0 w ↦ let other = w.if-from-eq0.false in grind (arith, nat_tests, w.ends-is, other)
+    ]
+
+same_late : (c : After-close-arg-1) → c.match-get.self ≡ record c.args.self.now { placing = c.match-get.self.placing }
+same_late c =
+    elim c.match-get.branch [
+      | in-Some w ↦ w.self-is ∙ ap (λ (p : Pass). record c.args.self.now { placing = p.placing }) (sym w.self-is)
+      | in_default w ↦ w.self-is ∙ ap (λ (p : Pass). record c.args.self.now { placing = p.placing }) (sym w.self-is)
+    ]
+
 -- the builder has moved to the first line
 record IsAtFirst (old now : Pass) (from : ℕ) : Type 0 where
-  fitted : AllFitted now.placing
   text : now.placing.builder.text ≡ old.placing.builder.text
   leaf : now.placing.builder.leaf ≡ old.placing.builder.leaf
   order : AreInText old.placing.builder.text now.placing.builder.at (drop from old.lines.items)
 
-at_first : (c : goal.After-close) → IsPlaceable c.args.self.now c.args.from c.args.heading
-    → AllFitted c.args.self.now.placing → IsAtFirst c.args.self.now c.match-get.self c.args.from
-at_first c is fitted =
+at_first : (c : After-last_braces) → IsAtFirst c.args.self.now c.match-get.self c.args.from
+at_first c =
+    let is = c.requires in
     let less = is.some in
     elim c.match-get.branch [
       | in-Some w ↦
@@ -220,11 +243,9 @@ at_first c is fitted =
           c.get.ensures.lookup.1 in
           let held = first ∙ ap (λ ls. get_or ls c.args.from line) c.deref.ensures.value in
           let t = first_line old c.args.from c.args.heading line is held in
-          let done = w.step_to.ensures.fits t.ahead t.white ∙ fitted in
-          let steps = (w.step_to.ensures.steps done).1 in
+          let steps = (w.step_to.ensures.steps tt).1 in
           let same = ap (λ (p : Pass). p.placing.builder) w.self-is in
           record {
-            fitted = subst (λ (p : Pass). AllFitted p.placing) (sym w.self-is) done;
             text = ap (λ (b : BuilderView). b.text) (same ∙ steps);
             leaf = ap (λ (b : BuilderView). b.leaf) (same ∙ steps);
             order = subst (λ at. AreInText old.placing.builder.text at (drop c.args.from old.lines.items))
@@ -234,16 +255,19 @@ at_first c is fitted =
     ]
 
 -- the lines are in the leaf
-room_for : (c : goal.After-close) → IsPlaceable c.args.self.now c.args.from c.args.heading
-    → IsAtFirst c.args.self.now c.match-get.self c.args.from
-    → IsTextOpened c.match-get.self.placing.builder c.open_text.new.placing.builder
-    → HasRoomFor c.open_text.new.placing.builder c.deref-2.result.now c.args.from
-    (record { task = c.if-from-eq0.ends; braces = c.last_braces.result })
-room_for c is first opened =
+pub add_lines-requires : goal.add_lines-requires
+add_lines-requires c =
+    let is = c.requires in
+    let first = at_first (goal.at.add_lines-requires c).After-last_braces in
+    let opened = text_opened c.match-get.self.placing.builder c.open_text.new.placing.builder c.args.heading
+    (c.in_ok-open_text.ensures.opens tt).1 in
     let old = c.args.self.now in
     let new = c.open_text.new.placing.builder in
     let text : old.placing.builder.text ≡ new.text = sym (opened.text ∙ first.text) in
-    let lines : old.lines.items ≡ c.deref-2.result.now = sym (lines_are c) in
+    let kept = same_early (goal.at.add_lines-requires c).After-last_braces in
+    let lines : old.lines.items ≡ c.deref-2.result.now =
+    sym (c.deref-2.ensures.value ∙ ap (λ (p : Pass). p.lines.items) kept) in
+    let task = task_early (goal.at.add_lines-requires c).After-last_braces in
     record {
       inside = opened.inside;
       order = subst (λ at. AreInText new.text at (drop c.args.from c.deref-2.result.now)) (sym opened.at)
@@ -253,54 +277,43 @@ room_for c is first opened =
       task = subst (λ ls. HaveTask new.text c.if-from-eq0.ends (drop c.args.from ls)) lines
           (subst (λ t. HaveTask t c.if-from-eq0.ends (drop c.args.from old.lines.items)) text
           (subst (λ task. HaveTask old.placing.builder.text task (drop c.args.from old.lines.items))
-          (sym (task_is c)) is.task));
+          (sym task) is.task));
       braces = subst (λ ls. HaveBraces new.text c.last_braces.result ls)
-          (ap (λ (p : Pass). p.lines.items) (same c) ∙ lines)
+          (ap (λ (p : Pass). p.lines.items) kept ∙ lines)
           (subst (λ t. HaveBraces t c.last_braces.result c.match-get.self.lines.items) (sym opened.text)
           c.last_braces.ensures.fits);
     }
 
 -- the builder has moved to where the paragraph ends
 record IsAtLast (filled : BuilderView) (now : Pass) : Type 0 where
-  fitted : AllFitted now.placing
   blocks : now.placing.builder.blocks ≡ filled.blocks
 
-at_last : (c : goal.After-close) → IsPlaceable c.args.self.now c.args.from c.args.heading
-    → IsTextOpened c.match-get.self.placing.builder c.open_text.new.placing.builder
-    → c.open_text.new.placing.builder.text ≡ c.args.self.now.placing.builder.text
-    → AllFitted c.add_lines.new.placing → IsAtLast c.open_text.new.placing.builder c.match-heading.self
-at_last c is opened text filled =
+at_last : (c : After-close-arg-1) → IsTextOpened c.match-get.self.placing.builder c.open_text.new.placing.builder
+    → IsAtLast c.open_text.new.placing.builder c.match-heading.self
+at_last c opened =
+    let kept = same_late c in
+    let lines = c.deref-2.ensures.value ∙ ap (λ (p : Pass). p.lines.items) kept in
     let goes = (c.in_ok-add_lines.ensures.goes_on
-    (subst (λ (ls : List HeldLine). c.args.from < length ls) (sym (lines_are c)) is.some) filled).1 in
+    (subst (λ (ls : List HeldLine). c.args.from < length ls) (sym lines) c.requires.some) tt).1 in
     let blocks = ap (λ (b : BuilderView). b.blocks) goes in
-    let inside = still_open c.open_text.new.placing.builder c.add_lines.new.placing.builder
-    (ap (λ (b : BuilderView). b.leaf) goes) blocks opened.inside in
-    let at = ap (λ (v : BuilderView). v.at) goes ∙ ap lines_end (lines_are c) in
     elim c.match-heading.branch [
-      | in-Some-heading w ↦
-          let ends = subst (EndsHeading c.args.self.now.placing.builder.text c.args.self.now.lines.items)
-          w.in-Some-heading.is is.heading_ends in
-          let done = w.step_to-in-Some-heading.ensures.fits
-          (ahead_of c.args.self.now.placing.builder.text _ _ c.add_lines.new.placing.builder
-          (c.in_ok-add_lines.ensures.text ∙ text) at ends.0 ends.1) (inside_leaf _ _ inside) ∙ filled in
-          record {
-            fitted = subst (λ (p : Pass). AllFitted p.placing) (sym w.self-is) done;
-            blocks = ap (λ (p : Pass). p.placing.builder.blocks) w.self-is
-                ∙ (ap (λ (b : BuilderView). b.blocks) (w.step_to-in-Some-heading.ensures.steps done).1 ∙ blocks);
-          }
-      | in_default-heading w ↦ record {
-        fitted = subst (λ (p : Pass). AllFitted p.placing) (sym w.self-is) filled;
-        blocks = ap (λ (p : Pass). p.placing.builder.blocks) w.self-is ∙ blocks;
+      | in-Some-heading w ↦ record {
+        blocks = ap (λ (p : Pass). p.placing.builder.blocks) w.self-is
+            ∙ (ap (λ (b : BuilderView). b.blocks) (w.step_to-in-Some-heading.ensures.steps tt).1 ∙ blocks);
       }
+      | in_default-heading w ↦ record { blocks = ap (λ (p : Pass). p.placing.builder.blocks) w.self-is ∙ blocks }
     ]
 
-pub returns-clause-fits : goal.returns-clause-fits
-returns-clause-fits c = λ is fitted.
-    let first = at_first c is fitted in
-    let second = c.in_ok-open_text.ensures.fits (first.leaf ∙ is.outside) first.fitted in
+pub close-requires-clause-other : goal.close-requires-clause-other
+close-requires-clause-other c =
     let opened = text_opened c.match-get.self.placing.builder c.open_text.new.placing.builder c.args.heading
-    (c.in_ok-open_text.ensures.opens second).1 in
-    let third = c.in_ok-add_lines.ensures.fits (room_for c is first opened) second in
-    let last = at_last c is opened (opened.text ∙ first.text) third in
-    c.close.ensures.fits (λ none. opened.inside.some (sym last.blocks ∙ none)) (ap is_in_row last.blocks ∙ opened.other)
-    ∙ last.fitted
+    (c.in_ok-open_text.ensures.opens tt).1 in
+    let last = at_last (goal.at.close-requires-clause-other c).After-close-arg-1 opened in
+    ap is_in_row last.blocks ∙ opened.other
+
+pub close-requires-clause-some : goal.close-requires-clause-some
+close-requires-clause-some c = λ none.
+    let opened = text_opened c.match-get.self.placing.builder c.open_text.new.placing.builder c.args.heading
+    (c.in_ok-open_text.ensures.opens tt).1 in
+    let last = at_last (goal.at.close-requires-clause-some c).After-close-arg-1 opened in
+    opened.inside.some (sym last.blocks ∙ none)

@@ -1,5 +1,5 @@
 -- The paragraph that may follow the alert's marker is the block inside it.
-use Rattle.std.proofs.Common.{◌≡◌, ◌∙◌, ◌++◌, ◌∷◌, [], Bool, refl, sym, subst, ap, if◌then◌else◌}
+use Rattle.std.proofs.Common.{◌≡◌, ◌∙◌, ◌++◌, ◌∷◌, [], Bool, refl, sym, subst, ap, if◌then◌else◌, true≢false}
 use Rattle.markdown_base.specs.Forest.{Forest, nil}
 use Rattle.markdown_lines.specs.BlockBeginnings as line
 use Rattle.markdown_lines.specs.BlockBeginnings.{Source}
@@ -23,6 +23,7 @@ use Rattle.markdown_plain.proofs.FramesInsideLemmas.{inner_last}
 use Rattle.markdown_plain.proofs.FramesLemmas.{rebuilt_more}
 use Rattle.markdown_plain.proofs.OpenedFramesLemmas.{as_many_containers}
 use Rattle.markdown_plain.proofs.ReadyContainersLemmas.{end_ready}
+use Rattle.markdown_plain.proofs.HasRoomLemmas.{here_room, room_inside}
 use Rattle.markdown_plain.proofs.pass.Pass.read_alert.Goals as goal
 
 -- the alert was opened where there was room for it, and the end of its line is held back inside it
@@ -119,16 +120,49 @@ returns-clause-places c = λ s turn source blocks state found fitted.
           })),
     )
 
--- nothing is closed inside the alert
-pub returns-clause-fits : goal.returns-clause-fits
-returns-clause-fits c = λ s turn source blocks state found fitted.
+pub make_room_for-requires : goal.make_room_for-requires
+make_room_for-requires c =
+    let may = c.requires in
+    here_room may.s c.args.self.now c.args.rest.now may.turn may.source may.blocks may.here
+
+pub open_quote-requires-clause-step : goal.open_quote-requires-clause-step
+open_quote-requires-clause-step c =
+    let may = c.requires in
+    let room = c.make_room_for.new.self in
     let rest = c.args.rest.now in
     let begins = line.begins_alert c.args.kind in
-    let alert = start.Alert c.args.kind in
-    let made = c.in_ok-make_room_for.ensures in
-    let there = made.fits s turn source c.args.at alert begins blocks state found refl tt fitted in
-    let room = (made.room s turn source c.args.at alert begins blocks state found refl tt there).1 in
-    let may = subst (MayStep c.make_room_for.new.self.placing.builder) (sym found.begins) room.ready in
-    let opened = c.in_ok-open_quote.ensures.fits may.ahead may.white room.built.outside there in
-    subst (λ (p : Pass). AllFitted p.placing)
-    (sym (is_alert c s turn source blocks state found opened there).same.0) opened
+    let has = (c.in_ok-make_room_for.ensures.room may.s may.turn may.source c.args.at (start.Alert c.args.kind) begins may.blocks
+    may.here may.found refl tt tt).1 in
+    subst (MayStep room.placing.builder) (sym may.found.begins) has.ready
+
+pub open_quote-requires-clause-outside : goal.open_quote-requires-clause-outside
+open_quote-requires-clause-outside c =
+    let may = c.requires in
+    let room = c.make_room_for.new.self in
+    let rest = c.args.rest.now in
+    let begins = line.begins_alert c.args.kind in
+    let has = (c.in_ok-make_room_for.ensures.room may.s may.turn may.source c.args.at (start.Alert c.args.kind) begins may.blocks
+    may.here may.found refl tt tt).1 in
+    has.built.outside
+
+-- nothing is closed inside the alert
+pub add_text-requires : goal.add_text-requires
+add_text-requires c = λ none.
+    let may = c.requires in
+    let made = c.make_room_for.new.self in
+    let quote = c.open_quote.new.self in
+    let a = begun_block may.source (was.alert_container c.args.kind) in
+    let room = (c.in_ok-make_room_for.ensures.room may.s may.turn may.source c.args.at (start.Alert c.args.kind)
+    (line.begins_alert c.args.kind) may.blocks may.here may.found refl tt tt).1 in
+    let after = still_may may.s made quote c.args.rest.now.line room.frames room.inside room.may
+    (keeps_leaf made quote c.open_quote.ensures.same c.in_ok-open_quote.ensures.text) in
+    let opens = (c.in_ok-open_quote.ensures.frame may.s room.frames room.inside a room.built room.free
+    (sym may.found.begins) refl tt).1 in
+    let inner = with_frame room.frames room.inside a in
+    absurd (true≢false (sym (room_inside may.s quote inner c.depth.result
+    (record {
+      built = opens;
+      lines = after.lines;
+      free = inner_last is_list room.frames (record { before = room.inside; block = a });
+    })
+    (c.depth.ensures ∙ as_many_containers may.s quote.placing.builder inner nil opens)) ∙ none))

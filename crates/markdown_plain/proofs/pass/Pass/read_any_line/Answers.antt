@@ -1,5 +1,5 @@
 -- The open leaf block goes on in the line, the line is blank, or what is left of it begins something.
-use Rattle.std.proofs.Common.{◌≡◌, ◌∙◌, true, false, ap, arith, nat_le, sym, subst}
+use Rattle.std.proofs.Common.{◌≡◌, ◌∙◌, Bool, List, true, false, ap, arith, nat_le, sym, subst, ℕ}
 use Rattle.std.proofs.lemmas.Bool.Decides.{nat_tests}
 use Rattle.std.proofs.lemmas.Result.{IfOk-weaker}
 use Rattle.markdown_lines.specs.BlockBeginnings.{Source}
@@ -10,6 +10,7 @@ use Rattle.markdown_plain.specs.declared.pass.Pass.{Pass}
 use Rattle.markdown_lines.specs.declared.line.Line.{Line}
 use Rattle.markdown_plain.specs.Fitting.{AllFitted, IfFitted}
 use Rattle.markdown_plain.specs.ReachedLines.{Before, GoesOffAs, IsReachedBy, blocks_before}
+use Rattle.markdown_plain.specs.Readable.{MayReadRest}
 use Rattle.markdown_plain.specs.Standing.{IsSource, Stands, StandsFor}
 use Rattle.markdown_plain.specs.TableRows.{IsCounted}
 use Rattle.markdown_plain.proofs.EndedLinesLemmas.{off_counted}
@@ -42,12 +43,6 @@ returns-then-branch-clause-counted c = λ s before source same stands is counted
       few = now.few;
       unended = now.unended;
     }
-
-pub returns-then-branch-clause-fits : goal.returns-then-branch-clause-fits
-returns-then-branch-clause-fits c = λ s before source same stands is counted fitted.
-    subst AllFitted (sym c.see_content.ensures.placing)
-    (c.in_ok-last_goes_on.ensures.fits c.if-branch.true s before source same (goes_by c s before source stands is)
-    fitted)
 
 -- ---- a blank line
 
@@ -96,19 +91,6 @@ returns-then-reached-line-clause-counted c =
     (blank_off c s before source same stands is counted) (tables ∙ ap (λ (p : Pass). p.tables) kept) counted)
     c.read_blank.ensures.tables
 
-pub returns-then-reached-line-clause-fits : goal.returns-then-reached-line-clause-fits
-returns-then-reached-line-clause-fits c =
-    IfOk-weaker c.read_blank.result _ _ (λ done told s before source same stands is counted fitted.
-    let found = c.reach-reached.result in
-    let kept = (c.in_ok-last_goes_on.ensures.off c.if-branch.false).0 in
-    let off = blank_off c s before source same stands is counted in
-    let low = c.if-reached-line.true in
-    let end : nat_le c.args.line.stop found.content ≡ true = grind (arith, nat_tests, low) in
-    told s off.before source
-    (subst (λ (p : Pass). IsReachedBy s p c.args.line found off.before source) (sym kept) off.by)
-    (sym off.by.reaches.blank ∙ end) off.off (subst (λ (p : Pass). AllFitted p.placing) (sym kept) fitted))
-    c.read_blank.ensures.fits
-
 -- ---- another one
 
 filled_off : (c : goal.After-read_filled) (s : Source) (before : Before) (source : SourceLine)
@@ -145,15 +127,55 @@ returns-clause-counted c =
     (filled_off c s before source same stands is counted) (tables ∙ ap (λ (p : Pass). p.tables) kept) counted)
     c.read_filled.ensures.tables
 
-pub returns-clause-fits : goal.returns-clause-fits
-returns-clause-fits c =
-    IfOk-weaker c.read_filled.result _ _ (λ done told s before source same stands is counted fitted.
-    let found = c.reach-reached.result in
+-- ---- the calls
+
+pub last_goes_on-requires-clause-may : goal.last_goes_on-requires-clause-may
+last_goes_on-requires-clause-may c =
+    let may = c.requires.may in
+    record {
+      s = may.s;
+      before = may.before;
+      source = may.source;
+      same = may.same;
+      by = reached_by may.s c.args.self.now c.args.line c.reach-reached.result may.before may.source may.stands may.is
+          (c.reach-reached.ensures.frames may.s);
+    }
+
+-- the last block does not go on, so that the rest may be read
+may_read_rest : (s : Source) (old now : Pass) (line : Line) (found : code.Reached) (made : Before)
+    (source : SourceLine) (text : List ℕ) (blank : Bool) → now ≡ old → text ≡ s.text
+    → GoesOffAs s old line found made source → nat_le line.stop found.content ≡ blank
+    → MayReadRest text now line found blank
+may_read_rest s old now line found made source text blank kept same off end = record {
+  s = s;
+  before = off.before;
+  source = source;
+  same = same;
+  by = subst (λ (p : Pass). IsReachedBy s p line found off.before source) (sym kept) off.by;
+  left = sym off.by.reaches.blank ∙ end;
+  off = off.off;
+}
+
+pub read_blank-requires : goal.read_blank-requires
+read_blank-requires c =
+    let may = c.requires.may in
+    let off = (c.in_ok-last_goes_on.ensures.off c.if-branch.false).1 may.s may.before may.source may.same
+    (reached_by may.s c.args.self.now c.args.line c.reach-reached.result may.before may.source may.stands may.is
+    (c.reach-reached.ensures.frames may.s)) may.counted in
     let kept = (c.in_ok-last_goes_on.ensures.off c.if-branch.false).0 in
-    let off = filled_off c s before source same stands is counted in
+    let low = c.if-reached-line.true in
+    may_read_rest may.s c.args.self.now c.last_goes_on.new.self c.args.line c.reach-reached.result may.before may.source
+    c.last_goes_on.new.self.placing.builder.text true kept
+    (ap (λ (p : Pass). p.placing.builder.text) kept ∙ ap (λ (s : Source). s.text) may.stands.source) off
+    (grind (arith, nat_tests, low))
+
+pub read_filled-requires-clause-may : goal.read_filled-requires-clause-may
+read_filled-requires-clause-may c =
+    let may = c.requires.may in
+    let off = (c.in_ok-last_goes_on.ensures.off c.if-branch.false).1 may.s may.before may.source may.same
+    (reached_by may.s c.args.self.now c.args.line c.reach-reached.result may.before may.source may.stands may.is
+    (c.reach-reached.ensures.frames may.s)) may.counted in
     let low = c.if-reached-line.false in
-    let end : nat_le c.args.line.stop found.content ≡ false = grind (arith, nat_tests, low) in
-    told s off.before source (c.in_ok-last_goes_on.ensures.ahead ∙ same)
-    (subst (λ (p : Pass). IsReachedBy s p c.args.line found off.before source) (sym kept) off.by)
-    (sym off.by.reaches.blank ∙ end) off.off (subst (λ (p : Pass). AllFitted p.placing) (sym kept) fitted))
-    c.read_filled.ensures.fits
+    may_read_rest may.s c.args.self.now c.last_goes_on.new.self c.args.line c.reach-reached.result may.before may.source
+    c.last_goes_on.new.ahead.text.now false (c.in_ok-last_goes_on.ensures.off c.if-branch.false).0
+    (c.in_ok-last_goes_on.ensures.ahead ∙ may.same) off (grind (arith, nat_tests, low))

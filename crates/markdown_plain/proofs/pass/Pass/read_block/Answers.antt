@@ -7,9 +7,11 @@ use Rattle.markdown_lines.specs.SourceLines.{SourceLine}
 use Rattle.markdown_lines.specs.declared.block_start.BlockStart.{BlockStart}
 use Rattle.markdown_lines.specs.declared.block_start.BlockStart.TheVariants as start
 use Rattle.markdown_block_rules.specs.BlockGrowth.{Block}
-use Rattle.markdown_plain.specs.Beginning.{IsHere, Turn}
+use Rattle.markdown_plain.specs.Beginning.{IsHere, MayBeginBlock, Turn}
 use Rattle.markdown_plain.proofs.FoundPlacesLemmas.{Meets, begun_old, begun_places, begun_reads, meets}
 use Rattle.markdown_plain.proofs.OpenedFramesLemmas.{both_ok}
+use Rattle.markdown_plain.proofs.BegunFitsLemmas.{nothing_fits}
+use Rattle.markdown_plain.proofs.HasRoomLemmas.{here_room}
 use Rattle.markdown_plain.proofs.TurnsLemmas.{here_fits}
 use Rattle.markdown_plain.proofs.pass.Pass.read_block.Goals.{In_ok-begun}
 use Rattle.markdown_plain.proofs.pass.Pass.read_block.Goals as goal
@@ -176,126 +178,91 @@ returns-in-Underline-clause-begins c =
       begun_old s _ rest c.read_underline.new.rest reader blocks more done.1,
     )) c.read_underline.ensures.begins
 
--- ---- the calls fit
+-- ---- the calls
 
-pub returns-in-Nothing-clause-fits : goal.returns-in-Nothing-clause-fits
-returns-in-Nothing-clause-fits c =
-    IfOk-weaker c.skip_blank.result _ _ (λ more told s turn source blocks state fitted.
-    let rest = c.args.rest.now in
-    let reader = c.beginning.new.self in
-    let at = c.in_ok-begun.begun.at in
-    let met = met_with (goal.at.returns-in-Nothing-clause-fits c).In_ok-begun
-    s turn source blocks start.Nothing c.in-Nothing.is state in
-    told s (record rest { reader = reader }) turn source at blocks met.here refl met.found
-    fitted) c.skip_blank.ensures.fits
+-- what was found to begin may be read
+may_begin : (c : In_ok-begun) (begun : BlockStart) → c.in_ok-begun.begun.start ≡ begun
+    → MayBeginBlock c.args.self.now (record c.args.rest.now { reader = c.beginning.new.self }) c.in_ok-begun.begun.at
+    begun
+may_begin c begun is =
+    let may = c.requires in
+    let rest = record c.args.rest.now { reader = c.beginning.new.self } in
+    let met = met_with c may.s may.turn may.source may.blocks begun is may.here in
+    record {
+      s = may.s;
+      turn = may.turn;
+      source = may.source;
+      blocks = may.blocks;
+      here = met.here;
+      found = met.found;
+      stands = met.stands;
+      fits = here_fits may.s c.args.self.now rest may.turn may.source may.blocks c.in_ok-begun.begun.at begun met.here
+          met.found;
+    }
 
-pub returns-in-Text-clause-fits : goal.returns-in-Text-clause-fits
-returns-in-Text-clause-fits c =
-    IfOk-weaker c.read_text.result _ _ (λ more told s turn source blocks state fitted.
-    let met = met_with (goal.at.returns-in-Text-clause-fits c).In_ok-begun
-    s turn source blocks start.Text c.in-Text.is state in
-    told s turn source blocks met.here met.found met.stands
-    fitted) c.read_text.ensures.fits
+pub skip_blank-requires : goal.skip_blank-requires
+skip_blank-requires c =
+    let may = may_begin (goal.at.skip_blank-requires c).In_ok-begun start.Nothing c.in-Nothing.is in
+    nothing_fits may.s c.args.self.now (record c.args.rest.now { reader = c.beginning.new.self }) may.turn may.source
+    c.in_ok-begun.begun.at may.blocks may.here may.found
 
-pub returns-in-IndentedCode-clause-fits : goal.returns-in-IndentedCode-clause-fits
-returns-in-IndentedCode-clause-fits c =
-    IfOk-weaker c.read_indented.result _ _ (λ more told s turn source blocks state fitted.
-    let rest = c.args.rest.now in
-    let reader = c.beginning.new.self in
-    let at = c.in_ok-begun.begun.at in
-    let met = met_with (goal.at.returns-in-IndentedCode-clause-fits c).In_ok-begun
-    s turn source blocks (start.IndentedCode c.in-IndentedCode.code) c.in-IndentedCode.is state in
-    let fits = here_fits s c.args.self.now (record rest { reader = reader }) turn source blocks at
-    (start.IndentedCode c.in-IndentedCode.code) met.here met.found in
-    told s turn source at blocks met.here met.found fits.0 fits.1
-    fitted) c.read_indented.ensures.fits
+pub read_text-requires : goal.read_text-requires
+read_text-requires c =
+    let may = may_begin (goal.at.read_text-requires c).In_ok-begun start.Text c.in-Text.is in
+    here_room may.s c.args.self.now (record c.args.rest.now { reader = c.beginning.new.self }) may.turn may.source
+    may.blocks may.here
 
-pub returns-in-Quote-clause-fits : goal.returns-in-Quote-clause-fits
-returns-in-Quote-clause-fits c =
-    IfOk-weaker c.read_quote.result _ _ (λ more told s turn source blocks state fitted.
-    let met = met_with (goal.at.returns-in-Quote-clause-fits c).In_ok-begun
-    s turn source blocks (start.Quote c.in-Quote.inside) c.in-Quote.is state in
-    told s turn source blocks met.here met.found met.stands
-    fitted) c.read_quote.ensures.fits
+pub read_indented-requires : goal.read_indented-requires
+read_indented-requires c = (
+  c.in_ok-begun.begun.at,
+  may_begin (goal.at.read_indented-requires c).In_ok-begun (start.IndentedCode c.in-IndentedCode.code)
+      c.in-IndentedCode.is,
+)
 
-pub returns-in-Alert-clause-fits : goal.returns-in-Alert-clause-fits
-returns-in-Alert-clause-fits c =
-    IfOk-weaker c.read_alert.result _ _ (λ more told s turn source blocks state fitted.
-    let met = met_with (goal.at.returns-in-Alert-clause-fits c).In_ok-begun
-    s turn source blocks (start.Alert c.in-Alert.kind) c.in-Alert.is state in
-    told s turn source blocks met.here met.found
-    fitted) c.read_alert.ensures.fits
+pub read_quote-requires : goal.read_quote-requires
+read_quote-requires c =
+    may_begin (goal.at.read_quote-requires c).In_ok-begun (start.Quote c.in-Quote.inside) c.in-Quote.is
 
-pub returns-in-Heading-clause-fits : goal.returns-in-Heading-clause-fits
-returns-in-Heading-clause-fits c =
-    IfOk-weaker c.read_heading.result _ _ (λ more told s turn source blocks state fitted.
-    let rest = c.args.rest.now in
-    let reader = c.beginning.new.self in
-    let at = c.in_ok-begun.begun.at in
-    let met = met_with (goal.at.returns-in-Heading-clause-fits c).In_ok-begun
-    s turn source blocks (start.Heading c.in-Heading.heading) c.in-Heading.is state in
-    let fits = here_fits s c.args.self.now (record rest { reader = reader }) turn source blocks at
-    (start.Heading c.in-Heading.heading) met.here met.found in
-    told s turn source blocks met.here met.found met.stands fits
-    fitted) c.read_heading.ensures.fits
+pub read_alert-requires : goal.read_alert-requires
+read_alert-requires c =
+    may_begin (goal.at.read_alert-requires c).In_ok-begun (start.Alert c.in-Alert.kind) c.in-Alert.is
 
-pub returns-in-Fence-clause-fits : goal.returns-in-Fence-clause-fits
-returns-in-Fence-clause-fits c =
-    IfOk-weaker c.read_fence.result _ _ (λ more told s turn source blocks state fitted.
-    let met = met_with (goal.at.returns-in-Fence-clause-fits c).In_ok-begun
-    s turn source blocks (start.Fence c.in-Fence.opening) c.in-Fence.is state in
-    told s turn source blocks met.here met.found met.stands
-    fitted) c.read_fence.ensures.fits
+pub read_heading-requires : goal.read_heading-requires
+read_heading-requires c =
+    may_begin (goal.at.read_heading-requires c).In_ok-begun (start.Heading c.in-Heading.heading) c.in-Heading.is
 
-pub returns-in-Html-clause-fits : goal.returns-in-Html-clause-fits
-returns-in-Html-clause-fits c =
-    IfOk-weaker c.read_html.result _ _ (λ more told s turn source blocks state fitted.
-    let at = c.in_ok-begun.begun.at in
-    let met = met_with (goal.at.returns-in-Html-clause-fits c).In_ok-begun
-    s turn source blocks (start.Html c.in-Html.kind) c.in-Html.is state in
-    told s turn source at blocks met.here met.found met.stands
-    fitted) c.read_html.ensures.fits
+pub read_fence-requires : goal.read_fence-requires
+read_fence-requires c =
+    may_begin (goal.at.read_fence-requires c).In_ok-begun (start.Fence c.in-Fence.opening) c.in-Fence.is
 
-pub returns-in-Footnote-clause-fits : goal.returns-in-Footnote-clause-fits
-returns-in-Footnote-clause-fits c =
-    IfOk-weaker c.read_footnote.result _ _ (λ more told s turn source blocks state fitted.
-    let met = met_with (goal.at.returns-in-Footnote-clause-fits c).In_ok-begun
-    s turn source blocks (start.Footnote c.in-Footnote.label c.in-Footnote.inside) c.in-Footnote.is state in
-    told s turn source blocks met.here
-    (rw (c.in-Footnote.label-is, c.in-Footnote.inside-is) met.found)
-    (rw (c.in-Footnote.inside-is) met.stands)
-    fitted) c.read_footnote.ensures.fits
+pub read_html-requires : goal.read_html-requires
+read_html-requires c = (
+  c.in_ok-begun.begun.at,
+  may_begin (goal.at.read_html-requires c).In_ok-begun (start.Html c.in-Html.kind) c.in-Html.is,
+)
 
-pub returns-in-ThematicBreak-clause-fits : goal.returns-in-ThematicBreak-clause-fits
-returns-in-ThematicBreak-clause-fits c =
-    IfOk-weaker c.read_break.result _ _ (λ more told s turn source blocks state fitted.
-    let met = met_with (goal.at.returns-in-ThematicBreak-clause-fits c).In_ok-begun
-    s turn source blocks start.ThematicBreak c.in-ThematicBreak.is state in
-    told s turn source blocks met.here met.found
-    fitted) c.read_break.ensures.fits
+pub read_footnote-requires : goal.read_footnote-requires
+read_footnote-requires c =
+    rw (c.in-Footnote.label-is, c.in-Footnote.inside-is)
+    (may_begin (goal.at.read_footnote-requires c).In_ok-begun
+    (start.Footnote c.in-Footnote.label c.in-Footnote.inside) c.in-Footnote.is)
 
-pub returns-in-Item-clause-fits : goal.returns-in-Item-clause-fits
-returns-in-Item-clause-fits c =
-    IfOk-weaker c.read_item.result _ _ (λ more told s turn source blocks state fitted.
-    let met = met_with (goal.at.returns-in-Item-clause-fits c).In_ok-begun
-    s turn source blocks (start.Item c.in-Item.item) c.in-Item.is state in
-    told s turn source blocks met.here met.found met.stands
-    fitted) c.read_item.ensures.fits
+pub read_underline-requires : goal.read_underline-requires
+read_underline-requires c = (
+  c.in_ok-begun.begun.at,
+  may_begin (goal.at.read_underline-requires c).In_ok-begun (start.Underline c.in-Underline.level) c.in-Underline.is,
+)
 
-pub returns-in-Metadata-clause-fits : goal.returns-in-Metadata-clause-fits
-returns-in-Metadata-clause-fits c =
-    IfOk-weaker c.read_metadata.result _ _ (λ more told s turn source blocks state fitted.
-    let at = c.in_ok-begun.begun.at in
-    let met = met_with (goal.at.returns-in-Metadata-clause-fits c).In_ok-begun
-    s turn source blocks (start.Metadata c.in-Metadata.kind) c.in-Metadata.is state in
-    told s turn source at blocks met.here met.found
-    fitted) c.read_metadata.ensures.fits
+pub read_break-requires : goal.read_break-requires
+read_break-requires c =
+    may_begin (goal.at.read_break-requires c).In_ok-begun start.ThematicBreak c.in-ThematicBreak.is
 
-pub returns-in-Underline-clause-fits : goal.returns-in-Underline-clause-fits
-returns-in-Underline-clause-fits c =
-    IfOk-weaker c.read_underline.result _ _ (λ more told s turn source blocks state fitted.
-    let at = c.in_ok-begun.begun.at in
-    let met = met_with (goal.at.returns-in-Underline-clause-fits c).In_ok-begun
-    s turn source blocks (start.Underline c.in-Underline.level) c.in-Underline.is state in
-    told s turn source at blocks met.here met.found
-    fitted) c.read_underline.ensures.fits
+pub read_item-requires : goal.read_item-requires
+read_item-requires c =
+    may_begin (goal.at.read_item-requires c).In_ok-begun (start.Item c.in-Item.item) c.in-Item.is
+
+pub read_metadata-requires : goal.read_metadata-requires
+read_metadata-requires c = (
+  c.in_ok-begun.begun.at,
+  may_begin (goal.at.read_metadata-requires c).In_ok-begun (start.Metadata c.in-Metadata.kind) c.in-Metadata.is,
+)

@@ -8,6 +8,7 @@ use Rattle.markdown_plain.proofs.BegunBlocksLemmas.{begun_block, keeps_leaf}
 use Rattle.markdown_plain.proofs.BegunLeavesLemmas.{built_at, ended_in_room}
 use Rattle.markdown_plain.proofs.BegunFitsLemmas.{content_fits, next_ahead}
 use Rattle.markdown_plain.proofs.FittingLemmas.{step_done}
+use Rattle.markdown_plain.proofs.HasRoomLemmas.{here_room}
 use Rattle.markdown_plain.proofs.pass.Pass.read_break.Goals as goal
 
 pub returns-clause-places : goal.returns-clause-places
@@ -30,17 +31,38 @@ returns-clause-places c = λ s turn source blocks here found fitted.
           (record { filled = refl; ends = refl }) refl refl (sym has.left.is.rest.next) leaf.1 refl,
     )
 
-pub returns-clause-fits : goal.returns-clause-fits
-returns-clause-fits c = λ s turn source blocks here found fitted.
+pub make_room_for-requires : goal.make_room_for-requires
+make_room_for-requires c =
+    let may = c.requires in
+    here_room may.s c.args.self.now c.args.rest.now may.turn may.source may.blocks may.here
+
+pub step_to-requires : goal.step_to-requires
+step_to-requires c =
+    let may = c.requires in
     let room = c.make_room_for.new.self in
     let rest = c.args.rest.now in
     let begins = line.begins_break in
-    let ready = c.in_ok-make_room_for.ensures.fits s turn source c.args.at start.ThematicBreak begins blocks here found
-    refl tt fitted in
-    let has = (c.in_ok-make_room_for.ensures.room s turn source c.args.at start.ThematicBreak begins blocks here found
-    refl tt ready).1 in
-    let leaf = content_fits s room rest source begins blocks has c.args.at found.begins in
-    let step = step_done room.placing c.step_to.new.self c.args.at c.step_to.ensures.steps c.step_to.ensures.fits
-    leaf.begins ready in
-    c.in_ok-add_thematic_break.ensures.fits (ap (λ (v : BuilderView). v.leaf) step.1 ∙ has.built.outside)
-    (next_ahead s room rest source begins blocks has c.step_to.new.self.builder c.args.at found.begins step.1) step.0
+    let has = (c.in_ok-make_room_for.ensures.room may.s may.turn may.source c.args.at (start.ThematicBreak) begins may.blocks
+    may.here may.found refl tt tt).1 in
+    (content_fits may.s room rest may.source begins may.blocks has c.args.at may.found.begins).begins
+
+pub add_thematic_break-requires-clause-outside : goal.add_thematic_break-requires-clause-outside
+add_thematic_break-requires-clause-outside c =
+    let may = c.requires in
+    let room = c.make_room_for.new.self in
+    let rest = c.args.rest.now in
+    let begins = line.begins_break in
+    let has = (c.in_ok-make_room_for.ensures.room may.s may.turn may.source c.args.at (start.ThematicBreak) begins may.blocks
+    may.here may.found refl tt tt).1 in
+    ap (λ (v : BuilderView). v.leaf) (c.step_to.ensures.steps tt).1 ∙ has.built.outside
+
+pub add_thematic_break-requires-clause-ahead : goal.add_thematic_break-requires-clause-ahead
+add_thematic_break-requires-clause-ahead c =
+    let may = c.requires in
+    let room = c.make_room_for.new.self in
+    let rest = c.args.rest.now in
+    let begins = line.begins_break in
+    let has = (c.in_ok-make_room_for.ensures.room may.s may.turn may.source c.args.at (start.ThematicBreak) begins may.blocks
+    may.here may.found refl tt tt).1 in
+    next_ahead may.s room rest may.source begins may.blocks has c.step_to.new.self.builder c.args.at may.found.begins
+    (c.step_to.ensures.steps tt).1

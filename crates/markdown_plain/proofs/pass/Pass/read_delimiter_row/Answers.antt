@@ -71,13 +71,6 @@ returns-clause-places c = if_ok_all c.begin_table.result
     before.last source (reaches c s before source by) filled same text (ended yes) (frame yes))
     c.begin_table.ensures.keeps c.begin_table.ensures.text c.begin_table.ensures.ended c.begin_table.ensures.frame
 
-pub returns-clause-fits : goal.returns-clause-fits
-returns-clause-fits c = if_ok_all c.begin_table.result
-    (λ is same text ended fits yes s before source by filled.
-    row_fits s c.args.self.now c.begin_table.new.self c.args.line c.args.reached before.frames before.inside
-    before.last source (reaches c s before source by) (fits yes))
-    c.begin_table.ensures.keeps c.begin_table.ensures.text c.begin_table.ensures.ended c.begin_table.ensures.fits
-
 pub returns-clause-untabled : goal.returns-clause-untabled
 returns-clause-untabled c = if_ok_all c.begin_table.result
     (λ is same text value tried no s before source by.
@@ -86,3 +79,60 @@ returns-clause-untabled c = if_ok_all c.begin_table.result
     (λ s head before from l last rest. sym no ∙ value s head before from l last rest)
     (λ s head before from l last rest. tried s head before from l last rest no))
     c.begin_table.ensures.same c.begin_table.ensures.text c.begin_table.ensures.value c.begin_table.ensures.tried
+
+-- ---- where it fits
+
+pub begin_table-requires-clause-outside : goal.begin_table-requires-clause-outside
+begin_table-requires-clause-outside c =
+    let may = c.requires in
+    (row_fits may.s c.args.self.now c.args.line c.args.reached may.before.frames may.before.inside may.before.last
+    may.source (record {
+      by = may.by;
+      all = c.if-not-reached.false;
+      some = sym c.if-not-has_paragraph.ensures;
+      reads = ap (λ (s : Source). reads_tables s) (sym may.by.stands.source) ∙ sym c.if-not-is_read.ensures;
+    })).outside
+
+pub begin_table-requires-clause-ahead : goal.begin_table-requires-clause-ahead
+begin_table-requires-clause-ahead c =
+    let may = c.requires in
+    (row_fits may.s c.args.self.now c.args.line c.args.reached may.before.frames may.before.inside may.before.last
+    may.source (record {
+      by = may.by;
+      all = c.if-not-reached.false;
+      some = sym c.if-not-has_paragraph.ensures;
+      reads = ap (λ (s : Source). reads_tables s) (sym may.by.stands.source) ∙ sym c.if-not-is_read.ensures;
+    })).ahead
+
+pub begin_table-requires-clause-task : goal.begin_table-requires-clause-task
+begin_table-requires-clause-task c =
+    let may = c.requires in
+    (row_fits may.s c.args.self.now c.args.line c.args.reached may.before.frames may.before.inside may.before.last
+    may.source (record {
+      by = may.by;
+      all = c.if-not-reached.false;
+      some = sym c.if-not-has_paragraph.ensures;
+      reads = ap (λ (s : Source). reads_tables s) (sym may.by.stands.source) ∙ sym c.if-not-is_read.ensures;
+    })).task
+
+pub begin_table-requires-clause-before : goal.begin_table-requires-clause-before
+begin_table-requires-clause-before c =
+    let may = c.requires in
+    (row_fits may.s c.args.self.now c.args.line c.args.reached may.before.frames may.before.inside may.before.last
+    may.source (record {
+      by = may.by;
+      all = c.if-not-reached.false;
+      some = sym c.if-not-has_paragraph.ensures;
+      reads = ap (λ (s : Source). reads_tables s) (sym may.by.stands.source) ∙ sym c.if-not-is_read.ensures;
+    })).before
+
+pub begin_table-requires-clause-next : goal.begin_table-requires-clause-next
+begin_table-requires-clause-next c =
+    let may = c.requires in
+    (row_fits may.s c.args.self.now c.args.line c.args.reached may.before.frames may.before.inside may.before.last
+    may.source (record {
+      by = may.by;
+      all = c.if-not-reached.false;
+      some = sym c.if-not-has_paragraph.ensures;
+      reads = ap (λ (s : Source). reads_tables s) (sym may.by.stands.source) ∙ sym c.if-not-is_read.ensures;
+    })).next

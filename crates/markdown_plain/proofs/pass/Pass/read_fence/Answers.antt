@@ -11,6 +11,7 @@ use Rattle.markdown_plain.specs.declared.pass.LeafKind.{LeafKind}
 use Rattle.markdown_plain.proofs.BegunBlocksLemmas.{begun_block, keeps_rest}
 use Rattle.markdown_plain.proofs.BegunLeavesLemmas.{open_in_room, other_alone}
 use Rattle.markdown_plain.proofs.BegunFitsLemmas.{content_fits}
+use Rattle.markdown_plain.proofs.HasRoomLemmas.{here_room}
 use Rattle.markdown_plain.proofs.pass.Pass.read_fence.Goals as goal
 
 pub returns-clause-places : goal.returns-clause-places
@@ -37,15 +38,17 @@ returns-clause-places c = λ s turn source blocks here found stand fitted.
           (keeps.blanks ∙ has.may.blanks) refl,
     )
 
-pub returns-clause-fits : goal.returns-clause-fits
-returns-clause-fits c = λ s turn source blocks here found stand fitted.
+pub make_room_for-requires : goal.make_room_for-requires
+make_room_for-requires c =
+    let may = c.requires in
+    here_room may.s c.args.self.now c.args.rest.now may.turn may.source may.blocks may.here
+
+pub open_fenced-requires : goal.open_fenced-requires
+open_fenced-requires c =
+    let may = c.requires in
     let room = c.make_room_for.new.self in
-    let opening = c.args.opening in
-    let begins = line.begins_fence opening in
-    let ready = c.in_ok-make_room_for.ensures.fits s turn source c.args.at
-    (start.Fence opening) begins blocks here found
-    refl tt fitted in
-    let has = (c.in_ok-make_room_for.ensures.room s turn source c.args.at (start.Fence opening) begins blocks here found
-    refl tt ready).1 in
-    c.in_ok-open_fenced.ensures.fits
-    (content_fits s room c.args.rest.now source begins blocks has c.args.at found.begins) ready
+    let rest = c.args.rest.now in
+    let begins = line.begins_fence c.args.opening in
+    let has = (c.in_ok-make_room_for.ensures.room may.s may.turn may.source c.args.at (start.Fence c.args.opening) begins may.blocks
+    may.here may.found refl tt tt).1 in
+    content_fits may.s room rest may.source begins may.blocks has c.args.at may.found.begins

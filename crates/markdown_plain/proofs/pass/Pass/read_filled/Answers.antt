@@ -36,14 +36,6 @@ returns-then-is_text_from-clause-stands c =
     (text_untabled s c.args.self.now c.args.line c.args.reached before source by (shows c)))
     c.read_text_line.ensures.stands
 
-pub returns-then-is_text_from-clause-fits : goal.returns-then-is_text_from-clause-fits
-returns-then-is_text_from-clause-fits c =
-    IfOk-weaker c.read_text_line.result _ _ (λ done told s before source same by filled off.
-    told s before source by.stands by.is
-    (text_reached s c.args.self.now c.args.line c.args.reached before source
-    (subst IsUtf8 c.text.ensures c.text.utf8) by (shows c) off))
-    c.read_text_line.ensures.fits
-
 -- what is read turn by turn, where the line is no delimiter row
 module _ (s : Source) (old now : Pass) (line : Line) (found : code.Reached) (before : Before) (source : SourceLine)
     (rest : LineRest) (utf8 : IsUtf8 old.placing.builder.text) (same : now ≡ record old { tried = now.tried })
@@ -86,23 +78,18 @@ returns-clause-stands c = λ s before source same by filled off fitted.
     ] in
     (done.0, c.see_content.ensures.stands s blocks done.1)
 
-pub returns-clause-fits : goal.returns-clause-fits
-returns-clause-fits c = λ s before source same by filled off fitted.
-    let old = c.args.self.now in
-    let blocks = with_line s (blocks_before before) source in
-    let done : AllFitted c.if-not-branch.self.placing = elim c.if-not-branch.branch [
-      | then-not-branch+in_ok-read_rest w ↦
-          let row = c.in_ok-read_delimiter_row.ensures in
-          let none = w.if-not-branch.true in
-          let now = c.read_delimiter_row.new.self in
-          let turn = begins_turn s old now c.args.line c.args.reached before source w.rest_of-rest.result
-          (subst IsUtf8 c.text.ensures c.text.utf8) (row.same none) (row.untabled none s before source by) by
-          w.rest_of-rest.ensures.line (w.rest_of-rest.ensures.made s same) filled off in
-          let start = subst (λ (p : Pass). AllFitted p.placing) (sym (row.same none)) fitted in
-          subst (λ (p : Pass). AllFitted p.placing) (sym w.self-is)
-          (w.in_ok-read_rest.ensures.fits s (first before source) (reached_of s before source).rest blocks turn start)
-      | else-not-branch w ↦
-          subst (λ (p : Pass). AllFitted p.placing) (sym w.self-is)
-          (c.in_ok-read_delimiter_row.ensures.fits w.if-not-branch.false s before source by filled fitted)
-    ] in
-    subst AllFitted (sym c.see_content.ensures.placing) done
+pub read_rest-requires : goal.read_rest-requires
+read_rest-requires c =
+    let may = c.requires.may in
+    let row = c.in_ok-read_delimiter_row.ensures in
+    let none = c.if-not-branch.true in
+    record {
+      s = may.s;
+      turn = first may.before may.source;
+      source = (reached_of may.s may.before may.source).rest;
+      blocks = with_line may.s (blocks_before may.before) may.source;
+      here = begins_turn may.s c.args.self.now c.read_delimiter_row.new.self c.args.line c.args.reached may.before
+          may.source c.rest_of-rest.result (subst IsUtf8 c.text.ensures c.text.utf8) (row.same none)
+          (row.untabled none may.s may.before may.source may.by) may.by c.rest_of-rest.ensures.line
+          (c.rest_of-rest.ensures.made may.s may.same) may.left may.off;
+    }

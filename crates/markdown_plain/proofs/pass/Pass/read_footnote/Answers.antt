@@ -10,6 +10,7 @@ use Rattle.markdown_block_rules.specs.BlockGrowth as was
 use Rattle.markdown_plain.specs.Fits.{MayStep}
 use Rattle.markdown_plain.proofs.BegunBlocksLemmas.{begun_block, keeps_leaf}
 use Rattle.markdown_plain.proofs.BegunContainersLemmas.{past_in_room, rest_in_room, room_inside}
+use Rattle.markdown_plain.proofs.HasRoomLemmas.{here_room}
 use Rattle.markdown_plain.proofs.pass.Pass.read_footnote.Goals as goal
 
 pub returns-clause-reads_on : goal.returns-clause-reads_on
@@ -37,13 +38,27 @@ returns-clause-reads_on c = λ s turn source blocks state found boundary fitted.
           (record { filled = refl; free = refl; empty = refl }) refl,
     )
 
-pub returns-clause-fits : goal.returns-clause-fits
-returns-clause-fits c = λ s turn source blocks state found boundary fitted.
+pub make_room_for-requires : goal.make_room_for-requires
+make_room_for-requires c =
+    let may = c.requires in
+    here_room may.s c.args.self.now c.args.rest.now may.turn may.source may.blocks may.here
+
+pub open_footnote-requires-clause-step : goal.open_footnote-requires-clause-step
+open_footnote-requires-clause-step c =
+    let may = c.requires in
+    let room = c.make_room_for.new.self in
     let rest = c.args.rest.now in
-    let begins = line.begins_footnote (text_of c.args.label) (left_at rest.reader c.args.inside) in
-    let note = start.Footnote c.args.label c.args.inside in
-    let made = c.in_ok-make_room_for.ensures in
-    let there = made.fits s turn source c.args.at note begins blocks state found refl tt fitted in
-    let room = (made.room s turn source c.args.at note begins blocks state found refl tt there).1 in
-    let may = subst (MayStep c.make_room_for.new.self.placing.builder) (sym found.begins) room.ready in
-    c.in_ok-open_footnote.ensures.fits may.ahead may.white room.built.outside there
+    let begins = line.begins_footnote (text_of c.args.label) (left_at c.args.rest.now.reader c.args.inside) in
+    let has = (c.in_ok-make_room_for.ensures.room may.s may.turn may.source c.args.at (start.Footnote c.args.label c.args.inside) begins may.blocks
+    may.here may.found refl tt tt).1 in
+    subst (MayStep room.placing.builder) (sym may.found.begins) has.ready
+
+pub open_footnote-requires-clause-outside : goal.open_footnote-requires-clause-outside
+open_footnote-requires-clause-outside c =
+    let may = c.requires in
+    let room = c.make_room_for.new.self in
+    let rest = c.args.rest.now in
+    let begins = line.begins_footnote (text_of c.args.label) (left_at c.args.rest.now.reader c.args.inside) in
+    let has = (c.in_ok-make_room_for.ensures.room may.s may.turn may.source c.args.at (start.Footnote c.args.label c.args.inside) begins may.blocks
+    may.here may.found refl tt tt).1 in
+    has.built.outside

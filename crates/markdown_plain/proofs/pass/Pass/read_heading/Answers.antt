@@ -11,6 +11,7 @@ use Rattle.markdown_plain.proofs.BegunLeavesLemmas.{built_at, ended_in_room}
 use Rattle.markdown_plain.specs.Beginning.{IsHeadingIn}
 use Rattle.markdown_plain.proofs.BegunFitsLemmas.{content_fits, heading_fits}
 use Rattle.markdown_plain.proofs.FittingLemmas.{step_done}
+use Rattle.markdown_plain.proofs.HasRoomLemmas.{here_room}
 use Rattle.markdown_plain.proofs.pass.Pass.read_heading.Goals as goal
 
 pub returns-clause-places : goal.returns-clause-places
@@ -37,20 +38,30 @@ returns-clause-places c = λ s turn source blocks here found stand fitted.
           (record { filled = refl; ends = refl }) refl refl (sym has.left.is.rest.next) leaf.1 refl,
     )
 
-pub returns-clause-fits : goal.returns-clause-fits
-returns-clause-fits c = λ s turn source blocks here found stand in_line fitted.
+pub make_room_for-requires : goal.make_room_for-requires
+make_room_for-requires c =
+    let may = c.requires in
+    here_room may.s c.args.self.now c.args.rest.now may.turn may.source may.blocks may.here
+
+pub step_to-requires : goal.step_to-requires
+step_to-requires c =
+    let may = c.requires in
     let room = c.make_room_for.new.self in
     let rest = c.args.rest.now in
-    let heading = c.args.heading in
-    let begins = line.begins_heading heading in
-    let ready = c.in_ok-make_room_for.ensures.fits s turn source c.args.at (start.Heading heading) begins blocks here
-    found refl tt fitted in
-    let has = (c.in_ok-make_room_for.ensures.room s turn source c.args.at (start.Heading heading) begins blocks here
-    found refl tt ready).1 in
-    let leaf = content_fits s room rest source begins blocks has c.args.at found.begins in
-    let step = step_done room.placing c.step_to.new.self c.args.at c.step_to.ensures.steps c.step_to.ensures.fits
-    leaf.begins ready in
-    c.in_ok-add_heading.ensures.fits
-    (heading_fits s room rest source begins blocks has c.step_to.new.self.builder c.args.at heading found.begins step.1
-    (subst (λ text. IsHeadingIn text rest.line c.args.at heading) (sym c.in_ok-make_room_for.ensures.text) in_line))
-    step.0
+    let begins = line.begins_heading c.args.heading in
+    let has = (c.in_ok-make_room_for.ensures.room may.s may.turn may.source c.args.at (start.Heading c.args.heading) begins may.blocks
+    may.here may.found refl tt tt).1 in
+    (content_fits may.s room rest may.source begins may.blocks has c.args.at may.found.begins).begins
+
+pub add_heading-requires : goal.add_heading-requires
+add_heading-requires c =
+    let may = c.requires in
+    let room = c.make_room_for.new.self in
+    let rest = c.args.rest.now in
+    let begins = line.begins_heading c.args.heading in
+    let has = (c.in_ok-make_room_for.ensures.room may.s may.turn may.source c.args.at (start.Heading c.args.heading) begins may.blocks
+    may.here may.found refl tt tt).1 in
+    heading_fits may.s room rest may.source begins may.blocks has c.step_to.new.self.builder c.args.at c.args.heading
+    may.found.begins (c.step_to.ensures.steps tt).1
+    (subst (λ text. IsHeadingIn text rest.line c.args.at c.args.heading) (sym c.in_ok-make_room_for.ensures.text)
+    may.fits)

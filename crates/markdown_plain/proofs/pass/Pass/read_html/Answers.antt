@@ -14,6 +14,7 @@ use Rattle.markdown_plain.specs.TextLines.{held_line}
 use Rattle.markdown_plain.proofs.BegunBlocksLemmas.{begun_block, keeps_rest}
 use Rattle.markdown_plain.proofs.BegunLeavesLemmas.{content_next, fitted_before, html_places}
 use Rattle.markdown_plain.proofs.BegunFitsLemmas.{html_fits}
+use Rattle.markdown_plain.proofs.HasRoomLemmas.{here_room}
 use Rattle.markdown_plain.proofs.pass.Pass.read_html.Goals as goal
 
 pub returns-clause-places : goal.returns-clause-places
@@ -42,16 +43,19 @@ returns-clause-places c = λ s turn source at blocks here found holds fitted.
           c.in_ok-open_html.ensures.kind refl,
     )
 
-pub returns-clause-fits : goal.returns-clause-fits
-returns-clause-fits c = λ s turn source at blocks here found holds fitted.
+pub make_room_for-requires : goal.make_room_for-requires
+make_room_for-requires c =
+    let may = c.requires.1 in
+    here_room may.s c.args.self.now c.args.rest.now may.turn may.source may.blocks may.here
+
+pub open_html-requires : goal.open_html-requires
+open_html-requires c =
+    let may = c.requires.1 in
     let room = c.make_room_for.new.self in
     let rest = c.args.rest.now in
-    let kind = c.args.kind in
-    let begins = line.begins_html kind in
-    let ready = c.in_ok-make_room_for.ensures.fits s turn source at (start.Html kind) begins blocks here found refl tt
-    fitted in
-    let has = (c.in_ok-make_room_for.ensures.room s turn source at (start.Html kind) begins blocks here found refl tt
-    ready).1 in
-    c.in_ok-open_html.ensures.fits
-    (html_fits s room rest source begins blocks has at found.begins
-    (subst (λ bytes. IsHeldLine bytes (held_line rest.line at)) (sym c.in_ok-make_room_for.ensures.text) holds)) ready
+    let begins = line.begins_html c.args.kind in
+    let has = (c.in_ok-make_room_for.ensures.room may.s may.turn may.source c.requires.0 (start.Html c.args.kind) begins may.blocks
+    may.here may.found refl tt tt).1 in
+    html_fits may.s room rest may.source begins may.blocks has c.requires.0 may.found.begins
+    (subst (λ bytes. IsHeldLine bytes (held_line rest.line c.requires.0)) (sym c.in_ok-make_room_for.ensures.text)
+    may.stands)

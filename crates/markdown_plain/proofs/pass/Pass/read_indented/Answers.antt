@@ -16,6 +16,7 @@ use Rattle.markdown_plain.proofs.BegunLeavesLemmas.{other_alone}
 use Rattle.markdown_plain.proofs.BegunRestsLemmas.{blank_alike}
 use Rattle.std.specs.Str.{IsCharBoundary}
 use Rattle.markdown_plain.proofs.BegunFitsLemmas.{code_fits}
+use Rattle.markdown_plain.proofs.HasRoomLemmas.{here_room}
 use Rattle.markdown_plain.proofs.pass.Pass.read_indented.Goals as goal
 
 pub returns-clause-places : goal.returns-clause-places
@@ -47,16 +48,18 @@ returns-clause-places c = λ s turn source at blocks here found fitted.
           (code_holds now.blanks.items l filled (keeps.blanks ∙ has.may.blanks)) refl,
     )
 
-pub returns-clause-fits : goal.returns-clause-fits
-returns-clause-fits c = λ s turn source at blocks here found boundary within fitted.
+pub make_room_for-requires : goal.make_room_for-requires
+make_room_for-requires c =
+    let may = c.requires.1 in
+    here_room may.s c.args.self.now c.args.rest.now may.turn may.source may.blocks may.here
+
+pub open_indented-requires : goal.open_indented-requires
+open_indented-requires c =
+    let may = c.requires.1 in
     let room = c.make_room_for.new.self in
     let rest = c.args.rest.now in
-    let code = c.args.code in
-    let begins = line.begins_indented (left_at rest.reader code) in
-    let ready = c.in_ok-make_room_for.ensures.fits s turn source at (start.IndentedCode code) begins blocks here found
-    refl tt fitted in
-    let has = (c.in_ok-make_room_for.ensures.room s turn source at (start.IndentedCode code) begins blocks here found
-    refl tt ready).1 in
-    c.in_ok-open_indented.ensures.fits
-    (code_fits s room rest source code blocks has
-    (subst (λ bytes. IsCharBoundary bytes code.at) (sym c.in_ok-make_room_for.ensures.text) boundary)) ready
+    let begins = line.begins_indented (left_at c.args.rest.now.reader c.args.code) in
+    let has = (c.in_ok-make_room_for.ensures.room may.s may.turn may.source c.requires.0 (start.IndentedCode c.args.code) begins may.blocks
+    may.here may.found refl tt tt).1 in
+    code_fits may.s room rest may.source c.args.code may.blocks has
+    (subst (λ bytes. IsCharBoundary bytes c.args.code.at) (sym c.in_ok-make_room_for.ensures.text) may.fits.0)

@@ -4,7 +4,7 @@ use Rattle.std.specs.Str.{IsCharBoundary}
 use Rattle.markdown_plain.specs.declared.pass.Pass.{Pass}
 use Rattle.markdown_plain.proofs.BegunItemsLemmas.{item_reads_on}
 use Rattle.markdown_plain.proofs.FoundPlacesLemmas.{here_text}
-use Rattle.markdown_plain.proofs.ReadyContainersLemmas.{item_fits}
+use Rattle.markdown_plain.proofs.ReadyContainersLemmas.{may_open_item}
 use Rattle.markdown_plain.proofs.pass.Pass.read_item.Goals as goal
 
 pub returns-clause-reads_on : goal.returns-clause-reads_on
@@ -29,9 +29,8 @@ returns-clause-reads_on c = λ s turn source blocks state found boundary fitted.
       inside = opens.inside;
     }) fitted
 
-pub returns-clause-fits : goal.returns-clause-fits
-returns-clause-fits c = λ s turn source blocks state found boundary.
-    let opens = c.in_ok-open_item.ensures in
-    item_fits s c.args.self.now c.open_item.new.self c.args.rest.now turn source blocks c.args.item c.args.at state
-    found
-    (record { fits = opens.fits; inside = opens.fits_inside })
+pub open_item-requires : goal.open_item-requires
+open_item-requires c =
+    let may = c.requires in
+    may_open_item may.s c.args.self.now c.args.rest.now may.turn may.source may.blocks c.args.item c.args.at may.here
+    may.found

@@ -74,9 +74,3 @@ returns-clause-counted c =
     counted_on s c.args.self.now c.read_text_line.new.self before source c.args.line.start stands
     (no_table c s before source stands is) tables counted)
     c.read_text_line.ensures.tables
-
-pub returns-clause-fits : goal.returns-clause-fits
-returns-clause-fits c =
-    IfOk-weaker c.read_text_line.result _ _ (λ done told s before source same stands is counted.
-    told s before source stands is (text_here c s before source stands is))
-    c.read_text_line.ensures.fits

@@ -7,7 +7,8 @@ use Rattle.markdown_lines.specs.BlockBeginnings.{Source}
 use Rattle.markdown_lines.specs.Lines.{IsLineFrom}
 use Rattle.markdown_plain.proofs.OpenedFramesLemmas.{both_ok}
 use Rattle.markdown_plain.proofs.ReadyPlacesLemmas.{next_between}
-use Rattle.markdown_plain.proofs.WholeTextsLemmas.{fits_next, stands_first, stands_next, white_left, whole_text}
+use Rattle.markdown_plain.proofs.WholeTextsLemmas.{may_read_next, stands_first, stands_next, white_left, whole_text}
+use Rattle.markdown_plain.proofs.pass.Pass.read_lines.Goals.{After-line_from-line}
 use Rattle.markdown_plain.proofs.pass.Pass.read_lines.Goals as goal
 
 pub lines-init : goal.lines-init
@@ -22,7 +23,7 @@ lines-init c = record {
 }
 
 -- the line that is read is one of the text
-line_is : (c : goal.In_ok-read_line)
+line_is : (c : After-line_from-line)
     → (c.lines.from < length c.text-text.result.now)
     × IsLineFrom c.text-text.result.now c.lines.from c.line_from-line.result
 line_is c =
@@ -32,7 +33,7 @@ line_is c =
 pub lines-preserved : goal.lines-preserved
 lines-preserved c =
     let loop = c.lines.invariant in
-    let line = line_is c in
+    let line = line_is (goal.at.lines-preserved c).After-line_from-line in
     record {
       same = search rules;
       text = search rules;
@@ -51,16 +52,7 @@ lines-preserved c =
           (λ before source. c.in_ok-read_line.ensures.stands s before source (loop.ahead ∙ text))
           (λ before source. c.in_ok-read_line.ensures.counted s before source (loop.ahead ∙ text)) fitted in
           (so_far.0, next.1);
-      fits = λ s stands counted fitted.
-          let now = loop.fits s stands counted fitted in
-          let so_far = loop.made s stands counted now in
-          let own = ap (λ (s : Source). s.text) stands.source in
-          let text = c.text-text.ensures ∙ own in
-          fits_next s c.lines.self c.read_line.new.self c.lines.from c.line_from-line.result (loop.same ∙ own)
-          (subst (λ (text : List ℕ). IsLineFrom text c.lines.from c.line_from-line.result) text line.1)
-          (subst (λ (text : List ℕ). IsCharBoundary text c.lines.from) text loop.boundary)
-          (subst IsUtf8 text c.text-text.utf8) so_far.1
-          (λ before source. c.in_ok-read_line.ensures.fits s before source (loop.ahead ∙ text)) now;
+      fits = λ s stands counted fitted. tt;
     }
 
 pub returns-clause-made : goal.returns-clause-made
@@ -78,14 +70,6 @@ returns-clause-made c =
     (both_ok c.close_down.result _ _ c.close_down.ensures.forgets c.close_down.ensures.finishes)
     c.close_down.ensures.outside)
 
-pub returns-clause-fits : goal.returns-clause-fits
-returns-clause-fits c =
-    IfOk-weaker c.close_down.result _ _ (λ done told s stands counted fitted.
-    let now = c.lines.invariant.fits s stands counted fitted in
-    let so_far = c.lines.invariant.made s stands counted now in
-    told so_far.1.stands.stands.ready.closable now)
-    c.close_down.ensures.fits
-
 pub returns-clause-left : goal.returns-clause-left
 returns-clause-left c =
     IfOk-weaker c.close_down.result _ _ (λ done told s stands counted fitted.
@@ -100,3 +84,22 @@ returns-clause-left c =
     (both_ok c.close_down.result _ _
     (both_ok c.close_down.result _ _ c.close_down.ensures.here c.close_down.ensures.closes)
     c.close_down.ensures.text)
+
+-- ---- the calls
+
+pub read_line-requires-clause-may : goal.read_line-requires-clause-may
+read_line-requires-clause-may c =
+    let loop = c.lines.invariant in
+    let may = c.requires in
+    let line = line_is (goal.at.read_line-requires-clause-may c).After-line_from-line in
+    let own = ap (λ (s : Source). s.text) may.stands.source in
+    let text = c.text-text.ensures ∙ own in
+    may_read_next may.s c.lines.self c.lines.from c.line_from-line.result c.lines.ahead.text.now (loop.ahead ∙ text)
+    (loop.same ∙ own)
+    (subst (λ (text : List ℕ). IsLineFrom text c.lines.from c.line_from-line.result) text line.1)
+    (subst (λ (text : List ℕ). IsCharBoundary text c.lines.from) text loop.boundary)
+    (subst IsUtf8 text c.text-text.utf8) (loop.made may.s may.stands may.counted tt).1
+
+pub close_down-requires : goal.close_down-requires
+close_down-requires c = λ some.
+    (c.lines.invariant.made c.requires.s c.requires.stands c.requires.counted tt).1.stands.stands.ready.closable

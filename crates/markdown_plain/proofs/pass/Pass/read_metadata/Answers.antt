@@ -10,6 +10,7 @@ use Rattle.markdown_plain.proofs.BegunBlocksLemmas.{begun_block, keeps_rest}
 use Rattle.markdown_plain.proofs.BegunLeavesLemmas.{open_in_room}
 use Rattle.markdown_plain.proofs.BegunMetadataLemmas.{metadata_alone, metadata_starts}
 use Rattle.markdown_plain.proofs.BegunFitsLemmas.{content_fits}
+use Rattle.markdown_plain.proofs.HasRoomLemmas.{here_room}
 use Rattle.markdown_plain.proofs.pass.Pass.read_metadata.Goals as goal
 
 pub returns-clause-places : goal.returns-clause-places
@@ -34,16 +35,18 @@ returns-clause-places c = λ s turn source at blocks here found fitted.
           (keeps.blanks ∙ has.may.blanks) refl,
     )
 
-pub returns-clause-fits : goal.returns-clause-fits
-returns-clause-fits c = λ s turn source at blocks here found fitted.
+pub make_room_for-requires : goal.make_room_for-requires
+make_room_for-requires c =
+    let may = c.requires.1 in
+    here_room may.s c.args.self.now c.args.rest.now may.turn may.source may.blocks may.here
+
+pub open_metadata-requires : goal.open_metadata-requires
+open_metadata-requires c =
+    let may = c.requires.1 in
     let room = c.make_room_for.new.self in
     let rest = c.args.rest.now in
-    let kind = c.args.kind in
-    let begins = line.begins_metadata kind in
-    let ready = c.in_ok-make_room_for.ensures.fits s turn source at (start.Metadata kind) begins blocks here found refl
-    tt fitted in
-    let has = (c.in_ok-make_room_for.ensures.room s turn source at (start.Metadata kind) begins blocks here found refl
-    tt ready).1 in
-    c.in_ok-open_metadata.ensures.fits
-    (content_fits s room rest source begins blocks has rest.line.start
-    (sym (metadata_starts s room rest source kind blocks has))) ready
+    let begins = line.begins_metadata c.args.kind in
+    let has = (c.in_ok-make_room_for.ensures.room may.s may.turn may.source c.requires.0 (start.Metadata c.args.kind) begins may.blocks
+    may.here may.found refl tt tt).1 in
+    content_fits may.s room rest may.source begins may.blocks has rest.line.start
+    (sym (metadata_starts may.s room rest may.source c.args.kind may.blocks has))

@@ -3,7 +3,8 @@ use Rattle.std.proofs.Common.{◌+◌, ◌∙◌, List, ℕ, arith, refl, rules,
 use Rattle.markdown_plain.specs.TextLines.{IsTextFrom}
 use Rattle.markdown_plain.proofs.TextStepsLemmas.{AddsText}
 use Rattle.markdown_plain.proofs.TurnsLemmas.{BeginsThere, before_turns, last_turn, next_turn, text_turn}
-use Rattle.markdown_plain.proofs.TurnsLemmas.{text_turn_fits, turn_fits, turns_end}
+use Rattle.markdown_plain.proofs.HasRoomLemmas.{here_room}
+use Rattle.markdown_plain.proofs.TurnsLemmas.{turns_end}
 use Rattle.markdown_plain.proofs.pass.Pass.read_rest.Goals as goal
 
 pub blocks-2-init : goal.blocks-2-init
@@ -24,8 +25,7 @@ blocks-2-preserved c = record {
       c.read_block.new.rest c.blocks-2._turn c.blocks-2.invariant.keeps c.in_ok-read_block.ensures.fitted
       (subst (BeginsThere c.blocks-2.self c.read_block.new.self c.blocks-2.rest c.read_block.new.rest)
       c.if-not-branch.false c.in_ok-read_block.ensures.begins);
-  fits = turn_fits c.args.self.now c.blocks-2.self c.read_block.new.self c.args.rest.now c.blocks-2.rest
-      c.blocks-2._turn c.blocks-2.invariant.keeps c.blocks-2.invariant.fits c.in_ok-read_block.ensures.fits;
+  fits = λ s turn source blocks here fitted. tt;
 }
 
 -- the line is added
@@ -76,22 +76,12 @@ returns-after-blocks-2-clause-places c = λ s turn source blocks here fitted.
     absurd (turns_end c.args.self.now c.blocks-2.self c.args.rest.now c.blocks-2.rest c.blocks-2._turn
     c.blocks-2.invariant.keeps (omega arith) s turn source blocks here fitted)
 
-pub returns-in_ok-add_text-clause-fits : goal.returns-in_ok-add_text-clause-fits
-returns-in_ok-add_text-clause-fits c =
-    text_turn_fits c.args.self.now c.read_block.new.self c.add_text.new.self c.args.rest.now c.read_block.new.rest
-    (c.blocks-2._turn + 1)
-    (next_turn c.args.self.now c.blocks-2.self c.read_block.new.self c.args.rest.now c.blocks-2.rest
+-- text is added where the rest of the line is read
+pub add_text-requires : goal.add_text-requires
+add_text-requires c =
+    let may = c.requires in
+    let here = (next_turn c.args.self.now c.blocks-2.self c.read_block.new.self c.args.rest.now c.blocks-2.rest
     c.read_block.new.rest c.blocks-2._turn c.blocks-2.invariant.keeps c.in_ok-read_block.ensures.fitted
     (subst (BeginsThere c.blocks-2.self c.read_block.new.self c.blocks-2.rest c.read_block.new.rest)
-    c.if-not-branch.false c.in_ok-read_block.ensures.begins))
-    (turn_fits c.args.self.now c.blocks-2.self c.read_block.new.self c.args.rest.now c.blocks-2.rest
-    c.blocks-2._turn c.blocks-2.invariant.keeps c.blocks-2.invariant.fits c.in_ok-read_block.ensures.fits)
-    (adds c)
-
-pub returns-then-not-branch-clause-fits : goal.returns-then-not-branch-clause-fits
-returns-then-not-branch-clause-fits c =
-    turn_fits c.args.self.now c.blocks-2.self c.read_block.new.self c.args.rest.now c.blocks-2.rest c.blocks-2._turn
-    c.blocks-2.invariant.keeps c.blocks-2.invariant.fits c.in_ok-read_block.ensures.fits
-
-pub returns-after-blocks-2-clause-fits : goal.returns-after-blocks-2-clause-fits
-returns-after-blocks-2-clause-fits c = c.blocks-2.invariant.fits
+    c.if-not-branch.false c.in_ok-read_block.ensures.begins) may.s may.turn may.source may.blocks may.here tt).1 in
+    here_room may.s c.read_block.new.self c.read_block.new.rest here.turn here.source may.blocks here.here

@@ -1,5 +1,6 @@
 -- The line is a row of the open table, by what begins in it and by its cells.
-use Rattle.std.proofs.Common.{◌≡◌, ◌∙◌, ◌&&◌, false, ap, refl, subst, sym}
+use Rattle.std.proofs.Common.{◌≡◌, ◌<◌, ◌∙◌, ◌&&◌, ℕ, false, ap, arith, nat_le, refl, subst, sym}
+use Rattle.std.proofs.lemmas.Bool.Decides.{nat_tests}
 use Rattle.std.proofs.lemmas.Result.{IfOk-weaker}
 use Rattle.markdown_lines.specs.BlockBeginnings.{Source}
 use Rattle.markdown_lines.specs.SourceLines.{SourceLine, is_blank_rest}
@@ -117,14 +118,19 @@ returns-clause-counted c =
     (both_ok c.add_row.result _ _ made.text
     (both_ok c.add_row.result _ _ made.counts made.most))))
 
-pub returns-clause-fits : goal.returns-clause-fits
-returns-clause-fits c =
-    IfOk-weaker c.add_row.result _ _ (λ added told is s before source text by none filled table fitted.
+-- content is left
+not_over : (stop content : ℕ) → content < stop → nat_le stop content ≡ false
+not_over stop content less = grind (arith, nat_tests, less)
+
+pub add_row-requires : goal.add_row-requires
+add_row-requires c =
+    let may = c.requires.may in
     let old = c.args.self.now in
-    let met = (goal.at.returns-clause-fits c).In_ok-begun in
-    told (subst (λ n. MayAddRow old.placing.builder (held_line c.args.line n))
-    (sym (starts met s before source text by filled))
-    (read_fits s old c.args.line c.args.reached before source table by filled)) fitted) c.add_row.ensures.fits
+    let met = (goal.at.add_row-requires c).In_ok-begun in
+    let filled = sym may.by.reaches.blank ∙ not_over c.args.line.stop c.args.reached.content c.requires.filled in
+    subst (λ n. MayAddRow old.placing.builder (held_line c.args.line n))
+    (sym (starts met may.s may.before may.source may.same may.by filled))
+    (read_fits may.s old c.args.line c.args.reached may.before may.source c.requires.table may.by filled)
 
 pub returns-clause-off : goal.returns-clause-off
 returns-clause-off c =
@@ -141,3 +147,8 @@ returns-clause-off c =
           (ap (λ t. t && may_be_row old c.args.reached.content c.args.line.stop) is_text
           ∙ (ap (λ n. may_be_row old n c.args.line.stop) (sym here) ∙ (sym told.0 ∙ is))),
     )) (both_ok c.add_row.result _ _ c.add_row.ensures.value c.add_row.ensures.nothing)
+
+pub returns-clause-fits : goal.returns-clause-fits
+returns-clause-fits c =
+    IfOk-weaker c.add_row.result _ _ (λ added told is s before source text by none filled table fitted. tt)
+    c.add_row.ensures.fits

@@ -17,7 +17,20 @@ returns-clause-begins c = λ s turn source at blocks here found.
       after = ends.after;
     })
 
-pub returns-clause-fits : goal.returns-clause-fits
-returns-clause-fits c = λ s turn source at blocks here found fitted.
-    let may = underline_fits s c.args.self.now c.args.rest.now turn source at blocks c.args.level here found in
-    c.in_ok-is_heading.ensures.fits may.outside may.ahead may.task may.ends fitted
+pub end_paragraph-requires-clause-outside : goal.end_paragraph-requires-clause-outside
+end_paragraph-requires-clause-outside c =
+    let may = c.requires.1 in
+    (underline_fits may.s c.args.self.now c.args.rest.now may.turn may.source c.requires.0 may.blocks c.args.level may.here
+    may.found).outside
+
+pub end_paragraph-requires-clause-ahead : goal.end_paragraph-requires-clause-ahead
+end_paragraph-requires-clause-ahead c =
+    let may = c.requires.1 in
+    (underline_fits may.s c.args.self.now c.args.rest.now may.turn may.source c.requires.0 may.blocks c.args.level may.here
+    may.found).ahead
+
+pub end_paragraph-requires-clause-heading : goal.end_paragraph-requires-clause-heading
+end_paragraph-requires-clause-heading c =
+    let may = c.requires.1 in
+    (underline_fits may.s c.args.self.now c.args.rest.now may.turn may.source c.requires.0 may.blocks c.args.level may.here
+    may.found).ends

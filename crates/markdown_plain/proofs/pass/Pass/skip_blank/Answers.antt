@@ -19,10 +19,3 @@ returns-clause-places c = λ s rest turn source at blocks here same found fitted
           (nothing_places s old now rest turn source at blocks here found refl
           (step.1 ∙ ap (λ (l : Line). stepped old.placing.builder l.next) (sym same))),
     )
-
-pub returns-clause-fits : goal.returns-clause-fits
-returns-clause-fits c = λ s rest turn source at blocks here same found fitted.
-    let old = c.args.self.now in
-    let may = subst (λ (l : Line). MayStep old.placing.builder l.next) same
-    (nothing_fits s old rest turn source at blocks here found) in
-    c.step_to.ensures.fits may.ahead may.white ∙ fitted

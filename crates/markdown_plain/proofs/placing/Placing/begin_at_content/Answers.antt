@@ -6,8 +6,11 @@ use Rattle.markdown_plain.proofs.OpenBlocksLemmas.{innermost_of_opened, last_apa
 use Rattle.markdown_plain.proofs.StretchesLemmas.{stretches_replaced}
 use Rattle.markdown_plain.proofs.placing.Placing.begin_at_content.Goals as goal
 
-pub returns-in-Some-clause-begins : goal.returns-in-Some-clause-begins
-returns-in-Some-clause-begins c = λ fitted.
+pub returns-in_default-clause-begins : goal.returns-in_default-clause-begins
+returns-in_default-clause-begins c = absurd (c.content_of_block.ensures.some c.in_default.is)
+
+pub returns-clause-begins : goal.returns-clause-begins
+returns-clause-begins c = λ fitted.
     let p = last_apart c.args.self.now.builder.blocks c.in-Some.ensures.open in (
       fitted,
       record {
