@@ -1,7 +1,7 @@
--- Where there is room for a block: inside a container that was opened in the same line nothing is to be closed, and else
--- what is open may be.
-use Rattle.std.proofs.Common.{◌≡◌, ℕ, ◌≤◌, ◌==◌, Bool, true, false, not, nat_le, List, [], ◌∷◌, length, refl, sym, ap, ◌∙◌}
-use Rattle.std.proofs.Common.{arith, true≢false}
+-- Where there is room for a block: inside a container that was opened in the same line nothing is to be closed, and
+-- else what is open may be.
+use Rattle.std.proofs.Common.{◌≡◌, ℕ, ◌≤◌, ◌==◌, Bool, true, false, not, nat_le, List, [], ◌∷◌, length, refl, sym, ap}
+use Rattle.std.proofs.Common.{◌∙◌, arith, true≢false}
 use Rattle.std.proofs.lemmas.Bool.Decides.{nat_tests}
 use Rattle.std.specs.Prelude.{◌&&◌}
 use Rattle.markdown_base.specs.Forest.{Forest, nil}

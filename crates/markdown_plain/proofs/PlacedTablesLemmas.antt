@@ -24,7 +24,7 @@ use Rattle.markdown_plain.specs.declared.looseness.Looseness.{Looseness}
 use Rattle.markdown_plain.specs.declared.pass.Pass.{Pass}
 use Rattle.markdown_plain.specs.Closable.{AreAhead, HaveTask, IsReady}
 use Rattle.markdown_plain.specs.Closing.{AreItemsInLists, MayEnd}
-use Rattle.markdown_plain.specs.Fitting.{AllFitted, IfFitted}
+use Rattle.markdown_plain.specs.Fitting.{IfFitted}
 use Rattle.markdown_plain.specs.Frames.{AreContainers, AreNested, Frame, is_list, reached, rebuilt, touched}
 use Rattle.markdown_plain.specs.OpenLeaves.{HoldsParagraph, leaf_block}
 use Rattle.markdown_plain.specs.Paragraphs.{has_paragraph, lines_end}

@@ -123,16 +123,16 @@ first_may_open s old rest before l source blocks at state place =
       low = omega (arith, low, after, here, place);
       boundary = subst (λ t. IsCharBoundary t at) (sym text) content.boundary;
       white = λ none.
-    let all = nothing_taken s before.frames (blocks_in before) l
-    (room_outside around.texts (length r.outer) (without_leaf old.placing.builder) before.frames around.are
-    (omega (arith, parts, sum))
-    (subst (λ n. room_in n (without_leaf old.placing.builder) ≡ []) state.depth none)) in
-    let begins : source.left.scanned ≡ rest.line.start =
-    ap (λ (m : SourceLine). m.left.scanned) (state.reached ∙ all)
-    ∙ sym (ap (λ (left : LineLeft). left.scanned) state.is.left) in
-    white_both old.placing.builder.text old.placed rest.line.start at ready.white
-    (subst (λ t. AllPass is_in_blank_line t rest.line.start at) (sym text)
-    (line_white s.text rest.line source at content state.left.from state.left.utf8 begins));
+          let all = nothing_taken s before.frames (blocks_in before) l
+          (room_outside around.texts (length r.outer) (without_leaf old.placing.builder) before.frames around.are
+          (omega (arith, parts, sum))
+          (subst (λ n. room_in n (without_leaf old.placing.builder) ≡ []) state.depth none)) in
+          let begins : source.left.scanned ≡ rest.line.start =
+          ap (λ (m : SourceLine). m.left.scanned) (state.reached ∙ all)
+          ∙ sym (ap (λ (left : LineLeft). left.scanned) state.is.left) in
+          white_both old.placing.builder.text old.placed rest.line.start at ready.white
+          (subst (λ t. AllPass is_in_blank_line t rest.line.start at) (sym text)
+          (line_white s.text rest.line source at content state.left.from state.left.utf8 begins));
     }
 
 -- inside containers that the line opened, a step to what begins fits

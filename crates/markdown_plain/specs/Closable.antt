@@ -184,8 +184,8 @@ pub record MayOpenItemAfter (pass : Pass) (depth at : ℕ) : Type 0 where
   pub white : room_in depth (without_leaf pass.placing.builder) ≡ []
       → AllPass is_in_blank_line pass.placing.builder.text pass.placed at
 
--- an item may be opened at a byte offset inside the outermost blocks, up to a number of them: once the others are closed,
--- or where no others are open
+-- an item may be opened at a byte offset inside the outermost blocks, up to a number of them: once the others are
+-- closed, or where no others are open
 pub data MayOpenItem (pass : Pass) (depth at : ℕ) : Type 0 where
   by_closing : MayOpenItemAfter pass depth at → MayOpenItem pass depth at
   in_room : has_room pass depth ≡ true → MayStep pass.placing.builder at → MayOpenItem pass depth at

@@ -401,8 +401,11 @@ impl<'a> Pass<'a> {
     fn open_list(&mut self, marker: ListMarker, at: usize) -> Result<(), AllocError>
         requires outside { self.old.placing.builder.leaf ≡ false }
         requires ahead { IsAhead self.old.placing.builder at }
-        requires white { without_list self.old.placing.builder.blocks ≡ [] → IsWhiteBefore self.old.placing.builder at }
-        requires closable { open_blocks.innermost_is open_blocks.is_list self.old.placing.builder.blocks ≡ true → AreClosable self.old.placing.builder self.old.placed }
+        requires white { without_list self.old.placing.builder.blocks ≡ []
+            → IsWhiteBefore self.old.placing.builder at }
+        requires closable { open_blocks.innermost_is open_blocks.is_list
+            self.old.placing.builder.blocks ≡ true
+            → AreClosable self.old.placing.builder self.old.placed }
         ensures text { IfOk result (λ _. self.new.placing.builder.text
             ≡ self.old.placing.builder.text) }
         ensures around { IfOk result (λ _. IfFitted self.old.placing self.new.placing

@@ -592,7 +592,8 @@ impl<'a> Pass<'a> {
 
     /// Adds a line to the open indented code block, after the blank lines that were held back.
     pub fn add_indented(&mut self, line: Line, position: Position) -> Result<(), AllocError>
-        requires { MayAddAfter self.old.placing.builder self.old.blanks.items position.at line.next }
+        requires { MayAddAfter self.old.placing.builder self.old.blanks.items position.at
+            line.next }
         ensures text { IfOk result (λ _. self.new.placing.builder.text
             ≡ self.old.placing.builder.text) }
         ensures goes_on { IfOk result (λ _. IfFitted self.old.placing self.new.placing

@@ -1,7 +1,5 @@
 -- All lines were read, and every call fitted: no block is open then, and only white space is left.
 use Rattle.std.proofs.Common.{◌≡◌, [], length, rules, subst, sym}
-use Rattle.std.specs.Str.{IsUtf8}
-use Rattle.markdown_builder.specs.BuilderView.{nothing_made}
 use Rattle.markdown_lines.specs.BlockBeginnings.{Source}
 use Rattle.markdown_lines.specs.Lines.{AllPass, is_in_blank_line}
 use Rattle.markdown_block_rules.specs.BlockGrowth.{blocks_of}

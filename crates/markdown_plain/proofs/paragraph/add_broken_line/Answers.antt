@@ -1,5 +1,5 @@
 -- A line and the break after it are its items; there is none where nothing is left of it.
-use Rattle.std.proofs.Common.{◌≡◌, ◌∷◌, [], ◌∙◌, ap, rules, arith}
+use Rattle.std.proofs.Common.{◌≡◌, ◌∷◌, [], ◌∙◌, ap, rules}
 use Rattle.markdown_builder.specs.BuilderView.{BuilderView, with_items}
 use Rattle.std.proofs.lemmas.Result.{IfOk-weaker}
 use Rattle.markdown_builder.specs.Shown.{plain_item}
@@ -66,7 +66,8 @@ pub step_to-requires-2 : goal.step_to-requires-2
 step_to-requires-2 c =
     let old = c.args.placing.now.builder in
     let line = c.requires.line in
-    let between = break_in old.text c.args.line.start c.args.line.stop c.line_break-between.result line.stop line.content
+    let between = break_in old.text c.args.line.start c.args.line.stop c.line_break-between.result line.stop
+    line.content
     (search rules) in
     let read = (c.in_ok-add_items.ensures.appends tt).1 in
     let begun = still_open old c.add_items.new.self.builder (ap (λ (b : BuilderView). b.leaf) read)

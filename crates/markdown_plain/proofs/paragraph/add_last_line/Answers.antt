@@ -1,5 +1,5 @@
 -- The line ends between characters without the white space at its end.
-use Rattle.std.proofs.Common.{◌≡◌, ◌∙◌, ◌+◌, ◌-◌, ap, sym, subst, arith, length, slice_range, rules}
+use Rattle.std.proofs.Common.{◌≡◌, ◌+◌, ◌-◌, ap, sym, subst, arith, length, slice_range, rules}
 use Rattle.std.specs.List.{suffix_len}
 use Rattle.std.specs.Str.{IsCharBoundary}
 use Rattle.markdown_builder.specs.BuilderView.{BuilderView}

@@ -15,8 +15,8 @@ use Rattle.markdown_plain.proofs.ParagraphTreesLemmas.{none_behind, some_behind,
 use Rattle.markdown_plain.specs.HeldSources.{IsTextLine}
 use Rattle.markdown_plain.specs.ParagraphItems.{IsLeft, after_task, line_or_nothing}
 use Rattle.markdown_plain.proofs.LeafTreesLemmas.{texts_after}
-use Rattle.markdown_plain.proofs.ClosableLemmas.{last_cut, line_at, still_open}
-use Rattle.markdown_plain.specs.Closable.{IsInText, IsLastInText}
+use Rattle.markdown_plain.proofs.ClosableLemmas.{last_cut, line_at}
+use Rattle.markdown_plain.specs.Closable.{IsLastInText}
 use Rattle.markdown_plain.proofs.paragraph.add_line.Goals as goal
 
 pub returns-then-number-lines-clause-left : goal.returns-then-number-lines-clause-left

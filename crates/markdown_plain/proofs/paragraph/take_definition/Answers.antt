@@ -14,7 +14,7 @@ use Rattle.markdown_plain.specs.Closable.{AreAhead}
 use Rattle.markdown_plain.proofs.ClosableLemmas.{MayDefine, ahead_after, ahead_of, cuts_of, may_define, last_next}
 use Rattle.markdown_plain.proofs.ClosableLemmas.{may_pass, white_ahead}
 use Rattle.markdown_plain.proofs.DefinitionEndsLemmas.{IsSpanIn, are_sources, definition_span, sources_of}
-use Rattle.markdown_plain.proofs.DividedLemmas.{as_many, bracket_byte, filled_of, first_read, no_bracket}
+use Rattle.markdown_plain.proofs.DividedLemmas.{as_many, filled_of, first_read, no_bracket}
 use Rattle.markdown_plain.proofs.DividedLemmas.{no_bracket_byte, no_line, none_there, takes_empty, takes_first}
 use Rattle.markdown_plain.proofs.ParagraphsLemmas.{end_of_last}
 use Rattle.markdown_plain.proofs.paragraph.take_definition.Goals.{After-step_to-2}
@@ -162,7 +162,8 @@ defines c is =
 pub add_definition-requires-clause-ahead : goal.add_definition-requires-clause-ahead
 add_definition-requires-clause-ahead c =
     let d = defines (goal.at.add_definition-requires-clause-ahead c).After-step_to-2 c.requires in
-    ahead_of c.args.placing.now.builder.text c.in-Some.first.now.start c.in-Some-2.found.end c.step_to-2.new.self.builder
+    ahead_of c.args.placing.now.builder.text c.in-Some.first.now.start c.in-Some-2.found.end
+    c.step_to-2.new.self.builder
     c.step_to-2.ensures.text (ap (λ (b : BuilderView). b.at) (c.step_to-2.ensures.steps tt).1) d.low d.boundary
 
 pub step_to-requires-3 : goal.step_to-requires-3

@@ -1,15 +1,13 @@
 -- The cell, closed, is a tree of the row.
-use Rattle.std.proofs.Common.{◌≡◌, ◌∙◌, ◌++◌, ◌∷◌, ℕ, List, [], refl, sym, ap, arith, subst}
-use Rattle.markdown_base.specs.declared.item.ItemBody.TheVariants as body
+use Rattle.std.proofs.Common.{◌≡◌, ◌∙◌, ◌++◌, ◌∷◌, ℕ, List, [], sym, ap, subst}
 use Rattle.markdown_base.specs.Forest.{nil}
 use Rattle.markdown_builder.specs.BuilderView.{BuilderView}
 use Rattle.markdown_items.specs.LineItems.{item_extensions}
 use Rattle.markdown_block_rules.specs.LineContents.{cell_items}
 use Rattle.markdown_plain.specs.LeafTrees.{HasItems}
 use Rattle.markdown_plain.specs.TableRows.{IsCellIn, IsOnePiece}
-use Rattle.markdown_plain.proofs.FittingLemmas.{goes_at, leaf_opened, stepped_at}
 use Rattle.markdown_plain.proofs.LeafTreesLemmas.{no_text, texts_after}
-use Rattle.markdown_plain.proofs.ShownRowsLemmas.{cell_shown, may_open_cell}
+use Rattle.markdown_plain.proofs.ShownRowsLemmas.{cell_shown}
 use Rattle.markdown_plain.proofs.TableRowsLemmas.{cell_put}
 use Rattle.markdown_plain.proofs.tables.place_cell.Goals as goal
 

@@ -1,12 +1,10 @@
 -- The cell, closed, is a tree of the row.
-use Rattle.std.proofs.Common.{◌∙◌, ◌++◌, ◌∷◌, [], refl, ap}
-use Rattle.markdown_base.specs.declared.item.ItemBody.TheVariants as body
+use Rattle.std.proofs.Common.{◌∙◌, ◌++◌, ◌∷◌, [], ap}
 use Rattle.markdown_base.specs.Forest.{nil}
 use Rattle.markdown_builder.specs.BuilderView.{BuilderView}
 use Rattle.markdown_items.proofs.RestOfLineLemmas.{adds_none}
-use Rattle.markdown_plain.proofs.FittingLemmas.{leaf_opened}
 use Rattle.markdown_plain.proofs.LeafTreesLemmas.{no_text}
-use Rattle.markdown_plain.proofs.ShownRowsLemmas.{empty_shown, may_open_cell}
+use Rattle.markdown_plain.proofs.ShownRowsLemmas.{empty_shown}
 use Rattle.markdown_plain.proofs.TableRowsLemmas.{cell_put}
 use Rattle.markdown_plain.proofs.tables.place_empty_cell.Goals as goal
 

@@ -13,7 +13,7 @@ use Rattle.markdown_plain.specs.Fitting.{IfFitted}
 use Rattle.markdown_plain.specs.HeldSources.{IsTextLine}
 use Rattle.markdown_plain.specs.LeafTrees.{HasMoreTexts, HasTrees}
 use Rattle.markdown_plain.specs.TableRows.{IsCellIn, IsOnePiece}
-use Rattle.markdown_plain.proofs.FittingLemmas.{may_step, step_done}
+use Rattle.markdown_plain.proofs.FittingLemmas.{may_step}
 use Rattle.markdown_plain.proofs.LeafTreesLemmas.{no_text, texts_after}
 use Rattle.markdown_plain.proofs.ShownRowsLemmas.{AreCellsFrom, after_cell, after_empty, cell_added, comes_next}
 use Rattle.markdown_plain.proofs.ShownRowsLemmas.{drop_next}

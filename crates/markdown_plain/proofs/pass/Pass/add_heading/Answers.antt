@@ -11,9 +11,6 @@ use Rattle.markdown_plain.specs.Paragraphs.{IsPlacedTo, source_of}
 use Rattle.markdown_plain.proofs.LinedLeavesLemmas.{heading_placed}
 use Rattle.markdown_plain.proofs.OpenBlocksLemmas.{outer_of_opened}
 use Rattle.markdown_plain.proofs.LeafTreesLemmas.{no_text, put_heading, texts_after}
-use Rattle.markdown_base.specs.declared.item.ItemBody.TheVariants as body
-use Rattle.markdown_plain.specs.Fitting.{AllFitted}
-use Rattle.markdown_plain.proofs.FittingLemmas.{IsInLeafAt, goes_at, line_at, opened_at, stepped_at}
 use Rattle.markdown_plain.proofs.pass.Pass.add_heading.Goals as goal
 
 pub returns-clause-tree : goal.returns-clause-tree

@@ -8,8 +8,6 @@ use Rattle.markdown_plain.specs.HeldSources.{IsHeld}
 use Rattle.markdown_plain.proofs.LeafKindsLemmas.{metadata_added, metadata_closed}
 use Rattle.markdown_plain.proofs.LinedLeavesLemmas.{after_held, line_closes, ok_three, rest_ends, stop_after}
 use Rattle.markdown_plain.proofs.LinedLeavesLemmas.{whole_held}
-use Rattle.std.proofs.Common.{refl}
-use Rattle.markdown_plain.proofs.FittingLemmas.{stepped_at}
 use Rattle.markdown_plain.proofs.pass.Pass.add_metadata.Goals as goal
 
 pub returns-then-closes_metadata-clause-leaf : goal.returns-then-closes_metadata-clause-leaf

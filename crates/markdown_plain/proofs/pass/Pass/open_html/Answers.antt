@@ -21,8 +21,6 @@ use Rattle.markdown_plain.specs.declared.pass.Pass.{Pass}
 use Rattle.markdown_plain.proofs.LinedLeavesLemmas.{after_held, rest_ends, stop_after}
 use Rattle.markdown_plain.proofs.OpenBlocksLemmas.{outer_of_opened}
 use Rattle.markdown_plain.proofs.LeafTreesLemmas.{no_text, put_begun, rest_from, rest_held, texts_after}
-use Rattle.std.proofs.Common.{refl}
-use Rattle.markdown_plain.proofs.FittingLemmas.{begun_in_leaf, goes_at, has_content, leaf_opened, line_at}
 use Rattle.markdown_plain.proofs.pass.Pass.open_html.Goals as goal
 
 pub returns-clause-tree : goal.returns-clause-tree

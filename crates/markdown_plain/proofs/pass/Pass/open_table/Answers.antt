@@ -1,5 +1,5 @@
 -- The lines before the head end, and then the table is opened, with its head.
-use Rattle.std.proofs.Common.{◌≡◌, ◌++◌, ◌∷◌, ◌<◌, [], ℕ, List, Some, arith, false, length, refl, sym, ap, ◌∙◌}
+use Rattle.std.proofs.Common.{◌≡◌, ◌++◌, ◌∷◌, ◌<◌, [], ℕ, List, Some, arith, length, refl, sym, ap, ◌∙◌}
 use Rattle.std.proofs.Common.{subst}
 use Rattle.std.proofs.lemmas.Bool.Decides.{nat_tests}
 use Rattle.markdown_base.specs.Forest.{Forest}
@@ -10,12 +10,12 @@ use Rattle.markdown_builder.specs.EvenRows.{open_columns}
 use Rattle.markdown_block_rules.specs.BlockRules.{shown_row}
 use Rattle.markdown_plain.specs.HeldSources.{IsTextLine}
 use Rattle.markdown_plain.specs.LeafTrees.{HasTrees}
-use Rattle.markdown_plain.proofs.FittingLemmas.{may_step, some_opened, step_done}
+use Rattle.markdown_plain.proofs.FittingLemmas.{may_step, some_opened}
 use Rattle.markdown_lines.specs.BlockBeginnings.{Source}
 use Rattle.markdown_lines.specs.SourceLines.{SourceLine}
 use Rattle.markdown_block_rules.specs.BlockGrowth.{Block}
 use Rattle.markdown_plain.specs.declared.pass.Pass.{Pass}
-use Rattle.markdown_plain.specs.Closable.{AreAhead, HaveTask, IsInText}
+use Rattle.markdown_plain.specs.Closable.{AreAhead, IsInText}
 use Rattle.markdown_plain.specs.Fitting.{AllFitted}
 use Rattle.markdown_plain.specs.Frames.{Frame}
 use Rattle.markdown_plain.specs.Settled.{IsBuilt}
@@ -23,7 +23,7 @@ use Rattle.markdown_plain.specs.TableHeads.{before_table, last_of}
 use Rattle.markdown_plain.proofs.AddedLinesLemmas.{past}
 use Rattle.markdown_plain.proofs.BegunTablesLemmas.{table_begun}
 use Rattle.markdown_plain.proofs.TableFrontsLemmas.{HasFront, IsEndedAt, ahead_front, ended_at, front_holds, front_none}
-use Rattle.markdown_plain.proofs.TableFrontsLemmas.{head_in_text, head_is, may_step_to_head, none_ended, task_front}
+use Rattle.markdown_plain.proofs.TableFrontsLemmas.{head_in_text, head_is, may_step_to_head, none_ended}
 use Rattle.markdown_plain.proofs.TableFrontsLemmas.{with_head}
 use Rattle.markdown_plain.proofs.pass.Pass.open_table.Goals.{then-not-is_empty+in_ok-end_paragraph, else-not-is_empty}
 use Rattle.markdown_plain.proofs.pass.Pass.open_table.Goals.{After-step_to-arg-1, After-is_empty}
@@ -160,7 +160,8 @@ front_ended c =
       | then-not-is_empty+in_ok-end_paragraph w ↦
           let some : 0 < length front = grind (arith, nat_tests, c.is_empty.ensures, w.if-not-is_empty.true) in
           subst (λ (p : Pass). IsEndedAt old p.placing.builder (past old.at front)) (sym w.self-is)
-          (ended_at old w.end_paragraph.new.self.placing.builder front w.in_ok-end_paragraph.field-0 some c.requires.outside
+          (ended_at old w.end_paragraph.new.self.placing.builder front w.in_ok-end_paragraph.field-0 some
+          c.requires.outside
           (λ left. (w.in_ok-end_paragraph.ensures.ends left tt).1)
           (λ none. (w.in_ok-end_paragraph.ensures.defines none tt).1)
           (λ none. (w.in_ok-end_paragraph.ensures.after none some tt).1))

@@ -21,9 +21,9 @@ use Rattle.markdown_plain.proofs.pass.Pass.place_paragraph.Goals.{in-Some, in_de
 use Rattle.markdown_plain.proofs.pass.Pass.place_paragraph.Goals.{in-Some-heading, in_default-heading}
 use Rattle.markdown_plain.proofs.LeafTreesLemmas.{no_text, texts_after}
 use Rattle.std.specs.Prelude.{ℕ}
-use Rattle.markdown_plain.proofs.ClosableLemmas.{IsTextOpened, ahead_of, first_line, inside_leaf, still_open}
+use Rattle.markdown_plain.proofs.ClosableLemmas.{IsTextOpened, first_line}
 use Rattle.markdown_plain.proofs.ClosableLemmas.{text_opened}
-use Rattle.markdown_plain.specs.Closable.{AreInText, EndsHeading, HasRoomFor, HaveBraces, HaveTask, IsPlaceable}
+use Rattle.markdown_plain.specs.Closable.{AreInText, HaveBraces, HaveTask}
 use Rattle.markdown_builder.specs.EvenRows.{is_in_row}
 use Rattle.markdown_plain.proofs.pass.Pass.place_paragraph.Goals.{After-last_braces, After-close-arg-1}
 use Rattle.markdown_plain.proofs.pass.Pass.place_paragraph.Goals as goal

@@ -131,7 +131,8 @@ open_quote-requires-clause-step c =
     let room = c.make_room_for.new.self in
     let rest = c.args.rest.now in
     let begins = line.begins_alert c.args.kind in
-    let has = (c.in_ok-make_room_for.ensures.room may.s may.turn may.source c.args.at (start.Alert c.args.kind) begins may.blocks
+    let has = (c.in_ok-make_room_for.ensures.room may.s may.turn may.source c.args.at (start.Alert c.args.kind) begins
+    may.blocks
     may.here may.found refl tt tt).1 in
     subst (MayStep room.placing.builder) (sym may.found.begins) has.ready
 
@@ -141,7 +142,8 @@ open_quote-requires-clause-outside c =
     let room = c.make_room_for.new.self in
     let rest = c.args.rest.now in
     let begins = line.begins_alert c.args.kind in
-    let has = (c.in_ok-make_room_for.ensures.room may.s may.turn may.source c.args.at (start.Alert c.args.kind) begins may.blocks
+    let has = (c.in_ok-make_room_for.ensures.room may.s may.turn may.source c.args.at (start.Alert c.args.kind) begins
+    may.blocks
     may.here may.found refl tt tt).1 in
     has.built.outside
 

@@ -7,7 +7,6 @@ use Rattle.markdown_block_rules.specs.BlockGrowth as was
 use Rattle.markdown_plain.proofs.BegunBlocksLemmas.{begun_block, keeps_leaf}
 use Rattle.markdown_plain.proofs.BegunLeavesLemmas.{built_at, ended_in_room}
 use Rattle.markdown_plain.proofs.BegunFitsLemmas.{content_fits, next_ahead}
-use Rattle.markdown_plain.proofs.FittingLemmas.{step_done}
 use Rattle.markdown_plain.proofs.HasRoomLemmas.{here_room}
 use Rattle.markdown_plain.proofs.pass.Pass.read_break.Goals as goal
 
@@ -42,7 +41,8 @@ step_to-requires c =
     let room = c.make_room_for.new.self in
     let rest = c.args.rest.now in
     let begins = line.begins_break in
-    let has = (c.in_ok-make_room_for.ensures.room may.s may.turn may.source c.args.at (start.ThematicBreak) begins may.blocks
+    let has = (c.in_ok-make_room_for.ensures.room may.s may.turn may.source c.args.at (start.ThematicBreak) begins
+    may.blocks
     may.here may.found refl tt tt).1 in
     (content_fits may.s room rest may.source begins may.blocks has c.args.at may.found.begins).begins
 
@@ -52,7 +52,8 @@ add_thematic_break-requires-clause-outside c =
     let room = c.make_room_for.new.self in
     let rest = c.args.rest.now in
     let begins = line.begins_break in
-    let has = (c.in_ok-make_room_for.ensures.room may.s may.turn may.source c.args.at (start.ThematicBreak) begins may.blocks
+    let has = (c.in_ok-make_room_for.ensures.room may.s may.turn may.source c.args.at (start.ThematicBreak) begins
+    may.blocks
     may.here may.found refl tt tt).1 in
     ap (λ (v : BuilderView). v.leaf) (c.step_to.ensures.steps tt).1 ∙ has.built.outside
 
@@ -62,7 +63,8 @@ add_thematic_break-requires-clause-ahead c =
     let room = c.make_room_for.new.self in
     let rest = c.args.rest.now in
     let begins = line.begins_break in
-    let has = (c.in_ok-make_room_for.ensures.room may.s may.turn may.source c.args.at (start.ThematicBreak) begins may.blocks
+    let has = (c.in_ok-make_room_for.ensures.room may.s may.turn may.source c.args.at (start.ThematicBreak) begins
+    may.blocks
     may.here may.found refl tt tt).1 in
     next_ahead may.s room rest may.source begins may.blocks has c.step_to.new.self.builder c.args.at may.found.begins
     (c.step_to.ensures.steps tt).1

@@ -49,6 +49,7 @@ open_fenced-requires c =
     let room = c.make_room_for.new.self in
     let rest = c.args.rest.now in
     let begins = line.begins_fence c.args.opening in
-    let has = (c.in_ok-make_room_for.ensures.room may.s may.turn may.source c.args.at (start.Fence c.args.opening) begins may.blocks
+    let has = (c.in_ok-make_room_for.ensures.room may.s may.turn may.source c.args.at (start.Fence c.args.opening)
+    begins may.blocks
     may.here may.found refl tt tt).1 in
     content_fits may.s room rest may.source begins may.blocks has c.args.at may.found.begins

@@ -49,7 +49,8 @@ open_footnote-requires-clause-step c =
     let room = c.make_room_for.new.self in
     let rest = c.args.rest.now in
     let begins = line.begins_footnote (text_of c.args.label) (left_at c.args.rest.now.reader c.args.inside) in
-    let has = (c.in_ok-make_room_for.ensures.room may.s may.turn may.source c.args.at (start.Footnote c.args.label c.args.inside) begins may.blocks
+    let has = (c.in_ok-make_room_for.ensures.room may.s may.turn may.source c.args.at
+    (start.Footnote c.args.label c.args.inside) begins may.blocks
     may.here may.found refl tt tt).1 in
     subst (MayStep room.placing.builder) (sym may.found.begins) has.ready
 
@@ -59,6 +60,7 @@ open_footnote-requires-clause-outside c =
     let room = c.make_room_for.new.self in
     let rest = c.args.rest.now in
     let begins = line.begins_footnote (text_of c.args.label) (left_at c.args.rest.now.reader c.args.inside) in
-    let has = (c.in_ok-make_room_for.ensures.room may.s may.turn may.source c.args.at (start.Footnote c.args.label c.args.inside) begins may.blocks
+    let has = (c.in_ok-make_room_for.ensures.room may.s may.turn may.source c.args.at
+    (start.Footnote c.args.label c.args.inside) begins may.blocks
     may.here may.found refl tt tt).1 in
     has.built.outside

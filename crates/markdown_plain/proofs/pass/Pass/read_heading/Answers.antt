@@ -10,7 +10,6 @@ use Rattle.markdown_plain.proofs.BegunBlocksLemmas.{begun_block, keeps_leaf}
 use Rattle.markdown_plain.proofs.BegunLeavesLemmas.{built_at, ended_in_room}
 use Rattle.markdown_plain.specs.Beginning.{IsHeadingIn}
 use Rattle.markdown_plain.proofs.BegunFitsLemmas.{content_fits, heading_fits}
-use Rattle.markdown_plain.proofs.FittingLemmas.{step_done}
 use Rattle.markdown_plain.proofs.HasRoomLemmas.{here_room}
 use Rattle.markdown_plain.proofs.pass.Pass.read_heading.Goals as goal
 
@@ -49,7 +48,8 @@ step_to-requires c =
     let room = c.make_room_for.new.self in
     let rest = c.args.rest.now in
     let begins = line.begins_heading c.args.heading in
-    let has = (c.in_ok-make_room_for.ensures.room may.s may.turn may.source c.args.at (start.Heading c.args.heading) begins may.blocks
+    let has = (c.in_ok-make_room_for.ensures.room may.s may.turn may.source c.args.at (start.Heading c.args.heading)
+    begins may.blocks
     may.here may.found refl tt tt).1 in
     (content_fits may.s room rest may.source begins may.blocks has c.args.at may.found.begins).begins
 
@@ -59,7 +59,8 @@ add_heading-requires c =
     let room = c.make_room_for.new.self in
     let rest = c.args.rest.now in
     let begins = line.begins_heading c.args.heading in
-    let has = (c.in_ok-make_room_for.ensures.room may.s may.turn may.source c.args.at (start.Heading c.args.heading) begins may.blocks
+    let has = (c.in_ok-make_room_for.ensures.room may.s may.turn may.source c.args.at (start.Heading c.args.heading)
+    begins may.blocks
     may.here may.found refl tt tt).1 in
     heading_fits may.s room rest may.source begins may.blocks has c.step_to.new.self.builder c.args.at c.args.heading
     may.found.begins (c.step_to.ensures.steps tt).1

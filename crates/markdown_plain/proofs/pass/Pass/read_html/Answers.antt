@@ -54,7 +54,8 @@ open_html-requires c =
     let room = c.make_room_for.new.self in
     let rest = c.args.rest.now in
     let begins = line.begins_html c.args.kind in
-    let has = (c.in_ok-make_room_for.ensures.room may.s may.turn may.source c.requires.0 (start.Html c.args.kind) begins may.blocks
+    let has = (c.in_ok-make_room_for.ensures.room may.s may.turn may.source c.requires.0 (start.Html c.args.kind)
+    begins may.blocks
     may.here may.found refl tt tt).1 in
     html_fits may.s room rest may.source begins may.blocks has c.requires.0 may.found.begins
     (subst (λ bytes. IsHeldLine bytes (held_line rest.line c.requires.0)) (sym c.in_ok-make_room_for.ensures.text)

@@ -59,7 +59,8 @@ open_indented-requires c =
     let room = c.make_room_for.new.self in
     let rest = c.args.rest.now in
     let begins = line.begins_indented (left_at c.args.rest.now.reader c.args.code) in
-    let has = (c.in_ok-make_room_for.ensures.room may.s may.turn may.source c.requires.0 (start.IndentedCode c.args.code) begins may.blocks
+    let has = (c.in_ok-make_room_for.ensures.room may.s may.turn may.source c.requires.0
+    (start.IndentedCode c.args.code) begins may.blocks
     may.here may.found refl tt tt).1 in
     code_fits may.s room rest may.source c.args.code may.blocks has
     (subst (λ bytes. IsCharBoundary bytes c.args.code.at) (sym c.in_ok-make_room_for.ensures.text) may.fits.0)

@@ -46,7 +46,8 @@ open_metadata-requires c =
     let room = c.make_room_for.new.self in
     let rest = c.args.rest.now in
     let begins = line.begins_metadata c.args.kind in
-    let has = (c.in_ok-make_room_for.ensures.room may.s may.turn may.source c.requires.0 (start.Metadata c.args.kind) begins may.blocks
+    let has = (c.in_ok-make_room_for.ensures.room may.s may.turn may.source c.requires.0 (start.Metadata c.args.kind)
+    begins may.blocks
     may.here may.found refl tt tt).1 in
     content_fits may.s room rest may.source begins may.blocks has rest.line.start
     (sym (metadata_starts may.s room rest may.source c.args.kind may.blocks has))

@@ -20,17 +20,20 @@ returns-clause-begins c = λ s turn source at blocks here found.
 pub end_paragraph-requires-clause-outside : goal.end_paragraph-requires-clause-outside
 end_paragraph-requires-clause-outside c =
     let may = c.requires.1 in
-    (underline_fits may.s c.args.self.now c.args.rest.now may.turn may.source c.requires.0 may.blocks c.args.level may.here
+    (underline_fits may.s c.args.self.now c.args.rest.now may.turn may.source c.requires.0 may.blocks c.args.level
+    may.here
     may.found).outside
 
 pub end_paragraph-requires-clause-ahead : goal.end_paragraph-requires-clause-ahead
 end_paragraph-requires-clause-ahead c =
     let may = c.requires.1 in
-    (underline_fits may.s c.args.self.now c.args.rest.now may.turn may.source c.requires.0 may.blocks c.args.level may.here
+    (underline_fits may.s c.args.self.now c.args.rest.now may.turn may.source c.requires.0 may.blocks c.args.level
+    may.here
     may.found).ahead
 
 pub end_paragraph-requires-clause-heading : goal.end_paragraph-requires-clause-heading
 end_paragraph-requires-clause-heading c =
     let may = c.requires.1 in
-    (underline_fits may.s c.args.self.now c.args.rest.now may.turn may.source c.requires.0 may.blocks c.args.level may.here
+    (underline_fits may.s c.args.self.now c.args.rest.now may.turn may.source c.requires.0 may.blocks c.args.level
+    may.here
     may.found).ends

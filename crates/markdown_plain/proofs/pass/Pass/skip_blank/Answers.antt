@@ -1,11 +1,9 @@
 -- Nothing begins with the rest of the line.
 use Rattle.std.proofs.Common.{◌∙◌, refl, sym, subst, ap}
 use Rattle.markdown_lines.specs.declared.line.Line.{Line}
-use Rattle.markdown_plain.specs.Fits.{MayStep}
 use Rattle.markdown_plain.specs.Fitting.{stepped}
 use Rattle.markdown_plain.specs.Standing.{PlacesFor}
 use Rattle.markdown_plain.specs.declared.pass.Pass.{Pass}
-use Rattle.markdown_plain.proofs.BegunFitsLemmas.{nothing_fits}
 use Rattle.markdown_plain.proofs.BegunLeavesLemmas.{nothing_places}
 use Rattle.markdown_plain.proofs.pass.Pass.skip_blank.Goals as goal
 
