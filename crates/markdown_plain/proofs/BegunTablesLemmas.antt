@@ -20,16 +20,16 @@ use Rattle.markdown_block_rules.specs.BlockGrowth.{Block}
 use Rattle.markdown_block_rules.specs.BlockRules.{in_no_item, shown_row}
 use Rattle.markdown_block_rules.specs.TableLines.{alignments_for, fitting, further_line, may_be_head}
 use Rattle.markdown_plain.specs.declared.pass.Pass.{Pass}
-use Rattle.markdown_plain.specs.Closable.{AreAhead, HaveTask}
+use Rattle.markdown_plain.specs.Closable.{AreAhead}
 use Rattle.markdown_plain.specs.Fitting.{stepped}
 use Rattle.markdown_plain.specs.Frames.{Frame}
 use Rattle.markdown_plain.specs.HeldSources.{IsTextLine}
 use Rattle.markdown_plain.specs.LeafTrees.{HasMoreTexts, HasTrees}
 use Rattle.markdown_plain.specs.OpenedFrames.{around_innermost}
 use Rattle.markdown_plain.specs.OpenLeaves.{HoldsParagraph, IsOpenIn}
-use Rattle.markdown_plain.specs.Paragraphs.{IsPlacedTo, lines_end}
+use Rattle.markdown_plain.specs.Paragraphs.{IsPlacedTo}
 use Rattle.markdown_plain.specs.Settled.{AreOpen, IsBuilt}
-use Rattle.markdown_plain.specs.TableHeads.{begun_table, last_of}
+use Rattle.markdown_plain.specs.TableHeads.{begun_table}
 use Rattle.markdown_plain.proofs.AppendedBlocksLemmas.{open_after}
 use Rattle.markdown_plain.proofs.LeafTreesLemmas.{no_text, trees_last}
 use Rattle.markdown_plain.proofs.LeavesInPlaceLemmas.{filled_leaf, has_its_text, leaf_end, more_in_first}
@@ -186,15 +186,6 @@ pub ahead_tried : (old new : Pass) → new ≡ record old { tried = new.tried }
     → AreAhead old.placing.builder old.lines.items → AreAhead new.placing.builder new.lines.items
 ahead_tried old new same ahead =
     subst (λ (p : Pass). AreAhead p.placing.builder p.lines.items) (sym same) ahead
-
-pub task_tried : (old new : Pass) → new ≡ record old { tried = new.tried }
-    → HaveTask old.placing.builder.text old.task old.lines.items
-    → HaveTask new.placing.builder.text new.task new.lines.items
-task_tried old new same have =
-    subst (λ (p : Pass). HaveTask p.placing.builder.text p.task p.lines.items) (sym same) have
-
-pub end_of_head : (lines : List HeldLine) (head : HeldLine) → last_of lines ≡ Some head → lines_end lines ≡ head.next
-end_of_head lines head there = ap (λ found. option_map_or (λ line. line.next) found 0) there
 
 -- the alignments of the delimiter row are those of the table
 pub found_alignments : (s : Source) (before : List SourceLine) (from l : SourceLine) (found : List Alignment)

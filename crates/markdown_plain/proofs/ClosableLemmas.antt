@@ -36,7 +36,6 @@ use Rattle.markdown_lines.specs.declared.braces.Braces.{Braces}
 use Rattle.markdown_plain.specs.Containers.{is_container}
 use Rattle.markdown_plain.specs.OpenBlocks.{innermost_is, is_list, is_quote, outer_of, room_in, without_leaf}
 use Rattle.markdown_plain.specs.OpenBlocks.{without_list}
-use Rattle.markdown_plain.specs.declared.placing.Placing.{Placing}
 use Rattle.markdown_plain.specs.HeldSources.{AreInOrder, AreInParagraph}
 use Rattle.markdown_plain.specs.Paragraphs.{has_paragraph, lines_end}
 use Rattle.markdown_plain.specs.declared.pass.Pass.{Pass}
@@ -44,7 +43,7 @@ use Rattle.markdown_plain.specs.declared.paragraph.Ends.{Ends}
 use Rattle.markdown_plain.specs.Closable.{AreAhead, AreApart, AreClosable, AreContainers, AreInText, has_quote}
 use Rattle.markdown_plain.specs.Closable.{leaf_end, HasBraces, HasRoomFor, HasTask, HaveTask, IsClosable, IsInList}
 use Rattle.markdown_plain.specs.Closable.{IsPlaceable, IsInText, IsLastInText, IsLeafOpen, IsWhiteBefore}
-use Rattle.markdown_plain.specs.Fitting.{AllFitted, GoesOn, OpensHeading, closed, defining, IsAhead, IsWhiteOutside}
+use Rattle.markdown_plain.specs.Fitting.{GoesOn, OpensHeading, closed, defining, IsAhead, IsWhiteOutside}
 use Rattle.markdown_plain.proofs.DefinitionEndsLemmas.{IsSpanIn, MayCut}
 use Rattle.markdown_plain.proofs.LeafTreesLemmas.{on_test}
 use Rattle.markdown_plain.proofs.OpenBlocksLemmas.{innermost_of_opened, last_apart}
@@ -410,12 +409,6 @@ first_line pass from heading line is held =
 
 -- ---- closing blocks
 
--- where the innermost block passes a test, some block is open
-pub some_innermost : (test : ItemBody → Bool) (blocks : List OpenBlock) → innermost_is test blocks ≡ true
-    → blocks ≡ [] → ⊥
-some_innermost test [] e none = true≢false (sym e)
-some_innermost test (block ∷ blocks) e none = never_none [] block (absurd (omega (arith, ap length none)))
-
 -- a container is no row
 container_no_row : (b : ItemBody) → is_container b ≡ true → is_table_row b ≡ false
 container_no_row (body.BlockQuote kind) e = refl
@@ -495,48 +488,6 @@ innermost_no_quote blocks e = found (innermost_block blocks) e
         → option_map_or (λ (block : OpenBlock). is_quote block.body) block false ≡ false
     found None e = absurd (true≢false (sym e))
     found (Some block) e = list_no_quote block.body e
-
--- a list may be opened at a byte offset
-pub record MayBeginList (placing : Placing) (to : ℕ) : Type 0 where
-  pub fitted : AllFitted placing
-  pub outside : placing.builder.leaf ≡ false
-  pub ahead : IsAhead placing.builder to
-  pub white : IsWhiteOutside placing.builder to
-
-pub begins_list : (placing : Placing) (to : ℕ) → innermost_is is_list placing.builder.blocks ≡ false
-    → placing.builder.leaf ≡ false → IsAhead placing.builder to
-    → (without_list placing.builder.blocks ≡ [] → IsWhiteBefore placing.builder to) → AllFitted placing
-    → MayBeginList placing to
-begins_list placing to other outside ahead white fitted = record {
-  fitted = fitted;
-  outside = outside;
-  ahead = ahead;
-  white = λ none. white (on_test (λ bs. bs ≡ []) (innermost_is is_list placing.builder.blocks)
-      (outer_of placing.builder.blocks) placing.builder.blocks (λ list. absurd (true≢false (sym list ∙ other)))
-      (λ same. none));
-}
-
-pub begins_list_after : (old new : Placing) (placed to : ℕ) → innermost_is is_list old.builder.blocks ≡ true
-    → IsAhead old.builder to → (without_list old.builder.blocks ≡ [] → IsWhiteBefore old.builder to)
-    → new.builder ≡ record (closed old.builder new.builder.levels)
-    { at = if innermost_is is_quote old.builder.blocks then placed else old.builder.at }
-    → AllFitted new → MayBeginList new to
-begins_list_after old new placed to list ahead white e fitted =
-    let at : new.builder.at ≡ old.builder.at = ap (λ (b : BuilderView). b.at) e
-    ∙ on_test (λ n. n ≡ old.builder.at) (innermost_is is_quote old.builder.blocks) placed old.builder.at
-    (λ quote. absurd (true≢false (sym quote ∙ innermost_no_quote old.builder.blocks list))) (λ other. refl) in
-    let text = ap (λ (b : BuilderView). b.text) e in
-    let blocks : new.builder.blocks ≡ outer_of old.builder.blocks = ap (λ (b : BuilderView). b.blocks) e in
-    record {
-      fitted = fitted;
-      outside = ap (λ (b : BuilderView). b.leaf) e;
-      ahead = ahead_of old.builder.text old.builder.at to new.builder text at ahead.0 ahead.1;
-      white = λ none. subst (λ t. AllPass is_in_blank_line t new.builder.at to) (sym text)
-          (subst (λ n. AllPass is_in_blank_line old.builder.text n to) (sym at)
-          (white (on_test (λ bs. bs ≡ []) (innermost_is is_list old.builder.blocks)
-          (outer_of old.builder.blocks) old.builder.blocks (λ same. sym blocks ∙ none)
-          (λ other. absurd (true≢false (sym list ∙ other))))));
-    }
 
 -- where nothing but a list is open, no block quote is
 no_quote_left : (blocks : List OpenBlock) → without_list blocks ≡ [] → has_quote blocks ≡ false

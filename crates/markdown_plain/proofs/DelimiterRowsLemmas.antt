@@ -7,7 +7,7 @@ use Rattle.std.proofs.Common.{nat_le, ⊎_elim}
 use Rattle.std.proofs.Common.{◌&&◌, ◌||◌, get_or, if◌then◌else◌, nat_lt, slice_index, take}
 use Rattle.std.proofs.lemmas.Bool.{cases_Bool, or_from, true≢false}
 use Rattle.std.proofs.lemmas.Bool.Decides.{nat_tests}
-use Rattle.std.proofs.lemmas.List.{drop_all, get_or-drop}
+use Rattle.std.proofs.lemmas.List.{get_or-drop}
 use Rattle.std.proofs.lemmas.List.{length-drop}
 use Rattle.std.proofs.lemmas.List.Sums.{prefix_len-le-length}
 use Rattle.std.proofs.lemmas.Option.{get_or_from_slice_get, slice_get_within}
@@ -155,16 +155,6 @@ is_black b space less more =
   where
     unlike : (n m : ℕ) → (n ≡ m → ⊥) → (n == m) ≡ false
     unlike n m differ = grind (arith, nat_tests)
-
--- nor does the end of the text
-pub no_row_past : (text : List ℕ) (at stop : ℕ) → None ≡ slice_get text at → delimiter_row_at text at stop ≡ None
-no_row_past text at stop none =
-    ap (row_of text at) (ap (take (stop - at)) (drop_all at text (past text at none)) ∙ no_bytes (stop - at))
-  where
-    past : (xs : List ℕ) (n : ℕ) → None ≡ slice_get xs n → length xs ≤ n
-    past [] n none = omega arith
-    past (x ∷ xs) zero none = cc
-    past (x ∷ xs) (suc n) none = let h = past xs n none in omega (arith, h)
 
     no_bytes : (n : ℕ) → take {A = ℕ} n [] ≡ []
     no_bytes zero = refl

@@ -1,18 +1,17 @@
 -- Calls that fit: where a builder is after one of them, the next fits.
-use Rattle.std.proofs.Common.{◌≡◌, ℕ, zero, suc, ◌+◌, ◌-◌, ◌≤◌, Bool, true, false, max, List, [], ◌∷◌, ◌++◌}
-use Rattle.std.proofs.Common.{Option, Some, None, length, drop, take, refl, sym, ap, ◌∙◌, subst, arith, true≢false}
+use Rattle.std.proofs.Common.{◌≡◌, ℕ, zero, suc, ◌+◌, ◌-◌, ◌≤◌, Bool, true, false, List, [], ◌∷◌, ◌++◌}
+use Rattle.std.proofs.Common.{Option, Some, None, drop, take, refl, sym, ap, ◌∙◌, subst, arith, true≢false}
 use Rattle.std.specs.Prelude.{slice_get}
 use Rattle.std.specs.Option.{option_map_or}
 use Rattle.std.specs.Str.{IsCharBoundary, IsUtf8}
 use Rattle.std.proofs.lemmas.Option.{same_Some}
 use Rattle.std.proofs.lemmas.List.{length-take}
-use Rattle.markdown_base.specs.declared.index.CowIndex.{CowIndex}
 use Rattle.markdown_base.specs.declared.item.ItemBody.{ItemBody}
 use Rattle.markdown_base.specs.declared.item.ItemBody.TheVariants as body
 use Rattle.markdown_base.specs.Forest.{Forest, nil, node}
 use Rattle.markdown_base.specs.declared.tag.HeadingLevel.{HeadingLevel}
 use Rattle.markdown_builder.specs.Bodies.{is_leaf}
-use Rattle.markdown_builder.specs.BuilderView.{BuilderView, Opens, OpensNaming, innermost_block}
+use Rattle.markdown_builder.specs.BuilderView.{BuilderView, Opens}
 use Rattle.markdown_builder.specs.EvenRows.{is_in_row, is_table_row}
 use Rattle.markdown_builder.specs.declared.open_block.OpenBlock.{OpenBlock}
 use Rattle.markdown_builder.specs.Shown.{Shown, chain_of, unnumbered}
@@ -23,7 +22,6 @@ use Rattle.markdown_scan.specs.LineStart.{LineLeft, leading_space}
 use Rattle.markdown_lines.specs.declared.held_line.HeldLine.{HeldLine}
 use Rattle.markdown_lines.specs.declared.position.Position.{Position}
 use Rattle.markdown_lines.specs.declared.space.Space.{Space}
-use Rattle.markdown_lines.specs.Lines.{IsNextContent}
 use Rattle.markdown_lines.specs.Positions.{IsSpaceAt, left_from}
 use Rattle.markdown_lines.specs.BlockBeginnings.{Source}
 use Rattle.markdown_lines.specs.SourceLines.{SourceLine}
@@ -32,15 +30,13 @@ use Rattle.markdown_block_rules.specs.BlockGrowth as was
 use Rattle.markdown_block_rules.specs.BlockGrowth.{Block, Kind}
 use Rattle.markdown_block_rules.specs.BlockRules.{Around, block_end, in_no_item, last_end, shown_block, shown_blocks}
 use Rattle.markdown_block_rules.specs.BlockRules.{shown_heading}
-use Rattle.markdown_plain.specs.declared.placing.Placing.{Placing}
 use Rattle.markdown_plain.specs.CodeLines.{after_line}
-use Rattle.markdown_plain.specs.Fitting.{AllFitted, BeginsAtContent, GoesOn, IfFitted, IsAhead, IsWhiteOutside, stepped}
-use Rattle.markdown_plain.specs.Fits.{AreLinesFrom, HasContent, HasContentFrom, IsInLeaf, MayAddLine}
-use Rattle.markdown_plain.specs.Fits.{MayAddAfter, MayAddBefore, MayOpenLeaf, MayStep, after_lines}
+use Rattle.markdown_plain.specs.Fitting.{GoesOn}
+use Rattle.markdown_plain.specs.Fits.{AreLinesFrom, IsInLeaf, MayAddLine}
+use Rattle.markdown_plain.specs.Fits.{MayAddAfter, MayAddBefore, MayStep, after_lines}
 use Rattle.markdown_plain.specs.Frames.{Frame}
 use Rattle.markdown_plain.specs.OpenLeaves.{IsOpenIn, is_leaf as is_leaf_kind, leaf_block}
 use Rattle.markdown_plain.specs.OpenedFrames.{around_innermost}
-use Rattle.markdown_plain.specs.OpenBlocks.{outer_of}
 use Rattle.markdown_plain.proofs.LinedLeavesLemmas.{cut_within}
 use Rattle.markdown_plain.proofs.BegunLemmas.{left_from_is_of}
 use Rattle.markdown_plain.proofs.OpenBlocksLemmas.{innermost_of_opened}
@@ -53,13 +49,6 @@ pub may_step : (view : BuilderView) (to : ℕ) → view.at ≤ to → IsCharBoun
     → (view.blocks ≡ [] → ⊥) → MayStep view to
 may_step view to low boundary some =
     record { ahead = (low, boundary); white = λ none. absurd (some none) }
-
--- a step that fits leads there
-pub step_done : (old new : Placing) (to : ℕ) → IfFitted old new (new.builder ≡ stepped old.builder to)
-    → (IsAhead old.builder to → IsWhiteOutside old.builder to → AllFitted old → AllFitted new)
-    → MayStep old.builder to → AllFitted old → AllFitted new × (new.builder ≡ stepped old.builder to)
-step_done old new to steps fits may fitted =
-    let now : AllFitted new = fits may.ahead may.white fitted in (now, (steps now).1)
 
 -- a block is open after one was opened
 pub some_opened : (blocks outer : List OpenBlock) (block : OpenBlock) → blocks ≡ outer ++ block ∷ []
@@ -120,25 +109,6 @@ goes_at text at to old new goes is = record {
   here = ap (λ (v : BuilderView). v.at) goes;
 }
 
--- a step in the leaf fits
-pub stepped_at : (text : List ℕ) (at to : ℕ) (old new : Placing)
-    → IfFitted old new (new.builder ≡ stepped old.builder to)
-    → (IsAhead old.builder to → IsWhiteOutside old.builder to → AllFitted old → AllFitted new)
-    → IsInLeafAt text at old.builder → at ≤ to → IsCharBoundary text to → AllFitted old
-    → AllFitted new × IsInLeafAt text to new.builder
-stepped_at text at to old new steps fits is low boundary fitted =
-    let here = is.here in
-    let may = may_step old.builder to (omega (arith, here, low))
-    (subst (λ t. IsCharBoundary t to) (sym is.same) boundary) is.inside.some in
-    let done = step_done old new to steps fits may fitted in (
-      done.0,
-      subst (IsInLeafAt text to) (sym done.1) (record {
-        inside = record { leaf = is.inside.leaf; some = is.inside.some; plain = is.inside.plain };
-        same = is.same;
-        here = refl;
-      }),
-    )
-
 -- a line fits into the leaf
 pub line_at : (text : List ℕ) (at from to : ℕ) (view : BuilderView) → IsInLeafAt text at view → at ≤ from
     → IsCharBoundary text from → IsCharBoundary text to → MayAddLine view from to
@@ -157,85 +127,6 @@ goes_on_fits old new at from to goes inside low boundary next =
     line_at old.text at from to new
     (goes_at old.text old.at at old new goes (record { inside = inside; same = refl; here = refl })) low boundary
     next
-
--- a leaf that begins after a step is opened there
-pub leaf_opened : (old mid now : Placing) (b : ItemBody) (from to : ℕ) → is_leaf b ≡ true
-    → IfFitted old mid (mid.builder ≡ stepped old.builder from)
-    → (IsAhead old.builder from → IsWhiteOutside old.builder from → AllFitted old → AllFitted mid)
-    → IfFitted mid now (Opens mid.builder now.builder b) → (mid.builder.leaf ≡ false → AllFitted mid → AllFitted now)
-    → MayOpenLeaf old.builder from to → AllFitted old
-    → AllFitted now × IsInLeafAt old.builder.text from now.builder
-leaf_opened old mid now b from to leaf steps step_fits opens open_fits may fitted =
-    let done = step_done old mid from steps step_fits may.begins fitted in
-    let all : AllFitted now = open_fits (ap (λ (v : BuilderView). v.leaf) done.1 ∙ may.outside) done.0 in
-    let is = opened_at mid.builder now.builder b (opens all).1 leaf in (
-      all,
-      record {
-        inside = is.inside;
-        same = is.same ∙ ap (λ (v : BuilderView). v.text) done.1;
-        here = is.here ∙ ap (λ (v : BuilderView). v.at) done.1;
-      },
-    )
-
--- so is one that refers to a text
-pub named_opened : (old mid now : Placing) (b : CowIndex → ItemBody) (name : List ℕ) (from to : ℕ)
-    → ((ix : CowIndex) → is_leaf (b ix) ≡ true)
-    → IfFitted old mid (mid.builder ≡ stepped old.builder from)
-    → (IsAhead old.builder from → IsWhiteOutside old.builder from → AllFitted old → AllFitted mid)
-    → IfFitted mid now (OpensNaming mid.builder now.builder b name)
-    → (mid.builder.leaf ≡ false → AllFitted mid → AllFitted now) → MayOpenLeaf old.builder from to → AllFitted old
-    → AllFitted now × IsInLeafAt old.builder.text from now.builder
-named_opened old mid now b name from to leaf steps step_fits opens open_fits may fitted =
-    let done = step_done old mid from steps step_fits may.begins fitted in
-    let all : AllFitted now = open_fits (ap (λ (v : BuilderView). v.leaf) done.1 ∙ may.outside) done.0 in
-    let is = (opens all).1 in
-    let block : OpenBlock =
-    record { start = mid.builder.at; body = b (record { 0 = length mid.builder.texts }) } in (
-      all,
-      record {
-        inside = in_leaf now.builder mid.builder.blocks block (ap (λ (v : BuilderView). v.blocks) is)
-            (ap (λ (v : BuilderView). v.leaf) is ∙ leaf (record { 0 = length mid.builder.texts }))
-            (leaf (record { 0 = length mid.builder.texts }));
-        same = ap (λ (v : BuilderView). v.text) is ∙ ap (λ (v : BuilderView). v.text) done.1;
-        here = ap (λ (v : BuilderView). v.at) is ∙ ap (λ (v : BuilderView). v.at) done.1;
-      },
-    )
-
--- the leaf has content, where its first line has
-pub has_content : (old now filled : BuilderView) (b : ItemBody) (at to : ℕ) → Opens (stepped old at) now b
-    → GoesOn now filled (after_line at to) → IsCharBoundary old.text at → HasContentFrom old.text at to
-    → HasContent filled
-has_content old now filled b at to opens goes boundary has =
-    let text : filled.text ≡ old.text =
-    ap (λ (v : BuilderView). v.text) goes ∙ ap (λ (v : BuilderView). v.text) opens in
-    let blocks : filled.blocks ≡ old.blocks ++ record { start = at; body = b } ∷ [] =
-    ap (λ (v : BuilderView). v.blocks) goes ∙ ap (λ (v : BuilderView). v.blocks) opens in
-    let here : filled.at ≡ max at to = ap (λ (v : BuilderView). v.at) goes in
-    let within = has.within in
-    record {
-      block = record { start = at; body = b };
-      innermost = ap innermost_block blocks ∙ innermost_of_opened old.blocks (record { start = at; body = b });
-      boundary = subst (λ t. IsCharBoundary t at) (sym text) boundary;
-      content = record {
-        content = has.content;
-        next = subst (λ t. IsNextContent t at (Some has.content)) (sym text) has.next;
-        within = omega (arith, here, within);
-      };
-    }
-
--- a leaf that begins later is still that leaf
-pub begun_in_leaf : (old new : BuilderView) → BeginsAtContent old new → new ≡ record old { blocks = new.blocks }
-    → IsInLeaf old → IsInLeaf new
-begun_in_leaf old new begins same inside =
-    let block = begins.blocks.block in
-    let outer = outer_of old.blocks in
-    record {
-      leaf = ap (λ (v : BuilderView). v.leaf) same ∙ inside.leaf;
-      some = some_opened new.blocks outer (record block { start = begins.start }) begins.blocks.becomes;
-      plain = ap is_in_row begins.blocks.becomes
-          ∙ (row_of outer (record block { start = begins.start })
-          ∙ (sym (ap is_in_row begins.blocks.was ∙ row_of outer block) ∙ inside.plain));
-    }
 
 -- ---- lines of code
 

@@ -340,7 +340,6 @@ pub record MakesRoom (old new : Pass) (depth : ℕ) : Type 0 where
   pub inside : (s : Source) (frames : List Frame) → MayOpen s old frames nil → depth ≡ length frames
       → IsLooseAs old.looseness frames nil
       → (new ≡ record old { looseness = new.looseness }) × IsLooseBefore new.looseness frames nil
-  pub fits : IsClosable old → AllFitted old.placing → AllFitted new.placing
   pub here : IsClosable old → AllFitted new.placing → AreClosable new.placing.builder old.placed
 
 -- what is built then is that of the containers where there is room
@@ -536,15 +535,3 @@ room_for s old new rest (turn.first before l) source at start b blocks makes sta
 room_for s old new rest (turn.later frames) source at start b blocks makes state found begins needs =
     let begun = found_begins s rest source at start b found begins in
     later_room s old new rest frames source b blocks state begun.0 begun.1 makes
-
--- and it is made by calls that fit
-pub room_fits : (s : Source) (old new : Pass) (rest : LineRest) (turn : Turn) (source : SourceLine)
-    (blocks : Forest Block) → MakesRoom old new rest.depth → IsHere s old rest turn source blocks
-    → AllFitted old.placing
-    → AllFitted new.placing
-room_fits s old new rest (turn.first before l) source blocks makes state fitted =
-    makes.fits state.holds.ready.closable fitted
-room_fits s old new rest (turn.later frames) source blocks makes state fitted =
-    let opened = state.opened in
-    subst (λ (p : Pass). AllFitted p.placing)
-    (sym (makes.inside s frames opened.free state.depth opened.loose).0) fitted

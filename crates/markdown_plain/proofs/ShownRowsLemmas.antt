@@ -45,18 +45,17 @@ use Rattle.markdown_scan.specs.Beginnings.{begins_with}
 use Rattle.markdown_block_rules.specs.BlockRules.{empty_cells, shown_cells, shown_over, shown_row}
 use Rattle.markdown_block_rules.specs.LineContents.{cell_items, pieces_items}
 use Rattle.markdown_plain.specs.declared.placing.Placing.{Placing}
-use Rattle.markdown_plain.specs.Closable.{IsInText, IsLeafOpen}
-use Rattle.markdown_plain.specs.Fitting.{AllFitted, GoesOn, IfFitted, IsAhead, IsWhiteOutside, PutsBlock, opened}
+use Rattle.markdown_plain.specs.Closable.{IsInText}
+use Rattle.markdown_plain.specs.Fitting.{AllFitted, GoesOn, IfFitted, PutsBlock, opened}
 use Rattle.markdown_plain.specs.Fitting.{stepped}
-use Rattle.markdown_plain.specs.Fits.{MayOpenLeaf}
 use Rattle.markdown_plain.specs.HeldSources.{IsTextLine}
 use Rattle.markdown_plain.specs.LeafTrees.{HasItems, HasTrees}
 use Rattle.markdown_plain.specs.OpenBlocks.{outer_of}
 use Rattle.markdown_plain.specs.TableRows.{IsCellIn, IsOnePiece, MayAddCell, cells_placed}
 use Rattle.markdown_plain.proofs.ParagraphLinesLemmas.{range_byte, range_length}
 use Rattle.markdown_plain.proofs.LeafTreesLemmas.{closed_tree, on_test, put_opened, same_block, trees_last}
-use Rattle.markdown_plain.proofs.ClosableLemmas.{ahead_of, end_passes, still_open}
-use Rattle.markdown_plain.proofs.FittingLemmas.{may_step, some_opened, step_done}
+use Rattle.markdown_plain.proofs.ClosableLemmas.{end_passes}
+use Rattle.markdown_plain.proofs.FittingLemmas.{some_opened}
 
 -- ---- where a piece of a cell's content ends
 
@@ -420,47 +419,19 @@ piece_cut text from to stop next boundary is after past =
     })
     (cases_lt stop to)
 
--- a piece fits, and then the next one
-pub piece_added : (text : List ℕ) (first before moved new : Placing) (from to stop next : ℕ) → from < to
-    → IsLeafOpen first.builder → GoesOn first.builder before.builder before.builder.at
-    → MayAddPiece text before.builder from to → from ≤ stop → stop ≤ to → IsPieceCut text to stop next
-    → IfFitted before moved (moved.builder ≡ stepped before.builder from)
-    → (IsAhead before.builder from → IsWhiteOutside before.builder from → AllFitted before → AllFitted moved)
-    → IfFitted moved new (GoesOn moved.builder new.builder stop)
-    → (moved.builder.leaf ≡ true → IsAhead moved.builder stop → AllFitted moved → AllFitted new)
-    → first.builder.text ≡ text → AllFitted before → AllFitted new × MayAddPiece text new.builder next to
-piece_added text first before moved new from to stop next less inside goes may low high cut steps step_fits appends fits
-    same fitted =
-    let open_now = still_open first.builder before.builder (ap (λ (v : BuilderView). v.leaf) goes)
-    (ap (λ (v : BuilderView). v.blocks) goes) inside in
-    let text_now : before.builder.text ≡ text = ap (λ (v : BuilderView). v.text) goes ∙ same in
-    let begins = may.low in
-    let step = step_done before moved from steps step_fits (may_step before.builder from begins
-    (subst (λ t. IsCharBoundary t from) (sym text_now) (may.boundary less)) open_now.some) fitted in
-    let here : moved.builder.at ≡ from = ap (λ (v : BuilderView). v.at) step.1 in
-    let text_then : moved.builder.text ≡ text = ap (λ (v : BuilderView). v.text) step.1 ∙ text_now in
-    let done : AllFitted new = fits (ap (λ (v : BuilderView). v.leaf) step.1 ∙ open_now.leaf)
-    (ahead_of text from stop moved.builder text_then here low cut.stop_at) step.0 in
-    let there : new.builder.at ≡ stop = ap (λ (v : BuilderView). v.at) (appends done).1 in
-    let further = cut.low in (
-      done,
-      record {
-        low = omega (arith, there, further);
-        high = omega (arith, there, high);
-        boundary = cut.next_at;
-      },
-    )
+-- after a piece the next one fits
+pub piece_added : (text : List ℕ) (old new : BuilderView) (to stop next : ℕ) → stop ≤ to
+    → IsPieceCut text to stop next → GoesOn old new stop → MayAddPiece text new next to
+piece_added text old new to stop next high cut goes =
+    let there : new.at ≡ stop = ap (λ (v : BuilderView). v.at) goes in
+    let further = cut.low in
+    record {
+      low = omega (arith, there, further);
+      high = omega (arith, there, high);
+      boundary = cut.next_at;
+    }
 
 -- ---- a cell
-
--- a leaf may be opened where a cell may be
-pub may_open_cell : (builder : BuilderView) (at : ℕ) → MayAddCell builder at → MayOpenLeaf builder at at
-may_open_cell builder at may = record {
-  outside = may.outside;
-  begins = may_step builder at may.low may.boundary may.some;
-  ordered = omega arith;
-  next = may.boundary;
-}
 
 -- what was opened after a step is the innermost block
 cell_block : (old first opened : BuilderView) (at : ℕ) → first ≡ stepped old at → Opens first opened body.TableCell

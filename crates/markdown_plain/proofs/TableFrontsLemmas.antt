@@ -18,7 +18,7 @@ use Rattle.markdown_block_rules.specs.BlockGrowth as was
 use Rattle.markdown_block_rules.specs.BlockGrowth.{Block}
 use Rattle.markdown_block_rules.specs.BlockRules.{in_no_item, lines_end as last_next}
 use Rattle.markdown_plain.specs.declared.pass.Pass.{Pass}
-use Rattle.markdown_plain.specs.Closable.{AreAhead, AreApart, AreInText, HaveTask, IsInText}
+use Rattle.markdown_plain.specs.Closable.{AreAhead, AreApart, AreInText, IsInText}
 use Rattle.markdown_plain.specs.Fits.{MayStep}
 use Rattle.markdown_plain.specs.Fitting.{defining}
 use Rattle.markdown_plain.specs.Frames.{Frame}
@@ -95,11 +95,6 @@ ahead_front view front head ahead = record {
 pub head_in_text : (view : BuilderView) (front : List HeldLine) (head : HeldLine) → AreAhead view (front ++ head ∷ [])
     → IsInText view.text head
 head_in_text view front head ahead = (after_front view.text view.at front head ahead.order).is
-
-pub task_front : (text : List ℕ) (task : Option Bool) (front : List HeldLine) (head : HeldLine)
-    → HaveTask text task (front ++ head ∷ []) → HaveTask text task front
-task_front text task [] head have = tt
-task_front text task (line ∷ front) head have = have
 
 text_front : (text : List ℕ) (front : List HeldLine) (head : HeldLine) (before : List SourceLine) (from : SourceLine)
     → AreTextLines text (front ++ head ∷ []) (before ++ from ∷ [])

@@ -1,17 +1,15 @@
 -- A cell is one tree of its row, and a row with as many cells as the open table has columns may be closed.
-use Rattle.std.proofs.Common.{◌≡◌, ℕ, ◌+◌, List, [], ◌∷◌, ◌++◌, Option, Some, true, false, length, refl, sym, ap}
+use Rattle.std.proofs.Common.{◌≡◌, ℕ, ◌+◌, List, [], ◌∷◌, ◌++◌, Option, Some, length, refl, sym, ap}
 use Rattle.std.proofs.Common.{min, ◌∙◌, subst, arith, ◌≤◌, ◌<◌, ◌-◌, take, drop, ⊎_elim}
 use Rattle.std.proofs.lemmas.Bool.{cases_lt}
 use Rattle.std.specs.Option.{option_map_or}
 use Rattle.std.proofs.lemmas.List.{append_assoc, length-append}
 use Rattle.markdown_base.specs.Forest.{Forest, nil, node, roots}
-use Rattle.markdown_base.specs.declared.item.ItemBody.{ItemBody}
 use Rattle.markdown_builder.specs.declared.open_block.OpenBlock.{OpenBlock}
-use Rattle.markdown_builder.specs.BuilderView.{BuilderView, LastHasBody, innermost_block, parts_of, with_items}
-use Rattle.markdown_builder.specs.EvenRows.{InnermostRowIsEven, is_in_row, is_table_row, open_columns}
+use Rattle.markdown_builder.specs.BuilderView.{BuilderView, innermost_block, parts_of, with_items}
+use Rattle.markdown_builder.specs.EvenRows.{InnermostRowIsEven, open_columns}
 use Rattle.markdown_builder.specs.Shown.{Shown, alignments_shown, chain_of, settled_below, shown_item, with_block}
 use Rattle.markdown_builder.specs.TreeLevels.{followed_by, with_trees}
-use Rattle.markdown_builder.proofs.RowInsideLemmas.{no_row_inside}
 use Rattle.markdown_items.specs.ContentItems.{AddsItems}
 use Rattle.markdown_lines.specs.declared.table_row.Cell.{Cell}
 use Rattle.markdown_lines.specs.TableRows.{cells_from, cells_left}
@@ -19,10 +17,9 @@ use Rattle.markdown_lines.proofs.TableRowsLemmas.{no_cell}
 use Rattle.markdown_items.proofs.RestOfLineLemmas.{adds_more}
 use Rattle.markdown_plain.specs.declared.placing.Placing.{Placing}
 use Rattle.markdown_plain.specs.Fitting.{IfFitted, PutsBlock}
-use Rattle.markdown_plain.specs.OpenBlocks.{outer_of}
 use Rattle.markdown_plain.specs.TableRows.{HasCells, PutsTree}
 use Rattle.markdown_plain.proofs.LeafTreesLemmas.{closed_tree, trees_last}
-use Rattle.markdown_plain.proofs.OpenBlocksLemmas.{innermost_of_opened, last_apart}
+use Rattle.markdown_plain.proofs.OpenBlocksLemmas.{innermost_of_opened}
 
 -- ---- cells
 
@@ -131,22 +128,3 @@ none_left text stop =
     ∙ ap (λ (cells : List Cell). length cells) (no_cell stop [] refl)
 
 -- ---- a row that is made another block
-
-some_row : (blocks : List OpenBlock) → is_in_row blocks ≡ true → blocks ≡ [] → ⊥
-some_row [] row e = cc (row)
-some_row (block ∷ blocks) row e = cc (e)
-
-pub row_left : (old new : BuilderView) (b : ItemBody) → is_in_row old.blocks ≡ true → is_table_row b ≡ false
-    → LastHasBody old.blocks new.blocks b → InnermostRowIsEven new
-row_left old new b row other changed =
-    let p = last_apart old.blocks (some_row old.blocks row) in
-    let now = changed (outer_of old.blocks) p.block p.is in
-    no_row_inside new (ap (λ (o : Option OpenBlock). option_map_or (λ block. is_table_row block.body) o false)
-    (ap innermost_block now ∙ innermost_of_opened (outer_of old.blocks) _) ∙ other)
-
-pub same_depth : (old new : List OpenBlock) (b : ItemBody) → is_in_row old ≡ true → LastHasBody old new b
-    → length new ≡ length old
-same_depth old new b row changed =
-    let p = last_apart old (some_row old row) in
-    let now = changed (outer_of old) p.block p.is in
-    ap length now ∙ (length-append (outer_of old) _ ∙ (sym (length-append (outer_of old) _) ∙ ap length (sym p.is)))

@@ -153,13 +153,3 @@ text_here s old new rest at (first before line) source blocks adds state left =
     text_first s old new rest at before line source blocks adds state left
 text_here s old new rest at (later frames) source blocks adds state left =
     text_later s old new rest at frames source blocks adds state left
-
--- and all calls fit
-pub text_fits : (s : Source) (old new : Pass) (rest : LineRest) (at : ℕ) (turn : Turn) (source : SourceLine)
-    (blocks : Forest Block) → AddsText old new rest.line at rest.depth → IsHere s old rest turn source blocks
-    → AllFitted old.placing → AllFitted new.placing
-text_fits s old new rest at (first before line) source blocks adds state fitted =
-    adds.fits state.holds.ready.closable fitted
-text_fits s old new rest at (later frames) source blocks adds state fitted =
-    subst (λ (p : Pass). AllFitted p.placing)
-    (sym (adds.inside s frames state.opened.free state.depth state.opened.loose).0) fitted

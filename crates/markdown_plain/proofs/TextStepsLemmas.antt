@@ -76,7 +76,6 @@ pub record AddsText (old new : Pass) (line : Line) (start depth : ℕ) : Type 0 
   pub untried : has_paragraph old ≡ false → new.tried ≡ false
   pub here : has_paragraph old ≡ false → IsClosable old → AllFitted new.placing
       → AreClosable new.placing.builder old.placed
-  pub fits : IsClosable old → AllFitted old.placing → AllFitted new.placing
   -- which lines are held back then, and what becomes of containers that were opened in the line
   pub lines : new.lines.items ≡ (if has_paragraph old then old.lines.items else []) ++ held_line line start ∷ []
   pub inside : (s : Source) (frames : List Frame) → MayOpen s old frames nil → depth ≡ length frames

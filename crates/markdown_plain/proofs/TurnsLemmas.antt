@@ -12,13 +12,13 @@ use Rattle.markdown_block_rules.specs.BlockGrowth.{Block}
 use Rattle.markdown_plain.specs.declared.beginnings.LineRest.{LineRest}
 use Rattle.markdown_plain.specs.declared.pass.Pass.{Pass}
 use Rattle.markdown_plain.specs.Beginning.{FoundFits, HasBegun, IsFound, IsHere, Turn}
-use Rattle.markdown_plain.specs.Fitting.{AllFitted, FittedBefore, IfFitted}
+use Rattle.markdown_plain.specs.Fitting.{AllFitted, IfFitted}
 use Rattle.markdown_plain.specs.Standing.{PlacesFor}
 use Rattle.markdown_plain.specs.TextLines.{IsTextFrom}
-use Rattle.markdown_plain.specs.Turns.{KeepsFitting, KeepsReading}
+use Rattle.markdown_plain.specs.Turns.{KeepsReading}
 use Rattle.markdown_plain.proofs.FoundBlocksLemmas.{here_left}
 use Rattle.markdown_plain.proofs.FoundPlacesLemmas.{found_fits, here_text}
-use Rattle.markdown_plain.proofs.TextHereLemmas.{text_fits, text_here}
+use Rattle.markdown_plain.proofs.TextHereLemmas.{text_here}
 use Rattle.markdown_plain.proofs.TextStepsLemmas.{AddsText}
 
 -- before the first turn
@@ -44,10 +44,10 @@ BeginsThere before now old new more =
 
 -- after a turn that left more of the line
 pub next_turn : (before now new : Pass) (old rest next : LineRest) (place : ℕ)
-    → KeepsReading before now old rest place → FittedBefore now.placing new.placing
+    → KeepsReading before now old rest place
     → BeginsThere now new rest next true → KeepsReading before new old next (place + 1)
-next_turn before now new old rest next place keeps back begins s turn source blocks here fitted =
-    let still = keeps s turn source blocks here (back fitted) in
+next_turn before now new old rest next place keeps begins s turn source blocks here fitted =
+    let still = keeps s turn source blocks here tt in
     let begun = begins s still.1.turn still.1.source blocks still.1.here fitted in (
       still.0,
       record {
@@ -61,22 +61,22 @@ next_turn before now new old rest next place keeps back begins s turn source blo
 
 -- after one that left nothing
 pub last_turn : (before now new : Pass) (old rest next : LineRest) (place : ℕ) → KeepsReading before now old rest place
-    → FittedBefore now.placing new.placing → BeginsThere now new rest next false → (s : Source) (turn : Turn)
+    → BeginsThere now new rest next false → (s : Source) (turn : Turn)
     (source : SourceLine) (blocks : Forest Block) → IsHere s before old turn source blocks
     → IfFitted before.placing new.placing (PlacesFor s new old.line.next blocks)
-last_turn before now new old rest next place keeps back begins s turn source blocks here fitted =
-    let still = keeps s turn source blocks here (back fitted) in
+last_turn before now new old rest next place keeps begins s turn source blocks here fitted =
+    let still = keeps s turn source blocks here tt in
     let begun = begins s still.1.turn still.1.source blocks still.1.here fitted in
     (still.0, subst (λ (line : Line). PlacesFor s new line.next blocks) still.1.line begun.1)
 
 -- what is left is text
 pub text_turn : (before now new : Pass) (old rest : LineRest) (place : ℕ) → KeepsReading before now old rest place
-    → FittedBefore now.placing new.placing → AddsText now new rest.line rest.position.at rest.depth
+    → AddsText now new rest.line rest.position.at rest.depth
     → IsTextFrom now.placing.builder.text rest.position rest.line.stop → (s : Source) (turn : Turn)
     (source : SourceLine) (blocks : Forest Block) → IsHere s before old turn source blocks
     → IfFitted before.placing new.placing (PlacesFor s new old.line.next blocks)
-text_turn before now new old rest place keeps back adds shows s turn source blocks here fitted =
-    let still = keeps s turn source blocks here (back fitted) in
+text_turn before now new old rest place keeps adds shows s turn source blocks here fitted =
+    let still = keeps s turn source blocks here tt in
     let left = here_left s now rest still.1.turn still.1.source blocks still.1.here in
     let same = here_text s now rest still.1.turn still.1.source blocks still.1.here in
     let bytes : still.1.source.left ≡ left_from now.placing.builder.text rest.position rest.line.stop =
@@ -107,24 +107,6 @@ turns_end before now old rest place keeps many s turn source blocks here fitted 
     at_most_one : (test : Bool) → (if test then 0 else 1) ≤ 1
     at_most_one true = omega arith
     at_most_one false = omega arith
-
--- ---- calls that fit
-
--- after a turn whose calls fit, all have fitted
-pub turn_fits : (before now new : Pass) (old rest : LineRest) (place : ℕ) → KeepsReading before now old rest place
-    → KeepsFitting before now old → KeepsFitting now new rest → KeepsFitting before new old
-turn_fits before now new old rest place keeps fits more s turn source blocks here fitted =
-    let so_far = fits s turn source blocks here fitted in
-    let still = (keeps s turn source blocks here so_far).1 in
-    more s still.turn still.source blocks still.here so_far
-
--- and after one that adds text
-pub text_turn_fits : (before now new : Pass) (old rest : LineRest) (place : ℕ)
-    → KeepsReading before now old rest place → KeepsFitting before now old
-    → AddsText now new rest.line rest.position.at rest.depth → KeepsFitting before new old
-text_turn_fits before now new old rest place keeps fits adds =
-    turn_fits before now new old rest place keeps fits
-    (λ s turn source blocks here. text_fits s now new rest rest.position.at turn source blocks adds here)
 
 -- what was found fits into the line that is read
 pub here_fits : (s : Source) (pass : Pass) (rest : LineRest) (turn : Turn) (source : SourceLine)

@@ -7,7 +7,7 @@ use Rattle.markdown_block_rules.specs.BlockGrowth.{Block}
 use Rattle.markdown_plain.specs.declared.beginnings.LineRest.{LineRest}
 use Rattle.markdown_plain.specs.declared.pass.Pass.{Pass}
 use Rattle.markdown_plain.specs.Beginning.{IsHere, Turn, turn_place}
-use Rattle.markdown_plain.specs.Fitting.{AllFitted, IfFitted}
+use Rattle.markdown_plain.specs.Fitting.{IfFitted}
 
 -- more is to be read of the same line, after turns that went on to a place
 pub record StillReads (s : Source) (pass : Pass) (old now : LineRest) (blocks : Forest Block) (place : ℕ) : Type 0 where
@@ -22,9 +22,3 @@ abbrev pub KeepsReading : (before now : Pass) → (old rest : LineRest) → ℕ 
 KeepsReading before now old rest place =
     (s : Source) (turn : Turn) (source : SourceLine) (blocks : Forest Block) → IsHere s before old turn source blocks
     → IfFitted before.placing now.placing (StillReads s now old rest blocks place)
-
--- all calls so far fitted, where what was to be read of a line is
-abbrev pub KeepsFitting : (before now : Pass) → (old : LineRest) → Type 0
-KeepsFitting before now old =
-    (s : Source) (turn : Turn) (source : SourceLine) (blocks : Forest Block) → IsHere s before old turn source blocks
-    → AllFitted before.placing → AllFitted now.placing

@@ -1,11 +1,10 @@
 //! What begins in a line: the rest of a line, which block its first bytes begin, and how each of these is opened, until
 //! the line is placed or the rest of it is inside a new container. `block_pass` goes on with that, turn by turn.
 //! Functions that return a `Result` fail only where memory is refused.
-ghost use Rattle.std.specs.Prelude.{◌≡◌, ◌≤◌, ℕ, true, false, Some, None, IfOk, length};
+ghost use Rattle.std.specs.Prelude.{◌≡◌, ℕ, true, false, Some, None, IfOk, length};
 ghost use Rattle.std.specs.Str.{IsCharBoundary};
 ghost use Rattle.markdown_base.specs.Forest.{Forest};
 ghost use Rattle.markdown_block_rules.specs.BlockGrowth.{Block};
-ghost use Rattle.markdown_block_rules.specs.TableLines.{reads_tables};
 ghost use Rattle.markdown_lines.specs.BlockBeginnings.{Beginning, Source};
 ghost use Rattle.markdown_lines.specs.BlockStarts.{beginning_found};
 ghost use Rattle.markdown_lines.specs.HeldLines.{IsHeldLine};
@@ -13,14 +12,13 @@ ghost use Rattle.markdown_lines.specs.SourceLines.{SourceLine};
 ghost use Rattle.markdown_lines.specs.declared.block_start.Before.TheVariants as before;
 ghost use Rattle.markdown_lines.specs.declared.block_start.BlockStart.{BlockStart};
 ghost use Rattle.markdown_lines.specs.declared.block_start.BlockStart.TheVariants as start;
-ghost use Rattle.markdown_plain.specs.Beginning.{HasBegun, HasRoom, IsFound, IsHeadingIn, IsHere, NeedsRoom};
+ghost use Rattle.markdown_plain.specs.Beginning.{HasBegun, HasRoom, IsFound, IsHere, NeedsRoom};
 ghost use Rattle.markdown_plain.specs.Beginning.{ReadsOn, Turn};
 ghost use Rattle.markdown_plain.specs.Beginning.{MayBeginBlock, MayRead};
 ghost use Rattle.markdown_plain.specs.Closable.{MayMakeRoom};
 ghost use Rattle.markdown_plain.specs.Fits.{MayStep};
-ghost use Rattle.markdown_plain.specs.Fitting.{AllFitted, BracesStand, FittedBefore, IfFitted};
+ghost use Rattle.markdown_plain.specs.Fitting.{BracesStand, IfFitted};
 ghost use Rattle.markdown_plain.specs.OpenLeaves.{InfoStands};
-ghost use Rattle.markdown_plain.specs.Paragraphs.{source_of};
 ghost use Rattle.markdown_plain.specs.Standing.{PlacesFor};
 ghost use Rattle.markdown_plain.specs.TextLines.{paragraph_before};
 ghost use Rattle.markdown_plain.specs.declared.beginnings.LineRest.{LineRest};
@@ -72,15 +70,11 @@ impl<'a> Pass<'a> {
         requires { MayRead self.old rest.old }
         ensures text { IfOk result (λ _. self.new.placing.builder.text
             ≡ self.old.placing.builder.text) }
-        ensures fitted { IfOk result (λ _. FittedBefore self.old.placing self.new.placing) }
         ensures tables { IfOk result (λ _. self.new.tables ≡ self.old.tables) }
         ensures begins { IfOk result (λ more. (s : Source) (turn : Turn) (source : SourceLine)
             (blocks : Forest Block) → IsHere s self.old rest.old turn source blocks
             → IfFitted self.old.placing self.new.placing
             (HasBegun s self.new rest.old rest.new blocks more)) }
-        ensures fits { IfOk result (λ more. (s : Source) (turn : Turn) (source : SourceLine)
-            (blocks : Forest Block) → IsHere s self.old rest.old turn source blocks
-            → AllFitted self.old.placing → AllFitted self.new.placing) }
     {
         let begun = rest.reader.beginning(rest.position, rest.before)?;
         let at = begun.at;
@@ -108,7 +102,6 @@ impl<'a> Pass<'a> {
         requires { MayMakeRoom self.old rest.now.depth }
         ensures text { IfOk result (λ _. self.new.placing.builder.text
             ≡ self.old.placing.builder.text) }
-        ensures fitted { IfOk result (λ _. FittedBefore self.old.placing self.new.placing) }
         ensures tables { IfOk result (λ _. self.new.tables ≡ self.old.tables) }
         ensures room { IfOk result (λ _. (s : Source) (turn : Turn) (source : SourceLine)
             (at : ℕ) (start : BlockStart) (b : Beginning) (blocks : Forest Block)
@@ -116,11 +109,6 @@ impl<'a> Pass<'a> {
             → beginning_found rest.now.reader start ≡ Some b → NeedsRoom b
             → IfFitted self.old.placing self.new.placing
             (HasRoom s self.new rest.now source b blocks)) }
-        ensures fits { IfOk result (λ _. (s : Source) (turn : Turn) (source : SourceLine)
-            (at : ℕ) (start : BlockStart) (b : Beginning) (blocks : Forest Block)
-            → IsHere s self.old rest.now turn source blocks → IsFound s rest.now source at start
-            → beginning_found rest.now.reader start ≡ Some b → NeedsRoom b
-            → AllFitted self.old.placing → AllFitted self.new.placing) }
         ensures same { self.new ≡ record self.old {
           placing = self.new.placing;
           lines = self.new.lines;
@@ -151,7 +139,6 @@ impl<'a> Pass<'a> {
         requires { MayStep self.old.placing.builder line.next }
         ensures text { IfOk result (λ _. self.new.placing.builder.text
             ≡ self.old.placing.builder.text) }
-        ensures fitted { IfOk result (λ _. FittedBefore self.old.placing self.new.placing) }
         ensures tables { IfOk result (λ _. self.new.tables ≡ self.old.tables) }
         ensures more { IfOk result (λ more. more ≡ false) }
         ensures places { IfOk result (λ _. (s : Source) (rest : LineRest) (turn : Turn)
@@ -159,11 +146,6 @@ impl<'a> Pass<'a> {
             → IsHere s self.old rest turn source blocks → rest.line ≡ line
             → IsFound s rest source at start.Nothing → IfFitted self.old.placing self.new.placing
             (PlacesFor s self.new line.next blocks)) }
-        ensures fits { IfOk result (λ _. (s : Source) (rest : LineRest) (turn : Turn)
-            (source : SourceLine) (at : ℕ) (blocks : Forest Block)
-            → IsHere s self.old rest turn source blocks → rest.line ≡ line
-            → IsFound s rest source at start.Nothing
-            → AllFitted self.old.placing → AllFitted self.new.placing) }
     {
         self.placing.step_to(line.next);
         Ok(false)
@@ -174,7 +156,6 @@ impl<'a> Pass<'a> {
         requires { MayMakeRoom self.old rest.now.depth }
         ensures text { IfOk result (λ _. self.new.placing.builder.text
             ≡ self.old.placing.builder.text) }
-        ensures fitted { IfOk result (λ _. FittedBefore self.old.placing self.new.placing) }
         ensures tables { IfOk result (λ _. self.new.tables ≡ self.old.tables) }
         ensures more { IfOk result (λ more. more ≡ false) }
         ensures places { IfOk result (λ _. (s : Source) (turn : Turn) (source : SourceLine)
@@ -188,16 +169,6 @@ impl<'a> Pass<'a> {
             })
             → IfFitted self.old.placing self.new.placing
             (PlacesFor s self.new rest.now.line.next blocks)) }
-        ensures fits { IfOk result (λ _. (s : Source) (turn : Turn) (source : SourceLine)
-            (blocks : Forest Block) → IsHere s self.old rest.now turn source blocks
-            → IsFound s rest.now source at start.Text
-            → IsHeldLine self.old.placing.builder.text (record {
-              start = at;
-              stop = rest.now.line.stop;
-              next = rest.now.line.next;
-              owed = 0;
-            })
-            → AllFitted self.old.placing → AllFitted self.new.placing) }
     {
         self.add_text(rest.line, at, rest.depth)?;
         Ok(false)
@@ -208,7 +179,6 @@ impl<'a> Pass<'a> {
         requires { (at : ℕ) × MayBeginBlock self.old rest.now at (start.IndentedCode code) }
         ensures text { IfOk result (λ _. self.new.placing.builder.text
             ≡ self.old.placing.builder.text) }
-        ensures fitted { IfOk result (λ _. FittedBefore self.old.placing self.new.placing) }
         ensures tables { IfOk result (λ _. self.new.tables ≡ self.old.tables) }
         ensures more { IfOk result (λ more. more ≡ false) }
         ensures places { IfOk result (λ _. (s : Source) (turn : Turn) (source : SourceLine)
@@ -216,11 +186,6 @@ impl<'a> Pass<'a> {
             → IsFound s rest.now source at (start.IndentedCode code)
             → IfFitted self.old.placing self.new.placing
             (PlacesFor s self.new rest.now.line.next blocks)) }
-        ensures fits { IfOk result (λ _. (s : Source) (turn : Turn) (source : SourceLine)
-            (at : ℕ) (blocks : Forest Block) → IsHere s self.old rest.now turn source blocks
-            → IsFound s rest.now source at (start.IndentedCode code)
-            → IsCharBoundary self.old.placing.builder.text code.at → code.at ≤ rest.now.line.stop
-            → AllFitted self.old.placing → AllFitted self.new.placing) }
     {
         self.make_room_for(rest)?;
         self.open_indented(rest.line, code)?;
@@ -237,7 +202,6 @@ impl<'a> Pass<'a> {
         requires { MayBeginBlock self.old rest.old at (start.Quote inside) }
         ensures text { IfOk result (λ _. self.new.placing.builder.text
             ≡ self.old.placing.builder.text) }
-        ensures fitted { IfOk result (λ _. FittedBefore self.old.placing self.new.placing) }
         ensures tables { IfOk result (λ _. self.new.tables ≡ self.old.tables) }
         ensures more { IfOk result (λ more. more ≡ true) }
         ensures reads_on { IfOk result (λ _. (s : Source) (turn : Turn) (source : SourceLine)
@@ -246,11 +210,6 @@ impl<'a> Pass<'a> {
             → IsCharBoundary self.old.placing.builder.text inside.at
             → IfFitted self.old.placing self.new.placing
             (ReadsOn s self.new rest.old rest.new blocks)) }
-        ensures fits { IfOk result (λ _. (s : Source) (turn : Turn) (source : SourceLine)
-            (blocks : Forest Block) → IsHere s self.old rest.old turn source blocks
-            → IsFound s rest.old source at (start.Quote inside)
-            → IsCharBoundary self.old.placing.builder.text inside.at
-            → AllFitted self.old.placing → AllFitted self.new.placing) }
     {
         self.make_room_for(rest)?;
         self.open_quote(at, None)?;
@@ -268,7 +227,6 @@ impl<'a> Pass<'a> {
         requires { MayBeginBlock self.old rest.now at (start.Alert kind) }
         ensures text { IfOk result (λ _. self.new.placing.builder.text
             ≡ self.old.placing.builder.text) }
-        ensures fitted { IfOk result (λ _. FittedBefore self.old.placing self.new.placing) }
         ensures tables { IfOk result (λ _. self.new.tables ≡ self.old.tables) }
         ensures more { IfOk result (λ more. more ≡ false) }
         ensures places { IfOk result (λ _. (s : Source) (turn : Turn) (source : SourceLine)
@@ -276,10 +234,6 @@ impl<'a> Pass<'a> {
             → IsFound s rest.now source at (start.Alert kind)
             → IfFitted self.old.placing self.new.placing
             (PlacesFor s self.new rest.now.line.next blocks)) }
-        ensures fits { IfOk result (λ _. (s : Source) (turn : Turn) (source : SourceLine)
-            (blocks : Forest Block) → IsHere s self.old rest.now turn source blocks
-            → IsFound s rest.now source at (start.Alert kind)
-            → AllFitted self.old.placing → AllFitted self.new.placing) }
     {
         self.make_room_for(rest)?;
         self.open_quote(at, Some(kind))?;
@@ -297,7 +251,6 @@ impl<'a> Pass<'a> {
         requires { MayBeginBlock self.old rest.now at (start.Heading heading) }
         ensures text { IfOk result (λ _. self.new.placing.builder.text
             ≡ self.old.placing.builder.text) }
-        ensures fitted { IfOk result (λ _. FittedBefore self.old.placing self.new.placing) }
         ensures tables { IfOk result (λ _. self.new.tables ≡ self.old.tables) }
         ensures more { IfOk result (λ more. more ≡ false) }
         ensures places { IfOk result (λ _. (s : Source) (turn : Turn) (source : SourceLine)
@@ -306,12 +259,6 @@ impl<'a> Pass<'a> {
             → BracesStand self.old.placing.builder.text heading.braces
             → IfFitted self.old.placing self.new.placing
             (PlacesFor s self.new rest.now.line.next blocks)) }
-        ensures fits { IfOk result (λ _. (s : Source) (turn : Turn) (source : SourceLine)
-            (blocks : Forest Block) → IsHere s self.old rest.now turn source blocks
-            → IsFound s rest.now source at (start.Heading heading)
-            → BracesStand self.old.placing.builder.text heading.braces
-            → IsHeadingIn self.old.placing.builder.text rest.now.line at heading
-            → AllFitted self.old.placing → AllFitted self.new.placing) }
     {
         self.make_room_for(rest)?;
         self.placing.step_to(at);
@@ -329,7 +276,6 @@ impl<'a> Pass<'a> {
         requires { MayBeginBlock self.old rest.now at (start.Fence opening) }
         ensures text { IfOk result (λ _. self.new.placing.builder.text
             ≡ self.old.placing.builder.text) }
-        ensures fitted { IfOk result (λ _. FittedBefore self.old.placing self.new.placing) }
         ensures tables { IfOk result (λ _. self.new.tables ≡ self.old.tables) }
         ensures more { IfOk result (λ more. more ≡ false) }
         ensures places { IfOk result (λ _. (s : Source) (turn : Turn) (source : SourceLine)
@@ -338,11 +284,6 @@ impl<'a> Pass<'a> {
             → InfoStands self.old.placing.builder.text opening
             → IfFitted self.old.placing self.new.placing
             (PlacesFor s self.new rest.now.line.next blocks)) }
-        ensures fits { IfOk result (λ _. (s : Source) (turn : Turn) (source : SourceLine)
-            (blocks : Forest Block) → IsHere s self.old rest.now turn source blocks
-            → IsFound s rest.now source at (start.Fence opening)
-            → InfoStands self.old.placing.builder.text opening
-            → AllFitted self.old.placing → AllFitted self.new.placing) }
     {
         self.make_room_for(rest)?;
         self.open_fenced(rest.line, at, opening)?;
@@ -354,7 +295,6 @@ impl<'a> Pass<'a> {
         requires { (at : ℕ) × MayBeginBlock self.old rest.now at (start.Html kind) }
         ensures text { IfOk result (λ _. self.new.placing.builder.text
             ≡ self.old.placing.builder.text) }
-        ensures fitted { IfOk result (λ _. FittedBefore self.old.placing self.new.placing) }
         ensures tables { IfOk result (λ _. self.new.tables ≡ self.old.tables) }
         ensures more { IfOk result (λ more. more ≡ false) }
         ensures places { IfOk result (λ _. (s : Source) (turn : Turn) (source : SourceLine)
@@ -368,16 +308,6 @@ impl<'a> Pass<'a> {
             })
             → IfFitted self.old.placing self.new.placing
             (PlacesFor s self.new rest.now.line.next blocks)) }
-        ensures fits { IfOk result (λ _. (s : Source) (turn : Turn) (source : SourceLine)
-            (at : ℕ) (blocks : Forest Block) → IsHere s self.old rest.now turn source blocks
-            → IsFound s rest.now source at (start.Html kind)
-            → IsHeldLine self.old.placing.builder.text (record {
-              start = at;
-              stop = rest.now.line.stop;
-              next = rest.now.line.next;
-              owed = 0;
-            })
-            → AllFitted self.old.placing → AllFitted self.new.placing) }
     {
         self.make_room_for(rest)?;
         self.open_html(rest.line, rest.position, kind)?;
@@ -395,7 +325,6 @@ impl<'a> Pass<'a> {
         requires { MayBeginBlock self.old rest.old at (start.Footnote label inside) }
         ensures text { IfOk result (λ _. self.new.placing.builder.text
             ≡ self.old.placing.builder.text) }
-        ensures fitted { IfOk result (λ _. FittedBefore self.old.placing self.new.placing) }
         ensures tables { IfOk result (λ _. self.new.tables ≡ self.old.tables) }
         ensures more { IfOk result (λ more. more ≡ true) }
         ensures reads_on { IfOk result (λ _. (s : Source) (turn : Turn) (source : SourceLine)
@@ -404,11 +333,6 @@ impl<'a> Pass<'a> {
             → IsCharBoundary self.old.placing.builder.text inside.at
             → IfFitted self.old.placing self.new.placing
             (ReadsOn s self.new rest.old rest.new blocks)) }
-        ensures fits { IfOk result (λ _. (s : Source) (turn : Turn) (source : SourceLine)
-            (blocks : Forest Block) → IsHere s self.old rest.old turn source blocks
-            → IsFound s rest.old source at (start.Footnote label.entry inside)
-            → IsCharBoundary self.old.placing.builder.text inside.at
-            → AllFitted self.old.placing → AllFitted self.new.placing) }
     {
         self.make_room_for(rest)?;
         self.open_footnote(at, label)?;
@@ -425,17 +349,12 @@ impl<'a> Pass<'a> {
         requires { (at : ℕ) × MayBeginBlock self.old rest.old at (start.Underline level) }
         ensures text { IfOk result (λ _. self.new.placing.builder.text
             ≡ self.old.placing.builder.text) }
-        ensures fitted { IfOk result (λ _. FittedBefore self.old.placing self.new.placing) }
         ensures tables { IfOk result (λ _. self.new.tables ≡ self.old.tables) }
         ensures begins { IfOk result (λ more. (s : Source) (turn : Turn) (source : SourceLine)
             (at : ℕ) (blocks : Forest Block) → IsHere s self.old rest.old turn source blocks
             → IsFound s rest.old source at (start.Underline level)
             → IfFitted self.old.placing self.new.placing
             (HasBegun s self.new rest.old rest.new blocks more)) }
-        ensures fits { IfOk result (λ more. (s : Source) (turn : Turn) (source : SourceLine)
-            (at : ℕ) (blocks : Forest Block) → IsHere s self.old rest.old turn source blocks
-            → IsFound s rest.old source at (start.Underline level)
-            → AllFitted self.old.placing → AllFitted self.new.placing) }
     {
         rest.before = Before::NoParagraph;
         let is_heading = self.end_paragraph(Some((level, rest.line)))?;
@@ -447,7 +366,6 @@ impl<'a> Pass<'a> {
         requires { MayBeginBlock self.old rest.now at start.ThematicBreak }
         ensures text { IfOk result (λ _. self.new.placing.builder.text
             ≡ self.old.placing.builder.text) }
-        ensures fitted { IfOk result (λ _. FittedBefore self.old.placing self.new.placing) }
         ensures tables { IfOk result (λ _. self.new.tables ≡ self.old.tables) }
         ensures more { IfOk result (λ more. more ≡ false) }
         ensures places { IfOk result (λ _. (s : Source) (turn : Turn) (source : SourceLine)
@@ -455,10 +373,6 @@ impl<'a> Pass<'a> {
             → IsFound s rest.now source at start.ThematicBreak
             → IfFitted self.old.placing self.new.placing
             (PlacesFor s self.new rest.now.line.next blocks)) }
-        ensures fits { IfOk result (λ _. (s : Source) (turn : Turn) (source : SourceLine)
-            (blocks : Forest Block) → IsHere s self.old rest.now turn source blocks
-            → IsFound s rest.now source at start.ThematicBreak
-            → AllFitted self.old.placing → AllFitted self.new.placing) }
     {
         self.make_room_for(rest)?;
         self.placing.step_to(at);
@@ -476,7 +390,6 @@ impl<'a> Pass<'a> {
         requires { MayBeginBlock self.old rest.old at (start.Item item) }
         ensures text { IfOk result (λ _. self.new.placing.builder.text
             ≡ self.old.placing.builder.text) }
-        ensures fitted { IfOk result (λ _. FittedBefore self.old.placing self.new.placing) }
         ensures tables { IfOk result (λ _. self.new.tables ≡ self.old.tables) }
         ensures more { IfOk result (λ more. more ≡ true) }
         ensures reads_on { IfOk result (λ _. (s : Source) (turn : Turn) (source : SourceLine)
@@ -485,11 +398,6 @@ impl<'a> Pass<'a> {
             → IsCharBoundary self.old.placing.builder.text item.inside.at
             → IfFitted self.old.placing self.new.placing
             (ReadsOn s self.new rest.old rest.new blocks)) }
-        ensures fits { IfOk result (λ _. (s : Source) (turn : Turn) (source : SourceLine)
-            (blocks : Forest Block) → IsHere s self.old rest.old turn source blocks
-            → IsFound s rest.old source at (start.Item item)
-            → IsCharBoundary self.old.placing.builder.text item.inside.at
-            → AllFitted self.old.placing → AllFitted self.new.placing) }
     {
         self.open_item(item, at, rest.depth)?;
         Ok(self.go_inside(rest, item.inside))
@@ -504,7 +412,6 @@ impl<'a> Pass<'a> {
         requires { (at : ℕ) × MayBeginBlock self.old rest.now at (start.Metadata kind) }
         ensures text { IfOk result (λ _. self.new.placing.builder.text
             ≡ self.old.placing.builder.text) }
-        ensures fitted { IfOk result (λ _. FittedBefore self.old.placing self.new.placing) }
         ensures tables { IfOk result (λ _. self.new.tables ≡ self.old.tables) }
         ensures more { IfOk result (λ more. more ≡ false) }
         ensures places { IfOk result (λ _. (s : Source) (turn : Turn) (source : SourceLine)
@@ -512,10 +419,6 @@ impl<'a> Pass<'a> {
             → IsFound s rest.now source at (start.Metadata kind)
             → IfFitted self.old.placing self.new.placing
             (PlacesFor s self.new rest.now.line.next blocks)) }
-        ensures fits { IfOk result (λ _. (s : Source) (turn : Turn) (source : SourceLine)
-            (at : ℕ) (blocks : Forest Block) → IsHere s self.old rest.now turn source blocks
-            → IsFound s rest.now source at (start.Metadata kind)
-            → AllFitted self.old.placing → AllFitted self.new.placing) }
     {
         self.make_room_for(rest)?;
         self.open_metadata(kind, rest.line)?;

@@ -22,7 +22,7 @@ ghost use Rattle.markdown_plain.specs.Beginning.{IsHere, IsMadeOf, Turn, reads_m
 ghost use Rattle.markdown_plain.specs.Beginning.{MayRead};
 ghost use Rattle.markdown_plain.specs.Closable.{MayMakeRoom};
 ghost use Rattle.markdown_plain.specs.Readable.{MayGoOn, MayReadLine, MayReadOn, MayReadRest, MayReadText};
-ghost use Rattle.markdown_plain.specs.Fitting.{AllFitted, FittedBefore, IfFitted};
+ghost use Rattle.markdown_plain.specs.Fitting.{AllFitted, IfFitted};
 ghost use Rattle.markdown_plain.specs.ListLooseness.{blank_from};
 ghost use Rattle.markdown_plain.specs.OpenBlocks.{is_list};
 ghost use Rattle.markdown_plain.specs.ReachedLines as lines;
@@ -121,7 +121,6 @@ impl<'a> Pass<'a> {
         requires may { MayReadLine ahead.old.text.now self.old line }
         ensures text { IfOk result (λ _. self.new.placing.builder.text
             ≡ self.old.placing.builder.text) }
-        ensures fitted { IfOk result (λ _. FittedBefore self.old.placing self.new.placing) }
         ensures ahead { ahead.new.text.now ≡ ahead.old.text.now }
         ensures stands { IfOk result (λ _. (s : Source) (before : lines.Before)
             (source : SourceLine) → ahead.old.text.now ≡ s.text
@@ -134,11 +133,6 @@ impl<'a> Pass<'a> {
             → Stands s self.old before.frames before.inside before.last line.start
             → IsSource self.old line source → IsCounted s self.old (blocks_before before)
             → IsCounted s self.new (with_next_line s (blocks_before before) source)) }
-        ensures fits { IfOk result (λ _. (s : Source) (before : lines.Before)
-            (source : SourceLine) → ahead.old.text.now ≡ s.text
-            → Stands s self.old before.frames before.inside before.last line.start
-            → IsSource self.old line source → IsCounted s self.old (blocks_before before)
-            → AllFitted self.old.placing → AllFitted self.new.placing) }
     {
         if !self.placing.open_blocks().is_empty()
             || !begins_text(self.placing.text(), line.start, line.stop)
@@ -156,7 +150,6 @@ impl<'a> Pass<'a> {
         requires { MayMakeRoom self.old depth }
         ensures text { IfOk result (λ _. self.new.placing.builder.text
             ≡ self.old.placing.builder.text) }
-        ensures fitted { IfOk result (λ _. FittedBefore self.old.placing self.new.placing) }
         ensures tables { IfOk result (λ _. self.new.tables ≡ self.old.tables) }
         ensures stands { IfOk result (λ _. (s : Source) (before : lines.Before)
             (source : SourceLine)
@@ -167,12 +160,6 @@ impl<'a> Pass<'a> {
             before.last
             → IfFitted self.old.placing self.new.placing
             (StandsFor s self.new line.next (with_line s (blocks_before before) source))) }
-        ensures fits { IfOk result (λ _. (s : Source) (before : lines.Before)
-            (source : SourceLine)
-            → Stands s self.old before.frames before.inside before.last line.start
-            → IsSource self.old line source
-            → IsTextHere s self.old line start depth (blocks_in before) (reached_of s before source)
-            → AllFitted self.old.placing → AllFitted self.new.placing) }
     {
         self.add_text(line, start, depth)?;
         self.see_content(line);
@@ -198,7 +185,6 @@ impl<'a> Pass<'a> {
         requires may { MayReadLine ahead.old.text.now self.old line }
         ensures text { IfOk result (λ _. self.new.placing.builder.text
             ≡ self.old.placing.builder.text) }
-        ensures fitted { IfOk result (λ _. FittedBefore self.old.placing self.new.placing) }
         ensures ahead { ahead.new.text.now ≡ ahead.old.text.now }
         ensures stands { IfOk result (λ _. (s : Source) (before : lines.Before)
             (source : SourceLine) → ahead.old.text.now ≡ s.text
@@ -211,11 +197,6 @@ impl<'a> Pass<'a> {
             → Stands s self.old before.frames before.inside before.last line.start
             → IsSource self.old line source → IsCounted s self.old (blocks_before before)
             → IsCounted s self.new (with_next_line s (blocks_before before) source)) }
-        ensures fits { IfOk result (λ _. (s : Source) (before : lines.Before)
-            (source : SourceLine) → ahead.old.text.now ≡ s.text
-            → Stands s self.old before.frames before.inside before.last line.start
-            → IsSource self.old line source → IsCounted s self.old (blocks_before before)
-            → AllFitted self.old.placing → AllFitted self.new.placing) }
     {
         let reached = reach(self, line);
         if self.last_goes_on(line, reached, ahead)? {
@@ -240,7 +221,6 @@ impl<'a> Pass<'a> {
         requires may { MayReadOn ahead.old.text.now self.old line reached }
         ensures text { IfOk result (λ _. self.new.placing.builder.text
             ≡ self.old.placing.builder.text) }
-        ensures fitted { IfOk result (λ _. FittedBefore self.old.placing self.new.placing) }
         ensures ahead { ahead.new.text.now ≡ ahead.old.text.now }
         ensures places { IfOk result (λ goes. goes ≡ true → (s : Source) (before : lines.Before)
             (source : SourceLine) → ahead.old.text.now ≡ s.text
@@ -253,10 +233,6 @@ impl<'a> Pass<'a> {
             → IsReachedBy s self.old line reached before source
             → IsCounted s self.old (blocks_before before)
             → IsCounted s self.new (with_next_line s (blocks_before before) source)) }
-        ensures fits { IfOk result (λ goes. goes ≡ true → (s : Source) (before : lines.Before)
-            (source : SourceLine) → ahead.old.text.now ≡ s.text
-            → IsReachedBy s self.old line reached before source
-            → AllFitted self.old.placing → AllFitted self.new.placing) }
         ensures off { IfOk result (λ goes. goes ≡ false → (self.new ≡ self.old)
             × ((s : Source) (before : lines.Before) (source : SourceLine)
             → ahead.old.text.now ≡ s.text → IsReachedBy s self.old line reached before source
@@ -289,7 +265,6 @@ impl<'a> Pass<'a> {
         requires may { MayReadRest ahead.old.text.now self.old line reached false }
         ensures text { IfOk result (λ _. self.new.placing.builder.text
             ≡ self.old.placing.builder.text) }
-        ensures fitted { IfOk result (λ _. FittedBefore self.old.placing self.new.placing) }
         ensures ahead { ahead.new.text.now ≡ ahead.old.text.now }
         ensures tables { IfOk result (λ _. self.new.tables ≡ self.old.tables) }
         ensures stands { IfOk result (λ _. (s : Source) (before : lines.Before)
@@ -300,13 +275,6 @@ impl<'a> Pass<'a> {
             → LeavesOff s (reached_of s before source).rest before.last)
             → IfFitted self.old.placing self.new.placing
             (StandsFor s self.new line.next (with_line s (blocks_before before) source))) }
-        ensures fits { IfOk result (λ _. (s : Source) (before : lines.Before)
-            (source : SourceLine) → ahead.old.text.now ≡ s.text
-            → IsReachedBy s self.old line reached before source
-            → is_blank_rest (reached_of s before source).rest ≡ false
-            → ((reached_of s before source).inner ≡ []
-            → LeavesOff s (reached_of s before source).rest before.last)
-            → AllFitted self.old.placing → AllFitted self.new.placing) }
     {
         if is_text_from(self.placing.text(), reached.position, line.stop) {
             return self.read_text_line(line, reached.position.at, reached.depth);
@@ -325,17 +293,12 @@ impl<'a> Pass<'a> {
         requires { MayReadRest self.old.placing.builder.text self.old line reached false }
         ensures text { IfOk result (λ _. self.new.placing.builder.text
             ≡ self.old.placing.builder.text) }
-        ensures fitted { IfOk result (λ _. FittedBefore self.old.placing self.new.placing) }
         ensures tables { IfOk result (λ _. self.new.tables ≡ self.old.tables) }
         ensures places { IfOk result (λ is. is ≡ true → (s : Source) (before : lines.Before)
             (source : SourceLine) → IsReachedBy s self.old line reached before source
             → is_blank_rest (reached_of s before source).rest ≡ false
             → IfFitted self.old.placing self.new.placing
             (PlacesFor s self.new line.next (with_line s (blocks_before before) source))) }
-        ensures fits { IfOk result (λ is. is ≡ true → (s : Source) (before : lines.Before)
-            (source : SourceLine) → IsReachedBy s self.old line reached before source
-            → is_blank_rest (reached_of s before source).rest ≡ false
-            → AllFitted self.old.placing → AllFitted self.new.placing) }
         ensures same { IfOk result (λ is. is ≡ false
             → self.new ≡ record self.old { tried = self.new.tried }) }
         ensures untabled { IfOk result (λ is. is ≡ false → (s : Source) (before : lines.Before)
@@ -376,17 +339,12 @@ impl<'a> Pass<'a> {
         requires leaf { self.old.placing.builder.leaf ≡ true }
         ensures text { IfOk result (λ _. self.new.placing.builder.text
             ≡ self.old.placing.builder.text) }
-        ensures fitted { IfOk result (λ _. FittedBefore self.old.placing self.new.placing) }
         ensures tables { IfOk result (λ _. self.new.tables ≡ self.old.tables) }
         ensures places { IfOk result (λ goes. goes ≡ true → (s : Source) (before : lines.Before)
             (source : SourceLine) → IsReachedBy s self.old line reached before source
             → self.old.placing.builder.leaf ≡ true → (reached_of s before source).inner ≡ []
             → IfFitted self.old.placing self.new.placing
             (PlacesFor s self.new line.next (with_line s (blocks_before before) source))) }
-        ensures fits { IfOk result (λ goes. goes ≡ true → (s : Source) (before : lines.Before)
-            (source : SourceLine) → IsReachedBy s self.old line reached before source
-            → self.old.placing.builder.leaf ≡ true → (reached_of s before source).inner ≡ []
-            → AllFitted self.old.placing → AllFitted self.new.placing) }
         ensures leaves_off { IfOk result (λ goes. goes ≡ false → (self.new ≡ self.old)
             × ((s : Source) (before : lines.Before) (source : SourceLine)
             → IsReachedBy s self.old line reached before source
@@ -419,7 +377,6 @@ impl<'a> Pass<'a> {
         requires { MayReadRest self.old.placing.builder.text self.old line reached true }
         ensures text { IfOk result (λ _. self.new.placing.builder.text
             ≡ self.old.placing.builder.text) }
-        ensures fitted { IfOk result (λ _. FittedBefore self.old.placing self.new.placing) }
         ensures tables { IfOk result (λ _. self.new.tables ≡ self.old.tables) }
         ensures stands { IfOk result (λ _. (s : Source) (before : lines.Before)
             (source : SourceLine) → IsReachedBy s self.old line reached before source
@@ -428,12 +385,6 @@ impl<'a> Pass<'a> {
             → LeavesOff s (reached_of s before source).rest before.last)
             → IfFitted self.old.placing self.new.placing
             (StandsFor s self.new line.next (with_line s (blocks_before before) source))) }
-        ensures fits { IfOk result (λ _. (s : Source) (before : lines.Before)
-            (source : SourceLine) → IsReachedBy s self.old line reached before source
-            → is_blank_rest (reached_of s before source).rest ≡ true
-            → ((reached_of s before source).inner ≡ []
-            → LeavesOff s (reached_of s before source).rest before.last)
-            → AllFitted self.old.placing → AllFitted self.new.placing) }
     {
         let in_code = match self.leaf {
             LeafKind::Indented => self.placing.is_in_leaf(),
@@ -476,15 +427,11 @@ impl<'a> Pass<'a> {
         requires { MayRead self.old rest.old }
         ensures text { IfOk result (λ _. self.new.placing.builder.text
             ≡ self.old.placing.builder.text) }
-        ensures fitted { IfOk result (λ _. FittedBefore self.old.placing self.new.placing) }
         ensures tables { IfOk result (λ _. self.new.tables ≡ self.old.tables) }
         ensures places { IfOk result (λ _. (s : Source) (turn : Turn) (source : SourceLine)
             (blocks : Forest Block) → IsHere s self.old rest.old turn source blocks
             → IfFitted self.old.placing self.new.placing
             (PlacesFor s self.new rest.old.line.next blocks)) }
-        ensures fits { IfOk result (λ _. (s : Source) (turn : Turn) (source : SourceLine)
-            (blocks : Forest Block) → IsHere s self.old rest.old turn source blocks
-            → AllFitted self.old.placing → AllFitted self.new.placing) }
     {
         // each container takes at least one byte of the line; what is left after the last one is read too, and a line
         // that underlines definitions is read twice; 3 more than the last byte offset need more bits
@@ -508,9 +455,6 @@ impl<'a> Pass<'a> {
         ensures made { IfOk result (λ _. (s : Source) → Stands s self.old [] nil None 0
             → IsCounted s self.old nil → IfFitted self.old.placing self.new.placing
             (IsBuilt s self.new.placing.builder [] (blocks_of s))) }
-        ensures fits { IfOk result (λ _. (s : Source) → Stands s self.old [] nil None 0
-            → IsCounted s self.old nil
-            → AllFitted self.old.placing → AllFitted self.new.placing) }
         ensures left { IfOk result (λ _. (s : Source) → Stands s self.old [] nil None 0
             → IsCounted s self.old nil → AllFitted self.new.placing
             → AllPass is_in_blank_line self.new.placing.builder.text self.new.placing.builder.at
@@ -536,7 +480,6 @@ fn place_all<'a>(alloc: Global, text: &'a str, options: Options) -> Result<Placi
     ensures made { IfOk result (λ made. (s : Source)
         → s ≡ record { text = text.now; options = options }
         → IsBuilt s made.builder [] (blocks_of s)) }
-    ensures fits { IfOk result (λ made. AllFitted made) }
 {
     let mut pass = Pass::new(alloc, text, options)?;
     pass.read_lines()?;

@@ -9,15 +9,13 @@ ghost use Rattle.markdown_lines.specs.Positions.{left_from};
 ghost use Rattle.markdown_lines.specs.SourceLines.{SourceLine};
 ghost use Rattle.markdown_plain.specs.Containers as spec;
 ghost use Rattle.markdown_plain.specs.NewContainers as opening;
-ghost use Rattle.markdown_lines.specs.Lines.{AllPass, is_in_blank_line};
-ghost use Rattle.markdown_plain.specs.Closable.{AreClosable, IsClosable, IsInList, IsWhiteBefore, MayOpenItem};
-ghost use Rattle.markdown_plain.specs.Fitting.{AllFitted, IfFitted, IsAhead, IsWhiteOutside, opened};
+ghost use Rattle.markdown_plain.specs.Closable.{AreClosable, IsInList, IsWhiteBefore, MayOpenItem};
+ghost use Rattle.markdown_plain.specs.Fitting.{AllFitted, IfFitted, IsAhead, opened};
 ghost use Rattle.markdown_plain.specs.Fits.{MayStep};
 ghost use Rattle.markdown_plain.specs.Frames.{Frame, reached};
 ghost use Rattle.markdown_plain.specs.ReachedFrames.{IsBefore, IsReached};
 ghost use Rattle.markdown_plain.specs.OpenBlocks as open_blocks;
-ghost use Rattle.markdown_plain.specs.OpenBlocks.{outer_of, room_in, without_leaf, without_list};
-ghost use Rattle.std.specs.Str.{IsCharBoundary};
+ghost use Rattle.markdown_plain.specs.OpenBlocks.{outer_of, without_leaf, without_list};
 ghost use Rattle.markdown_plain.specs.Stretches.{TakesNothing, deep_starts, taken_by};
 ghost use Rattle.markdown_base.specs.declared.item.ItemBody.TheVariants as body;
 
@@ -289,12 +287,11 @@ impl<'a> Pass<'a> {
     ghost use Rattle.markdown_plain.specs.Closing.{MayClose};
     ghost use Rattle.markdown_plain.specs.Standing.{with_last};
     ghost use Rattle.markdown_plain.specs.Frames.{Frame, forgotten, innermost_is, is_list, rebuilt};
-    ghost use Rattle.markdown_plain.specs.Frames.{room_depth};
     ghost use Rattle.markdown_plain.specs.OpenedFrames.{MayOpen, is_list_for, quote_kind, with_frame};
     ghost use Rattle.markdown_plain.specs.OpenedFrames.{with_item};
     ghost use Rattle.markdown_plain.specs.Frames.{is_item};
     ghost use Rattle.markdown_block_rules.specs.BlockGrowth.{is_nil};
-    ghost use Rattle.markdown_plain.specs.Settled.{BlanksKnown, IsBuilt, IsLooseAs, IsLooseBefore};
+    ghost use Rattle.markdown_plain.specs.Settled.{BlanksKnown, IsBuilt, IsLooseAs};
 
     /// Opens a block quote, an alert of a kind or none, whose marker is at the byte offset `at`.
     pub fn open_quote(&mut self, at: usize, kind: Option<BlockQuoteKind>) -> Result<(), AllocError>
@@ -311,10 +308,6 @@ impl<'a> Pass<'a> {
             → IfFitted self.old.placing self.new.placing
             (IsBuilt s self.new.placing.builder (with_frame frames inside b) nil)) }
         ensures same { self.new ≡ record self.old { placing = self.new.placing } }
-        ensures fits { IfOk result (λ _. IsAhead self.old.placing.builder at
-            → IsWhiteOutside self.old.placing.builder at
-            → self.old.placing.builder.leaf ≡ false
-            → AllFitted self.old.placing → AllFitted self.new.placing) }
     {
         self.placing.step_to(at);
         self.placing.open_block(ItemBody::BlockQuote(kind))
@@ -378,17 +371,6 @@ impl<'a> Pass<'a> {
           blanks = self.new.blanks;
           looseness = self.new.looseness;
         } }
-        ensures fits { IfOk result (λ _. IsClosable self.old
-            → self.old.placed ≤ at → IsCharBoundary self.old.placing.builder.text at
-            → (room_in depth (without_leaf self.old.placing.builder) ≡ []
-            → AllPass is_in_blank_line self.old.placing.builder.text self.old.placed at)
-            → AllFitted self.old.placing → AllFitted self.new.placing) }
-        ensures fits_inside { IfOk result (λ _.
-            open_blocks.has_leaf self.old.placing.builder ≡ false
-            → self.old.lines.items ≡ [] → length self.old.placing.builder.blocks ≤ depth
-            → open_blocks.innermost_is open_blocks.is_list self.old.placing.builder.blocks ≡ false
-            → IsAhead self.old.placing.builder at → IsWhiteOutside self.old.placing.builder at
-            → AllFitted self.old.placing → AllFitted self.new.placing) }
     {
         self.close_down(depth)?;
         self.open_list(item.marker, at)?;
@@ -447,13 +429,6 @@ impl<'a> Pass<'a> {
           placing = self.new.placing;
           looseness = self.new.looseness;
         } }
-        ensures fits { IfOk result (λ _. self.old.placing.builder.leaf ≡ false
-            → IsAhead self.old.placing.builder at
-            → (without_list self.old.placing.builder.blocks ≡ []
-            → IsWhiteBefore self.old.placing.builder at)
-            → (open_blocks.innermost_is open_blocks.is_list self.old.placing.builder.blocks ≡ true
-            → AreClosable self.old.placing.builder self.old.placed)
-            → AllFitted self.old.placing → AllFitted self.new.placing) }
         ensures here { IfOk result (λ _. self.old.placing.builder.leaf ≡ false
             → self.old.placing.builder.at ≤ at → AllFitted self.new.placing
             → IsInList self.new.placing.builder at) }
@@ -491,10 +466,6 @@ impl<'a> Pass<'a> {
             → IfFitted self.old.placing self.new.placing
             (IsBuilt s self.new.placing.builder (with_frame frames inside b) nil)) }
         ensures same { self.new ≡ record self.old { placing = self.new.placing } }
-        ensures fits { IfOk result (λ _. IsAhead self.old.placing.builder at
-            → IsWhiteOutside self.old.placing.builder at
-            → self.old.placing.builder.leaf ≡ false
-            → AllFitted self.old.placing → AllFitted self.new.placing) }
     {
         self.placing.step_to(at);
         let listed = label.try_clone(self.alloc)?;

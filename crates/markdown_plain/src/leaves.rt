@@ -22,7 +22,7 @@ ghost use Rattle.markdown_items.specs.ContentItems.{content_items};
 ghost use Rattle.markdown_items.specs.LineItems.{item_extensions};
 ghost use Rattle.markdown_block_rules.specs.LineContents.{source_line, source_lines};
 ghost use Rattle.markdown_plain.specs.CodeLines.{after_line, code_after, ends_html_at, held, is_closed_at, whole_of};
-ghost use Rattle.markdown_plain.specs.Fitting.{AllFitted, FittedBefore, IfFitted, GoesOn, IsAhead, OpensFenced};
+ghost use Rattle.markdown_plain.specs.Fitting.{IfFitted, GoesOn, IsAhead, OpensFenced};
 ghost use Rattle.markdown_plain.specs.Fitting.{BracesStand, OpensHeading, OpensHeadingOf, OpensHtml, PutsBlock};
 ghost use Rattle.markdown_plain.specs.Fitting.{closed, extended, opened, stepped};
 ghost use Rattle.markdown_plain.specs.Fits.{IsInLeaf, MayAddAfter, MayAddBefore, MayAddHeading, MayAddLine, MayAddLines};
@@ -64,8 +64,6 @@ fn add_code(placing: &mut Placing<'_>, line: HeldLine) -> Result<(), AllocError>
     ensures items { IfOk result (λ _. (source : SourceLine) → IsHeld line source
         → IfFitted placing.old placing.new (HasItems placing.old.builder placing.new.builder
         (source_line (body.Text false) source))) }
-    ensures fits { IfOk result (λ _. MayAddLine placing.old.builder line.start line.next
-        → AllFitted placing.old → AllFitted placing.new) }
 {
     placing.step_to(line.start);
     placing.add_owed(line.owed)?;
@@ -91,8 +89,6 @@ fn add_codes(placing: &mut Placing<'_>, lines: &[HeldLine]) -> Result<(), AllocE
         (source_lines (body.Text false) sources))) }
     ensures reached { IfOk result (λ _. IfFitted placing.old placing.new
         (placing.new.builder.at ≡ after_lines placing.old.builder.at lines.now)) }
-    ensures fits { IfOk result (λ _. MayAddLines placing.old.builder lines.now
-        → AllFitted placing.old → AllFitted placing.new) }
 {
     'lines: for line in lines {
         add_code(placing, *line)?;
@@ -115,8 +111,6 @@ pub fn open_heading(
     ensures heading { IfOk result (λ _. BracesStand placing.old.builder.text braces
         → IfFitted placing.old placing.new
         (OpensHeadingOf placing.old.builder placing.new.builder level braces)) }
-    ensures fits { IfOk result (λ _. placing.old.builder.leaf ≡ false
-        → AllFitted placing.old → AllFitted placing.new) }
 {
     let Some(braces) = braces else {
         return placing.open_block(ItemBody::Heading(level, None));
@@ -168,9 +162,6 @@ impl<'a> Pass<'a> {
             → b.start ≡ self.old.placing.builder.at → b.last ≡ line.next
             → IfFitted self.old.placing self.new.placing
             (IsPlaced s self.new.placing.builder frames (followed_by inside (leaf_block b)))) }
-        ensures fits { IfOk result (λ _.
-            self.old.placing.builder.leaf ≡ false → IsAhead self.old.placing.builder line.next
-            → AllFitted self.old.placing → AllFitted self.new.placing) }
         ensures same { self.new ≡ record self.old { placing = self.new.placing } }
     {
         self.placing.add_rule(line.next)
@@ -198,9 +189,6 @@ impl<'a> Pass<'a> {
             → BracesStand self.old.placing.builder.text heading.braces
             → IfFitted self.old.placing self.new.placing
             (IsPlaced s self.new.placing.builder frames (followed_by inside (leaf_block b)))) }
-        ensures fits { IfOk result (λ _.
-            MayAddHeading self.old.placing.builder line heading
-            → AllFitted self.old.placing → AllFitted self.new.placing) }
         ensures same { self.new ≡ record self.old { placing = self.new.placing } }
     {
         open_heading(self.alloc, &mut self.placing, heading.level, heading.braces)?;
@@ -233,9 +221,6 @@ impl<'a> Pass<'a> {
             → IfFitted self.old.placing self.new.placing
             (IsLeafIn s self.new.placing.builder frames inside b false)) }
         ensures kind { IfOk result (λ _. self.new.leaf ≡ leaf_kind.Fenced opening.fence) }
-        ensures fits { IfOk result (λ _.
-            MayOpenLeaf self.old.placing.builder at line.next
-            → AllFitted self.old.placing → AllFitted self.new.placing) }
         ensures same { self.new
             ≡ record self.old { placing = self.new.placing; leaf = self.new.leaf } }
     {
@@ -259,7 +244,6 @@ impl<'a> Pass<'a> {
         requires ordered { position.at ≤ line.next }
         ensures text { IfOk result (λ _. self.new.placing.builder.text
             ≡ self.old.placing.builder.text) }
-        ensures fitted { IfOk result (λ _. FittedBefore self.old.placing self.new.placing) }
         ensures closes { IfOk result (λ _.
             is_closed_at self.old.placing.builder.text position line fence ≡ true →
             IfFitted self.old.placing self.new.placing (self.new.placing.builder
@@ -291,10 +275,6 @@ impl<'a> Pass<'a> {
             → leaf_with s source b.kind ≡ Some kind → IfFitted self.old.placing self.new.placing
             (IsLeafIn s self.new.placing.builder frames inside
             (record b { last = source.next; kind = kind }) (has_ended kind))) }
-        ensures fits { IfOk result (λ _.
-            MayAddLine self.old.placing.builder position.at line.next
-            → position.at ≤ line.next
-            → AllFitted self.old.placing → AllFitted self.new.placing) }
         ensures same { self.new ≡ record self.old { placing = self.new.placing } }
     {
         let text = self.placing.text();
@@ -324,9 +304,6 @@ impl<'a> Pass<'a> {
             → IfFitted self.old.placing self.new.placing
             (IsLeafIn s self.new.placing.builder frames inside b false)) }
         ensures kind { IfOk result (λ _. self.new.leaf ≡ leaf_kind.Metadata kind) }
-        ensures fits { IfOk result (λ _.
-            MayOpenLeaf self.old.placing.builder line.start line.next
-            → AllFitted self.old.placing → AllFitted self.new.placing) }
         ensures same { self.new
             ≡ record self.old { placing = self.new.placing; leaf = self.new.leaf } }
     {
@@ -343,7 +320,6 @@ impl<'a> Pass<'a> {
         requires ordered { line.start ≤ line.next }
         ensures text { IfOk result (λ _. self.new.placing.builder.text
             ≡ self.old.placing.builder.text) }
-        ensures fitted { IfOk result (λ _. FittedBefore self.old.placing self.new.placing) }
         ensures closes { IfOk result (λ _. closes_metadata kind
             (slice_range self.old.placing.builder.text line.start line.stop) ≡ true →
             IfFitted self.old.placing self.new.placing (self.new.placing.builder
@@ -372,10 +348,6 @@ impl<'a> Pass<'a> {
             → leaf_with s source b.kind ≡ Some now → IfFitted self.old.placing self.new.placing
             (IsLeafIn s self.new.placing.builder frames inside
             (record b { last = source.next; kind = now }) (has_ended now))) }
-        ensures fits { IfOk result (λ _.
-            MayAddLine self.old.placing.builder line.start line.next
-            → line.start ≤ line.next
-            → AllFitted self.old.placing → AllFitted self.new.placing) }
         ensures same { self.new ≡ record self.old { placing = self.new.placing } }
     {
         let content = bytes_of(self.placing.text(), line.start, line.stop);
@@ -399,7 +371,6 @@ impl<'a> Pass<'a> {
         requires { MayOpenHtml self.old.placing.builder line position }
         ensures text { IfOk result (λ _. self.new.placing.builder.text
             ≡ self.old.placing.builder.text) }
-        ensures fitted { IfOk result (λ _. FittedBefore self.old.placing self.new.placing) }
         ensures ends { IfOk result (λ _. ends_html_at self.old.placing.builder.text position line
             kind
             ≡ true →
@@ -433,9 +404,6 @@ impl<'a> Pass<'a> {
             → b.last ≡ source.next → IfFitted self.old.placing self.new.placing
             (IsLeafIn s self.new.placing.builder frames inside b (ends_html kind source))) }
         ensures kind { IfOk result (λ _. self.new.leaf ≡ leaf_kind.Html kind) }
-        ensures fits { IfOk result (λ _.
-            MayOpenHtml self.old.placing.builder line position
-            → AllFitted self.old.placing → AllFitted self.new.placing) }
         ensures same { self.new
             ≡ record self.old { placing = self.new.placing; leaf = self.new.leaf } }
     {
@@ -458,7 +426,6 @@ impl<'a> Pass<'a> {
         requires { MayAddLine self.old.placing.builder position.at line.next }
         ensures text { IfOk result (λ _. self.new.placing.builder.text
             ≡ self.old.placing.builder.text) }
-        ensures fitted { IfOk result (λ _. FittedBefore self.old.placing self.new.placing) }
         ensures ends { IfOk result (λ _. ends_html_at self.old.placing.builder.text position line
             kind
             ≡ true →
@@ -493,9 +460,6 @@ impl<'a> Pass<'a> {
             → leaf_with s source b.kind ≡ Some now → IfFitted self.old.placing self.new.placing
             (IsLeafIn s self.new.placing.builder frames inside
             (record b { last = source.next; kind = now }) (has_ended now))) }
-        ensures fits { IfOk result (λ _.
-            MayAddLine self.old.placing.builder position.at line.next
-            → AllFitted self.old.placing → AllFitted self.new.placing) }
         ensures same { self.new ≡ record self.old { placing = self.new.placing } }
     {
         self.add_html_line(line, position)?;
@@ -518,9 +482,6 @@ impl<'a> Pass<'a> {
             → IfFitted self.old.placing self.new.placing
             (HasItems self.old.placing.builder self.new.placing.builder
             (source_line body.Html source))) }
-        ensures fits { IfOk result (λ _.
-            MayAddLine self.old.placing.builder position.at line.next
-            → AllFitted self.old.placing → AllFitted self.new.placing) }
         ensures same { self.new ≡ record self.old { placing = self.new.placing } }
     {
         self.placing.step_to(position.at);
@@ -544,8 +505,6 @@ impl<'a> Pass<'a> {
             (PutsBlock self.old.placing.builder self.new.placing.builder) }
         ensures goes_on { ends_html_at self.old.placing.builder.text position line kind ≡ false
             → self.new ≡ self.old }
-        ensures fits { IsInLeaf self.old.placing.builder
-            → AllFitted self.old.placing → AllFitted self.new.placing }
         ensures same { self.new ≡ record self.old { placing = self.new.placing } }
     {
         if kind.ends_in(bytes_of(self.placing.text(), position.at, line.stop)) {
@@ -578,9 +537,6 @@ impl<'a> Pass<'a> {
             → b.start ≡ position.at → IfFitted self.old.placing self.new.placing
             (IsLeafIn s self.new.placing.builder frames inside b false)) }
         ensures kind { IfOk result (λ _. self.new.leaf ≡ leaf_kind.Indented) }
-        ensures fits { IfOk result (λ _.
-            MayOpenLeaf self.old.placing.builder position.at line.next
-            → AllFitted self.old.placing → AllFitted self.new.placing) }
         ensures same { self.new
             ≡ record self.old { placing = self.new.placing; leaf = self.new.leaf } }
     {
@@ -616,9 +572,6 @@ impl<'a> Pass<'a> {
               last = source.next;
               kind = indented_leaf ((lines ++ blank) ++ source ∷ []);
             }) false)) }
-        ensures fits { IfOk result (λ _.
-            MayAddAfter self.old.placing.builder self.old.blanks.items position.at line.next
-            → AllFitted self.old.placing → AllFitted self.new.placing) }
         ensures emptied { IfOk result (λ _. self.new.blanks.items ≡ []) }
         ensures same { self.new
             ≡ record self.old { placing = self.new.placing; blanks = self.new.blanks } }

@@ -4,7 +4,7 @@ ghost use Rattle.std.specs.Prelude.{◌≡◌, ℕ, ◌<◌, ◌≤◌, ◌++◌
 ghost use Rattle.std.specs.Prelude.{MatchOption, ◌+◌, ◌==◌, drop, not, slice_get, take, if◌then◌else◌};
 ghost use Rattle.markdown_base.specs.declared.item.ItemBody.TheVariants as body;
 ghost use Rattle.markdown_builder.specs.BuilderView.{Opens};
-ghost use Rattle.markdown_plain.specs.Fitting.{AllFitted, BracesStand, FittedBefore, IfFitted, GoesOn};
+ghost use Rattle.markdown_plain.specs.Fitting.{AllFitted, BracesStand, IfFitted, GoesOn};
 ghost use Rattle.markdown_plain.specs.Fitting.{OpensHeading, OpensHeadingOf, defining};
 ghost use Rattle.markdown_plain.specs.Closable.{AreAhead, AreClosable, EndsHeading, HasRoomFor, HasTask};
 ghost use Rattle.markdown_plain.specs.Closable.{MayMakeRoom};
@@ -82,8 +82,6 @@ fn take_definition<'a>(
         → IsParagraph placing.old.builder.text lines.now sources
         → divided names placing.old.builder.text sources
         ≡ record { definitions = []; lines = sources }) }
-    ensures fits { IfOk result (λ _. AreAhead placing.old.builder lines.now
-        → AllFitted placing.old → AllFitted placing.new) }
     ensures ahead { IfOk result (λ taken. AreAhead placing.old.builder lines.now
         → AllFitted placing.new → AreAhead placing.new.builder (drop taken lines.now)) }
 {
@@ -127,8 +125,6 @@ fn take_definitions<'a>(
         → IsParagraph placing.old.builder.text lines.now sources
         → IfFitted placing.old placing.new
         (IsDivided names placing.old.builder placing.new.builder sources taken)) }
-    ensures fits { IfOk result (λ _. AreAhead placing.old.builder lines.now
-        → AllFitted placing.old → AllFitted placing.new) }
     ensures ahead { IfOk result (λ taken. AreAhead placing.old.builder lines.now
         → AllFitted placing.new → AreAhead placing.new.builder (drop taken lines.now)) }
 {
@@ -166,9 +162,6 @@ fn add_broken_line(
         (placing.old.builder.run ≡ None → placing.old.builder.at ≡ line.start
         → HasItems placing.old.builder placing.new.builder
         (line_or_nothing (record { text = placing.old.builder.text; options = options }) source))) }
-    ensures fits { IfOk result (λ _. IsLeafOpen placing.old.builder
-        → placing.old.builder.at ≤ line.start → IsInText placing.old.builder.text line
-        → AllFitted placing.old → AllFitted placing.new) }
 {
     if line.start == line.stop {
         placing.step_to(line.next);
@@ -200,9 +193,6 @@ fn add_last_line(
         (placing.old.builder.run ≡ None → placing.old.builder.at ≡ line.start
         → HasItems placing.old.builder placing.new.builder
         (lines_items placing.old.builder.text (item_extensions options) (source ∷ [])))) }
-    ensures fits { IfOk result (λ _. IsLeafOpen placing.old.builder
-        → placing.old.builder.at ≤ line.start → IsLastInText placing.old.builder.text line
-        → AllFitted placing.old → AllFitted placing.new) }
 {
     let content = bytes_of(placing.text(), line.start, line.stop);
     let end = line.start.saturating_add(trimmed_length(content));
@@ -245,10 +235,6 @@ fn begin_line(
     ensures source { IfOk result (λ rest. (source : SourceLine)
         → IsTextLine placing.old.builder.text line source → BeginsWithTask task source
         → IsTextLine placing.old.builder.text rest (after_task task source)) }
-    ensures fits { IfOk result (λ _. IsLeafOpen placing.old.builder
-        → placing.old.builder.at ≤ line.start → IsInText placing.old.builder.text line
-        → HasTask placing.old.builder.text task line
-        → AllFitted placing.old → AllFitted placing.new) }
     ensures within { IfOk result (λ rest. IsInText placing.old.builder.text line
         → HasTask placing.old.builder.text task line → IsInText placing.old.builder.text rest) }
 {
@@ -305,8 +291,6 @@ fn add_line(
         → IsLeft (record { text = placing.old.builder.text; options = options })
         (record ends { task = None }) (drop (number + 1) sources)
         placing.new.builder.levels all)) }
-    ensures fits { IfOk result (λ _. HasRoomFor placing.old.builder lines.now number ends
-        → AllFitted placing.old → AllFitted placing.new) }
 {
     let line = begin_line(placing, lines[number], ends.task)?;
     if number == lines.len() - 1 {
@@ -336,8 +320,6 @@ fn add_lines(
         (placing.old.builder.run ≡ None → HasItems placing.old.builder placing.new.builder
         (text_items (record { text = placing.old.builder.text; options = options }) ends.task
         (before_braces ends.braces (drop from sources))))) }
-    ensures fits { IfOk result (λ _. HasRoomFor placing.old.builder lines.now from ends
-        → AllFitted placing.old → AllFitted placing.new) }
 {
     'lines: for number in from..lines.len() {
         let task = if number == from { ends.task } else { None };
@@ -373,8 +355,6 @@ fn open_text(
         → IfFitted placing.old placing.new (MatchOption heading
         (Opens placing.old.builder placing.new.builder body.Paragraph)
         (λ h. OpensHeadingOf placing.old.builder placing.new.builder h.0 braces))) }
-    ensures fits { IfOk result (λ _. placing.old.builder.leaf ≡ false
-        → AllFitted placing.old → AllFitted placing.new) }
 {
     match heading {
         Some((level, _)) => open_heading(alloc, placing, level, braces),
@@ -405,7 +385,6 @@ impl<'a> Pass<'a> {
         requires { MayMakeRoom self.old depth }
         ensures text { IfOk result (λ _. self.new.placing.builder.text
             ≡ self.old.placing.builder.text) }
-        ensures fitted { IfOk result (λ _. FittedBefore self.old.placing self.new.placing) }
         ensures goes_on { has_paragraph self.old ≡ true
             → self.new ≡ record self.old { lines = self.new.lines } }
         ensures begins { IfOk result (λ _. has_paragraph self.old ≡ false
@@ -475,8 +454,6 @@ impl<'a> Pass<'a> {
             → self.new.blanks.items ≡ []) }
         ensures dropped { IfOk result (λ _. self.old.placing.builder.leaf ≡ true
             → self.new.blanks.items ≡ []) }
-        ensures fits { IfOk result (λ _. IsClosable self.old
-            → AllFitted self.old.placing → AllFitted self.new.placing) }
         ensures here { IfOk result (λ _. has_paragraph self.old ≡ false → IsClosable self.old
             → AllFitted self.new.placing
             → AreClosable self.new.placing.builder self.old.placed) }
@@ -540,8 +517,6 @@ impl<'a> Pass<'a> {
             (HasTrees self.old.placing.builder self.new.placing.builder
             (shown_ended (source_of self.old) marked b heading (drop from sources)))) }
         ensures same { self.new ≡ record self.old { placing = self.new.placing } }
-        ensures fits { IfOk result (λ _. IsPlaceable self.old from heading
-            → AllFitted self.old.placing → AllFitted self.new.placing) }
     {
         if let Some(first) = self.lines.get(from) {
             self.placing.step_to(first.start);
@@ -571,7 +546,6 @@ impl<'a> Pass<'a> {
         requires heading { EndsHeading self.old.placing.builder.text self.old.lines.items heading }
         ensures text { IfOk result (λ _. self.new.placing.builder.text
             ≡ self.old.placing.builder.text) }
-        ensures fitted { IfOk result (λ _. FittedBefore self.old.placing self.new.placing) }
         ensures ends { IfOk result (λ left. left ≡ true → IfFitted self.old.placing self.new.placing
             (IsPlacedTo
             (record self.old.placing.builder { definitions = self.new.placing.builder.definitions })
@@ -611,11 +585,6 @@ impl<'a> Pass<'a> {
         ensures emptied { IfOk result (λ _. self.new.lines.items ≡ []) }
         ensures same { self.new
             ≡ record self.old { placing = self.new.placing; lines = self.new.lines } }
-        ensures fits { IfOk result (λ _. self.old.placing.builder.leaf ≡ false
-            → AreAhead self.old.placing.builder self.old.lines.items
-            → HaveTask self.old.placing.builder.text self.old.task self.old.lines.items
-            → EndsHeading self.old.placing.builder.text self.old.lines.items heading
-            → AllFitted self.old.placing → AllFitted self.new.placing) }
         ensures here { IfOk result (λ left. left ≡ false → IsClosable self.old
             → has_paragraph self.old ≡ true → AllFitted self.new.placing → IsClosable self.new) }
     {

@@ -74,7 +74,6 @@ impl<'a> Pass<'a> {
     /// Returns the state in which nothing is read yet.
     pub fn new(alloc: Global, text: &'a str, options: Options) -> Result<Pass<'a>, AllocError>
         ensures made { IfOk result (λ made. made.placing.builder ≡ nothing_made text.now) }
-        ensures fitted { IfOk result (λ made. AllFitted made.placing) }
         ensures options { IfOk result (λ made. made.options ≡ options) }
         ensures lines { IfOk result (λ made. made.lines.items ≡ []) }
         ensures blanks { IfOk result (λ made. made.blanks.items ≡ []) }
@@ -164,9 +163,6 @@ impl<'a> Pass<'a> {
             → AreNested (frames ++ f ∷ [])
             → IsLooseAs self.old.looseness (frames ++ f ∷ []) inside
             → IsLooseAs self.new.looseness frames (forgotten f inside) }
-        ensures fits { AreClosable self.old.placing.builder self.old.placed
-            → (self.old.placing.builder.blocks ≡ [] → ⊥)
-            → AllFitted self.old.placing → AllFitted self.new.placing }
         ensures here { AreClosable self.old.placing.builder self.old.placed
             → (self.old.placing.builder.blocks ≡ [] → ⊥) → AllFitted self.new.placing
             → AreClosable self.new.placing.builder self.old.placed }
@@ -227,8 +223,6 @@ impl<'a> Pass<'a> {
             → MayEnd s self.old frames inside b held
             → IfFitted self.old.placing self.new.placing (MayClose s self.new (take depth frames)
             (rebuilt (drop depth frames) (followed_by inside (leaf_block b))))) }
-        ensures fits { IfOk result (λ _. IsClosable self.old
-            → AllFitted self.old.placing → AllFitted self.new.placing) }
         ensures here { IfOk result (λ _. IsClosable self.old
             → AllFitted self.new.placing
             → AreClosable self.new.placing.builder self.old.placed) }
@@ -297,8 +291,6 @@ impl<'a> Pass<'a> {
             (StandsFor s self.new (take (room_depth depth frames) frames)
             (rebuilt (drop (room_depth depth frames) frames)
             (followed_by inside (leaf_block b))))) }
-        ensures fits { IfOk result (λ _. IsClosable self.old
-            → AllFitted self.old.placing → AllFitted self.new.placing) }
         ensures here { IfOk result (λ _. IsClosable self.old
             → AllFitted self.new.placing
             → AreClosable self.new.placing.builder self.old.placed) }
@@ -343,8 +335,6 @@ impl<'a> Pass<'a> {
           lines = self.new.lines;
           blanks = self.new.blanks;
         } }
-        ensures fits { IfOk result (λ _. IsClosable self.old
-            → AllFitted self.old.placing → AllFitted self.new.placing) }
         ensures here { IfOk result (λ _. IsClosable self.old
             → AllFitted self.new.placing
             → AreClosable self.new.placing.builder self.old.placed) }
@@ -386,8 +376,6 @@ fn close_list(placing: &mut Placing<'_>, character: u8, first: u64, loose: bool)
         × (settled ≡ record placing.old.builder { blocks = settled.blocks })
         × HasBody placing.old.builder settled (body.List (not loose) character first)
         × PutsBlock settled placing.new.builder) }
-    ensures fits { placing.old.builder.leaf ≡ false → (placing.old.builder.blocks ≡ [] → ⊥)
-        → AllFitted placing.old → AllFitted placing.new }
 {
     placing.change(ItemBody::List(!loose, character, first));
     placing.close();

@@ -1,6 +1,6 @@
 //! The block pass's calls of its builder, with the stretches of the open blocks kept beside it. Functions that return a
 //! `Result` fail only where memory is refused.
-ghost use Rattle.std.specs.Prelude.{◌≡◌, true, false, length};
+ghost use Rattle.std.specs.Prelude.{◌≡◌, true, false};
 ghost use Rattle.markdown_builder.specs.Bodies.{is_leaf, is_plain_block};
 ghost use Rattle.markdown_builder.specs.EvenRows.{InnermostRowIsEven};
 ghost use Rattle.markdown_plain.specs.OpenBlocks.{outer_of};
@@ -29,8 +29,8 @@ pub struct Placing<'a> {
 }
 
 impl<'a> Placing<'a> {
-    ghost use Rattle.std.specs.Prelude.{◌≡◌, ◌≤◌, ◌<◌, ◌==◌, ◌++◌, ◌∷◌, [], true, false, Some, None, length};
-    ghost use Rattle.std.specs.Prelude.{slice_index, slice_get, IfOk, IfSome};
+    ghost use Rattle.std.specs.Prelude.{◌≡◌, ◌≤◌, ◌<◌, ◌++◌, ◌∷◌, [], true, false, Some, None};
+    ghost use Rattle.std.specs.Prelude.{slice_get, IfOk, IfSome};
     ghost use Rattle.std.specs.Option.{option_map};
     ghost use Rattle.std.specs.Str.{IsCharBoundary};
     ghost use Rattle.markdown_base.specs.declared.item.ItemBody.TheVariants as body;
@@ -46,8 +46,8 @@ impl<'a> Placing<'a> {
     ghost use Rattle.markdown_items.specs.ContentItems.{content_items};
     ghost use Rattle.markdown_items.specs.LineItems.{item_extensions};
     ghost use Rattle.markdown_items.specs.RestOfLine.{HasSpecialRun, RunIsOver};
-    ghost use Rattle.markdown_lines.specs.Lines.{AllPass, IsNextContent, is_in_blank_line};
-    ghost use Rattle.markdown_plain.specs.Fitting.{AllFitted, IfFitted, IsAhead, IsWhiteOutside};
+    ghost use Rattle.markdown_lines.specs.Lines.{IsNextContent};
+    ghost use Rattle.markdown_plain.specs.Fitting.{IfFitted, IsAhead};
     ghost use Rattle.markdown_plain.specs.Fitting.{BeginsAtContent, GoesOn, HasBody, PutsBlock, closed, defining, stepped};
     ghost use Rattle.markdown_plain.specs.Fits.{HasContent, MayStep};
     ghost use Rattle.markdown_plain.specs.LeafTrees.{HasMoreTexts};
@@ -57,7 +57,6 @@ impl<'a> Placing<'a> {
     /// Returns a builder that has made nothing yet.
     pub fn new(alloc: Global, text: &'a str, old: bool) -> Result<Placing<'a>, AllocError>
         ensures made { IfOk result (λ made. made.builder ≡ nothing_made text.now) }
-        ensures fitted { IfOk result (λ made. AllFitted made) }
     {
         Ok(Placing {
             builder: Builder::new(alloc, text)?,
@@ -103,8 +102,6 @@ impl<'a> Placing<'a> {
         ensures text { self.new.builder.text ≡ self.old.builder.text }
         ensures steps { IfFitted self.old self.new
             (self.new.builder ≡ stepped self.old.builder to) }
-        ensures fits { IsAhead self.old.builder to → IsWhiteOutside self.old.builder to
-            → AllFitted self.old → AllFitted self.new }
     {
         self.builder.skip(to);
     }
@@ -116,8 +113,6 @@ impl<'a> Placing<'a> {
         ensures text { IfOk result (λ _. self.new.builder.text ≡ self.old.builder.text) }
         ensures opens { IfOk result (λ _.
             IfFitted self.old self.new (Opens self.old.builder self.new.builder body)) }
-        ensures fits { IfOk result (λ _. self.old.builder.leaf ≡ false
-            → AllFitted self.old → AllFitted self.new) }
     {
         self.stretches.enter(self.builder.open_blocks())?;
         match self.builder.open(body) {
@@ -138,8 +133,6 @@ impl<'a> Placing<'a> {
             (text_of info.entry))) }
         ensures listed { IfOk result (λ _. self.new.builder.footnotes
             ≡ self.old.builder.footnotes) }
-        ensures fits { IfOk result (λ _. self.old.builder.leaf ≡ false
-            → AllFitted self.old → AllFitted self.new) }
     {
         self.stretches.enter(self.builder.open_blocks())?;
         match self.builder.open_fenced(info) {
@@ -161,8 +154,6 @@ impl<'a> Placing<'a> {
         ensures text { IfOk result (λ _. self.new.builder.text ≡ self.old.builder.text) }
         ensures opens { IfOk result (λ _. IfFitted self.old self.new
             (OpensAttributed self.old.builder self.new.builder level (words_of attributes.entry))) }
-        ensures fits { IfOk result (λ _. self.old.builder.leaf ≡ false
-            → AllFitted self.old → AllFitted self.new) }
     {
         self.stretches.enter(self.builder.open_blocks())?;
         match self.builder.open_heading(level, attributes) {
@@ -184,8 +175,6 @@ impl<'a> Placing<'a> {
         ensures listed { IfOk result (λ _. IfFitted self.old self.new
             (self.new.builder.footnotes
             ≡ self.old.builder.footnotes ++ text_of listed.entry ∷ [])) }
-        ensures fits { IfOk result (λ _. self.old.builder.leaf ≡ false
-            → AllFitted self.old → AllFitted self.new) }
     {
         self.stretches.enter(self.builder.open_blocks())?;
         match self.builder.open_footnote(name, listed) {
@@ -203,8 +192,6 @@ impl<'a> Placing<'a> {
         ensures text { IfOk result (λ _. self.new.builder.text ≡ self.old.builder.text) }
         ensures opens { IfOk result (λ _. IfFitted self.old self.new
             (OpensTable self.old.builder self.new.builder alignments.items)) }
-        ensures fits { IfOk result (λ _. self.old.builder.leaf ≡ false
-            → AllFitted self.old → AllFitted self.new) }
     {
         self.stretches.enter(self.builder.open_blocks())?;
         match self.builder.open_table(alignments) {
@@ -241,7 +228,6 @@ impl<'a> Placing<'a> {
             ≡ record self.old.builder { blocks = self.new.builder.blocks } }
         ensures begins { IfFitted self.old self.new
             (BeginsAtContent self.old.builder self.new.builder) }
-        ensures fits { HasContent self.old.builder → AllFitted self.old → AllFitted self.new }
     {
         let Some(content) = self.content_of_block() else {
             return;
@@ -259,8 +245,6 @@ impl<'a> Placing<'a> {
             ≡ record self.old.builder { blocks = self.new.builder.blocks } }
         ensures changes { IfFitted self.old self.new
             (HasBody self.old.builder self.new.builder body) }
-        ensures fits { self.old.builder.leaf ≡ false → (self.old.builder.blocks ≡ [] → ⊥)
-            → AllFitted self.old → AllFitted self.new }
     {
         self.builder.change(body);
     }
@@ -275,8 +259,6 @@ impl<'a> Placing<'a> {
         ensures text { IfOk result (λ _. self.new.builder.text ≡ self.old.builder.text) }
         ensures appends { IfOk result (λ _. IfFitted self.old self.new
             (AppendsItem self.old.builder self.new.builder body end)) }
-        ensures fits { IfOk result (λ _. self.old.builder.leaf ≡ true → IsAhead self.old.builder end
-            → AllFitted self.old → AllFitted self.new) }
     {
         match self.builder.inline(body, end) {
             Ok(()) => Ok(()),
@@ -295,8 +277,6 @@ impl<'a> Placing<'a> {
             (AppendsText self.old.builder self.new.builder self.old.builder.at
             (owed_spaces owed))) }
         ensures nothing { IfOk result (λ _. owed ≡ 0 → self.new ≡ self.old) }
-        ensures fits { IfOk result (λ _. self.old.builder.leaf ≡ true
-            → AllFitted self.old → AllFitted self.new) }
     {
         let spaces = match owed {
             0 => return Ok(()),
@@ -338,8 +318,6 @@ impl<'a> Placing<'a> {
             (AddsItems self.old.builder self.new.builder)) }
         ensures texts { IfOk result (λ _. IfFitted self.old self.new
             (HasMoreTexts self.old.builder self.new.builder)) }
-        ensures fits { IfOk result (λ _. self.old.builder.leaf ≡ true → IsAhead self.old.builder end
-            → AllFitted self.old → AllFitted self.new) }
     {
         match items(&mut self.builder, self.alloc, end, options) {
             Ok(()) => Ok(()),
@@ -357,9 +335,6 @@ impl<'a> Placing<'a> {
         ensures text { IfOk result (λ _. self.new.builder.text ≡ self.old.builder.text) }
         ensures appends { IfOk result (λ _. IfFitted self.old self.new
             (AppendsItem self.old.builder self.new.builder body.Rule end)) }
-        ensures fits { IfOk result (λ _. self.old.builder.leaf ≡ false
-            → IsAhead self.old.builder end
-            → AllFitted self.old → AllFitted self.new) }
     {
         match self.builder.rule(end) {
             Ok(()) => Ok(()),
@@ -384,9 +359,6 @@ impl<'a> Placing<'a> {
               start = self.old.builder.at;
               end = found.entry.end;
             } ∷ []) found.entry.end)) }
-        ensures fits { IfOk result (λ _. IsAhead self.old.builder found.entry.end
-            → slice_get self.old.builder.text self.old.builder.at ≡ Some 91
-            → AllFitted self.old → AllFitted self.new) }
     {
         let Definition {
             label,
@@ -412,9 +384,6 @@ impl<'a> Placing<'a> {
         ensures closes { IfFitted self.old self.new
             (self.new.builder ≡ closed self.old.builder self.new.builder.levels) }
         ensures tree { IfFitted self.old self.new (PutsBlock self.old.builder self.new.builder) }
-        ensures fits { (self.old.builder.blocks ≡ [] → ⊥)
-            → is_in_row self.old.builder.blocks ≡ false
-            → AllFitted self.old → AllFitted self.new }
     {
         self.close_innermost();
     }
@@ -427,8 +396,6 @@ impl<'a> Placing<'a> {
         ensures closes { IfFitted self.old self.new
             (self.new.builder ≡ closed self.old.builder self.new.builder.levels) }
         ensures tree { IfFitted self.old self.new (PutsBlock self.old.builder self.new.builder) }
-        ensures fits { (self.old.builder.blocks ≡ [] → ⊥) → AllFitted self.old
-            → AllFitted self.new }
     {
         self.close_innermost();
     }

@@ -6,7 +6,7 @@ ghost use Rattle.std.specs.Option.{is_some, option_map};
 ghost use Rattle.markdown_builder.specs.Bodies.{is_leaf, is_plain_block};
 ghost use Rattle.markdown_builder.specs.EvenRows.{is_table_row, open_columns};
 ghost use Rattle.markdown_plain.specs.Readable.{MayGoOn};
-ghost use Rattle.markdown_plain.specs.Fitting.{AllFitted, FittedBefore, GoesOn, IfFitted};
+ghost use Rattle.markdown_plain.specs.Fitting.{GoesOn, IfFitted};
 ghost use Rattle.markdown_items.specs.ContentItems.{AddsItems};
 ghost use Rattle.markdown_items.specs.LineItems.{item_extensions};
 ghost use Rattle.markdown_lines.specs.BlockBeginnings.{Source};
@@ -84,9 +84,7 @@ fn add_cell_items(
         → IfFitted placing.old placing.new
         (HasItems placing.old.builder placing.new.builder
         (cell_items placing.old.builder.text (item_extensions options) cell.from cell.to))) }
-    ensures fits { IfOk result (λ _. IsLeafOpen placing.old.builder
-        → placing.old.builder.at ≤ cell.from → IsCellIn placing.old.builder.text cell
-        → AllFitted placing.old → AllFitted placing.new × (placing.new.builder.at ≤ cell.to)) }
+    ensures within { IfOk result (λ _. placing.new.builder.at ≤ cell.to) }
 {
     let mut from = cell.from;
     'pieces: while from < cell.to {
@@ -126,8 +124,6 @@ fn place_cell(
         (HasTrees placing.old.builder placing.new.builder
         (shown_cells (record { text = placing.old.builder.text; options = options })
         (cell ∷ [])))) }
-    ensures fits { IfOk result (λ _. MayAddCell placing.old.builder cell.start
-        → IsCellIn placing.old.builder.text cell → AllFitted placing.old → AllFitted placing.new) }
 {
     placing.step_to(cell.start);
     placing.open_block(ItemBody::TableCell)?;
@@ -150,8 +146,6 @@ fn place_empty_cell(placing: &mut Placing<'_>, at: usize) -> Result<(), AllocErr
         (PutsTree placing.old.builder placing.new.builder)) }
     ensures shown { IfOk result (λ _. IfFitted placing.old placing.new
         (HasTrees placing.old.builder placing.new.builder (empty_cells 1 at))) }
-    ensures fits { IfOk result (λ _. MayAddCell placing.old.builder at
-        → AllFitted placing.old → AllFitted placing.new) }
 {
     placing.step_to(at);
     placing.open_block(ItemBody::TableCell)?;
@@ -184,8 +178,6 @@ fn place_row(
         (HasTrees placing.old.builder placing.new.builder
         (shown_row (record { text = placing.old.builder.text; options = options })
         (open_columns placing.old.builder) row source))) }
-    ensures fits { IfOk result (λ _. MayAddRow placing.old.builder line
-        → AllFitted placing.old → AllFitted placing.new) }
 {
     let text = placing.text();
     let columns = placing.builder.columns();
@@ -315,7 +307,6 @@ impl<'a> Pass<'a> {
         requires next { IsCharBoundary self.old.placing.builder.text line.next }
         ensures text { IfOk result (λ _. self.new.placing.builder.text
             ≡ self.old.placing.builder.text) }
-        ensures fitted { IfOk result (λ _. FittedBefore self.old.placing self.new.placing) }
         ensures value { IfOk result (λ is. (s : Source) (head : HeldLine)
             (before : List SourceLine) (from l : SourceLine)
             → IsLastLine s self.old head before from
@@ -342,12 +333,6 @@ impl<'a> Pass<'a> {
             → AreAhead self.old.placing.builder self.old.lines.items
             → IfFitted self.old.placing self.new.placing
             (HasTable s self.new.placing.builder frames inside b before from l line.next)) }
-        ensures fits { IfOk result (λ is. is ≡ true → self.old.placing.builder.leaf ≡ false
-            → AreAhead self.old.placing.builder self.old.lines.items
-            → HaveTask self.old.placing.builder.text self.old.task self.old.lines.items
-            → lines_end self.old.lines.items ≤ line.next
-            → IsCharBoundary self.old.placing.builder.text line.next
-            → AllFitted self.old.placing → AllFitted self.new.placing) }
         ensures same { IfOk result (λ is. is ≡ false
             → self.new ≡ record self.old { tried = self.new.tried }) }
     {
@@ -449,7 +434,6 @@ impl<'a> Pass<'a> {
         requires task { HaveTask self.old.placing.builder.text self.old.task self.old.lines.items }
         ensures text { IfOk result (λ _. self.new.placing.builder.text
             ≡ self.old.placing.builder.text) }
-        ensures fitted { IfOk result (λ _. FittedBefore self.old.placing self.new.placing) }
         ensures same { self.new
             ≡ record self.old { placing = self.new.placing; lines = self.new.lines } }
         ensures ended { IfOk result (λ _. self.new.lines.items ≡ []) }
@@ -464,11 +448,6 @@ impl<'a> Pass<'a> {
         ensures here { IfOk result (λ _. IfFitted self.old.placing self.new.placing
             ((self.new.placing.builder.at ≡ head.next)
             × (self.new.placing.builder.blocks ≡ [] → ⊥))) }
-        ensures fits { IfOk result (λ _. self.old.placing.builder.leaf ≡ false
-            → last_of self.old.lines.items ≡ Some head
-            → AreAhead self.old.placing.builder self.old.lines.items
-            → HaveTask self.old.placing.builder.text self.old.task self.old.lines.items
-            → AllFitted self.old.placing → AllFitted self.new.placing) }
     {
         let _head = self.lines.pop();
         if !self.lines.is_empty() {
@@ -494,7 +473,6 @@ impl<'a> Pass<'a> {
         requires table { innermost_is is_table self.old.placing.builder.blocks ≡ true }
         ensures text { IfOk result (λ _. self.new.placing.builder.text
             ≡ self.old.placing.builder.text) }
-        ensures fitted { IfOk result (λ _. FittedBefore self.old.placing self.new.placing) }
         ensures ahead { ahead.new.text.now ≡ ahead.old.text.now }
         ensures places { IfOk result (λ is. is ≡ true → (s : Source) (before : lines.Before)
             (source : SourceLine) → ahead.old.text.now ≡ s.text
@@ -513,13 +491,6 @@ impl<'a> Pass<'a> {
             → innermost_is is_table self.old.placing.builder.blocks ≡ true
             → IsCounted s self.old (blocks_before before)
             → IsCounted s self.new (with_next_line s (blocks_before before) source)) }
-        ensures fits { IfOk result (λ is. is ≡ true → (s : Source) (before : lines.Before)
-            (source : SourceLine) → ahead.old.text.now ≡ s.text
-            → IsReachedBy s self.old line reached before source
-            → (reached_of s before source).inner ≡ []
-            → is_blank_rest (reached_of s before source).rest ≡ false
-            → innermost_is is_table self.old.placing.builder.blocks ≡ true
-            → AllFitted self.old.placing → AllFitted self.new.placing) }
         ensures off { IfOk result (λ is. is ≡ false → (self.new ≡ self.old)
             × ((s : Source) (before : lines.Before) (source : SourceLine)
             → ahead.old.text.now ≡ s.text → IsReachedBy s self.old line reached before source
@@ -545,7 +516,6 @@ impl<'a> Pass<'a> {
         requires { MayAddRow self.old.placing.builder (held_line line start) }
         ensures text { IfOk result (λ _. self.new.placing.builder.text
             ≡ self.old.placing.builder.text) }
-        ensures fitted { IfOk result (λ _. FittedBefore self.old.placing self.new.placing) }
         ensures value { IfOk result (λ added. added ≡ may_be_row self.old start line.stop) }
         ensures nothing { IfOk result (λ added. added ≡ false → self.new ≡ self.old) }
         ensures same { IfOk result (λ _. self.new
@@ -568,9 +538,6 @@ impl<'a> Pass<'a> {
             (HasTrees self.old.placing.builder self.new.placing.builder
             (shown_row (source_of self.old) (open_columns self.old.placing.builder)
             body.TableRow source))) }
-        ensures fits { IfOk result (λ _.
-            MayAddRow self.old.placing.builder (held_line line start)
-            → AllFitted self.old.placing → AllFitted self.new.placing) }
     {
         if !self.may_be_row(start, line.stop) {
             return Ok(false);

@@ -18,7 +18,6 @@ lines-init c = record {
   texts = λ fitted. (fitted, no_text _ _ refl);
   items = λ sources are fitted. (fitted, sym (no_items c.args.placing.now.builder.levels));
   reached = λ fitted. (fitted, refl);
-  fits = λ may fitted. fitted;
 }
 
 pub lines-preserved : goal.lines-preserved
@@ -46,7 +45,6 @@ lines-preserved c =
             ap (λ (v : BuilderView). v.at) goes.1
                 ∙ sym (after_one_more c.args.placing.now.builder.at c.args.lines.now c.lines.line-index _ line),
           );
-      fits = λ may fitted. tt;
     }
 
 -- the next line fits

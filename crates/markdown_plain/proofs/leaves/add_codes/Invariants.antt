@@ -3,8 +3,8 @@ use Rattle.std.proofs.Common.{◌≡◌, false, List, take}
 use Rattle.markdown_base.specs.declared.item.ItemBody.TheVariants as body
 use Rattle.markdown_block_rules.specs.LineContents.{source_lines}
 use Rattle.markdown_lines.specs.SourceLines.{SourceLine}
-use Rattle.markdown_plain.specs.Fits.{MayAddLines, after_lines}
-use Rattle.markdown_plain.specs.Fitting.{AllFitted, IfFitted, GoesOn}
+use Rattle.markdown_plain.specs.Fits.{after_lines}
+use Rattle.markdown_plain.specs.Fitting.{IfFitted, GoesOn}
 use Rattle.markdown_plain.specs.HeldSources.{AreHeld}
 use Rattle.markdown_plain.specs.LeafTrees.{HasItems, HasMoreTexts}
 use Rattle.markdown_plain.proofs.leaves.add_codes.Given as goal
@@ -19,5 +19,4 @@ invariant-lines l = record {
       (source_lines (body.Text false) (take l.line-index sources)));
   reached : IfFitted l.fn.placing l.placing
       (l.placing.builder.at ≡ after_lines l.fn.placing.builder.at (take l.line-index l.lines));
-  fits : MayAddLines l.fn.placing.builder l.lines → AllFitted l.fn.placing → AllFitted l.placing;
 }

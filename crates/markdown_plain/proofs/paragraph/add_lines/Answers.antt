@@ -35,22 +35,18 @@ lines-preserved c =
           let added = c.in_ok-add_line.ensures.texts fitted in
           let before = c.lines.invariant.texts added.0 in
           (before.0, texts_after _ _ _ before.1 added.1);
-      fits = λ room fitted.
-          let before = c.lines.invariant.fits room fitted in
+      room =
           let ends = c.args.ends in
           let low = c.lines.auto.number in
           let past : (c.lines.number + 1 == c.args.from) ≡ false = grind (arith, nat_tests, low) in
           let here = subst (λ task. HasRoomFor c.lines.placing.builder c.args.lines.now c.lines.number
-          (record ends { task = task })) (sym (task_is c)) before.1 in
-          let done = c.in_ok-add_line.ensures.fits here before.0 in (
-            done,
-            subst (λ task. HasRoomFor c.add_line.new.placing.builder c.args.lines.now (c.lines.number + 1)
-                (record ends { task = task })) (sym (on_false (c.lines.number + 1 == c.args.from) ends.task None past))
-                (room_after c.lines.placing.builder c.add_line.new.placing.builder c.args.lines.now c.lines.number
-                (record ends { task = c.if-number-from.task }) any_line _ c.lines-test.true here
-                (got c.args.lines.now c.lines.number any_line c.lines-test.true)
-                (c.in_ok-add_line.ensures.goes_on done).1),
-          );
+          (record ends { task = task })) (sym (task_is c)) c.lines.invariant.room in
+          subst (λ task. HasRoomFor c.add_line.new.placing.builder c.args.lines.now (c.lines.number + 1)
+          (record ends { task = task })) (sym (on_false (c.lines.number + 1 == c.args.from) ends.task None past))
+          (room_after c.lines.placing.builder c.add_line.new.placing.builder c.args.lines.now c.lines.number
+          (record ends { task = c.if-number-from.task }) any_line _ c.lines-test.true here
+          (got c.args.lines.now c.lines.number any_line c.lines-test.true)
+          (c.in_ok-add_line.ensures.goes_on tt).1);
       left = λ sources are fit fitted.
           let text = c.args.placing.now.builder.text in
           let same = c.lines.invariant.text in

@@ -5,7 +5,7 @@ use Rattle.std.specs.Prelude.{◌==◌, if◌then◌else◌}
 use Rattle.markdown_builder.specs.BuilderView.{with_items}
 use Rattle.markdown_lines.specs.SourceLines.{SourceLine}
 use Rattle.markdown_block_rules.specs.BlockRules.{before_braces}
-use Rattle.markdown_plain.specs.Fitting.{AllFitted, IfFitted, GoesOn}
+use Rattle.markdown_plain.specs.Fitting.{IfFitted, GoesOn}
 use Rattle.markdown_plain.specs.Closable.{HasRoomFor}
 use Rattle.markdown_plain.specs.HeldSources.{AreTextLines}
 use Rattle.markdown_plain.specs.LeafTrees.{HasMoreTexts}
@@ -21,8 +21,7 @@ invariant-lines l = record {
   over : IfFitted l.fn.placing l.placing (l.fn.placing.builder.run ≡ None → l.number < length l.lines
       → l.placing.builder.run ≡ None);
   texts : IfFitted l.fn.placing l.placing (HasMoreTexts l.fn.placing.builder l.placing.builder);
-  fits : HasRoomFor l.fn.placing.builder l.lines l.from l.ends → AllFitted l.fn.placing → AllFitted l.placing
-      × HasRoomFor l.placing.builder l.lines l.number
+  room : HasRoomFor l.placing.builder l.lines l.number
       (record l.ends { task = if l.number == l.from then l.ends.task else None });
   left : (sources : List SourceLine) → AreTextLines l.fn.placing.builder.text l.lines sources
       → HaveEnds (drop l.from sources) l.ends → IfFitted l.fn.placing l.placing (l.fn.placing.builder.run ≡ None

@@ -45,9 +45,6 @@ definitions-preserved c =
             now.1 ∙ (ap (λ (ls : List HeldLine). end_of ls more) rest
                 ∙ (end_of_more lines taken more some ∙ ap (end_of lines) count)),
           );
-      fits = λ is fitted.
-          let before = c.definitions.invariant.fits is fitted in
-          c.in_ok-more.ensures.fits (subst (AreAhead mid) (sym rest) (c.definitions.invariant.ahead is before)) before;
       ahead = λ is (fitted : AllFitted c.take_definition.new.placing).
           let before = (c.in_ok-more.ensures.steps fitted).0 in
           let all = drop-drop more taken lines in
@@ -81,19 +78,12 @@ returns-after-definitions-clause-divides c =
     (omega (arith, c.definitions-test.false)) in
     (takes.0, is_divided c.args.names old c.definitions.placing.builder lines sources taken takes.1 over)
 
-pub returns-after-definitions-clause-fits : goal.returns-after-definitions-clause-fits
-returns-after-definitions-clause-fits c = λ is fitted. c.definitions.invariant.fits is fitted
-
 pub returns-after-definitions-clause-ahead : goal.returns-after-definitions-clause-ahead
 returns-after-definitions-clause-ahead c = λ is fitted. c.definitions.invariant.ahead is fitted
 
 -- nothing more was taken
 none_more : (c : goal.Then-more-eq0) → c.take_definition.new.placing ≡ c.definitions.placing
 none_more c = c.in_ok-more.ensures.none (omega (arith, c.if-more-eq0.true))
-
-pub returns-then-more-eq0-clause-fits : goal.returns-then-more-eq0-clause-fits
-returns-then-more-eq0-clause-fits c = λ is fitted.
-    subst AllFitted (sym (none_more c)) (c.definitions.invariant.fits is fitted)
 
 pub returns-then-more-eq0-clause-ahead : goal.returns-then-more-eq0-clause-ahead
 returns-then-more-eq0-clause-ahead c = λ is fitted.

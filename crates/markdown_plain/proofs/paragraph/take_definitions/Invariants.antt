@@ -16,7 +16,6 @@ invariant-definitions l = record {
       ≡ defining l.fn.placing.builder l.placing.builder.definitions l.placing.builder.at);
   within : l.taken ≤ length l.lines;
   after : 0 < l.taken → IfFitted l.fn.placing l.placing (l.placing.builder.at ≡ end_of l.lines l.taken);
-  fits : AreAhead l.fn.placing.builder l.lines → AllFitted l.fn.placing → AllFitted l.placing;
   ahead : AreAhead l.fn.placing.builder l.lines → AllFitted l.placing
       → AreAhead l.placing.builder (drop l.taken l.lines);
   takes : (sources : List SourceLine) → IsParagraph l.fn.placing.builder.text l.lines sources

@@ -27,9 +27,11 @@ pieces-init c = record {
     fitted,
     pieces_start (item_extensions c.args.options) c.args.placing.now.builder c.args.cell.from c.args.cell.to none,
   );
-  fits = λ inside low is fitted.
+  may =
+      let is = c.requires.cell in
+      let low = c.requires.ahead in
       let content = is.content in
-      (fitted, record { low = low; high = omega (arith, low, content); boundary = λ less. is.from });
+      record { low = low; high = omega (arith, low, content); boundary = λ less. is.from };
 }
 
 pub pieces-preserved : goal.pieces-preserved
@@ -104,10 +106,8 @@ pieces-preserved c =
                 c.add_items.new.self.builder from to stop next moved.1 appended.1 further.1 over.1
                 (there ∙ ap (λ n. from + n) size) after past),
           );
-      fits = λ inside low is fitted.
-          let before = c.pieces.invariant.fits inside low is fitted in
-          let goes = c.pieces.invariant.goes_on before.0 in
-          let may = before.1 in
+      may =
+          let is = c.requires.cell in
           let piece : IsPieceIn text from to stop = elim c.if-escapes.branch [
             | then-escapes w ↦ subst (IsPieceIn text from to)
                 (sym (there ∙ ap (λ n. from + n) (w.length-is ∙ (w.piece_length-length.ensures.value
@@ -117,10 +117,8 @@ pieces-preserved c =
             | else-escapes w ↦ whole_piece text from to stop (omega (arith, less))
                 (omega (arith, w.length-is, there, less))
           ] in
-          let cut = piece_cut text from to stop next is.to piece after past in
-          piece_added text c.args.placing.now c.pieces.placing c.step_to.new.self c.add_items.new.self from to stop
-          next less inside goes.1 may piece.low piece.high cut c.step_to.ensures.steps c.step_to.ensures.fits
-          c.in_ok-add_items.ensures.appends c.in_ok-add_items.ensures.fits refl before.0;
+          piece_added text c.step_to.new.self.builder c.add_items.new.self.builder to stop next piece.high
+          (piece_cut text from to stop next is.to piece after past) (c.in_ok-add_items.ensures.appends tt).1;
     }
 
 -- the next piece fits
@@ -166,6 +164,5 @@ returns-clause-items c = λ once is none fitted.
           (search rules) done.1,
     )
 
-pub returns-clause-fits : goal.returns-clause-fits
-returns-clause-fits c = λ inside low is fitted.
-    let done = c.pieces.invariant.fits inside low is fitted in (done.0, done.1.high)
+pub returns-clause-within : goal.returns-clause-within
+returns-clause-within c = c.pieces.invariant.may.high

@@ -1,11 +1,10 @@
 -- The text stays, the cell goes on, and the pieces that are left make its other items.
-use Rattle.std.proofs.Common.{◌≡◌, ◌-◌, ◌<◌, ◌≤◌, None, false}
+use Rattle.std.proofs.Common.{◌≡◌, ◌-◌, ◌<◌, None, false}
 use Rattle.markdown_builder.specs.BuilderView.{with_items}
 use Rattle.markdown_items.specs.ContentItems.{AddsItems}
 use Rattle.markdown_items.specs.LineItems.{item_extensions}
 use Rattle.markdown_block_rules.specs.LineContents.{cell_items}
-use Rattle.markdown_plain.specs.Closable.{IsLeafOpen}
-use Rattle.markdown_plain.specs.Fitting.{AllFitted, IfFitted, GoesOn}
+use Rattle.markdown_plain.specs.Fitting.{IfFitted, GoesOn}
 use Rattle.markdown_plain.specs.LeafTrees.{HasMoreTexts}
 use Rattle.markdown_plain.specs.TableRows.{IsCellIn, IsOnePiece}
 use Rattle.markdown_plain.proofs.ShownRowsLemmas.{AwaitsPieces, MayAddPiece}
@@ -24,9 +23,7 @@ invariant-pieces l = record {
       (with_items l.fn.placing.builder.levels
       (cell_items l.fn.placing.builder.text (item_extensions l.options) l.cell.from l.cell.to))
       l.placing.builder l.from);
-  fits : IsLeafOpen l.fn.placing.builder → l.fn.placing.builder.at ≤ l.cell.from
-      → IsCellIn l.fn.placing.builder.text l.cell → AllFitted l.fn.placing
-      → AllFitted l.placing × MayAddPiece l.fn.placing.builder.text l.placing.builder l.from l.cell.to;
+  may : MayAddPiece l.fn.placing.builder.text l.placing.builder l.from l.cell.to;
 }
 
 abbrev pub decreases-pieces : goal.decreases-pieces

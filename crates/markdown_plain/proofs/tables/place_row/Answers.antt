@@ -86,7 +86,6 @@ cells-init c = record {
             (sym c.cells_start-start.ensures)
             (row_cells_in c.text-text.result.now c.args.line c.text-text.utf8 is);
       };
-  fits = λ may fitted. tt;
 }
 
 pub cells-preserved : goal.cells-preserved
@@ -190,7 +189,6 @@ cells-preserved c = record {
         ∙ ap (λ (v : BuilderView). v.at) (w.in_ok-place_empty_cell-in-None.ensures.placed
         tt).1)
   ];
-  fits = λ may fitted. tt;
 }
 
 pub returns-clause-texts : goal.returns-clause-texts

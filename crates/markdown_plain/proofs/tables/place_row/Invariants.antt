@@ -2,9 +2,9 @@
 use Rattle.std.proofs.Common.{◌≡◌, ◌+◌, ◌∷◌, ◌++◌, ◌<◌, ◌≤◌, [], drop, length}
 use Rattle.markdown_lines.specs.TableRows.{cells_left, row_cells_at}
 use Rattle.markdown_plain.specs.Closable.{IsInText}
-use Rattle.markdown_plain.specs.Fitting.{AllFitted, IfFitted, opened}
+use Rattle.markdown_plain.specs.Fitting.{IfFitted, opened}
 use Rattle.markdown_plain.specs.LeafTrees.{HasMoreTexts}
-use Rattle.markdown_plain.specs.TableRows.{HasCells, MayAddRow, cells_placed}
+use Rattle.markdown_plain.specs.TableRows.{HasCells, cells_placed}
 use Rattle.markdown_plain.proofs.ShownRowsLemmas.{IsInRow}
 use Rattle.markdown_plain.proofs.tables.place_row.Given as goal
 
@@ -32,5 +32,4 @@ invariant-cells l = record {
       ∷ []);
   inside : IsInText l.text l.line
       → IsInRow l.text l.line l.placing (cells_left l.text l.start l.line.stop);
-  fits : MayAddRow l.fn.placing.builder l.line → AllFitted l.fn.placing → AllFitted l.placing;
 }

@@ -1,5 +1,5 @@
 -- No delimiter row; no head; both.
-use Rattle.std.proofs.Common.{◌≡◌, ◌++◌, ◌∷◌, [], ℕ, List, None, Some, ap, arith, subst, sym, ◌∙◌}
+use Rattle.std.proofs.Common.{◌≡◌, ◌++◌, ◌∷◌, [], List, None, ap, arith, sym, ◌∙◌}
 use Rattle.std.specs.Option.{option_map}
 use Rattle.std.specs.declared.vec.Vec.{Vec}
 use Rattle.std.specs.declared.alloc.Global.{Global}
@@ -8,13 +8,11 @@ use Rattle.markdown_lines.specs.BlockBeginnings.{Source}
 use Rattle.markdown_lines.specs.SourceLines.{SourceLine}
 use Rattle.markdown_lines.specs.declared.held_line.HeldLine.{HeldLine}
 use Rattle.markdown_block_rules.specs.TableLines.{fitting, further_line}
-use Rattle.std.specs.Str.{IsCharBoundary}
 use Rattle.markdown_plain.specs.declared.pass.Pass.{Pass}
 use Rattle.markdown_plain.specs.Paragraphs.{source_of}
 use Rattle.markdown_plain.specs.TableHeads.{IsLastLine, IsRowRest, before_table, last_of}
-use Rattle.markdown_plain.proofs.BegunTablesLemmas.{ahead_tried, end_of_head, found_alignments, holds_tried, task_tried}
+use Rattle.markdown_plain.proofs.BegunTablesLemmas.{ahead_tried, found_alignments, holds_tried}
 use Rattle.markdown_plain.proofs.BegunTablesLemmas.{table_stepped}
-use Rattle.markdown_plain.proofs.FittingLemmas.{may_step, step_done}
 use Rattle.markdown_plain.proofs.TableBeginningsLemmas.{ReadsRow, begins_none, begins_one, far_fits}
 use Rattle.markdown_plain.proofs.TableBeginningsLemmas.{last_is, other_fits, read_fits, tried_none, tried_then}
 use Rattle.markdown_plain.proofs.pass.Pass.begin_table.Goals.{then-space-ge4-via-then-space-ge4}
@@ -160,23 +158,3 @@ returns-clause-frame c = λ is s frames inside b head before from l holds last_l
             (before_table inside b before) from from.next c.args.line.next found moved.1 opened.1;
       },
     )
-
-pub returns-clause-fits : goal.returns-clause-fits
-returns-clause-fits c = λ is outside ahead task low boundary fitted.
-    let pass = c.args.self.now in
-    let now = c.may_be_head.new.self in
-    let same = c.in_ok-may_be_head.ensures.same in
-    let there : last_of pass.lines.items ≡ Some c.in-Some.head = sym c.last_line.ensures ∙ c.in-Some.is in
-    let opened = c.in_ok-open_table.ensures.fits (ap (λ (p : Pass). p.placing.builder.leaf) same ∙ outside)
-    (ap (λ (p : Pass). last_of p.lines.items) same ∙ there)
-    (ahead_tried pass now same ahead) (task_tried pass now same task)
-    tt in
-    let here = (c.in_ok-open_table.ensures.here opened).1 in
-    let end = end_of_head pass.lines.items c.in-Some.head there in
-    let at = here.0 in
-    (step_done c.open_table.new.self.placing c.step_to.new.self c.args.line.next c.step_to.ensures.steps
-    c.step_to.ensures.fits
-    (may_step c.open_table.new.self.placing.builder c.args.line.next (omega (arith, at, end, low))
-    (subst (λ (t : List ℕ). IsCharBoundary t c.args.line.next)
-    (sym (c.in_ok-open_table.ensures.text ∙ ap (λ (p : Pass). p.placing.builder.text) same)) boundary)
-    here.1) opened).0

@@ -79,11 +79,6 @@ blocks-2-preserved c =
       least = λ fitted.
           let closed = one_less_open c fitted in
           ((before.least (fits fitted)).0, λ few. absurd (omega (arith, closed.0, closed.1, few)));
-      fitted = λ fitted. before.fitted (fits fitted);
-      fits = λ is fitted.
-          let now = before.fits is fitted in
-          let here = before.here is now in
-          c.close_block.ensures.fits (placed_same c here) (some_open c now) now;
       here = λ is fitted.
           let here = before.here is (fits fitted) in
           subst (AreClosable c.close_block.new.self.placing.builder) (placed_is c)
@@ -134,8 +129,6 @@ blocks-2-init c = record {
   same = search rules;
   looseness = search rules;
   least = search rules;
-  fitted = λ fitted. fitted;
-  fits = λ is fitted. c.in_ok-end_leaf.ensures.fits is fitted;
   here = λ is fitted. c.in_ok-end_leaf.ensures.here is fitted;
   forgets = λ s frames inside may fitted. (
     fitted,
@@ -178,7 +171,7 @@ returns-clause-forgets c = λ s frames inside none may fitted.
 pub returns-clause-finishes : goal.returns-clause-finishes
 returns-clause-finishes c = λ s frames inside b held may fitted.
     let placed = c.in_ok-end_leaf.ensures.frame s frames inside b held may.unended may.options
-    (c.blocks-2.invariant.fitted fitted) in (
+    tt in (
       placed.0,
       closed_from c s frames (followed_by inside (leaf_block b))
           (ended_may_close s c.args.self.now c.end_leaf.new.self frames inside b held may

@@ -37,8 +37,6 @@ invariant-blocks-2 l = record {
   };
   least : IfFitted l.fn.self.placing l.self.placing (length l.self.placing.builder.blocks < l.depth
       → length l.initial.self.placing.builder.blocks ≤ length l.self.placing.builder.blocks);
-  fitted : AllFitted l.self.placing → AllFitted l.initial.self.placing;
-  fits : IsClosable l.fn.self → AllFitted l.fn.self.placing → AllFitted l.self.placing;
   here : IsClosable l.fn.self → AllFitted l.self.placing
       → AreClosable l.self.placing.builder l.fn.self.placed;
   forgets : (s : Source) (frames : List Frame) (inside : Forest Block) → MayClose s l.initial.self frames inside

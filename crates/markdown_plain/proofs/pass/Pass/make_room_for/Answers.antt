@@ -3,7 +3,7 @@ use Rattle.std.proofs.Common.{◌≡◌, Result, Ok, Err, IfOk, refl, ap}
 use Rattle.std.proofs.lemmas.Result.{IfOk-at_ok, IfOk-weaker}
 use Rattle.std.specs.declared.alloc.AllocError.{AllocError}
 use Rattle.markdown_plain.specs.declared.pass.Pass.{Pass}
-use Rattle.markdown_plain.proofs.RoomForBlocksLemmas.{MakesRoom, room_fits, room_for}
+use Rattle.markdown_plain.proofs.RoomForBlocksLemmas.{MakesRoom, room_for}
 use Rattle.markdown_plain.proofs.pass.Pass.make_room_for.Goals as goal
 
 -- it is what making room promises
@@ -22,7 +22,6 @@ makes c (Ok done) is =
       finishes = IfOk-at_ok _ is room.finishes;
       loose = IfOk-at_ok _ is room.loose;
       inside = IfOk-at_ok _ is room.inside;
-      fits = IfOk-at_ok _ is room.fits;
       here = IfOk-at_ok _ is room.here;
     }
 
@@ -32,10 +31,3 @@ returns-clause-room c =
     (λ done room s turn source at start b blocks here found begins needs fitted.
     room_for s c.args.self.now c.make_room.new.self c.args.rest.now turn source at start b blocks room here found
     begins needs fitted) (makes c c.make_room.result refl)
-
-pub returns-clause-fits : goal.returns-clause-fits
-returns-clause-fits c =
-    IfOk-weaker c.make_room.result _ _
-    (λ done room s turn source at start b blocks here found begins needs fitted.
-    room_fits s c.args.self.now c.make_room.new.self c.args.rest.now turn source blocks room here fitted)
-    (makes c c.make_room.result refl)

@@ -5,9 +5,6 @@ use Rattle.markdown_scan.specs.Entity.{entity_names}
 use Rattle.markdown_scan.specs.Unescape.{unescaped}
 use Rattle.markdown_plain.specs.Fitting.{OpensFenced}
 use Rattle.markdown_plain.proofs.LeafKindsLemmas.{fenced_opened}
-use Rattle.std.proofs.Common.{refl}
-use Rattle.markdown_base.specs.declared.item.ItemBody.TheVariants as body
-use Rattle.markdown_plain.proofs.FittingLemmas.{named_opened, stepped_at}
 use Rattle.markdown_plain.proofs.pass.Pass.open_fenced.Goals as goal
 
 pub returns-clause-leaf : goal.returns-clause-leaf
@@ -22,12 +19,3 @@ returns-clause-leaf c = λ s frames inside b built options stands kind start las
       fenced_opened s old new c.args.self.now.options frames inside b c.args.opening c.args.at c.args.line.next info
           built options stands kind start last part opens,
     )
-
-pub returns-clause-fits : goal.returns-clause-fits
-returns-clause-fits c = λ may fitted.
-    let old = c.args.self.now.placing in
-    let open_ = named_opened old c.step_to.new.self c.open_code.new.self body.FencedCodeBlock _ c.args.at
-    c.args.line.next (λ ix. refl) c.step_to.ensures.steps c.step_to.ensures.fits c.in_ok-open_code.ensures.opens
-    c.in_ok-open_code.ensures.fits may fitted in
-    (stepped_at old.builder.text c.args.at c.args.line.next c.open_code.new.self c.step_to-2.new.self
-    c.step_to-2.ensures.steps c.step_to-2.ensures.fits open_.1 may.ordered may.next open_.0).0

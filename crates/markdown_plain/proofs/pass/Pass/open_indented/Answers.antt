@@ -9,10 +9,6 @@ use Rattle.markdown_plain.specs.HeldSources.{IsHeld}
 use Rattle.markdown_plain.proofs.IndentedLeavesLemmas.{indented_opened}
 use Rattle.markdown_plain.proofs.LeafTreesLemmas.{no_text, rest_held, texts_after}
 use Rattle.markdown_plain.proofs.LinedLeavesLemmas.{after_held, ok_three, rest_ends, stop_after}
-use Rattle.std.proofs.Common.{refl}
-use Rattle.markdown_lines.specs.declared.held_line.HeldLine.{HeldLine}
-use Rattle.markdown_plain.specs.Fits.{MayAddLine}
-use Rattle.markdown_plain.proofs.FittingLemmas.{leaf_opened, line_at}
 use Rattle.markdown_plain.proofs.pass.Pass.open_indented.Goals as goal
 
 pub returns-clause-leaf : goal.returns-clause-leaf
@@ -37,14 +33,3 @@ returns-clause-leaf c =
           ((all.third source held fitted).1
           ∙ ap (λ (v : BuilderView). with_items v.levels (source_line (body.Text false) source)) opens),
     )) (ok_three c.add_code.result _ _ _ c.add_code.ensures.goes_on c.add_code.ensures.texts c.add_code.ensures.items)
-
-pub returns-clause-fits : goal.returns-clause-fits
-returns-clause-fits c =
-    IfOk-weaker c.add_code.result _ _ (λ done adds may fitted.
-    let old = c.args.self.now.placing in
-    let open_ = leaf_opened old c.step_to.new.self c.open_block.new.self body.IndentCodeBlock c.args.position.at
-    c.args.line.next refl c.step_to.ensures.steps c.step_to.ensures.fits c.in_ok-open_block.ensures.opens
-    c.in_ok-open_block.ensures.fits may fitted in
-    adds (subst (λ (l : HeldLine). MayAddLine c.open_block.new.self.builder l.start l.next) (sym c.rest_of.ensures)
-    (line_at old.builder.text c.args.position.at c.args.position.at c.args.line.next c.open_block.new.self.builder
-    open_.1 (omega arith) may.begins.ahead.1 may.next)) open_.0) c.add_code.ensures.fits

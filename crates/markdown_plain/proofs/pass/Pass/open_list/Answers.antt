@@ -10,15 +10,13 @@ use Rattle.markdown_builder.specs.declared.open_block.OpenBlock.{OpenBlock}
 use Rattle.markdown_lines.specs.BlockBeginnings.{Source}
 use Rattle.markdown_block_rules.specs.BlockGrowth.{Block, list_container}
 use Rattle.markdown_plain.specs.Closing.{MayClose}
-use Rattle.markdown_plain.specs.Fitting.{AllFitted, IfFitted, stepped, IsAhead}
+use Rattle.markdown_plain.specs.Fitting.{AllFitted, IfFitted, stepped}
 use Rattle.markdown_plain.specs.Frames.{Frame, forgotten, is_list, rebuilt, room_depth}
 use Rattle.markdown_plain.specs.OpenedFrames.{is_list_for, with_frame, with_list}
 use Rattle.markdown_plain.specs.NewContainers.{is_list_of}
 use Rattle.markdown_plain.specs.OpenBlocks as own
 use Rattle.markdown_plain.specs.declared.pass.Pass.{Pass}
 use Rattle.markdown_plain.specs.Settled.{AreOpen, BlanksKnown, IsLooseAs}
-use Rattle.markdown_plain.specs.Closable.{AreClosable, IsWhiteBefore}
-use Rattle.markdown_plain.proofs.ClosableLemmas.{MayBeginList, begins_list, begins_list_after, some_innermost}
 use Rattle.markdown_plain.proofs.ClosedListsLemmas.{AddsBlock, AreClosedTo, IsRoom, room_left, room_made, room_there}
 use Rattle.markdown_plain.proofs.ClosedListsLemmas.{none_closed as none_closed_so_far}
 use Rattle.markdown_plain.proofs.FramesInsideLemmas.{inner_last}
@@ -199,30 +197,3 @@ returns-clause-loose c =
           else with_frame (with_list list frames inside) nil b) (sym other))
           (added (take n frames) (rebuilt (drop n frames) inside) list b made lists items),
     )) c.open_list.ensures.begins
-
--- after another list was closed, or where none is open
-may_begin : (c : goal.After-open_list) → c.args.self.now.placing.builder.leaf ≡ false
-    → IsAhead c.args.self.now.placing.builder c.args.at
-    → (own.without_list c.args.self.now.placing.builder.blocks ≡ []
-    → IsWhiteBefore c.args.self.now.placing.builder c.args.at)
-    → (own.innermost_is own.is_list c.args.self.now.placing.builder.blocks ≡ true
-    → AreClosable c.args.self.now.placing.builder c.args.self.now.placed)
-    → AllFitted c.args.self.now.placing → MayBeginList c.match-innermost.self.placing c.args.at
-may_begin c outside ahead white closable fitted =
-    let old = c.args.self.now in
-    elim c.match-innermost.branch [
-      | in-Some-List+else-character-marker w ↦
-          let list : own.innermost_is own.is_list old.placing.builder.blocks ≡ true = search rules in
-          let done = w.close_block.ensures.fits (closable list) (some_innermost own.is_list _ list) fitted in
-          subst (λ (p : Pass). MayBeginList p.placing c.args.at) (sym w.self-is)
-          (begins_list_after old.placing w.close_block.new.self.placing old.placed c.args.at list ahead white
-          (w.close_block.ensures.closes done).1 done)
-      | in-Some+in-MaybeEmphasis-1 w ↦
-          let other : own.innermost_is own.is_list old.placing.builder.blocks ≡ false = search rules in
-          subst (λ (p : Pass). MayBeginList p.placing c.args.at) (sym w.self-is)
-          (begins_list old.placing c.args.at other outside ahead white fitted)
-      | in-None-1 w ↦
-          let other : own.innermost_is own.is_list old.placing.builder.blocks ≡ false = search rules in
-          subst (λ (p : Pass). MayBeginList p.placing c.args.at) (sym w.self-is)
-          (begins_list old.placing c.args.at other outside ahead white fitted)
-    ]

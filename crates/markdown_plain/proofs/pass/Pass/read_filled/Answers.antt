@@ -66,7 +66,7 @@ returns-clause-stands c = λ s before source same by filled off fitted.
           w.rest_of-rest.ensures.line (w.rest_of-rest.ensures.made s same) filled off in
           let read = w.in_ok-read_rest.ensures.places s (first before source) (reached_of s before source).rest blocks
           turn (subst (λ (p : Pass). AllFitted p.placing) w.self-is so_far) in (
-            row.fitted read.0,
+            tt,
             subst (λ (p : Pass). PlacesFor s p c.args.line.next blocks) (sym w.self-is)
                 (subst (λ (l : Line). PlacesFor s w.read_rest.new.self l.next blocks) w.rest_of-rest.ensures.line
                 read.1),

@@ -17,9 +17,7 @@ lines-init c = record {
   text = c.text-text.ensures;
   ahead = c.new-ahead.ensures;
   boundary = IsCharBoundary-start c.text-text.result.now c.text-text.utf8;
-  fitted = λ fitted. fitted;
   made = λ s stands counted fitted. (fitted, stands_first s c.args.self.now stands counted);
-  fits = λ s stands counted fitted. fitted;
 }
 
 -- the line that is read is one of the text
@@ -39,9 +37,8 @@ lines-preserved c =
       text = search rules;
       ahead = search rules;
       boundary = next_between c.text-text.result.now c.lines.from c.line_from-line.result c.text-text.utf8 line.1;
-      fitted = λ fitted. loop.fitted (c.in_ok-read_line.ensures.fitted fitted);
       made = λ s stands counted fitted.
-          let so_far = loop.made s stands counted (c.in_ok-read_line.ensures.fitted fitted) in
+          let so_far = loop.made s stands counted tt in
           let own = ap (λ (s : Source). s.text) stands.source in
           let text = c.text-text.ensures ∙ own in
           let next = stands_next s c.lines.self c.read_line.new.self c.lines.from c.line_from-line.result
@@ -52,7 +49,6 @@ lines-preserved c =
           (λ before source. c.in_ok-read_line.ensures.stands s before source (loop.ahead ∙ text))
           (λ before source. c.in_ok-read_line.ensures.counted s before source (loop.ahead ∙ text)) fitted in
           (so_far.0, next.1);
-      fits = λ s stands counted fitted. tt;
     }
 
 pub returns-clause-made : goal.returns-clause-made

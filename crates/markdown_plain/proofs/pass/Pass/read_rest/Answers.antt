@@ -11,21 +11,17 @@ pub blocks-2-init : goal.blocks-2-init
 blocks-2-init c = record {
   text = search rules;
   tables = refl;
-  fitted = λ fitted. fitted;
   keeps = before_turns c.args.self.now c.args.rest.now;
-  fits = λ s turn source blocks here fitted. fitted;
 }
 
 pub blocks-2-preserved : goal.blocks-2-preserved
 blocks-2-preserved c = record {
   text = search rules;
   tables = c.in_ok-read_block.ensures.tables ∙ c.blocks-2.invariant.tables;
-  fitted = λ fitted. c.blocks-2.invariant.fitted (c.in_ok-read_block.ensures.fitted fitted);
   keeps = next_turn c.args.self.now c.blocks-2.self c.read_block.new.self c.args.rest.now c.blocks-2.rest
-      c.read_block.new.rest c.blocks-2._turn c.blocks-2.invariant.keeps c.in_ok-read_block.ensures.fitted
+      c.read_block.new.rest c.blocks-2._turn c.blocks-2.invariant.keeps
       (subst (BeginsThere c.blocks-2.self c.read_block.new.self c.blocks-2.rest c.read_block.new.rest)
       c.if-not-branch.false c.in_ok-read_block.ensures.begins);
-  fits = λ s turn source blocks here fitted. tt;
 }
 
 -- the line is added
@@ -47,7 +43,6 @@ adds c =
       task = done.task;
       untried = done.untried;
       here = done.here;
-      fits = done.fits;
       lines = done.line;
       inside = done.inside;
     }
@@ -57,17 +52,17 @@ returns-in_ok-add_text-clause-places c =
     text_turn c.args.self.now c.read_block.new.self c.add_text.new.self c.args.rest.now c.read_block.new.rest
     (c.blocks-2._turn + 1)
     (next_turn c.args.self.now c.blocks-2.self c.read_block.new.self c.args.rest.now c.blocks-2.rest
-    c.read_block.new.rest c.blocks-2._turn c.blocks-2.invariant.keeps c.in_ok-read_block.ensures.fitted
+    c.read_block.new.rest c.blocks-2._turn c.blocks-2.invariant.keeps
     (subst (BeginsThere c.blocks-2.self c.read_block.new.self c.blocks-2.rest c.read_block.new.rest)
     c.if-not-branch.false c.in_ok-read_block.ensures.begins))
-    c.in_ok-add_text.ensures.fitted (adds c)
+    (adds c)
     (subst (λ (text : List ℕ). IsTextFrom text c.read_block.new.rest.position c.read_block.new.rest.line.stop)
     c.text.ensures (c.is_text_from.ensures c.if-is_text_from.true))
 
 pub returns-then-not-branch-clause-places : goal.returns-then-not-branch-clause-places
 returns-then-not-branch-clause-places c =
     last_turn c.args.self.now c.blocks-2.self c.read_block.new.self c.args.rest.now c.blocks-2.rest
-    c.read_block.new.rest c.blocks-2._turn c.blocks-2.invariant.keeps c.in_ok-read_block.ensures.fitted
+    c.read_block.new.rest c.blocks-2._turn c.blocks-2.invariant.keeps
     (subst (BeginsThere c.blocks-2.self c.read_block.new.self c.blocks-2.rest c.read_block.new.rest)
     c.if-not-branch.true c.in_ok-read_block.ensures.begins)
 
@@ -81,7 +76,7 @@ pub add_text-requires : goal.add_text-requires
 add_text-requires c =
     let may = c.requires in
     let here = (next_turn c.args.self.now c.blocks-2.self c.read_block.new.self c.args.rest.now c.blocks-2.rest
-    c.read_block.new.rest c.blocks-2._turn c.blocks-2.invariant.keeps c.in_ok-read_block.ensures.fitted
+    c.read_block.new.rest c.blocks-2._turn c.blocks-2.invariant.keeps
     (subst (BeginsThere c.blocks-2.self c.read_block.new.self c.blocks-2.rest c.read_block.new.rest)
     c.if-not-branch.false c.in_ok-read_block.ensures.begins) may.s may.turn may.source may.blocks may.here tt).1 in
     here_room may.s c.read_block.new.self c.read_block.new.rest here.turn here.source may.blocks here.here

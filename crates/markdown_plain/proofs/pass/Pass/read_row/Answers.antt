@@ -147,8 +147,3 @@ returns-clause-off c =
           (ap (λ t. t && may_be_row old c.args.reached.content c.args.line.stop) is_text
           ∙ (ap (λ n. may_be_row old n c.args.line.stop) (sym here) ∙ (sym told.0 ∙ is))),
     )) (both_ok c.add_row.result _ _ c.add_row.ensures.value c.add_row.ensures.nothing)
-
-pub returns-clause-fits : goal.returns-clause-fits
-returns-clause-fits c =
-    IfOk-weaker c.add_row.result _ _ (λ added told is s before source text by none filled table fitted. tt)
-    c.add_row.ensures.fits

@@ -1,5 +1,5 @@
 -- The line is placed as the definition says.
-use Rattle.markdown_plain.proofs.TextHereLemmas.{found_text, text_fits, text_here}
+use Rattle.markdown_plain.proofs.TextHereLemmas.{found_text, text_here}
 use Rattle.markdown_plain.proofs.TextStepsLemmas.{AddsText}
 use Rattle.markdown_plain.proofs.pass.Pass.read_text.Goals as goal
 use Rattle.markdown_plain.proofs.pass.Pass.read_text.Goals.{In_ok-add_text}
@@ -23,7 +23,6 @@ adds c =
       task = done.task;
       untried = done.untried;
       here = done.here;
-      fits = done.fits;
       lines = done.line;
       inside = done.inside;
     }
@@ -32,7 +31,3 @@ pub returns-clause-places : goal.returns-clause-places
 returns-clause-places c = λ s turn source blocks state found held.
     text_here s c.args.self.now c.add_text.new.self c.args.rest.now c.args.at turn source blocks (adds c) state
     (found_text s c.args.rest.now source c.args.at found)
-
-pub returns-clause-fits : goal.returns-clause-fits
-returns-clause-fits c = λ s turn source blocks state found held fitted.
-    text_fits s c.args.self.now c.add_text.new.self c.args.rest.now c.args.at turn source blocks (adds c) state fitted

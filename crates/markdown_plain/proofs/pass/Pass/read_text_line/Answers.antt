@@ -1,5 +1,5 @@
 -- The pass stands for what the line makes of its blocks.
-use Rattle.std.proofs.Common.{subst, sym}
+use Rattle.std.proofs.Common.{subst}
 use Rattle.markdown_plain.specs.Fitting.{AllFitted}
 use Rattle.markdown_plain.proofs.TextStepsLemmas.{AddsText, stands_holds, text_places}
 use Rattle.markdown_plain.proofs.pass.Pass.read_text_line.Goals as goal
@@ -22,7 +22,6 @@ adds c =
       task = done.task;
       untried = done.untried;
       here = done.here;
-      fits = done.fits;
       lines = done.line;
       inside = done.inside;
     }
@@ -34,7 +33,3 @@ returns-clause-stands c = λ s before source stands is here untabled fitted.
     (stands_holds s c.args.self.now before.frames before.inside before.last c.args.line.start stands) here
     (subst AllFitted c.see_content.ensures.placing fitted) in
     (placed.0, c.see_content.ensures.stands s _ placed.1)
-
-pub returns-clause-fits : goal.returns-clause-fits
-returns-clause-fits c = λ s before source stands is here fitted.
-    subst AllFitted (sym c.see_content.ensures.placing) (c.in_ok-add_text.ensures.fits stands.ready.closable fitted)
