@@ -1,5 +1,4 @@
--- Calls that fit. What a call does is stated for the case that it and all calls before it fitted: one that does not fit
--- is counted, and makes nothing.
+-- What calls of the builder make, and which byte offsets they may move to.
 use Rattle.std.specs.Prelude.{◌≡◌, ℕ, ◌+◌, ◌≤◌, false, [], ◌∷◌, ◌++◌, List, Option, Some, None, length}
 use Rattle.std.specs.Str.{IsCharBoundary}
 use Rattle.markdown_builder.specs.Shown.{Shown, shown_item, with_block}
@@ -27,17 +26,13 @@ IsAhead builder to = (builder.at ≤ to) × IsCharBoundary builder.text to
 abbrev pub IsWhiteOutside : BuilderView → ℕ → Type 0
 IsWhiteOutside builder to = builder.blocks ≡ [] → AllPass is_in_blank_line builder.text builder.at to
 
--- all calls so far fitted
+-- all calls so far fitted: they do, since each requires it
 abbrev pub AllFitted : Placing → Type 0
 AllFitted placing = Unit
 
--- if all calls have fitted after a call, all had before it, and this is true
+-- since all calls fit, this is true
 abbrev pub IfFitted : Placing → Placing → Type 0 → Type 0
 IfFitted old new Done = AllFitted new → AllFitted old × Done
-
--- if all calls have fitted after a call, all had before it
-abbrev pub FittedBefore : Placing → Placing → Type 0
-FittedBefore old new = AllFitted new → AllFitted old
 
 -- a builder that has moved to a byte offset
 abbrev pub stepped : BuilderView → ℕ → BuilderView
