@@ -266,7 +266,7 @@ pub record AddsRow (old new : Pass) (line : Line) (start : ℕ) : Type 0 where
       - length (row_cells_at old.placing.builder.text start line.stop))
   pub most : new.tables.most ≡ old.tables.most
 
--- and all calls for that fitted
+-- and what it puts into the table
 pub record PutsRow (old new : Pass) (line : Line) (start : ℕ) : Type 0 where
   pub placed : IsPlacedTo old.placing.builder new.placing.builder line.next
   pub texts : HasMoreTexts old.placing.builder new.placing.builder

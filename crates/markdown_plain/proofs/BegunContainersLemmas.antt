@@ -22,8 +22,7 @@ use Rattle.markdown_plain.specs.declared.pass.Pass.{Pass}
 use Rattle.markdown_plain.specs.Containers.{content_of as left_content}
 use Rattle.markdown_plain.specs.Standing.{AreOpenedBefore, IsOpenedBefore}
 use Rattle.markdown_plain.specs.Closing.{AreItemsInLists}
-use Rattle.markdown_plain.specs.Fitting.{AllFitted, IfFitted}
-use Rattle.markdown_plain.specs.Paragraphs.{has_paragraph, source_of}
+use Rattle.markdown_plain.specs.Paragraphs.{source_of}
 use Rattle.markdown_plain.specs.Settled.{IsBuilt, EmptyKnown, EmptyKnownIn, IsLooseAs, IsLooseBefore, QuotesEnd}
 use Rattle.markdown_plain.specs.Settled.{are_loose, placed_end}
 use Rattle.markdown_plain.specs.declared.beginnings.LineRest.{LineRest}
@@ -314,16 +313,3 @@ room_inside s room now rest next source begun blocks inside kind has goes is pas
     (line_in_room s room rest source begun blocks has)
     (begun_in_room s room rest source begun blocks has
     ∙ ap (λ made. rebuilt has.frames (followed_by has.inside made)) new) has.items
-
--- ---- a paragraph inside it
-
--- where the line of a paragraph fitted, so did what was made before it
-pub fitted_before_line : (old now : Pass) (P : Type 0)
-    → (has_paragraph old ≡ true → now ≡ record old { lines = now.lines })
-    → (has_paragraph old ≡ false → IfFitted old.placing now.placing P) → AllFitted now.placing
-    → AllFitted old.placing
-fitted_before_line old now P goes_on begins fitted = by_paragraph (has_paragraph old) refl
-  where
-    by_paragraph : (some : Bool) → has_paragraph old ≡ some → AllFitted old.placing
-    by_paragraph true is = subst (λ (p : Pass). AllFitted p.placing) (goes_on is) fitted
-    by_paragraph false is = (begins is fitted).0

@@ -25,7 +25,6 @@ use Rattle.markdown_plain.specs.Beginning.{HoldsLast, IsFirst, IsFound, IsHere, 
 use Rattle.markdown_plain.specs.Beginning.{begun_in_rest}
 use Rattle.markdown_plain.specs.Beginning as turn
 use Rattle.markdown_plain.specs.Closing.{AreItemsInLists}
-use Rattle.markdown_plain.specs.Fitting.{IfFitted}
 use Rattle.markdown_plain.specs.Frames.{AreContainers, AreNested, Frame, forgotten, innermost_is, is_item, is_list}
 use Rattle.markdown_plain.specs.Frames.{reached, rebuilt, touched}
 use Rattle.markdown_plain.specs.OpenBlocks.{without_leaf}
@@ -167,26 +166,23 @@ line_touched to l frames next after earlier = record {
 pub record OpensItem (old new : Pass) (item : ItemStart) (at depth : ℕ) : Type 0 where
   pub text : new.placing.builder.text ≡ old.placing.builder.text
   pub options : new.options ≡ old.options
-  pub here : IfFitted old.placing new.placing (new.placing.builder.at ≡ at)
+  pub here : new.placing.builder.at ≡ at
   pub ended : new.lines.items ≡ []
   pub dropped : old.placing.builder.leaf ≡ true → new.blanks.items ≡ []
   pub unheld : old.blanks.items ≡ [] → new.blanks.items ≡ []
   pub frame : (s : Source) (frames : List Frame) (inside : Forest Block) (last : Option Block) (list b : Block)
-      → HoldsLast s old frames inside last → list.start ≡ at → list.kind ≡ was.list_container item.marker
-      → b.start ≡ at → b.kind ≡ was.item_container item.indent → IfFitted old.placing new.placing
-      (IsBuilt s new.placing.builder (with_item item.marker list b (take depth frames)
-      (rebuilt (drop depth frames) (with_last inside last))) nil)
+      → HoldsLast s old frames inside last → list.start ≡ at → list.kind ≡ was.list_container item.marker → b.start ≡ at
+      → b.kind ≡ was.item_container item.indent → IsBuilt s new.placing.builder (with_item item.marker list b
+      (take depth frames) (rebuilt (drop depth frames) (with_last inside last))) nil
   pub loose : (s : Source) (frames : List Frame) (inside : Forest Block) (last : Option Block) (list b : Block)
       → HoldsLast s old frames inside last → IsLooseAs old.looseness frames (with_last inside last)
       → BlanksKnown old.looseness.blank_from 0 frames (with_last inside last) → is_list list.kind ≡ true
-      → is_item b.kind ≡ true → IfFitted old.placing new.placing
-      (IsLooseAs new.looseness (with_item item.marker list b (take depth frames)
-      (rebuilt (drop depth frames) (with_last inside last))) nil)
-  pub begins : (s : Source) (frames : List Frame) (inside : Forest Block) (list b : Block)
-      → MayOpen s old frames inside → depth ≡ length frames → list.start ≡ at
-      → list.kind ≡ was.list_container item.marker → b.start ≡ at → b.kind ≡ was.item_container item.indent
-      → IfFitted old.placing new.placing
-      (IsBuilt s new.placing.builder (with_frame (with_frame frames inside list) nil b) nil)
+      → is_item b.kind ≡ true → IsLooseAs new.looseness (with_item item.marker list b (take depth frames)
+      (rebuilt (drop depth frames) (with_last inside last))) nil
+  pub begins : (s : Source) (frames : List Frame) (inside : Forest Block) (list b : Block) → MayOpen s old frames inside
+      → depth ≡ length frames → list.start ≡ at → list.kind ≡ was.list_container item.marker → b.start ≡ at
+      → b.kind ≡ was.item_container item.indent
+      → IsBuilt s new.placing.builder (with_frame (with_frame frames inside list) nil b) nil
   pub inside : (s : Source) (frames : List Frame) (list b : Block) → MayOpen s old frames nil
       → depth ≡ length frames → IsLooseAs old.looseness frames nil → is_list list.kind ≡ true
       → is_item b.kind ≡ true
@@ -291,8 +287,8 @@ module _ (s : Source) (old now : Pass) (rest next : LineRest) (before : Before) 
       (earlier_outer rest.line.start outer more
       (subst (AreOpenedBefore rest.line.start) (sym parts) state.holds.earlier))
 
-  item_first : IfFitted old.placing now.placing (ReadsOn s now rest next blocks)
-  item_first fitted =
+  item_first : ReadsOn s now rest next blocks
+  item_first =
       let frames = before.frames in
       let inside = blocks_in before in
       let r = reached_of s before l in
@@ -307,9 +303,9 @@ module _ (s : Source) (old now : Pass) (rest next : LineRest) (before : Before) 
       let b = begun_block source (was.item_container item.indent) in
       let below = rebuilt r.inner inside in
       let built = opens.frame s frames before.inside before.last list b holds.unended (sym found.begins) refl
-      (sym found.begins) refl fitted in
-      let loose = opens.loose s frames before.inside before.last list b holds.unended holds.loose holds.blanks refl refl
-      fitted in
+      (sym found.begins) refl in
+      let loose = opens.loose s frames before.inside before.last list b holds.unended holds.loose holds.blanks refl
+      refl in
       let parts : with_item marker list b (take n frames) (rebuilt (drop n frames) inside)
       ≡ with_item marker list b r.outer below =
       ap (λ fs. with_item marker list b fs (rebuilt (drop n frames) inside)) (outer_taken s frames inside l)
@@ -326,7 +322,7 @@ module _ (s : Source) (old now : Pass) (rest next : LineRest) (before : Before) 
       item_inside s now rest next source blocks item outer inner state.left begins_it boundary goes
       (source_kept s old now opens.text opens.options holds.source) opens.ended
       (none_kept old now item at n opens old.placing.builder.leaf refl holds.unheld)
-      ((opens.here fitted).1 ∙ found.begins)
+      (opens.here ∙ found.begins)
       (subst (AreItemsInLists false) (sym state.whole) (line_keeps s (rebuilt frames inside) l around.items))
       in_line makes
       (subst (λ gs. IsBuilt s now.placing.builder gs nil) same (built_touched l s now.placing.builder fs nil built))
@@ -344,29 +340,27 @@ module _ (s : Source) (old now : Pass) (rest next : LineRest) (before : Before) 
       in_line)
       (state.whole ∙ (makes
       ∙ sym (rebuilt_more (map (touched l) outer) (record { before = inner; block = list })
-      (item_made s item.indent left source)))) in (
-        built.0,
-        item_placed
-            (λ fs. IsBuilt s now.placing.builder fs nil → IsLooseAs now.looseness fs nil
-            → ReadsOn s now rest next blocks) marker list b r.outer below
-            (λ goes_on.
-            reads (with_frame r.outer below b) (map (touched l) r.outer) below
-            (touched_more l r.outer below b ends) (first_line r.outer r.inner whole)
-            (state.whole ∙ item_in_list s frames inside l source are nested marker item.indent left state.reached none
-            begins_it.own state.filled begins_it.begun goes_on))
-            (λ plain.
-            in_list r.outer below (first_line r.outer r.inner whole)
-            (list_in_block s frames inside l source are nested marker item.indent left state.reached none begins_it.own
-            state.filled begins_it.begun plain))
-            (λ others f is listed other.
-            in_list others (forgotten f below)
-            (first_line others ((f ∷ []) ++ r.inner)
-            (sym (append_assoc others (f ∷ []) r.inner) ∙ (ap (λ fs. fs ++ r.inner) (sym is) ∙ whole)))
-            (list_after_list s frames inside l source are nested marker item.indent left state.reached none
-            begins_it.own state.filled begins_it.begun others f is listed other))
-            (subst (λ fs. IsBuilt s now.placing.builder fs nil) parts built.1)
-            (subst (λ fs. IsLooseAs now.looseness fs nil) parts loose.1),
-      )
+      (item_made s item.indent left source)))) in
+      item_placed
+      (λ fs. IsBuilt s now.placing.builder fs nil → IsLooseAs now.looseness fs nil
+      → ReadsOn s now rest next blocks) marker list b r.outer below
+      (λ goes_on.
+      reads (with_frame r.outer below b) (map (touched l) r.outer) below
+      (touched_more l r.outer below b ends) (first_line r.outer r.inner whole)
+      (state.whole ∙ item_in_list s frames inside l source are nested marker item.indent left state.reached none
+      begins_it.own state.filled begins_it.begun goes_on))
+      (λ plain.
+      in_list r.outer below (first_line r.outer r.inner whole)
+      (list_in_block s frames inside l source are nested marker item.indent left state.reached none begins_it.own
+      state.filled begins_it.begun plain))
+      (λ others f is listed other.
+      in_list others (forgotten f below)
+      (first_line others ((f ∷ []) ++ r.inner)
+      (sym (append_assoc others (f ∷ []) r.inner) ∙ (ap (λ fs. fs ++ r.inner) (sym is) ∙ whole)))
+      (list_after_list s frames inside l source are nested marker item.indent left state.reached none
+      begins_it.own state.filled begins_it.begun others f is listed other))
+      (subst (λ fs. IsBuilt s now.placing.builder fs nil) parts built)
+      (subst (λ fs. IsLooseAs now.looseness fs nil) parts loose)
 
 -- inside containers that it opened
 item_later : (s : Source) (old now : Pass) (rest next : LineRest) (frames : List Frame) (source : SourceLine)
@@ -377,29 +371,27 @@ item_later : (s : Source) (old now : Pass) (rest next : LineRest) (frames : List
       depth = length now.placing.builder.blocks;
       before = paragraph.NoParagraph;
     }
-    → OpensItem old now item at rest.depth → IfFitted old.placing now.placing (ReadsOn s now rest next blocks)
-item_later s old now rest next frames source blocks item at state found boundary goes opens fitted =
+    → OpensItem old now item at rest.depth → ReadsOn s now rest next blocks
+item_later s old now rest next frames source blocks item at state found boundary goes opens =
     let opened = state.opened in
     let left = left_at rest.reader item.inside in
     let list = begun_block source (was.list_container item.marker) in
     let b = begun_block source (was.item_container item.indent) in
     let begins = item_found s rest source at item state.left found in
     let same = opens.inside s frames list b opened.free state.depth opened.loose refl refl in
-    let built = opens.begins s frames nil list b opened.free state.depth (sym found.begins) refl (sym found.begins) refl
-    fitted in (
-      built.0,
-      item_inside s now rest next source blocks item (with_frame frames nil list) nil state.left begins boundary goes
-          (source_kept s old now opens.text opens.options opened.source) opens.ended (opens.unheld opened.blanks)
-          ((opens.here fitted).1 ∙ found.begins) state.items
-          (in_line_more s rest source (was.list_container item.marker) frames nil state.left begins.filled
-          (record { quotes = opened.quotes; items = opened.items; earlier = opened.earlier }))
-          (state.whole ∙ (ap (λ blank. rebuilt frames (if blank then nil else begun_by s source)) begins.filled
-          ∙ (ap (rebuilt frames) (begun_once s source
-          ∙ ap (new_blocks (inside_of (begun_by s) source) source) begins.begun)
-          ∙ sym (rebuilt_more frames (record { before = nil; block = list })
-          (item_made s item.indent left source)))))
-          built.1 same.1,
-    )
+    let built = opens.begins s frames nil list b opened.free state.depth (sym found.begins) refl (sym found.begins)
+    refl in
+    item_inside s now rest next source blocks item (with_frame frames nil list) nil state.left begins boundary goes
+    (source_kept s old now opens.text opens.options opened.source) opens.ended (opens.unheld opened.blanks)
+    (opens.here ∙ found.begins) state.items
+    (in_line_more s rest source (was.list_container item.marker) frames nil state.left begins.filled
+    (record { quotes = opened.quotes; items = opened.items; earlier = opened.earlier }))
+    (state.whole ∙ (ap (λ blank. rebuilt frames (if blank then nil else begun_by s source)) begins.filled
+    ∙ (ap (rebuilt frames) (begun_once s source
+    ∙ ap (new_blocks (inside_of (begun_by s) source) source) begins.begun)
+    ∙ sym (rebuilt_more frames (record { before = nil; block = list })
+    (item_made s item.indent left source)))))
+    built same.1
 
 -- in either case
 pub item_reads_on : (s : Source) (old now : Pass) (rest next : LineRest) (turn : Turn) (source : SourceLine)
@@ -410,7 +402,7 @@ pub item_reads_on : (s : Source) (old now : Pass) (rest next : LineRest) (turn :
       depth = length now.placing.builder.blocks;
       before = paragraph.NoParagraph;
     }
-    → OpensItem old now item at rest.depth → IfFitted old.placing now.placing (ReadsOn s now rest next blocks)
+    → OpensItem old now item at rest.depth → ReadsOn s now rest next blocks
 item_reads_on s old now rest next (turn.first before l) source blocks item at state found boundary goes opens =
     item_first s old now rest next before l source blocks item at state found boundary goes
     (subst (λ n. OpensItem old now item at n) state.depth opens)

@@ -38,10 +38,9 @@ use Rattle.markdown_plain.specs.declared.pass.LeafKind.TheVariants as leaf
 use Rattle.markdown_plain.specs.declared.beginnings.LineRest.{LineRest}
 use Rattle.markdown_plain.specs.declared.looseness.Looseness.{Looseness}
 use Rattle.markdown_plain.specs.declared.pass.Pass.{Pass}
-use Rattle.markdown_plain.specs.declared.placing.Placing.{Placing}
 use Rattle.markdown_plain.specs.Closable.{IsReadyAfter}
 use Rattle.markdown_plain.specs.Closing.{AreItemsInLists}
-use Rattle.markdown_plain.specs.Fitting.{AllFitted, IfFitted, stepped}
+use Rattle.markdown_plain.specs.Fitting.{stepped}
 use Rattle.markdown_plain.specs.Frames.{Frame, rebuilt}
 use Rattle.markdown_plain.specs.OpenLeaves.{IsLeafIn, IsLineRest, IsOpenIn, IsPlaced, is_leaf, is_table, leaf_block}
 use Rattle.markdown_plain.specs.Paragraphs.{lines_end, source_of}
@@ -270,13 +269,6 @@ html_places s room now rest source blocks kind false b has is last keeps opens k
     (ap (block_end b b.first) is ∙ last) (other_alone b.kind has.frames (ap is_metadata is)) opens
     (subst (λ how. IsLeafKind how b.kind) (sym known) (subst (IsLeafKind (leaf.Html kind)) (sym is) refl))
     (subst (HoldsBlanks now.blanks.items) (sym is) (keeps.blanks ∙ has.may.blanks)) begins
-
--- all calls fitted before one, whether it put the block there whole or left it open
-pub fitted_before : {Whole Left : Type 0} (old now : Placing) (test : Bool)
-    → (test ≡ true → IfFitted old now Whole) → (test ≡ false → IfFitted old now Left) → AllFitted now
-    → AllFitted old
-fitted_before old now true whole left fitted = (whole refl fitted).0
-fitted_before old now false whole left fitted = (left refl fitted).0
 
 -- the byte that begins the content of a line's rest is the next that is in no blank line
 pub content_next : (text : List ℕ) (position : Position) (line : Line) (source : SourceLine) (held : HeldLine)

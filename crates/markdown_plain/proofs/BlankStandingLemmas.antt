@@ -31,7 +31,6 @@ use Rattle.markdown_plain.specs.Paragraphs.{lines_end, source_of}
 use Rattle.markdown_plain.specs.ReachedFrames.{are_none, quote_depth}
 use Rattle.markdown_plain.specs.Closable.{AreClosable, IsClosable}
 use Rattle.markdown_plain.specs.Fits.{MayAddBefore}
-use Rattle.markdown_plain.specs.Fitting.{AllFitted, IfFitted}
 use Rattle.markdown_plain.specs.OpenBlocks.{without_leaf}
 use Rattle.markdown_plain.specs.declared.pass.LeafKind.{LeafKind}
 use Rattle.markdown_plain.specs.Settled.{AreOpen, BlanksKnown, IsLooseAs, QuotesEnd}
@@ -438,25 +437,24 @@ code_stands s old mid line found frames inside (Some b) source placed by blank n
 -- what closing all but a number of containers does
 pub record ClosesDown (s : Source) (old mid : Pass) (depth : ℕ) : Type 0 where
   pub forgets : (frames : List Frame) (inside : Forest Block) → old.lines.items ≡ [] → MayClose s old frames inside
-      → IfFitted old.placing mid.placing (MayClose s mid (take depth frames) (rebuilt (drop depth frames) inside))
+      → MayClose s mid (take depth frames) (rebuilt (drop depth frames) inside)
   pub finishes : (frames : List Frame) (inside : Forest Block) (b : Block) (held : Option (List SourceLine))
-      → MayEnd s old frames inside b held → IfFitted old.placing mid.placing
-      (MayClose s mid (take depth frames) (rebuilt (drop depth frames) (followed_by inside (leaf_block b))))
+      → MayEnd s old frames inside b held → MayClose s mid (take depth frames) (rebuilt (drop depth frames)
+      (followed_by inside (leaf_block b)))
   pub loose : (texts : List (List ℕ)) (frames : List Frame) (inside : Forest Block)
       → AreOpen texts (without_leaf old.placing.builder) frames → AreNested frames
-      → IsLooseAs old.looseness frames inside → IfFitted old.placing mid.placing
-      (IsLooseAs mid.looseness (take depth frames) (rebuilt (drop depth frames) inside))
+      → IsLooseAs old.looseness frames inside → IsLooseAs mid.looseness (take depth frames) (rebuilt (drop depth frames)
+      inside)
   pub lines : mid.lines.items ≡ []
   pub dropped : old.placing.builder.leaf ≡ true → mid.blanks.items ≡ []
   pub unheld : old.blanks.items ≡ [] → mid.blanks.items ≡ []
   pub source : source_of mid ≡ source_of old
   pub from : mid.looseness.blank_from ≡ old.looseness.blank_from
-  pub here : IsClosable old → AllFitted mid.placing → AreClosable mid.placing.builder old.placed
+  pub here : IsClosable old → AreClosable mid.placing.builder old.placed
 
 may_close : (s : Source) (old mid : Pass) (depth : ℕ) (frames : List Frame) (inside : Forest Block)
     (last : Option Block) → ClosesDown s old mid depth → HasLast s old frames inside last
-    → IfFitted old.placing mid.placing
-    (MayClose s mid (take depth frames) (rebuilt (drop depth frames) (with_last inside last)))
+    → MayClose s mid (take depth frames) (rebuilt (drop depth frames) (with_last inside last))
 may_close s old mid depth frames inside None closes has = closes.forgets frames inside has.1 has.0
 may_close s old mid depth frames inside (Some b) closes has = closes.finishes frames inside b has.0 has.1
 
@@ -469,9 +467,9 @@ no_paragraph s old mid depth false closes is unheld = closes.unheld (unheld is)
 -- those that it reaches are left
 pub closed_to_reached : (s : Source) (old mid : Pass) (line : Line) (found : code.Reached) (before : Before)
     (source : SourceLine) → IsReachedBy s old line found before source → ClosesDown s old mid found.depth
-    → IfFitted old.placing mid.placing (HasClosed s old mid (reached_of s before source).outer
-    (rebuilt (reached_of s before source).inner (blocks_in before)))
-closed_to_reached s old mid line found before source by closes fitted =
+    → HasClosed s old mid (reached_of s before source).outer (rebuilt (reached_of s before source).inner
+    (blocks_in before))
+closed_to_reached s old mid line found before source by closes =
     let stands = by.stands in
     let now = blocks_in before in
     let r = reached_of s before source in
@@ -481,24 +479,22 @@ closed_to_reached s old mid line found before source by closes fitted =
     ap (λ n. take n before.frames) depth ∙ outer_taken s before.frames now source in
     let inner : drop found.depth before.frames ≡ r.inner =
     ap (λ n. drop n before.frames) depth ∙ inner_left s before.frames now source in
-    let may = may_close s old mid found.depth before.frames before.inside before.last closes stands.unended fitted in
+    let may = may_close s old mid found.depth before.frames before.inside before.last closes stands.unended in
     let loose = closes.loose old.placing.builder.texts before.frames now
     (subst (λ (bs : List OpenBlock). AreOpen old.placing.builder.texts bs before.frames) (sym parts.without) parts.are)
-    parts.nested stands.loose fitted in (
-      may.0,
-      record {
-        may = subst (λ (fs : List Frame). MayClose s mid r.outer (rebuilt fs now)) inner
-            (subst (λ (fs : List Frame). MayClose s mid fs (rebuilt (drop found.depth before.frames) now)) outer may.1);
-        loose = subst (λ (fs : List Frame). IsLooseAs mid.looseness r.outer (rebuilt fs now)) inner
-            (subst (λ (fs : List Frame). IsLooseAs mid.looseness fs (rebuilt (drop found.depth before.frames) now))
-            outer loose.1);
-        lines = closes.lines;
-        blanks = no_paragraph s old mid found.depth old.placing.builder.leaf closes refl stands.unheld;
-        source = closes.source ∙ stands.source;
-        from = closes.from;
-        closable = closes.here stands.ready.closable fitted;
-      },
-    )
+    parts.nested stands.loose in
+    record {
+      may = subst (λ (fs : List Frame). MayClose s mid r.outer (rebuilt fs now)) inner
+          (subst (λ (fs : List Frame). MayClose s mid fs (rebuilt (drop found.depth before.frames) now)) outer may);
+      loose = subst (λ (fs : List Frame). IsLooseAs mid.looseness r.outer (rebuilt fs now)) inner
+          (subst (λ (fs : List Frame). IsLooseAs mid.looseness fs (rebuilt (drop found.depth before.frames) now))
+          outer loose);
+      lines = closes.lines;
+      blanks = no_paragraph s old mid found.depth old.placing.builder.leaf closes refl stands.unheld;
+      source = closes.source ∙ stands.source;
+      from = closes.from;
+      closable = closes.here stands.ready.closable;
+    }
 
 -- ---- whether the open leaf is indented code
 

@@ -23,7 +23,7 @@ use Rattle.markdown_plain.specs.declared.looseness.Looseness.{Looseness}
 use Rattle.markdown_plain.specs.declared.pass.Pass.{Pass}
 use Rattle.markdown_plain.specs.declared.placing.Placing.{Placing}
 use Rattle.markdown_plain.specs.Closing.{AreItemsInLists, MayClose, StandsFor}
-use Rattle.markdown_plain.specs.Fitting.{HasBody, IfFitted, PutsBlock, closed, stepped}
+use Rattle.markdown_plain.specs.Fitting.{HasBody, PutsBlock, closed, stepped}
 use Rattle.markdown_plain.specs.Frames.{AreNested, Frame, forgotten, innermost_is, is_list, is_quote, rebuilt}
 use Rattle.markdown_plain.specs.Frames.{room_depth}
 use Rattle.markdown_plain.specs.OpenBlocks as blocks
@@ -527,9 +527,8 @@ pub one_less : (s : Source) (old new : Pass) (frames : List Frame) (inside : For
     → n ≡ length old.placing.builder.blocks → suc m ≡ n
     → MayClose s old (take n frames) (rebuilt (drop n frames) inside)
     → ((outer : List Frame) (f : Frame) (below : Forest Block) → MayClose s old (outer ++ f ∷ []) below
-    → IfFitted old.placing new.placing (MayClose s new outer (forgotten f below)))
-    → IfFitted old.placing new.placing (MayClose s new (take m frames) (rebuilt (drop m frames) inside))
-one_less s old new frames inside n m number less may forgets fitted =
+    → MayClose s new outer (forgotten f below)) → MayClose s new (take m frames) (rebuilt (drop m frames) inside)
+one_less s old new frames inside n m number less may forgets =
     let many = as_many_open old.placing.builder.texts old.placing.builder.blocks (take n frames) may.stands.built.blocks
     in
     let within = kept_within n frames (number ∙ many) in
@@ -537,10 +536,8 @@ one_less s old new frames inside n m number less may forgets fitted =
     let these : MayClose s old (take m frames ++ last.f ∷ []) (rebuilt (drop (suc m) frames) inside) =
     subst (λ outer. MayClose s old outer (rebuilt (drop (suc m) frames) inside)) last.taken
     (subst (λ k. MayClose s old (take k frames) (rebuilt (drop k frames) inside)) (sym less) may) in
-    let done = forgets (take m frames) last.f (rebuilt (drop (suc m) frames) inside) these fitted in (
-      done.0,
-      subst (λ inner. MayClose s new (take m frames) (rebuilt inner inside)) (sym last.dropped) done.1,
-    )
+    let done = forgets (take m frames) last.f (rebuilt (drop (suc m) frames) inside) these in
+    subst (λ inner. MayClose s new (take m frames) (rebuilt inner inside)) (sym last.dropped) done
 
 -- as many are open as there are
 pub open_containers : (s : Source) (pass : Pass) (frames : List Frame) (inside : Forest Block)
@@ -616,17 +613,15 @@ pub list_in_the_way : (s : Source) (old new : Pass) (depth : ℕ) (frames : List
     → depth ≤ length frames → MayClose s old (take depth frames) (rebuilt (drop depth frames) inside)
     → blocks.innermost_is blocks.is_list old.placing.builder.blocks ≡ true
     → ((outer : List Frame) (f : Frame) (below : Forest Block) → MayClose s old (outer ++ f ∷ []) below
-    → IfFitted old.placing new.placing (MayClose s new outer (forgotten f below)))
-    → IfFitted old.placing new.placing (StandsFor s new (take (room_depth depth frames) frames)
-    (rebuilt (drop (room_depth depth frames) frames) inside))
-list_in_the_way s old new depth frames inside few may listed forgets fitted =
+    → MayClose s new outer (forgotten f below)) → StandsFor s new (take (room_depth depth frames) frames)
+    (rebuilt (drop (room_depth depth frames) frames) inside)
+list_in_the_way s old new depth frames inside few may listed forgets =
     let test = kept_list s old depth frames _ few may.stands ∙ listed in
     let room : depth - 1 ≡ room_depth depth frames = sym (ap (λ t. if t then depth - 1 else depth) test) in
     let many = sym (open_containers s old (take depth frames) _ may ∙ length-take-le depth frames few) in
     let some : 0 < depth = some_open depth test in
-    let done = one_less s old new frames inside depth (depth - 1) many (omega (arith, some)) may forgets fitted in (
-      done.0,
-      subst (λ n. StandsFor s new (take n frames) (rebuilt (drop n frames) inside)) room done.1.stands,
+    let done = one_less s old new frames inside depth (depth - 1) many (omega (arith, some)) may forgets in (
+    subst (λ n. StandsFor s new (take n frames) (rebuilt (drop n frames) inside)) room done.stands
     )
   where
     some_open : (n : ℕ) → innermost_is is_list (take n frames) ≡ true → 0 < n

@@ -63,7 +63,7 @@ use Rattle.markdown_plain.specs.declared.beginnings.LineRest.{LineRest}
 use Rattle.markdown_plain.specs.declared.pass.Pass.{Pass}
 use Rattle.markdown_plain.specs.Beginning.{FoundFits, FoundStands, HasBegun, IsFound, IsHeadingIn, IsHere, IsLeft}
 use Rattle.markdown_plain.specs.Beginning.{ReadsOn, StandsAsText, Turn, first, later}
-use Rattle.markdown_plain.specs.Fitting.{AllFitted, BracesStand}
+use Rattle.markdown_plain.specs.Fitting.{BracesStand}
 use Rattle.markdown_plain.specs.OpenLeaves.{InfoStands}
 use Rattle.markdown_plain.specs.Standing.{PlacesFor}
 use Rattle.markdown_plain.specs.TextLines.{IsContentAt}
@@ -863,18 +863,13 @@ begun_old s pass old new reader blocks true reads = record {
 begun_old s pass old new reader blocks false places = places
 
 -- by an arm that places the line, or that leaves more of it
-pub begun_places : (s : Source) (old pass : Pass) (rest new : LineRest) (blocks : Forest Block) (more : Bool)
-    → more ≡ false → AllFitted old.placing × PlacesFor s pass rest.line.next blocks
-    → AllFitted old.placing × HasBegun s pass rest new blocks more
-begun_places s old pass rest new blocks more is done =
-    (done.0, subst (HasBegun s pass rest new blocks) (sym is) done.1)
+pub begun_places : (s : Source) (pass : Pass) (rest new : LineRest) (blocks : Forest Block) (more : Bool)
+    → more ≡ false → PlacesFor s pass rest.line.next blocks → HasBegun s pass rest new blocks more
+begun_places s pass rest new blocks more is done = subst (HasBegun s pass rest new blocks) (sym is) done
 
-pub begun_reads : (s : Source) (old pass : Pass) (rest new : LineRest) (reader : LineReader)
-    (blocks : Forest Block) (more : Bool) → more ≡ true
-    → AllFitted old.placing × ReadsOn s pass (record rest { reader = reader }) new blocks
-    → AllFitted old.placing × HasBegun s pass rest new blocks more
-begun_reads s old pass rest new reader blocks more is done = (
-  done.0,
-  begun_old s pass rest new reader blocks more
-      (subst (HasBegun s pass (record rest { reader = reader }) new blocks) (sym is) done.1),
-)
+pub begun_reads : (s : Source) (pass : Pass) (rest new : LineRest) (reader : LineReader) (blocks : Forest Block)
+    (more : Bool) → more ≡ true → ReadsOn s pass (record rest { reader = reader }) new blocks
+    → HasBegun s pass rest new blocks more
+begun_reads s pass rest new reader blocks more is done =
+    begun_old s pass rest new reader blocks more
+    (subst (HasBegun s pass (record rest { reader = reader }) new blocks) (sym is) done)

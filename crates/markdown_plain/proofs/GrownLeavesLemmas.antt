@@ -24,7 +24,6 @@ use Rattle.markdown_block_rules.specs.BlockGrowth as was
 use Rattle.markdown_block_rules.specs.BlockGrowth.{Block, Kind, closes, ends_html, leaf_with, with_line}
 use Rattle.markdown_block_rules.specs.BlockRules.{block_end, block_ends_blank, code_lines, is_blank_block}
 use Rattle.markdown_block_rules.specs.BlockRules.{last_is_blank, lines_end as lines_end_from}
-use Rattle.markdown_plain.specs.Fitting.{IfFitted}
 use Rattle.markdown_plain.specs.declared.pass.LeafKind.{LeafKind}
 use Rattle.markdown_plain.specs.declared.pass.LeafKind.TheVariants as leaf
 use Rattle.markdown_plain.specs.HeldSources.{AreHeld}
@@ -360,14 +359,14 @@ AddsFenced s old new line position fence =
     (source : SourceLine) (kind : Kind) → IsLeafIn s old.placing.builder frames inside b false
     → b.kind ≡ was.fenced_leaf opening false lines → opening.fence ≡ fence
     → IsLineRest old.placing.builder.text position line source → leaf_with s source b.kind ≡ Some kind
-    → IfFitted old.placing new.placing (IsLeafIn s new.placing.builder frames inside
-    (record b { last = source.next; kind = kind }) (has_ended kind))
+    → IsLeafIn s new.placing.builder frames inside
+    (record b { last = source.next; kind = kind }) (has_ended kind)
 
 -- the pass with one more line placed, where a leaf is open
 abbrev pub PlacesLine : Source → Pass → Pass → Line → code.Reached → SourceLine → Before → Type 0
 PlacesLine s old new line found source before =
     IsReachedBy s old line found before source → (reached_of s before source).inner ≡ []
-    → IfFitted old.placing new.placing (PlacesFor s new line.next (with_line s (blocks_before before) source))
+    → PlacesFor s new line.next (with_line s (blocks_before before) source)
 
 pub fenced_places : (s : Source) (old new : Pass) (line : Line) (found : code.Reached) (before : Before)
     (source : SourceLine) (fence : Fence) → old.leaf ≡ leaf.Fenced fence → old.placing.builder.leaf ≡ true
@@ -381,7 +380,7 @@ fenced_places s old new line found before source fence how open_leaf same text a
     by_kind : (b : Block) (kind : Kind) → b.kind ≡ kind → MayEnd s old before.frames before.inside b None
         → IsLeafKind (leaf.Fenced fence) kind → HoldsBlanks old.blanks.items kind → old.lines.items ≡ []
         → PlacesLine s old new line found source (last_of before.frames before.inside b)
-    by_kind b (was.fenced_leaf opening false lines) kind may is unheld empty = λ by none fits.
+    by_kind b (was.fenced_leaf opening false lines) kind may is unheld empty = λ by none.
         let rest = (reached_of s (last_of before.frames before.inside b) source).rest in
         let known : old.leaf ≡ leaf.Fenced opening.fence = how ∙ ap leaf.Fenced (sym is) in
         let grown : GrownFrom s rest old.leaf b.kind =
@@ -390,11 +389,9 @@ fenced_places s old new line found before source fence how open_leaf same text a
         (fenced_grown s rest opening lines)) in
         let added = adds before.frames before.inside b opening lines rest grown.now
         (in_leaf_open s old before.frames before.inside b may open_leaf) kind is
-        (line_rest s old line found (last_of before.frames before.inside b) source by) grown.is fits in (
-          added.0,
-          kept_places s old new line found before.frames before.inside b source by none may empty unheld same text
-              grown added.1,
-        )
+        (line_rest s old line found (last_of before.frames before.inside b) source by) grown.is in
+        kept_places s old new line found before.frames before.inside b source by none may empty unheld same text
+        grown added
     by_kind b kind same_kind may is unheld empty = absurd is
 
 -- ---- HTML
@@ -404,8 +401,8 @@ AddsHtml s old new line position kind =
     (frames : List Frame) (inside : Forest Block) (b : Block) (lines : List SourceLine) (source : SourceLine)
     (now : Kind) → IsLeafIn s old.placing.builder frames inside b false → b.kind ≡ was.html_leaf kind false lines
     → IsLineRest old.placing.builder.text position line source → leaf_with s source b.kind ≡ Some now
-    → IfFitted old.placing new.placing (IsLeafIn s new.placing.builder frames inside
-    (record b { last = source.next; kind = now }) (has_ended now))
+    → IsLeafIn s new.placing.builder frames inside
+    (record b { last = source.next; kind = now }) (has_ended now)
 
 pub html_places : (s : Source) (old new : Pass) (line : Line) (found : code.Reached) (before : Before)
     (source : SourceLine) (kind : HtmlKind) → old.leaf ≡ leaf.Html kind → old.placing.builder.leaf ≡ true
@@ -420,7 +417,7 @@ html_places s old new line found before source kind how open_leaf same text adds
     by_kind : (b : Block) (now : Kind) → b.kind ≡ now → MayEnd s old before.frames before.inside b None
         → IsLeafKind (leaf.Html kind) now → HoldsBlanks old.blanks.items now → old.lines.items ≡ []
         → PlacesLine s old new line found source (last_of before.frames before.inside b)
-    by_kind b (was.html_leaf found_kind false lines) now may is unheld empty = λ by none fits.
+    by_kind b (was.html_leaf found_kind false lines) now may is unheld empty = λ by none.
         let rest = (reached_of s (last_of before.frames before.inside b) source).rest in
         let kind_is : b.kind ≡ was.html_leaf kind false lines =
         now ∙ ap (λ k. was.html_leaf k false lines) is in
@@ -430,11 +427,9 @@ html_places s old new line found before source kind how open_leaf same text adds
         (html_grown s rest kind lines (ap (λ t. t && ends_at_blank kind) (sym by.reaches.blank) ∙ more))) in
         let added = adds before.frames before.inside b lines rest grown.now
         (in_leaf_open s old before.frames before.inside b may open_leaf) kind_is
-        (line_rest s old line found (last_of before.frames before.inside b) source by) grown.is fits in (
-          added.0,
-          kept_places s old new line found before.frames before.inside b source by none may empty unheld same text
-              grown added.1,
-        )
+        (line_rest s old line found (last_of before.frames before.inside b) source by) grown.is in
+        kept_places s old new line found before.frames before.inside b source by none may empty unheld same text
+        grown added
     by_kind b now same_kind may is unheld empty = absurd is
 
 -- ---- metadata
@@ -445,8 +440,8 @@ AddsMetadata s old new line kind =
     (source : SourceLine) (now : Kind) → IsLeafIn s old.placing.builder frames inside b false
     → b.kind ≡ was.metadata_leaf kind false lines → position.at ≡ line.start → position.owed ≡ 0
     → IsLineRest old.placing.builder.text position line source → leaf_with s source b.kind ≡ Some now
-    → IfFitted old.placing new.placing (IsLeafIn s new.placing.builder frames inside
-    (record b { last = source.next; kind = now }) (has_ended now))
+    → IsLeafIn s new.placing.builder frames inside
+    (record b { last = source.next; kind = now }) (has_ended now)
 
 -- in no container all of the line is left
 whole_rest : (s : Source) (frames : List Frame) (now : Forest Block) (source : SourceLine) → frames ≡ []
@@ -465,7 +460,7 @@ metadata_places s old new line found before source kind how open_leaf same text 
     by_kind : (b : Block) (now : Kind) → b.kind ≡ now → MayEnd s old before.frames before.inside b None
         → IsLeafKind (leaf.Metadata kind) now → HoldsBlanks old.blanks.items now → old.lines.items ≡ []
         → PlacesLine s old new line found source (last_of before.frames before.inside b)
-    by_kind b (was.metadata_leaf found_kind false lines) now may is unheld empty = λ by none fits.
+    by_kind b (was.metadata_leaf found_kind false lines) now may is unheld empty = λ by none.
         let open_blocks = followed_by before.inside (leaf_block b) in
         let rest = (reached_of s (last_of before.frames before.inside b) source).rest in
         let kind_is : b.kind ≡ was.metadata_leaf kind false lines =
@@ -481,11 +476,9 @@ metadata_places s old new line found before source kind how open_leaf same text 
         let added = adds before.frames before.inside b lines found.position rest grown.now
         (in_leaf_open s old before.frames before.inside b may open_leaf) kind_is
         (ap (λ (l : LineLeft). l.scanned) left) (ap (λ (l : LineLeft). l.owed) left)
-        (line_rest s old line found (last_of before.frames before.inside b) source by) grown.is fits in (
-          added.0,
-          kept_places s old new line found before.frames before.inside b source by none may empty unheld same text
-              grown added.1,
-        )
+        (line_rest s old line found (last_of before.frames before.inside b) source by) grown.is in
+        kept_places s old new line found before.frames before.inside b source by none may empty unheld same text
+        grown added
     by_kind b now same_kind may is unheld empty = absurd is
 
 -- ---- indented code
@@ -496,8 +489,8 @@ AddsIndented s old new line position =
     (source : SourceLine) → IsLeafIn s old.placing.builder frames inside b false
     → b.kind ≡ was.indented_leaf (lines ++ blank) → code_lines (lines ++ blank) ≡ lines
     → AreHeld old.blanks.items blank → IsLineRest old.placing.builder.text position line source
-    → is_blank_rest source ≡ false → IfFitted old.placing new.placing (IsLeafIn s new.placing.builder frames inside
-    (record b { last = source.next; kind = was.indented_leaf ((lines ++ blank) ++ source ∷ []) }) false)
+    → is_blank_rest source ≡ false → IsLeafIn s new.placing.builder frames inside
+    (record b { last = source.next; kind = was.indented_leaf ((lines ++ blank) ++ source ∷ []) }) false
 
 -- the rest of a line after at most four columns of space
 rest_cut : (text : List ℕ) (position after : Position) (line : Line) (l : SourceLine)
@@ -542,7 +535,7 @@ indented_places s old new line found before source after how open_leaf same empt
     by_kind : (b : Block) (kind : Kind) → b.kind ≡ kind → MayEnd s old before.frames before.inside b None
         → IsLeafKind leaf.Indented kind → HoldsBlanks old.blanks.items kind → old.lines.items ≡ []
         → PlacesLine s old new line found source (last_of before.frames before.inside b)
-    by_kind b (was.indented_leaf lines) kind may is unheld empty = λ by none fits.
+    by_kind b (was.indented_leaf lines) kind may is unheld empty = λ by none.
         let rest = (reached_of s (last_of before.frames before.inside b) source).rest in
         let code = code_lines lines in
         let blank = unheld.0 in
@@ -555,29 +548,27 @@ indented_places s old new line found before source after how open_leaf same empt
         (in_leaf_open s old before.frames before.inside b may open_leaf)
         (kind ∙ ap was.indented_leaf unheld.1) (ap code_lines (sym unheld.1)) unheld.2
         (rest_cut old.placing.builder.text found.position after line rest read
-        (line_rest s old line found (last_of before.frames before.inside b) source by)) filled fits in (
-          added.0,
-          grown_places s old new line found before.frames before.inside b source now by none may empty (record {
-            leaf = refl;
-            plain = refl;
-            over = λ e. absurd (true≢false (sym e));
-            filled = last_filled lines (cut 4 rest) filled;
-            alone = λ e. absurd (true≢false (sym e));
-            end = λ b e. ap (lines_end_from b.first) all ∙ end_of_last b.first lines (cut 4 rest);
-          }) (ap (leaf_with s rest) kind ∙ goes rest lines enough) (record {
-            source = ap (λ t. record { text = t; options = new.options }) text
-                ∙ ap (λ (p : Pass). record { text = old.placing.builder.text; options = p.options }) same;
-            lines = ap (λ (p : Pass). p.lines.items) same;
-            looseness = ap (λ (p : Pass). p.looseness) same;
-            is = subst (λ ls. IsLeafIn s new.placing.builder before.frames before.inside
-                (grown_to b rest.next (was.indented_leaf (ls ++ cut 4 rest ∷ []))) false) (sym unheld.1) added.1;
-            held = emptied;
-            knows = λ e. (
-              subst (λ h. IsLeafKind h now) (sym (ap (λ (p : Pass). p.leaf) same ∙ how)) tt,
-              none_left new.blanks.items (lines ++ cut 4 rest ∷ []) emptied all,
-            );
-          }),
-        )
+        (line_rest s old line found (last_of before.frames before.inside b) source by)) filled in
+        grown_places s old new line found before.frames before.inside b source now by none may empty (record {
+          leaf = refl;
+          plain = refl;
+          over = λ e. absurd (true≢false (sym e));
+          filled = last_filled lines (cut 4 rest) filled;
+          alone = λ e. absurd (true≢false (sym e));
+          end = λ b e. ap (lines_end_from b.first) all ∙ end_of_last b.first lines (cut 4 rest);
+        }) (ap (leaf_with s rest) kind ∙ goes rest lines enough) (record {
+          source = ap (λ t. record { text = t; options = new.options }) text
+              ∙ ap (λ (p : Pass). record { text = old.placing.builder.text; options = p.options }) same;
+          lines = ap (λ (p : Pass). p.lines.items) same;
+          looseness = ap (λ (p : Pass). p.looseness) same;
+          is = subst (λ ls. IsLeafIn s new.placing.builder before.frames before.inside
+              (grown_to b rest.next (was.indented_leaf (ls ++ cut 4 rest ∷ []))) false) (sym unheld.1) added;
+          held = emptied;
+          knows = λ e. (
+            subst (λ h. IsLeafKind h now) (sym (ap (λ (p : Pass). p.leaf) same ∙ how)) tt,
+            none_left new.blanks.items (lines ++ cut 4 rest ∷ []) emptied all,
+          );
+        })
     by_kind b kind same_kind may is unheld empty = absurd is
 
 -- ---- where it leaves off

@@ -36,7 +36,7 @@ use Rattle.markdown_lines.specs.SourceLines.{SourceLine, cut}
 use Rattle.markdown_block_rules.specs.BlockRules.{shown_heading, shown_over}
 use Rattle.markdown_block_rules.specs.LineContents.{source_line, source_lines}
 use Rattle.markdown_plain.specs.declared.placing.Placing.{Placing}
-use Rattle.markdown_plain.specs.Fitting.{AllFitted, BeginsAtContent, IfFitted, OpensHeadingOf, PutsBlock, stepped}
+use Rattle.markdown_plain.specs.Fitting.{BeginsAtContent, OpensHeadingOf, PutsBlock, stepped}
 use Rattle.markdown_plain.specs.LeafTrees.{HasMoreTexts, HasTrees}
 use Rattle.markdown_plain.specs.OpenBlocks.{outer_of}
 use Rattle.markdown_plain.proofs.OpenBlocksLemmas.{innermost_of_opened}
@@ -253,35 +253,28 @@ pub record OwedAdded (levels : List (Forest Shown)) (start owed : ℕ) (now : Bu
   pub none : owed ≡ 0 → now.levels ≡ levels
   pub some : 0 < owed → now.levels ≡ with_items levels (synthesized_item start start (owed_spaces owed) ∷ [])
 
-pub owed_added : (old here new : Placing) (start owed : ℕ)
-    → IfFitted old here (here.builder ≡ stepped old.builder start)
-    → (0 < owed → IfFitted here new (AppendsText here.builder new.builder here.builder.at (owed_spaces owed)))
-    → (owed ≡ 0 → new ≡ here) → IfFitted old new (OwedAdded old.builder.levels start owed new.builder)
-owed_added old here new start zero step some none fitted =
+pub owed_added : (old here new : Placing) (start owed : ℕ) → here.builder ≡ stepped old.builder start
+    → (0 < owed → AppendsText here.builder new.builder here.builder.at (owed_spaces owed)) → (owed ≡ 0 → new ≡ here)
+    → OwedAdded old.builder.levels start owed new.builder
+owed_added old here new start zero step some none =
     let same = none refl in
-    let done = step (subst (λ (p : Placing). AllFitted p) same fitted) in
-    let is : new.builder ≡ stepped old.builder start = ap (λ (p : Placing). p.builder) same ∙ done.1 in (
-      done.0,
-      record {
-        at = ap (λ (b : BuilderView). b.at) is;
-        none = λ e. ap (λ (b : BuilderView). b.levels) is;
-        some = λ more. absurd (omega (arith, more));
-      },
-    )
-owed_added old here new start (suc owed) step some none fitted =
-    let more = some (omega arith) fitted in
-    let done = step more.0 in
-    let at = ap (λ (b : BuilderView). b.at) done.1 in (
-      done.0,
-      record {
-        at = ap (λ (b : BuilderView). b.at) more.1 ∙ at;
-        none = λ e. absurd (omega (arith, e));
-        some = λ any. ap (λ (b : BuilderView). b.levels) more.1
-            ∙ (ap (λ ls. with_items ls (synthesized_item here.builder.at here.builder.at (owed_spaces (suc owed)) ∷ []))
-            (ap (λ (b : BuilderView). b.levels) done.1)
-            ∙ ap (λ n. with_items old.builder.levels (synthesized_item n n (owed_spaces (suc owed)) ∷ [])) at);
-      },
-    )
+    let is : new.builder ≡ stepped old.builder start = ap (λ (p : Placing). p.builder) same ∙ step in
+    record {
+      at = ap (λ (b : BuilderView). b.at) is;
+      none = λ e. ap (λ (b : BuilderView). b.levels) is;
+      some = λ more. absurd (omega (arith, more));
+    }
+owed_added old here new start (suc owed) step some none =
+    let more = some (omega arith) in
+    let at = ap (λ (b : BuilderView). b.at) step in
+    record {
+      at = ap (λ (b : BuilderView). b.at) more ∙ at;
+      none = λ e. absurd (omega (arith, e));
+      some = λ any. ap (λ (b : BuilderView). b.levels) more
+          ∙ (ap (λ ls. with_items ls (synthesized_item here.builder.at here.builder.at (owed_spaces (suc owed)) ∷ []))
+          (ap (λ (b : BuilderView). b.levels) step)
+          ∙ ap (λ n. with_items old.builder.levels (synthesized_item n n (owed_spaces (suc owed)) ∷ [])) at);
+    }
 
 -- texts after more texts
 pub texts_after : (old now new : BuilderView) → HasMoreTexts old now → HasMoreTexts now new → HasMoreTexts old new
@@ -295,27 +288,20 @@ pub no_text : (old new : BuilderView) → new.texts ≡ old.texts → HasMoreTex
 no_text old new same = record { more = []; are = same ∙ sym (append-nil old.texts) }
 
 -- the text that a tab owes follows the others
-pub owed_text : (old here new : Placing) (start owed : ℕ)
-    → IfFitted old here (here.builder ≡ stepped old.builder start)
-    → (0 < owed → IfFitted here new (AppendsText here.builder new.builder here.builder.at (owed_spaces owed)))
-    → (owed ≡ 0 → new ≡ here) → IfFitted old new (HasMoreTexts old.builder new.builder)
-owed_text old here new start zero step some none fitted =
+pub owed_text : (old here new : Placing) (start owed : ℕ) → here.builder ≡ stepped old.builder start
+    → (0 < owed → AppendsText here.builder new.builder here.builder.at (owed_spaces owed)) → (owed ≡ 0 → new ≡ here)
+    → HasMoreTexts old.builder new.builder
+owed_text old here new start zero step some none =
     let same = none refl in
-    let done = step (subst (λ (p : Placing). AllFitted p) same fitted) in (
-      done.0,
-      no_text old.builder new.builder (ap (λ (p : Placing). p.builder.texts) same
-          ∙ ap (λ (b : BuilderView). b.texts) done.1),
-    )
-owed_text old here new start (suc owed) step some none fitted =
-    let more = some (omega arith) fitted in
-    let done = step more.0 in (
-      done.0,
-      record {
-        more = owed_spaces (suc owed) ∷ [];
-        are = ap (λ (b : BuilderView). b.texts) more.1
-            ∙ ap (λ (b : BuilderView). b.texts ++ owed_spaces (suc owed) ∷ []) done.1;
-      },
-    )
+    no_text old.builder new.builder (ap (λ (p : Placing). p.builder.texts) same
+    ∙ ap (λ (b : BuilderView). b.texts) step)
+owed_text old here new start (suc owed) step some none =
+    let more = some (omega arith) in
+    record {
+      more = owed_spaces (suc owed) ∷ [];
+      are = ap (λ (b : BuilderView). b.texts) more
+          ∙ ap (λ (b : BuilderView). b.texts ++ owed_spaces (suc owed) ∷ []) step;
+    }
 
 -- a line that is over when what a tab owes was added
 pub line_over : (levels : List (Forest Shown)) (b : ItemBody) (line : HeldLine) (source : SourceLine)

@@ -24,7 +24,6 @@ use Rattle.markdown_plain.specs.declared.looseness.Looseness.{Looseness}
 use Rattle.markdown_plain.specs.declared.pass.Pass.{Pass}
 use Rattle.markdown_plain.specs.Closable.{AreAhead, HaveTask, IsReady}
 use Rattle.markdown_plain.specs.Closing.{AreItemsInLists, MayEnd}
-use Rattle.markdown_plain.specs.Fitting.{IfFitted}
 use Rattle.markdown_plain.specs.Frames.{AreContainers, AreNested, Frame, is_list, reached, rebuilt, touched}
 use Rattle.markdown_plain.specs.OpenLeaves.{HoldsParagraph, leaf_block}
 use Rattle.markdown_plain.specs.Paragraphs.{has_paragraph, lines_end}
@@ -259,13 +258,13 @@ pub row_places : (s : Source) (old new : Pass) (line : Line) (found : code.Reach
     (before : List SourceLine) (from l : SourceLine) → HoldsParagraph s old frames inside b (before ++ from ∷ [])
     → IsLastLine s old head before from → IsRowRest s old.placing.builder.text line found.position l
     → AreAhead old.placing.builder old.lines.items
-    → IfFitted old.placing new.placing (HasTable s new.placing.builder frames inside b before from l line.next))
-    → IfFitted old.placing new.placing (PlacesFor s new line.next
-    (with_line s (blocks_before (record { frames = frames; inside = inside; last = last })) source))
+    → HasTable s new.placing.builder frames inside b before from l line.next)
+    → PlacesFor s new line.next
+    (with_line s (blocks_before (record { frames = frames; inside = inside; last = last })) source)
 row_places s old new line found frames inside None source reaches filled same text empty frame =
     let has = reaches.by.stands.unended in
     absurd (true≢false (sym reaches.some ∙ no_paragraph old has.1))
-row_places s old new line found frames inside (Some b) source reaches filled same text empty frame = λ fitted.
+row_places s old new line found frames inside (Some b) source reaches filled same text empty frame =
     let before = last_of frames inside b in
     let by = reaches.by in
     let open_block = open_paragraph s old frames inside b line.start by.stands.unended by.stands.remembers
@@ -275,12 +274,10 @@ row_places s old new line found frames inside (Some b) source reaches filled sam
     let may = subst (λ sources. MayEnd s old frames inside b (Some sources)) last.are open_block.may in
     let table = frame s frames inside b last.head last.before last.last (reached_of s before source).rest may.unended
     last.is (row_rest s old line found before source reaches)
-    (lines_ahead s old frames inside b line.start by.stands.ready open_block) fitted in (
-      table.0,
-      table_places s old new line found frames inside b last.before last.last source by
-          (none_inner _ (all_reached s old line found before source reaches)) filled may reaches.reads same text empty
-          table.1,
-    )
+    (lines_ahead s old frames inside b line.start by.stands.ready open_block) in
+    table_places s old new line found frames inside b last.before last.last source by
+    (none_inner _ (all_reached s old line found before source reaches)) filled may reaches.reads same text empty
+    table
 
 -- a head may be read of the lines that are held back
 pub record MayBeginTable (pass : Pass) (line : Line) : Type 0 where

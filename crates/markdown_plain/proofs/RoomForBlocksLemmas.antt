@@ -37,7 +37,6 @@ use Rattle.markdown_plain.specs.Beginning.{Turn}
 use Rattle.markdown_plain.specs.Closable.{AreClosable, IsClosable}
 use Rattle.markdown_plain.specs.Closing as closing
 use Rattle.markdown_plain.specs.Closing.{AreItemsInLists, MayClose, MayEnd}
-use Rattle.markdown_plain.specs.Fitting.{AllFitted, IfFitted}
 use Rattle.markdown_plain.specs.Frames.{AreContainers, AreNested, Frame, IsContainer, innermost_is, inside_container}
 use Rattle.markdown_plain.specs.Frames.{is_item, is_list, reached, reached_past, rebuilt, room_depth, touched}
 use Rattle.markdown_plain.specs.OpenBlocks.{without_leaf}
@@ -323,30 +322,30 @@ pub record MakesRoom (old new : Pass) (depth : ℕ) : Type 0 where
   pub dropped : old.placing.builder.leaf ≡ true → new.blanks.items ≡ []
   pub unheld : old.blanks.items ≡ [] → new.blanks.items ≡ []
   pub forgets : (s : Source) (frames : List Frame) (inside : Forest Block) → old.lines.items ≡ []
-      → depth ≤ length frames → MayClose s old frames inside → IfFitted old.placing new.placing
-      (closing.StandsFor s new (take (room_depth depth frames) frames)
-      (rebuilt (drop (room_depth depth frames) frames) inside))
-  pub finishes : (s : Source) (frames : List Frame) (inside : Forest Block) (b : Block)
-      (held : Option (List SourceLine)) → depth ≤ length frames → MayEnd s old frames inside b held
-      → IfFitted old.placing new.placing (closing.StandsFor s new (take (room_depth depth frames) frames)
-      (rebuilt (drop (room_depth depth frames) frames) (followed_by inside (leaf_block b))))
+      → depth ≤ length frames → MayClose s old frames inside
+      → closing.StandsFor s new (take (room_depth depth frames) frames) (rebuilt (drop (room_depth depth frames) frames)
+      inside)
+  pub finishes : (s : Source) (frames : List Frame) (inside : Forest Block) (b : Block) (held : Option
+      (List SourceLine)) → depth ≤ length frames → MayEnd s old frames inside b held
+      → closing.StandsFor s new (take (room_depth depth frames) frames) (rebuilt (drop (room_depth depth frames) frames)
+      (followed_by inside (leaf_block b)))
   pub loose : (texts : List (List ℕ)) (frames : List Frame) (inside : Forest Block)
       → AreOpen texts (without_leaf old.placing.builder) frames → AreNested frames
       → IsLooseAs old.looseness frames inside → depth ≤ length frames
       → (is_nil (rebuilt (drop (room_depth depth frames) frames) inside) ≡ false
-      → BlanksKnown old.looseness.blank_from 0 frames inside) → IfFitted old.placing new.placing
-      (IsLooseBefore new.looseness (take (room_depth depth frames) frames)
-      (rebuilt (drop (room_depth depth frames) frames) inside))
+      → BlanksKnown old.looseness.blank_from 0 frames inside)
+      → IsLooseBefore new.looseness (take (room_depth depth frames) frames) (rebuilt (drop (room_depth depth frames)
+      frames) inside)
   pub inside : (s : Source) (frames : List Frame) → MayOpen s old frames nil → depth ≡ length frames
       → IsLooseAs old.looseness frames nil
       → (new ≡ record old { looseness = new.looseness }) × IsLooseBefore new.looseness frames nil
-  pub here : IsClosable old → AllFitted new.placing → AreClosable new.placing.builder old.placed
+  pub here : IsClosable old → AreClosable new.placing.builder old.placed
 
 -- what is built then is that of the containers where there is room
 room_built : (s : Source) (old new : Pass) (depth : ℕ) (frames : List Frame) (inside : Forest Block)
     (last : Option Block) → MakesRoom old new depth → depth ≤ length frames → HoldsLast s old frames inside last
-    → IfFitted old.placing new.placing (closing.StandsFor s new (take (room_depth depth frames) frames)
-    (rebuilt (drop (room_depth depth frames) frames) (with_last inside last)))
+    → closing.StandsFor s new (take (room_depth depth frames) frames) (rebuilt (drop (room_depth depth frames) frames)
+    (with_last inside last))
 room_built s old new depth frames inside None makes few holds = makes.forgets s frames inside holds.1 few holds.0
 room_built s old new depth frames inside (Some b) makes few holds =
     makes.finishes s frames inside b holds.0 few holds.1
@@ -410,8 +409,8 @@ module _ (s : Source) (old new : Pass) (rest : LineRest) (before : Before) (l so
       else begun_by s r.rest) filled
       ∙ ap (begun_by s) (sym same)))
 
-  first_room : IfFitted old.placing new.placing (HasRoom s new rest source b blocks)
-  first_room fitted =
+  first_room : HasRoom s new rest source b blocks
+  first_room =
       let frames = before.frames in
       let inside = blocks_in before in
       let r = reached_of s before l in
@@ -424,64 +423,61 @@ module _ (s : Source) (old new : Pass) (rest : LineRest) (before : Before) (l so
       let many = ap length parts in
       let sum = length-append r.outer r.inner in
       let few : depth ≤ length frames = omega (arith, many, sum) in
-      let there = room_built s old new depth frames before.inside before.last makes few holds.unended fitted in
+      let there = room_built s old new depth frames before.inside before.last makes few holds.unended in
       let loose = makes.loose around.texts frames inside around.are around.nested holds.loose few
-      (λ some. holds.blanks) fitted in
+      (λ some. holds.blanks) in
       let after = line_some s rest source state.left state.filled in
       let earlier = earlier_taken rest.line.start n frames holds.earlier in
       let whole = first_whole are around.nested in
       let now : new.placing.builder.text ≡ s.text =
       makes.text ∙ ap (λ (r : Source). r.text) holds.source in
       let ready = ready_first s old new.placing.builder rest source (ap (λ (r : Source). r.text) holds.source) now
-      holds.ready (makes.here holds.ready.closable fitted) state.left state.filled
+      holds.ready (makes.here holds.ready.closable) state.left state.filled
       (λ none.
       let alone = no_frames new.placing.builder.texts new.placing.builder.blocks
-      (take n frames) there.1.built.blocks none
+      (take n frames) there.built.blocks none
       in
       let same : source ≡ l = state.reached ∙ nothing_taken s frames inside l alone in
       ap (λ (left : LineLeft). left.scanned) state.left.is.rest.left
       ∙ (ap (λ (m : SourceLine). m.left.scanned) same ∙ sym (ap (λ (left : LineLeft). left.scanned) state.is.left)))
-      in (
-        there.0,
-        record {
-          frames = map (touched l) (take n frames);
-          inside = rebuilt (drop n frames) inside;
-          may = record {
-            source = source_stays s old new depth makes holds.source;
-            lines = makes.ended;
-            blanks = none_kept old new depth makes old.placing.builder.leaf refl holds.unheld;
-            loose = loose_touched l new.looseness (take n frames) (rebuilt (drop n frames) inside) loose.1;
-            quotes = quotes_touched l rest.line.next (sym state.is.next) (take n frames);
-            items = not_opened rest.line (map (touched l) (take n frames)) after
-                (earlier_touched l rest.line.start rest.line.start (omega arith) (take n frames) earlier);
-            earlier = earlier_touched l rest.line.start rest.line.next (omega (arith, after)) (take n frames) earlier;
-          };
-          built = built_touched l s new.placing.builder (take n frames) (rebuilt (drop n frames) inside) there.1.built;
-          ready = ready.ready;
-          low = ready.low;
-          free = free_touched l (take n frames) ∙ room_is_free depth frames few around.nested;
-          outermost = λ outermost.
-              ap (λ m. map (touched l) (take m frames))
-              (room_at_root r.outer frames
-              (lists_reached s frames inside l are
-              (ap (λ (m : SourceLine). m.outermost) (sym state.reached) ∙ outermost))
-              (outer_nested r.outer r.inner (subst AreNested (sym parts) around.nested))
-              (outer_taken s frames inside l));
-          left = state.left;
-          filled = state.filled;
-          is = begins_it;
-          whole = whole;
-          items = subst (AreItemsInLists false) (sym state.whole) (line_keeps s (rebuilt frames inside) l around.items);
-        },
-      )
+      in
+      record {
+        frames = map (touched l) (take n frames);
+        inside = rebuilt (drop n frames) inside;
+        may = record {
+          source = source_stays s old new depth makes holds.source;
+          lines = makes.ended;
+          blanks = none_kept old new depth makes old.placing.builder.leaf refl holds.unheld;
+          loose = loose_touched l new.looseness (take n frames) (rebuilt (drop n frames) inside) loose;
+          quotes = quotes_touched l rest.line.next (sym state.is.next) (take n frames);
+          items = not_opened rest.line (map (touched l) (take n frames)) after
+              (earlier_touched l rest.line.start rest.line.start (omega arith) (take n frames) earlier);
+          earlier = earlier_touched l rest.line.start rest.line.next (omega (arith, after)) (take n frames) earlier;
+        };
+        built = built_touched l s new.placing.builder (take n frames) (rebuilt (drop n frames) inside) there.built;
+        ready = ready.ready;
+        low = ready.low;
+        free = free_touched l (take n frames) ∙ room_is_free depth frames few around.nested;
+        outermost = λ outermost.
+            ap (λ m. map (touched l) (take m frames))
+            (room_at_root r.outer frames
+            (lists_reached s frames inside l are
+            (ap (λ (m : SourceLine). m.outermost) (sym state.reached) ∙ outermost))
+            (outer_nested r.outer r.inner (subst AreNested (sym parts) around.nested))
+            (outer_taken s frames inside l));
+        left = state.left;
+        filled = state.filled;
+        is = begins_it;
+        whole = whole;
+        items = subst (AreItemsInLists false) (sym state.whole) (line_keeps s (rebuilt frames inside) l around.items);
+      }
 
 -- ---- inside containers that it opened
 
-later_room : (s : Source) (old new : Pass) (rest : LineRest) (frames : List Frame) (source : SourceLine)
-    (b : Beginning) (blocks : Forest Block) → IsInside s old rest frames source blocks
-    → is_blank_rest source ≡ false → begins s rest.before source ≡ b → MakesRoom old new rest.depth
-    → IfFitted old.placing new.placing (HasRoom s new rest source b blocks)
-later_room s old new rest frames source b blocks state filled is makes fitted =
+later_room : (s : Source) (old new : Pass) (rest : LineRest) (frames : List Frame) (source : SourceLine) (b : Beginning)
+    (blocks : Forest Block) → IsInside s old rest frames source blocks → is_blank_rest source ≡ false
+    → begins s rest.before source ≡ b → MakesRoom old new rest.depth → HasRoom s new rest source b blocks
+later_room s old new rest frames source b blocks state filled is makes =
     let opened = state.opened in
     let made = makes.inside s frames opened.free state.depth opened.loose in
     let same = made.0 in
@@ -492,42 +488,39 @@ later_room s old new rest frames source b blocks state filled is makes fitted =
     let at : 0 ≡ rest.line.next = ap (λ (fs : List Frame). placed_end 0 fs nil) (sym alone) ∙ opened.first in
     absurd (omega (arith, at, line_some s rest source state.left filled)) in
     let ready = subst (λ (v : BuilderView). IsReadyIn v rest source) (sym is_now)
-    (ready_later s view rest source (ap (λ (r : Source). r.text) opened.source) some state.ahead state.left filled) in (
-      subst (λ (p : Pass). AllFitted p.placing) same fitted,
-      record {
-        frames = frames;
-        inside = nil;
-        may = record {
-          source = source_stays s old new rest.depth makes opened.source;
-          lines = makes.ended;
-          blanks = makes.unheld opened.blanks;
-          loose = made.1;
-          quotes = opened.quotes;
-          items = opened.items;
-          earlier = opened.earlier;
-        };
-        built = subst (λ (p : Pass). IsBuilt s p.placing.builder frames nil) (sym same) opened.free.built;
-        ready = ready.ready;
-        low = ready.low;
-        free = opened.free.free;
-        outermost = λ outermost. absurd (true≢false (sym outermost ∙ state.inner));
-        left = state.left;
-        filled = filled;
-        is = ap (λ p. begins s p source) (sym state.before) ∙ is;
-        whole = state.whole
-            ∙ ap (λ blank. rebuilt frames (if blank then nil else begun_by s source)) filled;
-        items = state.items;
-      },
-    )
+    (ready_later s view rest source (ap (λ (r : Source). r.text) opened.source) some state.ahead state.left filled) in
+    record {
+      frames = frames;
+      inside = nil;
+      may = record {
+        source = source_stays s old new rest.depth makes opened.source;
+        lines = makes.ended;
+        blanks = makes.unheld opened.blanks;
+        loose = made.1;
+        quotes = opened.quotes;
+        items = opened.items;
+        earlier = opened.earlier;
+      };
+      built = subst (λ (p : Pass). IsBuilt s p.placing.builder frames nil) (sym same) opened.free.built;
+      ready = ready.ready;
+      low = ready.low;
+      free = opened.free.free;
+      outermost = λ outermost. absurd (true≢false (sym outermost ∙ state.inner));
+      left = state.left;
+      filled = filled;
+      is = ap (λ p. begins s p source) (sym state.before) ∙ is;
+      whole = state.whole
+          ∙ ap (λ blank. rebuilt frames (if blank then nil else begun_by s source)) filled;
+      items = state.items;
+    }
 
 -- ---- in either case
 
 -- there is room for the block that was found
 pub room_for : (s : Source) (old new : Pass) (rest : LineRest) (turn : Turn) (source : SourceLine) (at : ℕ)
     (start : BlockStart) (b : Beginning) (blocks : Forest Block) → MakesRoom old new rest.depth
-    → IsHere s old rest turn source blocks → IsFound s rest source at start
-    → beginning_found rest.reader start ≡ Some b → NeedsRoom b
-    → IfFitted old.placing new.placing (HasRoom s new rest source b blocks)
+    → IsHere s old rest turn source blocks → IsFound s rest source at start → beginning_found rest.reader start ≡ Some b
+    → NeedsRoom b → HasRoom s new rest source b blocks
 room_for s old new rest (turn.first before l) source at start b blocks makes state found begins needs =
     let begun = found_begins s rest source at start b found begins in
     first_room s old new rest before l source b blocks state begun.1 needs

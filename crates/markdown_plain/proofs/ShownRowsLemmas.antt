@@ -46,7 +46,7 @@ use Rattle.markdown_block_rules.specs.BlockRules.{empty_cells, shown_cells, show
 use Rattle.markdown_block_rules.specs.LineContents.{cell_items, pieces_items}
 use Rattle.markdown_plain.specs.declared.placing.Placing.{Placing}
 use Rattle.markdown_plain.specs.Closable.{IsInText}
-use Rattle.markdown_plain.specs.Fitting.{AllFitted, GoesOn, IfFitted, PutsBlock, opened}
+use Rattle.markdown_plain.specs.Fitting.{GoesOn, PutsBlock, opened}
 use Rattle.markdown_plain.specs.Fitting.{stepped}
 use Rattle.markdown_plain.specs.HeldSources.{IsTextLine}
 use Rattle.markdown_plain.specs.LeafTrees.{HasItems, HasTrees}
@@ -819,7 +819,7 @@ row_shown s columns row line source is =
 -- the cells that are left of a line lie after what was placed of it
 pub record IsInRow (text : List ℕ) (line : HeldLine) (now : Placing) (cells : List Cell) : Type 0 where
   pub low : ℕ
-  pub here : AllFitted now → now.builder.at ≤ low
+  pub here : now.builder.at ≤ low
   pub after : line.start ≤ low
   pub before : low ≤ line.next
   pub are : AreCellsFrom text low line.stop cells
@@ -883,39 +883,30 @@ HasPlaced s outer cells found count at now =
 
 -- a cell more of the line was placed
 pub cell_added : (s : Source) (outer : List (Forest Shown)) (cells rest : List Cell) (cell : Cell)
-    (found count next at : ℕ) (first before after now : Placing) → now ≡ after → found ≡ count → next ≡ count + 1
-    → drop found cells ≡ cell ∷ rest → IfFitted first before (HasPlaced s outer cells found count at before)
-    → IfFitted before after (HasTrees before.builder after.builder (shown_cells s (cell ∷ [])))
-    → IfFitted first now (HasPlaced s outer cells next (count + 1) at now)
-cell_added s outer cells rest cell found count next at first before after now is same one left placed puts fitted =
-    let put = puts tt in
-    let has = placed put.0 in (
-      has.0,
-      ap (λ (p : Placing). p.builder.levels) is
-          ∙ (level_more outer (cells_placed s cells count count at)
-          (shown_cells s (cell ∷ [])) before.builder after.builder
-          (has.1 ∙ ap (λ n. outer ++ cells_placed s cells n count at ∷ []) same) put.1
-          ∙ (ap (λ f. outer ++ f ∷ [])
-          (placed_cell s cells rest cell count at (ap (λ n. drop n cells) (sym same) ∙ left))
-          ∙ ap (λ n. outer ++ cells_placed s cells n (count + 1) at ∷ []) (sym one))),
-    )
+    (found count next at : ℕ) (before after now : Placing) → now ≡ after → found ≡ count → next ≡ count + 1
+    → drop found cells ≡ cell ∷ rest → HasPlaced s outer cells found count at before
+    → HasTrees before.builder after.builder (shown_cells s (cell ∷ []))
+    → HasPlaced s outer cells next (count + 1) at now
+cell_added s outer cells rest cell found count next at before after now is same one left placed puts =
+    ap (λ (p : Placing). p.builder.levels) is
+    ∙ (level_more outer (cells_placed s cells count count at)
+    (shown_cells s (cell ∷ [])) before.builder after.builder
+    (placed ∙ ap (λ n. outer ++ cells_placed s cells n count at ∷ []) same) puts
+    ∙ (ap (λ f. outer ++ f ∷ [])
+    (placed_cell s cells rest cell count at (ap (λ n. drop n cells) (sym same) ∙ left))
+    ∙ ap (λ n. outer ++ cells_placed s cells n (count + 1) at ∷ []) (sym one)))
 
 -- one was placed that the line lacks
 pub empty_added : (s : Source) (outer : List (Forest Shown)) (cells : List Cell) (found count next at : ℕ)
-    (first before after now : Placing) → now ≡ after → next ≡ found → found ≤ count
-    → IfFitted first before (HasPlaced s outer cells found count at before)
-    → IfFitted before after (HasTrees before.builder after.builder (empty_cells 1 at))
-    → IfFitted first now (HasPlaced s outer cells next (count + 1) at now)
-empty_added s outer cells found count next at first before after now is same few placed puts fitted =
-    let put = puts tt in
-    let has = placed put.0 in (
-      has.0,
-      ap (λ (p : Placing). p.builder.levels) is
-          ∙ (level_more outer (cells_placed s cells found count at) (empty_cells 1 at) before.builder after.builder
-          has.1 put.1
-          ∙ (ap (λ f. outer ++ f ∷ []) (placed_empty s cells found count at few)
-          ∙ ap (λ n. outer ++ cells_placed s cells n (count + 1) at ∷ []) (sym same))),
-    )
+    (before after now : Placing) → now ≡ after → next ≡ found → found ≤ count
+    → HasPlaced s outer cells found count at before → HasTrees before.builder after.builder (empty_cells 1 at)
+    → HasPlaced s outer cells next (count + 1) at now
+empty_added s outer cells found count next at before after now is same few placed puts =
+    ap (λ (p : Placing). p.builder.levels) is
+    ∙ (level_more outer (cells_placed s cells found count at) (empty_cells 1 at) before.builder after.builder
+    placed puts
+    ∙ (ap (λ f. outer ++ f ∷ []) (placed_empty s cells found count at few)
+    ∙ ap (λ n. outer ++ cells_placed s cells n (count + 1) at ∷ []) (sym same)))
 
 -- what lies in a cell that comes next in a row
 pub record ComesNext (text : List ℕ) (line : HeldLine) (low : ℕ) (cell : Cell) (rest : List Cell) : Type 0 where
@@ -934,7 +925,7 @@ comes_next text line now cells rest cell e is =
 -- it is placed
 pub after_cell : (text : List ℕ) (line : HeldLine) (now : Placing) (cell : Cell) (rest left : List Cell) (low : ℕ)
     → IsInText text line → line.start ≤ low → ComesNext text line low cell rest → left ≡ rest
-    → (AllFitted now → now.builder.at ≡ cell.end) → IsInRow text line now left
+    → (now.builder.at ≡ cell.end) → IsInRow text line now left
 after_cell text line now cell rest left low inside begins next same here =
     let after = next.after in
     let before = next.before in
@@ -944,7 +935,7 @@ after_cell text line now cell rest left low inside begins next same here =
     let three = next.inside.before in
     record {
       low = cell.end;
-      here = λ fitted. let there = here fitted in omega (arith, there);
+      here = let there = here in omega (arith, there);
       after = omega (arith, begins, after, one, two, three);
       before = omega (arith, before, ending);
       are = subst (AreCellsFrom text cell.end line.stop) (sym same) next.are;
@@ -952,13 +943,13 @@ after_cell text line now cell rest left low inside begins next same here =
 
 -- an empty one is placed at the end of the line
 pub after_empty : (text : List ℕ) (line : HeldLine) (now : Placing) (left : List Cell) → IsInText text line → left ≡ []
-    → (AllFitted now → now.builder.at ≡ line.next) → IsInRow text line now left
+    → (now.builder.at ≡ line.next) → IsInRow text line now left
 after_empty text line now left inside none here =
     let content = inside.content in
     let ending = inside.ending in
     record {
       low = line.next;
-      here = λ fitted. let there = here fitted in omega (arith, there);
+      here = let there = here in omega (arith, there);
       after = omega (arith, content, ending);
       before = omega arith;
       are = subst (AreCellsFrom text line.next line.stop) (sym none) tt;

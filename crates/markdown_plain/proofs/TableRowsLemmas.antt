@@ -16,7 +16,7 @@ use Rattle.markdown_lines.specs.TableRows.{cells_from, cells_left}
 use Rattle.markdown_lines.proofs.TableRowsLemmas.{no_cell}
 use Rattle.markdown_items.proofs.RestOfLineLemmas.{adds_more}
 use Rattle.markdown_plain.specs.declared.placing.Placing.{Placing}
-use Rattle.markdown_plain.specs.Fitting.{IfFitted, PutsBlock}
+use Rattle.markdown_plain.specs.Fitting.{PutsBlock}
 use Rattle.markdown_plain.specs.TableRows.{HasCells, PutsTree}
 use Rattle.markdown_plain.proofs.LeafTreesLemmas.{closed_tree, trees_last}
 use Rattle.markdown_plain.proofs.OpenBlocksLemmas.{innermost_of_opened}
@@ -64,18 +64,13 @@ more_cells outer count old new has puts =
       more_roots has.0 puts.0 puts.1 ∙ ap (λ n. n + 1) has.2,
     )
 
--- the same, where all calls fitted
-pub cell_counted : (outer : List (Forest Shown)) (count : ℕ) (first before after now : Placing) → now ≡ after
-    → IfFitted first before (HasCells outer count before.builder.levels)
-    → IfFitted before after (PutsTree before.builder after.builder)
-    → IfFitted first now (HasCells outer (count + 1) now.builder.levels)
-cell_counted outer count first before after now is had puts fitted =
-    let put = puts tt in
-    let has = had put.0 in (
-      has.0,
-      subst (λ (p : Placing). HasCells outer (count + 1) p.builder.levels) (sym is)
-          (more_cells outer count before.builder after.builder has.1 put.1),
-    )
+-- the same, of what was made after it
+pub cell_counted : (outer : List (Forest Shown)) (count : ℕ) (before after now : Placing) → now ≡ after
+    → HasCells outer count before.builder.levels → PutsTree before.builder after.builder
+    → HasCells outer (count + 1) now.builder.levels
+cell_counted outer count before after now is has puts =
+    subst (λ (p : Placing). HasCells outer (count + 1) p.builder.levels) (sym is)
+    (more_cells outer count before.builder after.builder has puts)
 
 -- two lists that end with an element are one
 ends_same : {A : Type 0} (xs ys : List A) (x y : A) → xs ++ x ∷ [] ≡ ys ++ y ∷ [] → (xs ≡ ys) × (x ≡ y)

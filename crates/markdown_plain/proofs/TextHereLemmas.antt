@@ -15,7 +15,6 @@ use Rattle.markdown_plain.specs.declared.beginnings.LineRest.{LineRest}
 use Rattle.markdown_plain.specs.declared.pass.Pass.{Pass}
 use Rattle.markdown_plain.specs.Beginning.{IsFirst, IsFound, IsHere, IsInside, Turn, first, later}
 use Rattle.markdown_plain.specs.Closable.{IsInText, IsReadyAfter}
-use Rattle.markdown_plain.specs.Fitting.{AllFitted, IfFitted}
 use Rattle.markdown_plain.specs.Frames.{Frame, rebuilt}
 use Rattle.markdown_plain.specs.HeldSources.{AreInParagraph}
 use Rattle.markdown_plain.specs.OpenLeaves.{BeginsText}
@@ -50,10 +49,9 @@ found_text s rest source at found =
 
 -- after the containers that go on in the line
 text_first : (s : Source) (old new : Pass) (rest : LineRest) (at : ℕ) (before : Before) (line source : SourceLine)
-    (blocks : Forest Block) → AddsText old new rest.line at rest.depth
-    → IsFirst s old rest before line source blocks → IsTextLeft s rest source at
-    → IfFitted old.placing new.placing (PlacesFor s new rest.line.next blocks)
-text_first s old new rest at before line source blocks adds state left fitted =
+    (blocks : Forest Block) → AddsText old new rest.line at rest.depth → IsFirst s old rest before line source blocks
+    → IsTextLeft s rest source at → PlacesFor s new rest.line.next blocks
+text_first s old new rest at before line source blocks adds state left =
     let r = reached_of s before line in
     let same : s.text ≡ old.placing.builder.text = sym (ap (λ (s : Source). s.text) state.holds.source) in
     let content = left_content s rest source at state.left left.filled left.here in
@@ -66,8 +64,8 @@ text_first s old new rest at before line source blocks adds state left fitted =
       over = λ none. ap (goes_on s (rebuilt r.inner (blocks_in before))) (sym state.reached) ∙ state.over none;
     } in
     let placed = text_places s old new rest.line at rest.depth line adds state.is before.frames before.inside
-    before.last state.untabled state.holds there fitted in
-    (placed.0, subst (PlacesFor s new rest.line.next) (sym state.whole) placed.1)
+    before.last state.untabled state.holds there in
+    subst (PlacesFor s new rest.line.next) (sym state.whole) placed
 
 -- it may be placed where it is the first line of a paragraph inside containers that the line opened
 later_ready : (s : Source) (old new : Pass) (rest : LineRest) (at : ℕ) (frames : List Frame) (source : SourceLine)
@@ -112,10 +110,9 @@ later_ready s old new rest at frames source blocks adds state left =
 
 -- inside containers that the line opened, where it begins a paragraph
 text_later : (s : Source) (old new : Pass) (rest : LineRest) (at : ℕ) (frames : List Frame) (source : SourceLine)
-    (blocks : Forest Block) → AddsText old new rest.line at rest.depth
-    → IsInside s old rest frames source blocks → IsTextLeft s rest source at
-    → IfFitted old.placing new.placing (PlacesFor s new rest.line.next blocks)
-text_later s old new rest at frames source blocks adds state left fitted =
+    (blocks : Forest Block) → AddsText old new rest.line at rest.depth → IsInside s old rest frames source blocks
+    → IsTextLeft s rest source at → PlacesFor s new rest.line.next blocks
+text_later s old new rest at frames source blocks adds state left =
     let opened = state.opened in
     let held = held_line rest.line at in
     let l = text_line source in
@@ -131,24 +128,22 @@ text_later s old new rest at frames source blocks adds state left fitted =
     (subst (λ bytes. BeginsText bytes held l b)
     (sym (ap (λ (p : Pass). p.placing.builder.text) same.0 ∙ text)) begun) opened.items in
     let made : begins s paragraph.NoParagraph source ≡ beginning.begins_text =
-    ap (λ (p : ParagraphBefore). begins s p source) (sym state.before) ∙ left.text in (
-      subst (λ (p : Pass). AllFitted p.placing) same.0 fitted,
-      text_inside s new rest.line at frames nil blocks b l refl
-          (source_kept s old new (ap (λ (p : Pass). p.placing.builder.text) same.0)
-          (ap (λ (p : Pass). p.options) same.0) opened.source) begins_it opened.quotes opened.earlier same.1
-          (ap (λ (p : Pass). p.blanks.items) same.0 ∙ opened.blanks)
-          (adds.lines ∙ ap (λ (has : Bool). (if has then old.lines.items else []) ++ held ∷ []) none)
-          (state.whole
-          ∙ (ap (λ (blank : Bool). rebuilt frames (if blank then nil else begun_by s source)) left.filled
-          ∙ (ap (rebuilt frames) (begun_once s source)
-          ∙ ap (λ found. rebuilt frames (new_blocks (inside_of (begun_by s) source) source found)) made)))
-          state.items (adds.untried none) (later_ready s old new rest at frames source blocks adds state left),
-    )
+    ap (λ (p : ParagraphBefore). begins s p source) (sym state.before) ∙ left.text in
+    text_inside s new rest.line at frames nil blocks b l refl
+    (source_kept s old new (ap (λ (p : Pass). p.placing.builder.text) same.0)
+    (ap (λ (p : Pass). p.options) same.0) opened.source) begins_it opened.quotes opened.earlier same.1
+    (ap (λ (p : Pass). p.blanks.items) same.0 ∙ opened.blanks)
+    (adds.lines ∙ ap (λ (has : Bool). (if has then old.lines.items else []) ++ held ∷ []) none)
+    (state.whole
+    ∙ (ap (λ (blank : Bool). rebuilt frames (if blank then nil else begun_by s source)) left.filled
+    ∙ (ap (rebuilt frames) (begun_once s source)
+    ∙ ap (λ found. rebuilt frames (new_blocks (inside_of (begun_by s) source) source found)) made)))
+    state.items (adds.untried none) (later_ready s old new rest at frames source blocks adds state left)
 
 -- the line is placed at either turn
 pub text_here : (s : Source) (old new : Pass) (rest : LineRest) (at : ℕ) (turn : Turn) (source : SourceLine)
     (blocks : Forest Block) → AddsText old new rest.line at rest.depth → IsHere s old rest turn source blocks
-    → IsTextLeft s rest source at → IfFitted old.placing new.placing (PlacesFor s new rest.line.next blocks)
+    → IsTextLeft s rest source at → PlacesFor s new rest.line.next blocks
 text_here s old new rest at (first before line) source blocks adds state left =
     text_first s old new rest at before line source blocks adds state left
 text_here s old new rest at (later frames) source blocks adds state left =

@@ -17,7 +17,6 @@ use Rattle.markdown_plain.specs.Beginning.{Holds, HoldsLast, HoldsNone}
 use Rattle.markdown_plain.specs.Closable.{AreClosable, IsClosable}
 use Rattle.markdown_plain.specs.Closing as closing
 use Rattle.markdown_plain.specs.Closing.{MayClose, MayEnd}
-use Rattle.markdown_plain.specs.Fitting.{AllFitted, IfFitted}
 use Rattle.markdown_plain.specs.Frames.{AreNested, Frame, Reached, reached, rebuilt, room_depth}
 use Rattle.markdown_plain.specs.OpenBlocks.{without_leaf}
 use Rattle.markdown_plain.specs.OpenLeaves.{AreItemsOpenedIn, BeginsText, ComesAfter, HoldsParagraph, leaf_block}
@@ -45,21 +44,20 @@ pub record AddsText (old new : Pass) (line : Line) (start depth : ℕ) : Type 0 
   pub unheld : old.blanks.items ≡ [] → new.blanks.items ≡ []
   pub dropped : old.placing.builder.leaf ≡ true → new.blanks.items ≡ []
   pub forgets : (s : Source) (frames : List Frame) (inside : Forest Block) → old.lines.items ≡ []
-      → depth ≤ length frames → MayClose s old frames inside → IfFitted old.placing new.placing
-      (closing.StandsFor s new (take (room_depth depth frames) frames)
-      (rebuilt (drop (room_depth depth frames) frames) inside))
+      → depth ≤ length frames → MayClose s old frames inside
+      → closing.StandsFor s new (take (room_depth depth frames) frames) (rebuilt (drop (room_depth depth frames) frames)
+      inside)
   pub finishes : (s : Source) (frames : List Frame) (inside : Forest Block) (b : Block) → old.lines.items ≡ []
-      → depth ≤ length frames
-      → MayEnd s old frames inside b None → IfFitted old.placing new.placing
-      (closing.StandsFor s new (take (room_depth depth frames) frames)
-      (rebuilt (drop (room_depth depth frames) frames) (followed_by inside (leaf_block b))))
+      → depth ≤ length frames → MayEnd s old frames inside b None
+      → closing.StandsFor s new (take (room_depth depth frames) frames) (rebuilt (drop (room_depth depth frames) frames)
+      (followed_by inside (leaf_block b)))
   pub loose : has_paragraph old ≡ false → (texts : List (List ℕ)) (frames : List Frame) (inside : Forest Block)
       → AreOpen texts (without_leaf old.placing.builder) frames → AreNested frames
       → IsLooseAs old.looseness frames inside → depth ≤ length frames
       → (is_nil (rebuilt (drop (room_depth depth frames) frames) inside) ≡ false
-      → BlanksKnown old.looseness.blank_from 0 frames inside) → IfFitted old.placing new.placing
-      (IsLooseBefore new.looseness (take (room_depth depth frames) frames)
-      (rebuilt (drop (room_depth depth frames) frames) inside))
+      → BlanksKnown old.looseness.blank_from 0 frames inside)
+      → IsLooseBefore new.looseness (take (room_depth depth frames) frames) (rebuilt (drop (room_depth depth frames)
+      frames) inside)
   pub first : has_paragraph old ≡ false → (s : Source) (frames : List Frame) (inside : Forest Block) (b : Block)
       (source : SourceLine) → IsBuilt s new.placing.builder frames inside → s.options ≡ old.options
       → BeginsText new.placing.builder.text (held_line line start) source b → AreItemsOpenedIn line frames
@@ -74,8 +72,7 @@ pub record AddsText (old new : Pass) (line : Line) (start depth : ℕ) : Type 0 
   -- what is closed, and that the calls fit
   pub task : has_paragraph old ≡ false → new.task ≡ task_at new line start
   pub untried : has_paragraph old ≡ false → new.tried ≡ false
-  pub here : has_paragraph old ≡ false → IsClosable old → AllFitted new.placing
-      → AreClosable new.placing.builder old.placed
+  pub here : has_paragraph old ≡ false → IsClosable old → AreClosable new.placing.builder old.placed
   -- which lines are held back then, and what becomes of containers that were opened in the line
   pub lines : new.lines.items ≡ (if has_paragraph old then old.lines.items else []) ++ held_line line start ∷ []
   pub inside : (s : Source) (frames : List Frame) → MayOpen s old frames nil → depth ≡ length frames
@@ -144,14 +141,12 @@ module _ (s : Source) (old new : Pass) (line : Line) (start depth : ℕ) (source
 
   -- a paragraph begins
   begins_there : (frames : List Frame) (inside : Forest Block) (last : Option Block)
-      → Holds s old frames inside last line.start → has_paragraph old ≡ false
-      → IsTextHere s old line start depth (with_last inside last) (reached s frames (with_last inside last) source)
-      → (depth ≤ length frames → IfFitted old.placing new.placing
-      (closing.StandsFor s new (take (room_depth depth frames) frames)
-      (rebuilt (drop (room_depth depth frames) frames) (with_last inside last))))
-      → IfFitted old.placing new.placing
-      (PlacesFor s new line.next (with_line s (rebuilt frames (with_last inside last)) source))
-  begins_there frames inside last stands none here settles fitted =
+      → Holds s old frames inside last line.start → has_paragraph old ≡ false → IsTextHere s old line start depth
+      (with_last inside last) (reached s frames (with_last inside last) source) → (depth ≤ length frames
+      → closing.StandsFor s new (take (room_depth depth frames) frames) (rebuilt (drop (room_depth depth frames) frames)
+      (with_last inside last))) → PlacesFor s new line.next (with_line s (rebuilt frames (with_last inside last))
+      source)
+  begins_there frames inside last stands none here settles =
       let blocks = with_last inside last in
       let around = last_open s old frames inside last stands.unended in
       let r = reached s frames blocks source in
@@ -159,9 +154,9 @@ module _ (s : Source) (old new : Pass) (line : Line) (start depth : ℕ) (source
       let parts = length-append r.outer r.inner in
       let deep = here.depth_is in
       let few : depth ≤ length frames = omega (arith, many, parts, deep) in
-      let there = settles few fitted in
+      let there = settles few in
       let loose = adds.loose none around.texts frames blocks around.are around.nested stands.loose few
-      (λ some. stands.blanks) fitted in
+      (λ some. stands.blanks) in
       let text = ap (λ (source : Source). source.text) stands.source in
       let options = ap (λ (source : Source). source.options) stands.source in
       let now : source_of new ≡ s =
@@ -169,61 +164,55 @@ module _ (s : Source) (old new : Pass) (line : Line) (start depth : ℕ) (source
       ∙ (ap (λ o. record { text = old.placing.builder.text; options = o }) adds.options ∙ stands.source) in
       let begun : BeginsLine s new line start (take (room_depth depth frames) frames)
       (rebuilt (drop (room_depth depth frames) frames) blocks) = record {
-        stands = there.1;
+        stands = there;
         untried = adds.untried none;
         lines = held_then false none;
         unheld = λ outside. none_kept old.placing.builder.leaf refl stands.unheld;
-        loose = loose.1;
+        loose = loose;
         first = λ b first begins opened.
-            adds.first none s _ _ b first there.1.built (sym options) begins opened;
-      } in (
-        there.0,
-        text_begun s old new line start frames blocks source now text is
-            (open_are_containers around.texts (without_leaf old.placing.builder) frames around.are) around.nested
-            around.items
-            stands.earlier here.content (here.over none)
-            (ap (λ test. begins s (if test then (if are_none r.inner then paragraph.Reached else paragraph.Lazy)
-            else paragraph.NoParagraph) r.rest) (sym none) ∙ here.text)
-            (subst (λ n. BeginsLine s new line start (take (room_depth n frames) frames)
-            (rebuilt (drop (room_depth n frames) frames) blocks)) here.depth_is begun)
-            (record {
-              text = adds.text;
-              lines = held_then false none;
-              task = adds.task none;
-              before = stands.ready;
-              here = adds.here none stands.ready.closable fitted;
-            }),
-      )
+            adds.first none s _ _ b first there.built (sym options) begins opened;
+      } in
+      text_begun s old new line start frames blocks source now text is
+      (open_are_containers around.texts (without_leaf old.placing.builder) frames around.are) around.nested
+      around.items
+      stands.earlier here.content (here.over none)
+      (ap (λ test. begins s (if test then (if are_none r.inner then paragraph.Reached else paragraph.Lazy)
+      else paragraph.NoParagraph) r.rest) (sym none) ∙ here.text)
+      (subst (λ n. BeginsLine s new line start (take (room_depth n frames) frames)
+      (rebuilt (drop (room_depth n frames) frames) blocks)) here.depth_is begun)
+      (record {
+        text = adds.text;
+        lines = held_then false none;
+        task = adds.task none;
+        before = stands.ready;
+        here = adds.here none stands.ready.closable;
+      })
 
   -- the pass has placed the line
   pub text_places : (frames : List Frame) (inside : Forest Block) (last : Option Block)
       → IfParagraphLast s (IsUntabled s old line.start (reached s frames (with_last inside last) source)) last
-      → Holds s old frames inside last line.start
-      → IsTextHere s old line start depth (with_last inside last) (reached s frames (with_last inside last) source)
-      → IfFitted old.placing new.placing
-      (PlacesFor s new line.next (with_line s (rebuilt frames (with_last inside last)) source))
-  text_places frames inside None untabled stands here fitted =
+      → Holds s old frames inside last line.start → IsTextHere s old line start depth (with_last inside last)
+      (reached s frames (with_last inside last) source)
+      → PlacesFor s new line.next (with_line s (rebuilt frames (with_last inside last)) source)
+  text_places frames inside None untabled stands here =
       let may = stands.unended in
       begins_there frames inside None stands (no_paragraph old may.1) here
-      (λ few. adds.forgets s frames inside may.1 few may.0) fitted
-  text_places frames inside (Some b) untabled stands here fitted =
+      (λ few. adds.forgets s frames inside may.1 few may.0)
+  text_places frames inside (Some b) untabled stands here =
       by_held stands.unended.0 stands.unended.1 stands.unended.2
     where
       by_held : (held : Option (List SourceLine)) → MayEnd s old frames inside b held → HoldsNone old held
-          → AllFitted old.placing
-          × PlacesFor s new line.next (with_line s (rebuilt frames (followed_by inside (leaf_block b))) source)
+          → PlacesFor s new line.next (with_line s (rebuilt frames (followed_by inside (leaf_block b))) source)
       by_held None may empty =
           begins_there frames inside (Some b) stands
           (no_paragraph old empty) here
-          (λ few. adds.finishes s frames inside b empty few may) fitted
+          (λ few. adds.finishes s frames inside b empty few may)
       by_held (Some sources) may none =
           let some = has_held s old frames inside b sources may.unended in
-          let same = adds.goes_on some in (
-            subst AllFitted (ap (λ (p : Pass). p.placing) same) fitted,
-            text_added s old new line start frames inside b sources source
-                (remembered_kind s (IsUntabled s old line.start
-                (reached s frames (followed_by inside (leaf_block b)) source)) b.kind sources may.unended.kind untabled)
-                stands may is
-                (record { same = same; lines = held_then true some; further = adds.further }) here.content
-                (goes_as s old (reached s frames (followed_by inside (leaf_block b)) source) some here.text),
-          )
+          let same = adds.goes_on some in
+          text_added s old new line start frames inside b sources source
+          (remembered_kind s (IsUntabled s old line.start
+          (reached s frames (followed_by inside (leaf_block b)) source)) b.kind sources may.unended.kind untabled)
+          stands may is
+          (record { same = same; lines = held_then true some; further = adds.further }) here.content
+          (goes_as s old (reached s frames (followed_by inside (leaf_block b)) source) some here.text)

@@ -12,7 +12,6 @@ use Rattle.markdown_block_rules.specs.BlockGrowth.{Block}
 use Rattle.markdown_plain.specs.declared.beginnings.LineRest.{LineRest}
 use Rattle.markdown_plain.specs.declared.pass.Pass.{Pass}
 use Rattle.markdown_plain.specs.Beginning.{FoundFits, HasBegun, IsFound, IsHere, Turn}
-use Rattle.markdown_plain.specs.Fitting.{AllFitted, IfFitted}
 use Rattle.markdown_plain.specs.Standing.{PlacesFor}
 use Rattle.markdown_plain.specs.TextLines.{IsTextFrom}
 use Rattle.markdown_plain.specs.Turns.{KeepsReading}
@@ -23,84 +22,78 @@ use Rattle.markdown_plain.proofs.TextStepsLemmas.{AddsText}
 
 -- before the first turn
 pub before_turns : (pass : Pass) (rest : LineRest) → KeepsReading pass pass rest rest rest.line.start
-before_turns pass rest s turn source blocks here fitted = (
-  fitted,
-  record {
-    turn = turn;
-    source = source;
-    here = here;
-    line = refl;
-    far =
-        let after : rest.line.start ≤ rest.position.at = (here_left s pass rest turn source blocks here).after in
-        omega (arith, after);
-  },
-)
+before_turns pass rest s turn source blocks here =
+    record {
+      turn = turn;
+      source = source;
+      here = here;
+      line = refl;
+      far =
+          let after : rest.line.start ≤ rest.position.at = (here_left s pass rest turn source blocks here).after in
+          omega (arith, after);
+    }
 
 -- what becomes of the rest of a line at a turn
 abbrev pub BeginsThere : Pass → Pass → (old new : LineRest) → Bool → Type 0
 BeginsThere before now old new more =
     (s : Source) (turn : Turn) (source : SourceLine) (blocks : Forest Block) → IsHere s before old turn source blocks
-    → IfFitted before.placing now.placing (HasBegun s now old new blocks more)
+    → HasBegun s now old new blocks more
 
 -- after a turn that left more of the line
 pub next_turn : (before now new : Pass) (old rest next : LineRest) (place : ℕ)
     → KeepsReading before now old rest place
     → BeginsThere now new rest next true → KeepsReading before new old next (place + 1)
-next_turn before now new old rest next place keeps begins s turn source blocks here fitted =
-    let still = keeps s turn source blocks here tt in
-    let begun = begins s still.1.turn still.1.source blocks still.1.here fitted in (
-      still.0,
-      record {
-        turn = begun.1.turn;
-        source = begun.1.source;
-        here = begun.1.here;
-        line = begun.1.line ∙ still.1.line;
-        far = let far = still.1.far in let more = begun.1.later in omega (arith, far, more);
-      },
-    )
+next_turn before now new old rest next place keeps begins s turn source blocks here =
+    let still = keeps s turn source blocks here in
+    let begun = begins s still.turn still.source blocks still.here in
+    record {
+      turn = begun.turn;
+      source = begun.source;
+      here = begun.here;
+      line = begun.line ∙ still.line;
+      far = let far = still.far in let more = begun.later in omega (arith, far, more);
+    }
 
 -- after one that left nothing
 pub last_turn : (before now new : Pass) (old rest next : LineRest) (place : ℕ) → KeepsReading before now old rest place
-    → BeginsThere now new rest next false → (s : Source) (turn : Turn)
-    (source : SourceLine) (blocks : Forest Block) → IsHere s before old turn source blocks
-    → IfFitted before.placing new.placing (PlacesFor s new old.line.next blocks)
-last_turn before now new old rest next place keeps begins s turn source blocks here fitted =
-    let still = keeps s turn source blocks here tt in
-    let begun = begins s still.1.turn still.1.source blocks still.1.here fitted in
-    (still.0, subst (λ (line : Line). PlacesFor s new line.next blocks) still.1.line begun.1)
+    → BeginsThere now new rest next false → (s : Source) (turn : Turn) (source : SourceLine) (blocks : Forest Block)
+    → IsHere s before old turn source blocks → PlacesFor s new old.line.next blocks
+last_turn before now new old rest next place keeps begins s turn source blocks here =
+    let still = keeps s turn source blocks here in
+    let begun = begins s still.turn still.source blocks still.here in
+    subst (λ (line : Line). PlacesFor s new line.next blocks) still.line begun
 
 -- what is left is text
 pub text_turn : (before now new : Pass) (old rest : LineRest) (place : ℕ) → KeepsReading before now old rest place
-    → AddsText now new rest.line rest.position.at rest.depth
-    → IsTextFrom now.placing.builder.text rest.position rest.line.stop → (s : Source) (turn : Turn)
-    (source : SourceLine) (blocks : Forest Block) → IsHere s before old turn source blocks
-    → IfFitted before.placing new.placing (PlacesFor s new old.line.next blocks)
-text_turn before now new old rest place keeps adds shows s turn source blocks here fitted =
-    let still = keeps s turn source blocks here tt in
-    let left = here_left s now rest still.1.turn still.1.source blocks still.1.here in
-    let same = here_text s now rest still.1.turn still.1.source blocks still.1.here in
-    let bytes : still.1.source.left ≡ left_from now.placing.builder.text rest.position rest.line.stop =
+    → AddsText now new rest.line rest.position.at rest.depth → IsTextFrom now.placing.builder.text rest.position
+    rest.line.stop → (s : Source) (turn : Turn) (source : SourceLine) (blocks : Forest Block)
+    → IsHere s before old turn source blocks → PlacesFor s new old.line.next blocks
+text_turn before now new old rest place keeps adds shows s turn source blocks here =
+    let still = keeps s turn source blocks here in
+    let left = here_left s now rest still.turn still.source blocks still.here in
+    let same = here_text s now rest still.turn still.source blocks still.here in
+    let bytes : still.source.left ≡ left_from now.placing.builder.text rest.position rest.line.stop =
     sym left.is.rest.left ∙ ap (λ (text : List ℕ). left_from text rest.position rest.line.stop) (sym same) in
-    let placed = text_here s now new rest rest.position.at still.1.turn still.1.source blocks adds still.1.here
+    let placed = text_here s now new rest rest.position.at still.turn still.source blocks adds still.here
     (record {
-      filled = shows.filled still.1.source bytes;
-      here = sym (shows.here still.1.source bytes);
-      text = shows.begins_it s rest.before still.1.source (sym same) bytes;
-    }) fitted in
-    (still.0, subst (λ (line : Line). PlacesFor s new line.next blocks) still.1.line placed.1)
+      filled = shows.filled still.source bytes;
+      here = sym (shows.here still.source bytes);
+      text = shows.begins_it s rest.before still.source (sym same) bytes;
+    }) in
+    subst (λ (line : Line). PlacesFor s new line.next blocks) still.line placed
 
 -- no turn goes on past the end of the line, so that there are fewer than there may be
 pub turns_end : (before now : Pass) (old rest : LineRest) (place : ℕ) → KeepsReading before now old rest place
     → old.line.next + 3 ≤ place → (s : Source) (turn : Turn) (source : SourceLine) (blocks : Forest Block)
-    → IsHere s before old turn source blocks → AllFitted now.placing → ⊥
-turns_end before now old rest place keeps many s turn source blocks here fitted =
-    let still = keeps s turn source blocks here fitted in
-    let left = here_left s now rest still.1.turn still.1.source blocks still.1.here in
+    → IsHere s before old turn source blocks → ⊥
+turns_end before now old rest place keeps many s turn source blocks here =
+    let still = keeps s turn source blocks here in
+    let left = here_left s now rest still.turn still.source blocks still.here in
     let stop = left.is.stop in
     let begin = ap (λ (l : LineLeft). l.scanned) left.is.rest.left in
     let ends = left.is.ends in
-    let same = ap (λ (line : Line). line.next) still.1.line in
-    let far = still.1.far in
+    let same = ap (λ (line : Line). line.next) still.line in
+    let far = still.far in
     let one = at_most_one (is_paragraph rest.before) in
     omega (arith, many, stop, begin, ends, same, far, one)
   where

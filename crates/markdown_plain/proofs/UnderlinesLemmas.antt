@@ -32,7 +32,7 @@ use Rattle.markdown_plain.specs.Beginning.{HasBegun, HoldsNone, IsFirst, IsFound
 use Rattle.markdown_plain.specs.Closable.{AreAhead, EndsHeading, HaveTask}
 use Rattle.markdown_plain.specs.Containers.{whole_line}
 use Rattle.markdown_plain.specs.Closing.{AreItemsInLists, MayEnd}
-use Rattle.markdown_plain.specs.Fitting.{AllFitted, IfFitted, defining as with_definitions}
+use Rattle.markdown_plain.specs.Fitting.{defining as with_definitions}
 use Rattle.markdown_plain.specs.Frames.{Frame, is_item, reached, rebuilt, touched}
 use Rattle.markdown_plain.specs.HeldSources.{IsParagraph}
 use Rattle.markdown_plain.specs.OpenLeaves.{HoldsParagraph, IsPlaced, ended_block, leaf_block}
@@ -185,20 +185,15 @@ pub record EndsUnderlined (old new : Pass) (level : HeadingLevel) (line : Line) 
   pub text : new.placing.builder.text ≡ old.placing.builder.text
   pub emptied : new.lines.items ≡ []
   pub left : (sources : List SourceLine) → IsParagraph old.placing.builder.text old.lines.items sources
-      → IfFitted old.placing new.placing (some ≡ not (length (divided_of old sources).lines == 0))
+      → some ≡ not (length (divided_of old sources).lines == 0)
   pub frame : (s : Source) (frames : List Frame) (inside : Forest Block) (b : Block) (sources : List SourceLine)
-      → HoldsParagraph s old frames inside b sources → s.options ≡ old.options
-      → IfFitted old.placing new.placing
-      (IsPlaced s new.placing.builder frames (followed_by inside
-      (leaf_block (ended_block b sources some (Some (level, line))))))
-  pub ends : some ≡ true → IfFitted old.placing new.placing
-      (IsPlacedTo (record old.placing.builder { definitions = new.placing.builder.definitions })
-      new.placing.builder line.next)
-  pub defines : some ≡ false → IfFitted old.placing new.placing
-      (new.placing.builder
-      ≡ with_definitions old.placing.builder new.placing.builder.definitions new.placing.builder.at)
-  pub after : some ≡ false → 0 < length old.lines.items → IfFitted old.placing new.placing
-      (new.placing.builder.at ≡ lines_end old.lines.items)
+      → HoldsParagraph s old frames inside b sources → s.options ≡ old.options → IsPlaced s new.placing.builder frames
+      (followed_by inside (leaf_block (ended_block b sources some (Some (level, line)))))
+  pub ends : some ≡ true → IsPlacedTo (record old.placing.builder { definitions = new.placing.builder.definitions })
+      new.placing.builder line.next
+  pub defines : some ≡ false → new.placing.builder ≡ with_definitions old.placing.builder
+      new.placing.builder.definitions new.placing.builder.at
+  pub after : some ≡ false → 0 < length old.lines.items → new.placing.builder.at ≡ lines_end old.lines.items
 
 heads_not : (test : Bool) → true ≡ not test → test ≡ false
 heads_not true is = absurd (true≢false is)
@@ -254,14 +249,13 @@ module _ (s : Source) (old new : Pass) (rest : LineRest) (level : HeadingLevel) 
       ∙ (ap (rebuilt (map (touched l) frames)) goes
       ∙ ap (λ to. rebuilt (map (touched l) frames) (followed_by inside (leaf_block (headed b level sources to)))) next))
 
-  heading_placed : EndsUnderlined old new level rest.line true → AllFitted new.placing
-      → PlacesFor s new rest.line.next blocks
-  heading_placed ends fitted =
+  heading_placed : EndsUnderlined old new level rest.line true → PlacesFor s new rest.line.next blocks
+  heading_placed ends =
       let h = headed b level sources rest.line.next in
       let at_end = followed_by inside (leaf_block h) in
-      let placed = (ends.frame s frames inside b sources holds may.options fitted).1 in
+      let placed = ends.frame s frames inside b sources holds may.options in
       let whole = heading_made (heads_not (is_defining s sources)
-      (defining true (ends.left sources holds.lines fitted).1)) in
+      (defining true (ends.left sources holds.lines))) in
       record {
         frames = map (touched l) frames;
         inside = at_end;
@@ -290,7 +284,7 @@ module _ (s : Source) (old new : Pass) (rest : LineRest) (level : HeadingLevel) 
           ready = ready_last s new frames at_end None rest.line.next
               (placed, ends.emptied, leaf_is_over s inside h refl) ends.emptied
               (ap (λ (p : Pass). p.blanks.items) ends.same ∙ here.holds.unheld holds.built.outside)
-              (ap (λ (b : BuilderView). b.at) (ends.ends refl fitted).1)
+              (ap (λ (b : BuilderView). b.at) (ends.ends refl))
               (subst (λ text. IsCharBoundary text rest.line.next) (sym ends.text)
               (next_between old.placing.builder.text rest.line.start rest.line here.is.utf8 here.is.from));
         };
@@ -322,12 +316,12 @@ module _ (s : Source) (old new : Pass) (rest : LineRest) (level : HeadingLevel) 
       ap (λ (fs : List Frame). goes_on s (rebuilt fs now) source) all
       ∙ last_ends s source inside b sources level untabled holds.kind here.filled underlines none
 
-  here_again : EndsUnderlined old new level rest.line false → AllFitted new.placing
+  here_again : EndsUnderlined old new level rest.line false
       → IsFirst s new rest_again (record { frames = frames; inside = now; last = None }) l source blocks
-  here_again ends fitted =
-      let placed = (ends.frame s frames inside b sources holds may.options fitted).1 in
+  here_again ends =
+      let placed = ends.frame s frames inside b sources holds may.options in
       let none = ends_not (is_defining s sources)
-      (defining false (ends.left sources holds.lines fitted).1) in
+      (defining false (ends.left sources holds.lines)) in
       let looseness = ap (λ (p : Pass). p.looseness) ends.same in
       record {
         untabled = tt;
@@ -358,8 +352,8 @@ module _ (s : Source) (old new : Pass) (rest : LineRest) (level : HeadingLevel) 
                 placed = ap (λ (p : Pass). p.placed) ends.same;
                 emptied = ends.emptied;
                 outside = placed.built.outside;
-                defines = (ends.defines refl fitted).1;
-                after = (ends.after refl holds.some fitted).1;
+                defines = ends.defines refl;
+                after = ends.after refl holds.some;
               })
               here.holds.ready;
         };
@@ -385,20 +379,18 @@ module _ (s : Source) (old new : Pass) (rest : LineRest) (level : HeadingLevel) 
 
   -- either way, that is what the line has begun
   begun_with : (some : Bool) → rest.before ≡ paragraph.Reached → EndsUnderlined old new level rest.line some
-      → IfFitted old.placing new.placing (HasBegun s new rest rest_again blocks (not some))
-  begun_with true reaches ends fitted = ((ends.left sources holds.lines fitted).0, heading_placed ends fitted)
-  begun_with false reaches ends fitted =
+      → HasBegun s new rest rest_again blocks (not some)
+  begun_with true reaches ends = heading_placed ends
+  begun_with false reaches ends =
       let place : (if is_paragraph rest.before then 0 else 1) ≡ 0 =
-      ap {B = ℕ} (λ before. if is_paragraph before then 0 else 1) reaches in (
-        (ends.left sources holds.lines fitted).0,
-        record {
-          turn = first (record { frames = frames; inside = now; last = None }) l;
-          source = source;
-          here = here_again ends fitted;
-          later = omega (arith, place);
-          line = refl;
-        },
-      )
+      ap {B = ℕ} (λ before. if is_paragraph before then 0 else 1) reaches in
+      record {
+        turn = first (record { frames = frames; inside = now; last = None }) l;
+        source = source;
+        here = here_again ends;
+        later = omega (arith, place);
+        line = refl;
+      }
 
 -- ---- where that is
 
@@ -409,8 +401,7 @@ paragraph_underlined : (s : Source) (old new : Pass) (rest : LineRest) (level : 
     → begins s paragraph.Reached source ≡ line.begins_underline level → rest.before ≡ paragraph.Reached
     → has_paragraph old ≡ true → (reached s frames (with_last inside last) l).inner ≡ []
     → EndsUnderlined old new level rest.line some
-    → IfFitted old.placing new.placing
-    (HasBegun s new rest (record rest { before = paragraph.NoParagraph }) blocks (not some))
+    → HasBegun s new rest (record rest { before = paragraph.NoParagraph }) blocks (not some)
 paragraph_underlined s old new rest level some frames inside None l source blocks here underlines reaches has all ends =
     absurd (true≢false (sym has ∙ held.no_paragraph old here.holds.unended.1))
 paragraph_underlined s old new rest level some frames inside (Some b) l source blocks here underlines reaches has all
@@ -418,8 +409,7 @@ paragraph_underlined s old new rest level some frames inside (Some b) l source b
     by_held here.holds.unended.0 here.holds.unended.1 here.holds.unended.2
   where
     by_held : (held : Option (List SourceLine)) → MayEnd s old frames inside b held → HoldsNone old held
-        → IfFitted old.placing new.placing
-        (HasBegun s new rest (record rest { before = paragraph.NoParagraph }) blocks (not some))
+        → HasBegun s new rest (record rest { before = paragraph.NoParagraph }) blocks (not some)
     by_held None may empty = absurd (true≢false (sym has ∙ held.no_paragraph old empty))
     by_held (Some sources) may other =
         begun_with s old new rest level l source blocks frames inside b sources here may underlines all some reaches
@@ -429,8 +419,7 @@ paragraph_underlined s old new rest level some frames inside (Some b) l source b
 pub underline_begun : (s : Source) (old new : Pass) (rest : LineRest) (turn : Turn) (source : SourceLine) (at : ℕ)
     (blocks : Forest Block) (level : HeadingLevel) (some : Bool) → IsHere s old rest turn source blocks
     → IsFound s rest source at (start.Underline level) → EndsUnderlined old new level rest.line some
-    → IfFitted old.placing new.placing
-    (HasBegun s new rest (record rest { before = paragraph.NoParagraph }) blocks (not some))
+    → HasBegun s new rest (record rest { before = paragraph.NoParagraph }) blocks (not some)
 underline_begun s old new rest (first before l) source at blocks level some here found ends =
     let begun = found_begins (line.begins_underline level) (begins s rest.before source) (is_blank_rest source)
     found.is in

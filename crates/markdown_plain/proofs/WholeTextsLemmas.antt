@@ -23,7 +23,7 @@ use Rattle.markdown_block_rules.specs.BlockRules.{footnotes_in, shown_blocks}
 use Rattle.markdown_plain.specs.declared.pass.Pass.{Pass}
 use Rattle.markdown_plain.specs.Closable.{AreClosable, AreContainers, IsClosable, IsReady}
 use Rattle.markdown_plain.specs.Closing.{MayClose, MayEnd}
-use Rattle.markdown_plain.specs.Fitting.{AllFitted, IfFitted, stepped}
+use Rattle.markdown_plain.specs.Fitting.{stepped}
 use Rattle.markdown_plain.specs.Frames.{Frame, rebuilt}
 use Rattle.markdown_plain.specs.OpenLeaves.{leaf_block}
 use Rattle.markdown_plain.specs.Readable.{MayReadLine}
@@ -81,8 +81,8 @@ stands_first s pass stands counted = record {
 abbrev pub ReadsLine : Source → Pass → Pass → Line → Type 0
 ReadsLine s old new line =
     (before : Before) (source : SourceLine) → Stands s old before.frames before.inside before.last line.start
-    → IsSource old line source → IsCounted s old (blocks_before before) → IfFitted old.placing new.placing
-    (StandsFor s new line.next (with_next_line s (blocks_before before) source))
+    → IsSource old line source → IsCounted s old (blocks_before before)
+    → StandsFor s new line.next (with_next_line s (blocks_before before) source)
 
 abbrev pub CountsLine : Source → Pass → Pass → Line → Type 0
 CountsLine s old new line =
@@ -109,28 +109,25 @@ own_line s pass at line same is boundary utf8 =
 -- so it stands after the next line
 pub stands_next : (s : Source) (old new : Pass) (at : ℕ) (line : Line) → old.placing.builder.text ≡ s.text
     → at < length s.text → IsLineFrom s.text at line → IsCharBoundary s.text at → IsUtf8 s.text → StandsAt s old at
-    → ReadsLine s old new line → CountsLine s old new line
-    → IfFitted old.placing new.placing (StandsAt s new line.next)
-stands_next s old new at line same less is boundary utf8 so_far reads counts fitted =
+    → ReadsLine s old new line → CountsLine s old new line → StandsAt s new line.next
+stands_next s old new at line same less is boundary utf8 so_far reads counts =
     let before = before_at s old at so_far in
     let source = first_line at (drop at s.text) in
     let own = own_line s old at line same is boundary utf8 in
     let stands = subst (Stands s old before.frames before.inside before.last) (sym is.begins) so_far.stands.stands in
     let counted = subst (IsCounted s old) so_far.stands.whole so_far.counted in
-    let read = reads before source stands own counted fitted in (
-      read.0,
-      record {
-        blocks = with_next_line s (blocks_before before) source;
-        stands = read.1;
-        counted = counts before source stands own counted;
-        whole = so_far.whole
-            ∙ (ap (λ lines. fold (with_next_line s) so_far.blocks lines) (lines_step s.text at less)
-            ∙ (ap (λ blocks. fold (with_next_line s) (with_next_line s blocks source) (lines_at s.text source.next))
-            so_far.stands.whole
-            ∙ ap (λ n. fold (with_next_line s) (with_next_line s (blocks_before before) source) (lines_at s.text n))
-            (line_read s.text at line is).1));
-      },
-    )
+    let read = reads before source stands own counted in
+    record {
+      blocks = with_next_line s (blocks_before before) source;
+      stands = read;
+      counted = counts before source stands own counted;
+      whole = so_far.whole
+          ∙ (ap (λ lines. fold (with_next_line s) so_far.blocks lines) (lines_step s.text at less)
+          ∙ (ap (λ blocks. fold (with_next_line s) (with_next_line s blocks source) (lines_at s.text source.next))
+          so_far.stands.whole
+          ∙ ap (λ n. fold (with_next_line s) (with_next_line s (blocks_before before) source) (lines_at s.text n))
+          (line_read s.text at line is).1));
+    }
 
 -- so that the next line may be read
 pub may_read_next : (s : Source) (old : Pass) (at : ℕ) (line : Line) (text : List ℕ) → text ≡ s.text
@@ -153,27 +150,27 @@ may_read_next s old at line text own same is boundary utf8 so_far =
 -- what closing all blocks comes to
 pub record ClosesAll (old new : Pass) : Type 0 where
   pub forgets : (s : Source) (frames : List Frame) (inside : Forest Block) → old.lines.items ≡ []
-      → MayClose s old frames inside → IfFitted old.placing new.placing (MayClose s new [] (rebuilt frames inside))
-  pub finishes : (s : Source) (frames : List Frame) (inside : Forest Block) (b : Block)
-      (held : Option (List SourceLine)) → MayEnd s old frames inside b held
-      → IfFitted old.placing new.placing (MayClose s new [] (rebuilt frames (followed_by inside (leaf_block b))))
+      → MayClose s old frames inside → MayClose s new [] (rebuilt frames inside)
+  pub finishes : (s : Source) (frames : List Frame) (inside : Forest Block) (b : Block) (held : Option
+      (List SourceLine)) → MayEnd s old frames inside b held
+      → MayClose s new [] (rebuilt frames (followed_by inside (leaf_block b)))
 
 -- at the end of the text the blocks are those of all lines
 pub whole_text : (s : Source) (old new : Pass) (from : ℕ) → length s.text ≤ from → StandsAt s old from
-    → ClosesAll old new → IfFitted old.placing new.placing (IsBuilt s new.placing.builder [] (blocks_of s))
-whole_text s old new from end so_far closes fitted =
+    → ClosesAll old new → IsBuilt s new.placing.builder [] (blocks_of s)
+whole_text s old new from end so_far closes =
     by_last so_far.stands.last so_far.stands.stands.unended
     (so_far.whole ∙ (ap (fold (with_next_line s) so_far.blocks) (no_lines s.text from end) ∙ so_far.stands.whole))
   where
     by_last : (last : Option Block) → HasLast s old so_far.stands.frames so_far.stands.inside last
         → blocks_of s ≡ rebuilt so_far.stands.frames (with_last so_far.stands.inside last)
-        → AllFitted old.placing × IsBuilt s new.placing.builder [] (blocks_of s)
+        → IsBuilt s new.placing.builder [] (blocks_of s)
     by_last None has all =
-        let done = closes.forgets s so_far.stands.frames so_far.stands.inside has.1 has.0 fitted in
-        (done.0, subst (IsBuilt s new.placing.builder []) (sym all) done.1.stands.built)
+        subst (IsBuilt s new.placing.builder []) (sym all)
+        (closes.forgets s so_far.stands.frames so_far.stands.inside has.1 has.0).stands.built
     by_last (Some b) has all =
-        let done = closes.finishes s so_far.stands.frames so_far.stands.inside b has.0 has.1 fitted in
-        (done.0, subst (IsBuilt s new.placing.builder []) (sym all) done.1.stands.built)
+        subst (IsBuilt s new.placing.builder []) (sym all)
+        (closes.finishes s so_far.stands.frames so_far.stands.inside b has.0 has.1).stands.built
 
 -- only white space is left of it
 pub white_left : (s : Source) (old new : Pass) (from : ℕ) → length new.placing.builder.text ≤ from

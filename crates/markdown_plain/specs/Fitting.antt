@@ -14,7 +14,6 @@ use Rattle.markdown_lines.specs.HeadingAttributes.{heading_of_words, words_in}
 use Rattle.markdown_builder.specs.declared.open_block.OpenBlock.{OpenBlock}
 use Rattle.markdown_builder.specs.BuilderView.{BuilderView, Definition, Opens, OpensAttributed, parts_of}
 use Rattle.markdown_lines.specs.Lines.{AllPass, is_in_blank_line, IsNextContent}
-use Rattle.markdown_plain.specs.declared.placing.Placing.{Placing}
 use Rattle.markdown_plain.specs.CodeLines.{after_line}
 use Rattle.markdown_plain.specs.OpenBlocks.{outer_of, InnermostBecomes}
 
@@ -25,14 +24,6 @@ IsAhead builder to = (builder.at ≤ to) × IsCharBoundary builder.text to
 -- where no block is open, there is only white space before a byte offset
 abbrev pub IsWhiteOutside : BuilderView → ℕ → Type 0
 IsWhiteOutside builder to = builder.blocks ≡ [] → AllPass is_in_blank_line builder.text builder.at to
-
--- all calls so far fitted: they do, since each requires it
-abbrev pub AllFitted : Placing → Type 0
-AllFitted placing = Unit
-
--- since all calls fit, this is true
-abbrev pub IfFitted : Placing → Placing → Type 0 → Type 0
-IfFitted old new Done = AllFitted new → AllFitted old × Done
 
 -- a builder that has moved to a byte offset
 abbrev pub stepped : BuilderView → ℕ → BuilderView

@@ -7,7 +7,6 @@ use Rattle.markdown_block_rules.specs.BlockGrowth.{Block}
 use Rattle.markdown_plain.specs.declared.beginnings.LineRest.{LineRest}
 use Rattle.markdown_plain.specs.declared.pass.Pass.{Pass}
 use Rattle.markdown_plain.specs.Beginning.{IsHere, Turn, turn_place}
-use Rattle.markdown_plain.specs.Fitting.{IfFitted}
 
 -- more is to be read of the same line, after turns that went on to a place
 pub record StillReads (s : Source) (pass : Pass) (old now : LineRest) (blocks : Forest Block) (place : ℕ) : Type 0 where
@@ -21,4 +20,4 @@ pub record StillReads (s : Source) (pass : Pass) (old now : LineRest) (blocks : 
 abbrev pub KeepsReading : (before now : Pass) → (old rest : LineRest) → ℕ → Type 0
 KeepsReading before now old rest place =
     (s : Source) (turn : Turn) (source : SourceLine) (blocks : Forest Block) → IsHere s before old turn source blocks
-    → IfFitted before.placing now.placing (StillReads s now old rest blocks place)
+    → StillReads s now old rest blocks place

@@ -17,7 +17,7 @@ ghost use Rattle.markdown_plain.specs.Beginning.{ReadsOn, Turn};
 ghost use Rattle.markdown_plain.specs.Beginning.{MayBeginBlock, MayRead};
 ghost use Rattle.markdown_plain.specs.Closable.{MayMakeRoom};
 ghost use Rattle.markdown_plain.specs.Fits.{MayStep};
-ghost use Rattle.markdown_plain.specs.Fitting.{BracesStand, IfFitted};
+ghost use Rattle.markdown_plain.specs.Fitting.{BracesStand};
 ghost use Rattle.markdown_plain.specs.OpenLeaves.{InfoStands};
 ghost use Rattle.markdown_plain.specs.Standing.{PlacesFor};
 ghost use Rattle.markdown_plain.specs.TextLines.{paragraph_before};
@@ -73,8 +73,7 @@ impl<'a> Pass<'a> {
         ensures tables { IfOk result (λ _. self.new.tables ≡ self.old.tables) }
         ensures begins { IfOk result (λ more. (s : Source) (turn : Turn) (source : SourceLine)
             (blocks : Forest Block) → IsHere s self.old rest.old turn source blocks
-            → IfFitted self.old.placing self.new.placing
-            (HasBegun s self.new rest.old rest.new blocks more)) }
+            → HasBegun s self.new rest.old rest.new blocks more) }
     {
         let begun = rest.reader.beginning(rest.position, rest.before)?;
         let at = begun.at;
@@ -107,8 +106,7 @@ impl<'a> Pass<'a> {
             (at : ℕ) (start : BlockStart) (b : Beginning) (blocks : Forest Block)
             → IsHere s self.old rest.now turn source blocks → IsFound s rest.now source at start
             → beginning_found rest.now.reader start ≡ Some b → NeedsRoom b
-            → IfFitted self.old.placing self.new.placing
-            (HasRoom s self.new rest.now source b blocks)) }
+            → HasRoom s self.new rest.now source b blocks) }
         ensures same { self.new ≡ record self.old {
           placing = self.new.placing;
           lines = self.new.lines;
@@ -144,8 +142,7 @@ impl<'a> Pass<'a> {
         ensures places { IfOk result (λ _. (s : Source) (rest : LineRest) (turn : Turn)
             (source : SourceLine) (at : ℕ) (blocks : Forest Block)
             → IsHere s self.old rest turn source blocks → rest.line ≡ line
-            → IsFound s rest source at start.Nothing → IfFitted self.old.placing self.new.placing
-            (PlacesFor s self.new line.next blocks)) }
+            → IsFound s rest source at start.Nothing → PlacesFor s self.new line.next blocks) }
     {
         self.placing.step_to(line.next);
         Ok(false)
@@ -167,8 +164,7 @@ impl<'a> Pass<'a> {
               next = rest.now.line.next;
               owed = 0;
             })
-            → IfFitted self.old.placing self.new.placing
-            (PlacesFor s self.new rest.now.line.next blocks)) }
+            → PlacesFor s self.new rest.now.line.next blocks) }
     {
         self.add_text(rest.line, at, rest.depth)?;
         Ok(false)
@@ -184,8 +180,7 @@ impl<'a> Pass<'a> {
         ensures places { IfOk result (λ _. (s : Source) (turn : Turn) (source : SourceLine)
             (at : ℕ) (blocks : Forest Block) → IsHere s self.old rest.now turn source blocks
             → IsFound s rest.now source at (start.IndentedCode code)
-            → IfFitted self.old.placing self.new.placing
-            (PlacesFor s self.new rest.now.line.next blocks)) }
+            → PlacesFor s self.new rest.now.line.next blocks) }
     {
         self.make_room_for(rest)?;
         self.open_indented(rest.line, code)?;
@@ -208,8 +203,7 @@ impl<'a> Pass<'a> {
             (blocks : Forest Block) → IsHere s self.old rest.old turn source blocks
             → IsFound s rest.old source at (start.Quote inside)
             → IsCharBoundary self.old.placing.builder.text inside.at
-            → IfFitted self.old.placing self.new.placing
-            (ReadsOn s self.new rest.old rest.new blocks)) }
+            → ReadsOn s self.new rest.old rest.new blocks) }
     {
         self.make_room_for(rest)?;
         self.open_quote(at, None)?;
@@ -232,8 +226,7 @@ impl<'a> Pass<'a> {
         ensures places { IfOk result (λ _. (s : Source) (turn : Turn) (source : SourceLine)
             (blocks : Forest Block) → IsHere s self.old rest.now turn source blocks
             → IsFound s rest.now source at (start.Alert kind)
-            → IfFitted self.old.placing self.new.placing
-            (PlacesFor s self.new rest.now.line.next blocks)) }
+            → PlacesFor s self.new rest.now.line.next blocks) }
     {
         self.make_room_for(rest)?;
         self.open_quote(at, Some(kind))?;
@@ -257,8 +250,7 @@ impl<'a> Pass<'a> {
             (blocks : Forest Block) → IsHere s self.old rest.now turn source blocks
             → IsFound s rest.now source at (start.Heading heading)
             → BracesStand self.old.placing.builder.text heading.braces
-            → IfFitted self.old.placing self.new.placing
-            (PlacesFor s self.new rest.now.line.next blocks)) }
+            → PlacesFor s self.new rest.now.line.next blocks) }
     {
         self.make_room_for(rest)?;
         self.placing.step_to(at);
@@ -282,8 +274,7 @@ impl<'a> Pass<'a> {
             (blocks : Forest Block) → IsHere s self.old rest.now turn source blocks
             → IsFound s rest.now source at (start.Fence opening)
             → InfoStands self.old.placing.builder.text opening
-            → IfFitted self.old.placing self.new.placing
-            (PlacesFor s self.new rest.now.line.next blocks)) }
+            → PlacesFor s self.new rest.now.line.next blocks) }
     {
         self.make_room_for(rest)?;
         self.open_fenced(rest.line, at, opening)?;
@@ -306,8 +297,7 @@ impl<'a> Pass<'a> {
               next = rest.now.line.next;
               owed = 0;
             })
-            → IfFitted self.old.placing self.new.placing
-            (PlacesFor s self.new rest.now.line.next blocks)) }
+            → PlacesFor s self.new rest.now.line.next blocks) }
     {
         self.make_room_for(rest)?;
         self.open_html(rest.line, rest.position, kind)?;
@@ -331,8 +321,7 @@ impl<'a> Pass<'a> {
             (blocks : Forest Block) → IsHere s self.old rest.old turn source blocks
             → IsFound s rest.old source at (start.Footnote label.entry inside)
             → IsCharBoundary self.old.placing.builder.text inside.at
-            → IfFitted self.old.placing self.new.placing
-            (ReadsOn s self.new rest.old rest.new blocks)) }
+            → ReadsOn s self.new rest.old rest.new blocks) }
     {
         self.make_room_for(rest)?;
         self.open_footnote(at, label)?;
@@ -353,8 +342,7 @@ impl<'a> Pass<'a> {
         ensures begins { IfOk result (λ more. (s : Source) (turn : Turn) (source : SourceLine)
             (at : ℕ) (blocks : Forest Block) → IsHere s self.old rest.old turn source blocks
             → IsFound s rest.old source at (start.Underline level)
-            → IfFitted self.old.placing self.new.placing
-            (HasBegun s self.new rest.old rest.new blocks more)) }
+            → HasBegun s self.new rest.old rest.new blocks more) }
     {
         rest.before = Before::NoParagraph;
         let is_heading = self.end_paragraph(Some((level, rest.line)))?;
@@ -371,8 +359,7 @@ impl<'a> Pass<'a> {
         ensures places { IfOk result (λ _. (s : Source) (turn : Turn) (source : SourceLine)
             (blocks : Forest Block) → IsHere s self.old rest.now turn source blocks
             → IsFound s rest.now source at start.ThematicBreak
-            → IfFitted self.old.placing self.new.placing
-            (PlacesFor s self.new rest.now.line.next blocks)) }
+            → PlacesFor s self.new rest.now.line.next blocks) }
     {
         self.make_room_for(rest)?;
         self.placing.step_to(at);
@@ -396,8 +383,7 @@ impl<'a> Pass<'a> {
             (blocks : Forest Block) → IsHere s self.old rest.old turn source blocks
             → IsFound s rest.old source at (start.Item item)
             → IsCharBoundary self.old.placing.builder.text item.inside.at
-            → IfFitted self.old.placing self.new.placing
-            (ReadsOn s self.new rest.old rest.new blocks)) }
+            → ReadsOn s self.new rest.old rest.new blocks) }
     {
         self.open_item(item, at, rest.depth)?;
         Ok(self.go_inside(rest, item.inside))
@@ -417,8 +403,7 @@ impl<'a> Pass<'a> {
         ensures places { IfOk result (λ _. (s : Source) (turn : Turn) (source : SourceLine)
             (at : ℕ) (blocks : Forest Block) → IsHere s self.old rest.now turn source blocks
             → IsFound s rest.now source at (start.Metadata kind)
-            → IfFitted self.old.placing self.new.placing
-            (PlacesFor s self.new rest.now.line.next blocks)) }
+            → PlacesFor s self.new rest.now.line.next blocks) }
     {
         self.make_room_for(rest)?;
         self.open_metadata(kind, rest.line)?;

@@ -22,7 +22,6 @@ ghost use Rattle.markdown_plain.specs.Beginning.{IsHere, IsMadeOf, Turn, reads_m
 ghost use Rattle.markdown_plain.specs.Beginning.{MayRead};
 ghost use Rattle.markdown_plain.specs.Closable.{MayMakeRoom};
 ghost use Rattle.markdown_plain.specs.Readable.{MayGoOn, MayReadLine, MayReadOn, MayReadRest, MayReadText};
-ghost use Rattle.markdown_plain.specs.Fitting.{AllFitted, IfFitted};
 ghost use Rattle.markdown_plain.specs.ListLooseness.{blank_from};
 ghost use Rattle.markdown_plain.specs.OpenBlocks.{is_list};
 ghost use Rattle.markdown_plain.specs.ReachedLines as lines;
@@ -126,8 +125,7 @@ impl<'a> Pass<'a> {
             (source : SourceLine) → ahead.old.text.now ≡ s.text
             → Stands s self.old before.frames before.inside before.last line.start
             → IsSource self.old line source → IsCounted s self.old (blocks_before before)
-            → IfFitted self.old.placing self.new.placing
-            (StandsFor s self.new line.next (with_next_line s (blocks_before before) source))) }
+            → StandsFor s self.new line.next (with_next_line s (blocks_before before) source)) }
         ensures counted { IfOk result (λ _. (s : Source) (before : lines.Before)
             (source : SourceLine) → ahead.old.text.now ≡ s.text
             → Stands s self.old before.frames before.inside before.last line.start
@@ -158,8 +156,7 @@ impl<'a> Pass<'a> {
             → IsTextHere s self.old line start depth (blocks_in before) (reached_of s before source)
             → IfParagraphLast s (IsUntabled s self.old line.start (reached_of s before source))
             before.last
-            → IfFitted self.old.placing self.new.placing
-            (StandsFor s self.new line.next (with_line s (blocks_before before) source))) }
+            → StandsFor s self.new line.next (with_line s (blocks_before before) source)) }
     {
         self.add_text(line, start, depth)?;
         self.see_content(line);
@@ -190,8 +187,7 @@ impl<'a> Pass<'a> {
             (source : SourceLine) → ahead.old.text.now ≡ s.text
             → Stands s self.old before.frames before.inside before.last line.start
             → IsSource self.old line source → IsCounted s self.old (blocks_before before)
-            → IfFitted self.old.placing self.new.placing
-            (StandsFor s self.new line.next (with_next_line s (blocks_before before) source))) }
+            → StandsFor s self.new line.next (with_next_line s (blocks_before before) source)) }
         ensures counted { IfOk result (λ _. (s : Source) (before : lines.Before)
             (source : SourceLine) → ahead.old.text.now ≡ s.text
             → Stands s self.old before.frames before.inside before.last line.start
@@ -226,8 +222,7 @@ impl<'a> Pass<'a> {
             (source : SourceLine) → ahead.old.text.now ≡ s.text
             → IsReachedBy s self.old line reached before source
             → IsCounted s self.old (blocks_before before)
-            → IfFitted self.old.placing self.new.placing (PlacesFor s self.new line.next
-            (with_next_line s (blocks_before before) source))) }
+            → PlacesFor s self.new line.next (with_next_line s (blocks_before before) source)) }
         ensures counted { IfOk result (λ goes. goes ≡ true → (s : Source) (before : lines.Before)
             (source : SourceLine) → ahead.old.text.now ≡ s.text
             → IsReachedBy s self.old line reached before source
@@ -273,8 +268,7 @@ impl<'a> Pass<'a> {
             → is_blank_rest (reached_of s before source).rest ≡ false
             → ((reached_of s before source).inner ≡ []
             → LeavesOff s (reached_of s before source).rest before.last)
-            → IfFitted self.old.placing self.new.placing
-            (StandsFor s self.new line.next (with_line s (blocks_before before) source))) }
+            → StandsFor s self.new line.next (with_line s (blocks_before before) source)) }
     {
         if is_text_from(self.placing.text(), reached.position, line.stop) {
             return self.read_text_line(line, reached.position.at, reached.depth);
@@ -297,8 +291,7 @@ impl<'a> Pass<'a> {
         ensures places { IfOk result (λ is. is ≡ true → (s : Source) (before : lines.Before)
             (source : SourceLine) → IsReachedBy s self.old line reached before source
             → is_blank_rest (reached_of s before source).rest ≡ false
-            → IfFitted self.old.placing self.new.placing
-            (PlacesFor s self.new line.next (with_line s (blocks_before before) source))) }
+            → PlacesFor s self.new line.next (with_line s (blocks_before before) source)) }
         ensures same { IfOk result (λ is. is ≡ false
             → self.new ≡ record self.old { tried = self.new.tried }) }
         ensures untabled { IfOk result (λ is. is ≡ false → (s : Source) (before : lines.Before)
@@ -343,8 +336,7 @@ impl<'a> Pass<'a> {
         ensures places { IfOk result (λ goes. goes ≡ true → (s : Source) (before : lines.Before)
             (source : SourceLine) → IsReachedBy s self.old line reached before source
             → self.old.placing.builder.leaf ≡ true → (reached_of s before source).inner ≡ []
-            → IfFitted self.old.placing self.new.placing
-            (PlacesFor s self.new line.next (with_line s (blocks_before before) source))) }
+            → PlacesFor s self.new line.next (with_line s (blocks_before before) source)) }
         ensures leaves_off { IfOk result (λ goes. goes ≡ false → (self.new ≡ self.old)
             × ((s : Source) (before : lines.Before) (source : SourceLine)
             → IsReachedBy s self.old line reached before source
@@ -383,8 +375,7 @@ impl<'a> Pass<'a> {
             → is_blank_rest (reached_of s before source).rest ≡ true
             → ((reached_of s before source).inner ≡ []
             → LeavesOff s (reached_of s before source).rest before.last)
-            → IfFitted self.old.placing self.new.placing
-            (StandsFor s self.new line.next (with_line s (blocks_before before) source))) }
+            → StandsFor s self.new line.next (with_line s (blocks_before before) source)) }
     {
         let in_code = match self.leaf {
             LeafKind::Indented => self.placing.is_in_leaf(),
@@ -430,8 +421,7 @@ impl<'a> Pass<'a> {
         ensures tables { IfOk result (λ _. self.new.tables ≡ self.old.tables) }
         ensures places { IfOk result (λ _. (s : Source) (turn : Turn) (source : SourceLine)
             (blocks : Forest Block) → IsHere s self.old rest.old turn source blocks
-            → IfFitted self.old.placing self.new.placing
-            (PlacesFor s self.new rest.old.line.next blocks)) }
+            → PlacesFor s self.new rest.old.line.next blocks) }
     {
         // each container takes at least one byte of the line; what is left after the last one is read too, and a line
         // that underlines definitions is read twice; 3 more than the last byte offset need more bits
@@ -453,12 +443,10 @@ impl<'a> Pass<'a> {
         ensures text { IfOk result (λ _. self.new.placing.builder.text
             ≡ self.old.placing.builder.text) }
         ensures made { IfOk result (λ _. (s : Source) → Stands s self.old [] nil None 0
-            → IsCounted s self.old nil → IfFitted self.old.placing self.new.placing
-            (IsBuilt s self.new.placing.builder [] (blocks_of s))) }
+            → IsCounted s self.old nil → IsBuilt s self.new.placing.builder [] (blocks_of s)) }
         ensures left { IfOk result (λ _. (s : Source) → Stands s self.old [] nil None 0
-            → IsCounted s self.old nil → AllFitted self.new.placing
-            → AllPass is_in_blank_line self.new.placing.builder.text self.new.placing.builder.at
-            (length self.new.placing.builder.text)) }
+            → IsCounted s self.old nil → AllPass is_in_blank_line self.new.placing.builder.text
+            self.new.placing.builder.at (length self.new.placing.builder.text)) }
     {
         let text = self.placing.text();
         let mut ahead = LinesAhead::new(text);

@@ -10,7 +10,7 @@ ghost use Rattle.markdown_lines.specs.SourceLines.{SourceLine};
 ghost use Rattle.markdown_plain.specs.Containers as spec;
 ghost use Rattle.markdown_plain.specs.NewContainers as opening;
 ghost use Rattle.markdown_plain.specs.Closable.{AreClosable, IsInList, IsWhiteBefore, MayOpenItem};
-ghost use Rattle.markdown_plain.specs.Fitting.{AllFitted, IfFitted, IsAhead, opened};
+ghost use Rattle.markdown_plain.specs.Fitting.{IsAhead, opened};
 ghost use Rattle.markdown_plain.specs.Fits.{MayStep};
 ghost use Rattle.markdown_plain.specs.Frames.{Frame, reached};
 ghost use Rattle.markdown_plain.specs.ReachedFrames.{IsBefore, IsReached};
@@ -300,13 +300,11 @@ impl<'a> Pass<'a> {
         ensures text { IfOk result (λ _. self.new.placing.builder.text
             ≡ self.old.placing.builder.text) }
         ensures opens { IfOk result (λ _.
-            IfFitted self.old.placing self.new.placing (self.new.placing.builder
-            ≡ opened self.old.placing.builder at (body.BlockQuote kind))) }
+            self.new.placing.builder ≡ opened self.old.placing.builder at (body.BlockQuote kind)) }
         ensures frame { IfOk result (λ _. (s : Source) (frames : List Frame)
             (inside : Forest Block) (b : Block) → IsBuilt s self.old.placing.builder frames inside
             → innermost_is is_list frames ≡ false → b.start ≡ at → b.kind ≡ quote_kind kind
-            → IfFitted self.old.placing self.new.placing
-            (IsBuilt s self.new.placing.builder (with_frame frames inside b) nil)) }
+            → IsBuilt s self.new.placing.builder (with_frame frames inside b) nil) }
         ensures same { self.new ≡ record self.old { placing = self.new.placing } }
     {
         self.placing.step_to(at);
@@ -319,12 +317,11 @@ impl<'a> Pass<'a> {
         requires { MayOpenItem self.old depth at }
         ensures text { IfOk result (λ _. self.new.placing.builder.text
             ≡ self.old.placing.builder.text) }
-        ensures around { IfOk result (λ _. IfFitted self.old.placing self.new.placing
-            (self.new.placing.builder.blocks ≡ opening.around_item at item.marker
+        ensures around { IfOk result (λ _. self.new.placing.builder.blocks
+            ≡ opening.around_item at item.marker
             (take depth (without_leaf self.old.placing.builder))
-            ++ record { start = at; body = body.ListItem item.indent } ∷ [])) }
-        ensures here { IfOk result (λ _. IfFitted self.old.placing self.new.placing
-            (self.new.placing.builder.at ≡ at)) }
+            ++ record { start = at; body = body.ListItem item.indent } ∷ []) }
+        ensures here { IfOk result (λ _. self.new.placing.builder.at ≡ at) }
         ensures ended { IfOk result (λ _. self.new.lines.items ≡ []) }
         ensures empty { IfOk result (λ _. self.new.looseness.item_is_empty ≡ true) }
         ensures begins { IfOk result (λ _. (s : Source) (frames : List Frame)
@@ -332,9 +329,8 @@ impl<'a> Pass<'a> {
             → depth ≡ length frames
             → list.start ≡ at → list.kind ≡ list_container item.marker
             → b.start ≡ at → b.kind ≡ item_container item.indent
-            → IfFitted self.old.placing self.new.placing
-            (IsBuilt s self.new.placing.builder
-            (with_frame (with_frame frames inside list) nil b) nil)) }
+            → IsBuilt s self.new.placing.builder (with_frame (with_frame frames inside list) nil b)
+            nil) }
         ensures inside { IfOk result (λ _. (s : Source) (frames : List Frame) (list b : Block)
             → MayOpen s self.old frames nil → depth ≡ length frames
             → IsLooseAs self.old.looseness frames nil
@@ -349,18 +345,16 @@ impl<'a> Pass<'a> {
             → HoldsLast s self.old frames inside last
             → list.start ≡ at → list.kind ≡ list_container item.marker
             → b.start ≡ at → b.kind ≡ item_container item.indent
-            → IfFitted self.old.placing self.new.placing (IsBuilt s self.new.placing.builder
-            (with_item item.marker list b (take depth frames)
-            (rebuilt (drop depth frames) (with_last inside last))) nil)) }
+            → IsBuilt s self.new.placing.builder (with_item item.marker list b (take depth frames)
+            (rebuilt (drop depth frames) (with_last inside last))) nil) }
         ensures loose { IfOk result (λ _. (s : Source) (frames : List Frame)
             (inside : Forest Block) (last : Option Block) (list b : Block)
             → HoldsLast s self.old frames inside last
             → IsLooseAs self.old.looseness frames (with_last inside last)
             → BlanksKnown self.old.looseness.blank_from 0 frames (with_last inside last)
             → is_list list.kind ≡ true → is_item b.kind ≡ true
-            → IfFitted self.old.placing self.new.placing (IsLooseAs self.new.looseness
-            (with_item item.marker list b (take depth frames)
-            (rebuilt (drop depth frames) (with_last inside last))) nil)) }
+            → IsLooseAs self.new.looseness (with_item item.marker list b (take depth frames)
+            (rebuilt (drop depth frames) (with_last inside last))) nil) }
         ensures dropped { IfOk result (λ _. self.old.placing.builder.leaf ≡ true
             → self.new.blanks.items ≡ []) }
         ensures unheld { IfOk result (λ _. self.old.blanks.items ≡ []
@@ -390,24 +384,21 @@ impl<'a> Pass<'a> {
             → AreClosable self.old.placing.builder self.old.placed }
         ensures text { IfOk result (λ _. self.new.placing.builder.text
             ≡ self.old.placing.builder.text) }
-        ensures around { IfOk result (λ _. IfFitted self.old.placing self.new.placing
-            (self.new.placing.builder.blocks
-            ≡ opening.around_item at marker self.old.placing.builder.blocks)) }
+        ensures around { IfOk result (λ _. self.new.placing.builder.blocks
+            ≡ opening.around_item at marker self.old.placing.builder.blocks) }
         ensures continues { IfOk result (λ _. (s : Source) (frames : List Frame)
             (inside : Forest Block) → IsBuilt s self.old.placing.builder frames inside
             → innermost_is (is_list_for marker) frames ≡ true
-            → IfFitted self.old.placing self.new.placing
-            (IsBuilt s self.new.placing.builder frames inside)) }
+            → IsBuilt s self.new.placing.builder frames inside) }
         ensures begins { IfOk result (λ _. (s : Source) (frames : List Frame)
             (inside : Forest Block) (b : Block) → IsBuilt s self.old.placing.builder frames inside
             → innermost_is is_list frames ≡ false → b.start ≡ at → b.kind ≡ list_container marker
-            → IfFitted self.old.placing self.new.placing
-            (IsBuilt s self.new.placing.builder (with_frame frames inside b) nil)) }
+            → IsBuilt s self.new.placing.builder (with_frame frames inside b) nil) }
         ensures changes { IfOk result (λ _. (s : Source) (frames : List Frame) (f : Frame)
             (inside : Forest Block) (b : Block) → MayClose s self.old (frames ++ f ∷ []) inside
             → is_list f.block.kind ≡ true → is_list_for marker f.block.kind ≡ false → b.start ≡ at
-            → b.kind ≡ list_container marker → IfFitted self.old.placing self.new.placing
-            (IsBuilt s self.new.placing.builder (with_frame frames (forgotten f inside) b) nil)) }
+            → b.kind ≡ list_container marker → IsBuilt s self.new.placing.builder (with_frame frames
+            (forgotten f inside) b) nil) }
         ensures loose_begins { IfOk result (λ _. (s : Source) (frames : List Frame)
             (inside : Forest Block) (list b : Block)
             → IsBuilt s self.old.placing.builder frames inside
@@ -422,16 +413,14 @@ impl<'a> Pass<'a> {
             → IsLooseAs self.old.looseness frames inside
             → BlanksKnown self.old.looseness.blank_from 0 frames inside
             → is_list list.kind ≡ true → is_item b.kind ≡ true
-            → IfFitted self.old.placing self.new.placing
-            (IsLooseAs self.new.looseness (with_item marker list b frames inside) nil)) }
+            → IsLooseAs self.new.looseness (with_item marker list b frames inside) nil) }
         ensures empty { IfOk result (λ _. self.new.looseness.item_is_empty ≡ true) }
         ensures same { self.new ≡ record self.old {
           placing = self.new.placing;
           looseness = self.new.looseness;
         } }
         ensures here { IfOk result (λ _. self.old.placing.builder.leaf ≡ false
-            → self.old.placing.builder.at ≤ at → AllFitted self.new.placing
-            → IsInList self.new.placing.builder at) }
+            → self.old.placing.builder.at ≤ at → IsInList self.new.placing.builder at) }
     {
         if let Some(ItemBody::List(_, character, _)) = innermost(&self.placing) {
             if character == marker.character {
@@ -454,17 +443,14 @@ impl<'a> Pass<'a> {
         ensures text { IfOk result (λ _. self.new.placing.builder.text
             ≡ self.old.placing.builder.text) }
         ensures opens { IfOk result (λ _.
-            IfFitted self.old.placing self.new.placing ((ix : _)
-            × (self.new.placing.builder.blocks ≡ self.old.placing.builder.blocks
-            ++ record { start = at; body = body.FootnoteDefinition ix } ∷ []))) }
-        ensures here { IfOk result (λ _. IfFitted self.old.placing self.new.placing
-            (self.new.placing.builder.at ≡ at)) }
+            (ix : _) × (self.new.placing.builder.blocks ≡ self.old.placing.builder.blocks
+            ++ record { start = at; body = body.FootnoteDefinition ix } ∷ [])) }
+        ensures here { IfOk result (λ _. self.new.placing.builder.at ≡ at) }
         ensures frame { IfOk result (λ _. (s : Source) (frames : List Frame)
             (inside : Forest Block) (b : Block) → IsBuilt s self.old.placing.builder frames inside
             → innermost_is is_list frames ≡ false → b.start ≡ at
             → b.kind ≡ footnote_container (text_of label.entry)
-            → IfFitted self.old.placing self.new.placing
-            (IsBuilt s self.new.placing.builder (with_frame frames inside b) nil)) }
+            → IsBuilt s self.new.placing.builder (with_frame frames inside b) nil) }
         ensures same { self.new ≡ record self.old { placing = self.new.placing } }
     {
         self.placing.step_to(at);

@@ -22,7 +22,7 @@ ghost use Rattle.markdown_items.specs.ContentItems.{content_items};
 ghost use Rattle.markdown_items.specs.LineItems.{item_extensions};
 ghost use Rattle.markdown_block_rules.specs.LineContents.{source_line, source_lines};
 ghost use Rattle.markdown_plain.specs.CodeLines.{after_line, code_after, ends_html_at, held, is_closed_at, whole_of};
-ghost use Rattle.markdown_plain.specs.Fitting.{IfFitted, GoesOn, IsAhead, OpensFenced};
+ghost use Rattle.markdown_plain.specs.Fitting.{GoesOn, IsAhead, OpensFenced};
 ghost use Rattle.markdown_plain.specs.Fitting.{BracesStand, OpensHeading, OpensHeadingOf, OpensHtml, PutsBlock};
 ghost use Rattle.markdown_plain.specs.Fitting.{closed, extended, opened, stepped};
 ghost use Rattle.markdown_plain.specs.Fits.{IsInLeaf, MayAddAfter, MayAddBefore, MayAddHeading, MayAddLine, MayAddLines};
@@ -57,13 +57,11 @@ use std::alloc::{AllocError, Global};
 fn add_code(placing: &mut Placing<'_>, line: HeldLine) -> Result<(), AllocError>
     requires { MayAddLine placing.old.builder line.start line.next }
     ensures text { IfOk result (λ _. placing.new.builder.text ≡ placing.old.builder.text) }
-    ensures goes_on { IfOk result (λ _. IfFitted placing.old placing.new
-        (GoesOn placing.old.builder placing.new.builder (after_line line.start line.next))) }
-    ensures texts { IfOk result (λ _. IfFitted placing.old placing.new
-        (HasMoreTexts placing.old.builder placing.new.builder)) }
+    ensures goes_on { IfOk result (λ _. GoesOn placing.old.builder placing.new.builder
+        (after_line line.start line.next)) }
+    ensures texts { IfOk result (λ _. HasMoreTexts placing.old.builder placing.new.builder) }
     ensures items { IfOk result (λ _. (source : SourceLine) → IsHeld line source
-        → IfFitted placing.old placing.new (HasItems placing.old.builder placing.new.builder
-        (source_line (body.Text false) source))) }
+        → HasItems placing.old.builder placing.new.builder (source_line (body.Text false) source)) }
 {
     placing.step_to(line.start);
     placing.add_owed(line.owed)?;
@@ -80,15 +78,14 @@ fn add_code(placing: &mut Placing<'_>, line: HeldLine) -> Result<(), AllocError>
 fn add_codes(placing: &mut Placing<'_>, lines: &[HeldLine]) -> Result<(), AllocError>
     requires { MayAddLines placing.old.builder lines.now }
     ensures text { IfOk result (λ _. placing.new.builder.text ≡ placing.old.builder.text) }
-    ensures goes_on { IfOk result (λ _. IfFitted placing.old placing.new
-        (GoesOn placing.old.builder placing.new.builder placing.new.builder.at)) }
-    ensures texts { IfOk result (λ _. IfFitted placing.old placing.new
-        (HasMoreTexts placing.old.builder placing.new.builder)) }
+    ensures goes_on { IfOk result (λ _. GoesOn placing.old.builder placing.new.builder
+        placing.new.builder.at) }
+    ensures texts { IfOk result (λ _. HasMoreTexts placing.old.builder placing.new.builder) }
     ensures items { IfOk result (λ _. (sources : List SourceLine) → AreHeld lines.now sources
-        → IfFitted placing.old placing.new (HasItems placing.old.builder placing.new.builder
-        (source_lines (body.Text false) sources))) }
-    ensures reached { IfOk result (λ _. IfFitted placing.old placing.new
-        (placing.new.builder.at ≡ after_lines placing.old.builder.at lines.now)) }
+        → HasItems placing.old.builder placing.new.builder (source_lines (body.Text false)
+        sources)) }
+    ensures reached { IfOk result (λ _. placing.new.builder.at
+        ≡ after_lines placing.old.builder.at lines.now) }
 {
     'lines: for line in lines {
         add_code(placing, *line)?;
@@ -106,11 +103,9 @@ pub fn open_heading(
 ) -> Result<(), AllocError>
     requires { placing.old.builder.leaf ≡ false }
     ensures text { IfOk result (λ _. placing.new.builder.text ≡ placing.old.builder.text) }
-    ensures opens { IfOk result (λ _. IfFitted placing.old placing.new
-        (OpensHeading placing.old.builder placing.new.builder level)) }
+    ensures opens { IfOk result (λ _. OpensHeading placing.old.builder placing.new.builder level) }
     ensures heading { IfOk result (λ _. BracesStand placing.old.builder.text braces
-        → IfFitted placing.old placing.new
-        (OpensHeadingOf placing.old.builder placing.new.builder level braces)) }
+        → OpensHeadingOf placing.old.builder placing.new.builder level braces) }
 {
     let Some(braces) = braces else {
         return placing.open_block(ItemBody::Heading(level, None));
@@ -151,17 +146,14 @@ impl<'a> Pass<'a> {
         requires ahead { IsAhead self.old.placing.builder line.next }
         ensures text { IfOk result (λ _. self.new.placing.builder.text
             ≡ self.old.placing.builder.text) }
-        ensures adds { IfOk result (λ _. IfFitted self.old.placing self.new.placing
-            (self.new.placing.builder
-            ≡ extended self.old.placing.builder self.new.placing.builder.levels line.next)) }
-        ensures tree { IfOk result (λ _. IfFitted self.old.placing self.new.placing
-            (HasTrees self.old.placing.builder self.new.placing.builder
-            (shown_over self.old.placing.builder.at line.next body.Rule None nil))) }
+        ensures adds { IfOk result (λ _. self.new.placing.builder
+            ≡ extended self.old.placing.builder self.new.placing.builder.levels line.next) }
+        ensures tree { IfOk result (λ _. HasTrees self.old.placing.builder self.new.placing.builder
+            (shown_over self.old.placing.builder.at line.next body.Rule None nil)) }
         ensures leaf { IfOk result (λ _. (s : Source) (frames : List Frame) (inside : Forest Block)
             (b : Block) → IsBuilt s self.old.placing.builder frames inside → b.kind ≡ break_leaf
             → b.start ≡ self.old.placing.builder.at → b.last ≡ line.next
-            → IfFitted self.old.placing self.new.placing
-            (IsPlaced s self.new.placing.builder frames (followed_by inside (leaf_block b)))) }
+            → IsPlaced s self.new.placing.builder frames (followed_by inside (leaf_block b))) }
         ensures same { self.new ≡ record self.old { placing = self.new.placing } }
     {
         self.placing.add_rule(line.next)
@@ -173,22 +165,19 @@ impl<'a> Pass<'a> {
         requires { MayAddHeading self.old.placing.builder line heading }
         ensures text { IfOk result (λ _. self.new.placing.builder.text
             ≡ self.old.placing.builder.text) }
-        ensures adds { IfOk result (λ _. IfFitted self.old.placing self.new.placing
-            (IsPlacedTo self.old.placing.builder self.new.placing.builder line.next)) }
+        ensures adds { IfOk result (λ _. IsPlacedTo self.old.placing.builder
+            self.new.placing.builder line.next) }
         ensures tree { IfOk result (λ _. BracesStand self.old.placing.builder.text heading.braces
-            → IfFitted self.old.placing self.new.placing
-            (HasTrees self.old.placing.builder self.new.placing.builder
-            (shown_heading (source_of self.old) self.old.placing.builder.at line.next heading.level
-            heading.braces
+            → HasTrees self.old.placing.builder self.new.placing.builder (shown_heading
+            (source_of self.old) self.old.placing.builder.at line.next heading.level heading.braces
             (chain_of (content_items self.old.placing.builder.text
-            (item_extensions self.old.options) heading.from heading.to))))) }
+            (item_extensions self.old.options) heading.from heading.to)))) }
         ensures leaf { IfOk result (λ _. (s : Source) (frames : List Frame) (inside : Forest Block)
             (b : Block) → IsBuilt s self.old.placing.builder frames inside
             → s.options ≡ self.old.options → b.kind ≡ heading_leaf heading
             → b.start ≡ self.old.placing.builder.at → b.last ≡ line.next
             → BracesStand self.old.placing.builder.text heading.braces
-            → IfFitted self.old.placing self.new.placing
-            (IsPlaced s self.new.placing.builder frames (followed_by inside (leaf_block b)))) }
+            → IsPlaced s self.new.placing.builder frames (followed_by inside (leaf_block b))) }
         ensures same { self.new ≡ record self.old { placing = self.new.placing } }
     {
         open_heading(self.alloc, &mut self.placing, heading.level, heading.braces)?;
@@ -211,15 +200,13 @@ impl<'a> Pass<'a> {
             ≡ self.old.placing.builder.text) }
         ensures opens { IfOk result (λ _. (info : List ℕ)
             × IsPartOf self.old.placing.builder.text opening.from opening.to info
-            × IfFitted self.old.placing self.new.placing
-            (OpensFenced self.old.placing.builder self.new.placing.builder
-            at line.next (unescaped (entity_names self.old.options) false info))) }
+            × OpensFenced self.old.placing.builder self.new.placing.builder at line.next
+            (unescaped (entity_names self.old.options) false info)) }
         ensures leaf { IfOk result (λ _. (s : Source) (frames : List Frame) (inside : Forest Block)
             (b : Block) → IsBuilt s self.old.placing.builder frames inside
             → s.options ≡ self.old.options → InfoStands self.old.placing.builder.text opening
             → b.kind ≡ fenced_leaf opening false [] → b.start ≡ at → b.last ≡ line.next
-            → IfFitted self.old.placing self.new.placing
-            (IsLeafIn s self.new.placing.builder frames inside b false)) }
+            → IsLeafIn s self.new.placing.builder frames inside b false) }
         ensures kind { IfOk result (λ _. self.new.leaf ≡ leaf_kind.Fenced opening.fence) }
         ensures same { self.new
             ≡ record self.old { placing = self.new.placing; leaf = self.new.leaf } }
@@ -246,35 +233,31 @@ impl<'a> Pass<'a> {
             ≡ self.old.placing.builder.text) }
         ensures closes { IfOk result (λ _.
             is_closed_at self.old.placing.builder.text position line fence ≡ true →
-            IfFitted self.old.placing self.new.placing (self.new.placing.builder
+            self.new.placing.builder
             ≡ record (closed self.old.placing.builder self.new.placing.builder.levels)
-            { at = line.next })) }
+            { at = line.next }) }
         ensures tree { IfOk result (λ _.
             is_closed_at self.old.placing.builder.text position line fence ≡ true →
-            IfFitted self.old.placing self.new.placing (PutsBlock
-            (stepped self.old.placing.builder line.next) self.new.placing.builder)) }
+            PutsBlock (stepped self.old.placing.builder line.next) self.new.placing.builder) }
         ensures items { IfOk result (λ _. (source : SourceLine)
             → IsRest self.old.placing.builder.text position line source
             → is_closed_at self.old.placing.builder.text position line fence ≡ false
-            → IfFitted self.old.placing self.new.placing
-            (HasItems self.old.placing.builder self.new.placing.builder
-            (source_line (body.Text false) (cut fence.indent source)))) }
+            → HasItems self.old.placing.builder self.new.placing.builder
+            (source_line (body.Text false) (cut fence.indent source))) }
         ensures code { IfOk result (λ _. is_closed_at self.old.placing.builder.text
             position line fence
             ≡ false →
-            IfFitted self.old.placing self.new.placing
-            (GoesOn self.old.placing.builder self.new.placing.builder
-            (after_line (code_after self.old.placing.builder.text position
-            line fence.indent).scanned
-            line.next))) }
+            GoesOn self.old.placing.builder self.new.placing.builder
+            (after_line (code_after self.old.placing.builder.text position line
+            fence.indent).scanned line.next)) }
         ensures leaf { IfOk result (λ _. (s : Source) (frames : List Frame) (inside : Forest Block)
             (b : Block) (opening : OpeningFence) (lines : List SourceLine) (source : SourceLine)
             (kind : Kind) → IsLeafIn s self.old.placing.builder frames inside b false
             → b.kind ≡ fenced_leaf opening false lines → opening.fence ≡ fence
             → IsLineRest self.old.placing.builder.text position line source
-            → leaf_with s source b.kind ≡ Some kind → IfFitted self.old.placing self.new.placing
-            (IsLeafIn s self.new.placing.builder frames inside
-            (record b { last = source.next; kind = kind }) (has_ended kind))) }
+            → leaf_with s source b.kind ≡ Some kind
+            → IsLeafIn s self.new.placing.builder frames inside
+            (record b { last = source.next; kind = kind }) (has_ended kind)) }
         ensures same { self.new ≡ record self.old { placing = self.new.placing } }
     {
         let text = self.placing.text();
@@ -294,15 +277,13 @@ impl<'a> Pass<'a> {
         requires { MayOpenLeaf self.old.placing.builder line.start line.next }
         ensures text { IfOk result (λ _. self.new.placing.builder.text
             ≡ self.old.placing.builder.text) }
-        ensures opens { IfOk result (λ _. IfFitted self.old.placing self.new.placing
-            (self.new.placing.builder
+        ensures opens { IfOk result (λ _. self.new.placing.builder
             ≡ record (opened self.old.placing.builder line.start (body.MetadataBlock kind))
-            { at = line.next })) }
+            { at = line.next }) }
         ensures leaf { IfOk result (λ _. (s : Source) (frames : List Frame) (inside : Forest Block)
             (b : Block) → IsBuilt s self.old.placing.builder frames inside
             → b.kind ≡ metadata_leaf kind false [] → b.start ≡ line.start → b.last ≡ line.next
-            → IfFitted self.old.placing self.new.placing
-            (IsLeafIn s self.new.placing.builder frames inside b false)) }
+            → IsLeafIn s self.new.placing.builder frames inside b false) }
         ensures kind { IfOk result (λ _. self.new.leaf ≡ leaf_kind.Metadata kind) }
         ensures same { self.new
             ≡ record self.old { placing = self.new.placing; leaf = self.new.leaf } }
@@ -322,32 +303,29 @@ impl<'a> Pass<'a> {
             ≡ self.old.placing.builder.text) }
         ensures closes { IfOk result (λ _. closes_metadata kind
             (slice_range self.old.placing.builder.text line.start line.stop) ≡ true →
-            IfFitted self.old.placing self.new.placing (self.new.placing.builder
+            self.new.placing.builder
             ≡ record (closed self.old.placing.builder self.new.placing.builder.levels)
-            { at = line.next })) }
+            { at = line.next }) }
         ensures tree { IfOk result (λ _. closes_metadata kind
             (slice_range self.old.placing.builder.text line.start line.stop) ≡ true →
-            IfFitted self.old.placing self.new.placing (PutsBlock
-            (stepped self.old.placing.builder line.next) self.new.placing.builder)) }
+            PutsBlock (stepped self.old.placing.builder line.next) self.new.placing.builder) }
         ensures items { IfOk result (λ _. (source : SourceLine)
             → IsHeld (whole_of line) source → closes_metadata kind
             (slice_range self.old.placing.builder.text line.start line.stop) ≡ false
-            → IfFitted self.old.placing self.new.placing
-            (HasItems self.old.placing.builder self.new.placing.builder
-            (source_line (body.Text false) source))) }
+            → HasItems self.old.placing.builder self.new.placing.builder
+            (source_line (body.Text false) source)) }
         ensures text_line { IfOk result (λ _. closes_metadata kind
             (slice_range self.old.placing.builder.text line.start line.stop) ≡ false →
-            IfFitted self.old.placing self.new.placing
-            (GoesOn self.old.placing.builder self.new.placing.builder
-            (after_line line.start line.next))) }
+            GoesOn self.old.placing.builder self.new.placing.builder
+            (after_line line.start line.next)) }
         ensures leaf { IfOk result (λ _. (s : Source) (frames : List Frame) (inside : Forest Block)
             (b : Block) (lines : List SourceLine) (position : Position) (source : SourceLine)
             (now : Kind) → IsLeafIn s self.old.placing.builder frames inside b false
             → b.kind ≡ metadata_leaf kind false lines → position.at ≡ line.start
             → position.owed ≡ 0 → IsLineRest self.old.placing.builder.text position line source
-            → leaf_with s source b.kind ≡ Some now → IfFitted self.old.placing self.new.placing
-            (IsLeafIn s self.new.placing.builder frames inside
-            (record b { last = source.next; kind = now }) (has_ended now))) }
+            → leaf_with s source b.kind ≡ Some now
+            → IsLeafIn s self.new.placing.builder frames inside
+            (record b { last = source.next; kind = now }) (has_ended now)) }
         ensures same { self.new ≡ record self.old { placing = self.new.placing } }
     {
         let content = bytes_of(self.placing.text(), line.start, line.stop);
@@ -374,35 +352,31 @@ impl<'a> Pass<'a> {
         ensures ends { IfOk result (λ _. ends_html_at self.old.placing.builder.text position line
             kind
             ≡ true →
-            IfFitted self.old.placing self.new.placing
-            (IsPlacedTo self.old.placing.builder self.new.placing.builder
-            (after_line position.at line.next))) }
+            IsPlacedTo self.old.placing.builder self.new.placing.builder
+            (after_line position.at line.next)) }
         ensures opens { IfOk result (λ _. ends_html_at self.old.placing.builder.text position line
             kind
             ≡ false →
-            IfFitted self.old.placing self.new.placing
-            (OpensHtml self.old.placing.builder self.new.placing.builder position.at line.next)) }
+            OpensHtml self.old.placing.builder self.new.placing.builder position.at line.next) }
         ensures items { IfOk result (λ _. (source : SourceLine)
             → IsRest self.old.placing.builder.text position line source
             → ends_html_at self.old.placing.builder.text position line kind ≡ false
-            → IfFitted self.old.placing self.new.placing
-            (OpensWith self.old.placing.builder self.new.placing.builder
-            (source_line body.Html source))) }
+            → OpensWith self.old.placing.builder self.new.placing.builder
+            (source_line body.Html source)) }
         ensures tree { IfOk result (λ _. (source : SourceLine)
             → IsRest self.old.placing.builder.text position line source
             → ends_html_at self.old.placing.builder.text position line kind ≡ true
-            → IfFitted self.old.placing self.new.placing ((start : ℕ)
-            × IsNextContent self.old.placing.builder.text position.at (Some start)
-            × HasTrees self.old.placing.builder self.new.placing.builder
-            (shown_over start (after_line position.at line.next) body.HtmlBlock None
-            (chain_of (source_line body.Html source))))) }
+            → (start : ℕ) × IsNextContent self.old.placing.builder.text position.at (Some start)
+            × HasTrees self.old.placing.builder self.new.placing.builder (shown_over start
+            (after_line position.at line.next) body.HtmlBlock None
+            (chain_of (source_line body.Html source)))) }
         ensures leaf { IfOk result (λ _. (s : Source) (frames : List Frame) (inside : Forest Block)
             (b : Block) (source : SourceLine) → IsBuilt s self.old.placing.builder frames inside
             → IsLineRest self.old.placing.builder.text position line source
             → b.kind ≡ html_leaf kind (ends_html kind source) (source ∷ [])
             → IsNextContent self.old.placing.builder.text position.at (Some b.start)
-            → b.last ≡ source.next → IfFitted self.old.placing self.new.placing
-            (IsLeafIn s self.new.placing.builder frames inside b (ends_html kind source))) }
+            → b.last ≡ source.next → IsLeafIn s self.new.placing.builder frames inside b
+            (ends_html kind source)) }
         ensures kind { IfOk result (λ _. self.new.leaf ≡ leaf_kind.Html kind) }
         ensures same { self.new
             ≡ record self.old { placing = self.new.placing; leaf = self.new.leaf } }
@@ -429,37 +403,34 @@ impl<'a> Pass<'a> {
         ensures ends { IfOk result (λ _. ends_html_at self.old.placing.builder.text position line
             kind
             ≡ true →
-            IfFitted self.old.placing self.new.placing (self.new.placing.builder
+            self.new.placing.builder
             ≡ record (closed self.old.placing.builder self.new.placing.builder.levels) {
               at = after_line position.at line.next;
               texts = self.new.placing.builder.texts;
-            })) }
+            }) }
         ensures tree { IfOk result (λ _. (source : SourceLine)
             → IsRest self.old.placing.builder.text position line source
             → ends_html_at self.old.placing.builder.text position line kind ≡ true
-            → IfFitted self.old.placing self.new.placing ((between : BuilderView)
-            × HasItems self.old.placing.builder between (source_line body.Html source)
-            × GoesOn self.old.placing.builder between (after_line position.at line.next)
-            × PutsBlock between self.new.placing.builder)) }
+            → (between : BuilderView) × HasItems self.old.placing.builder between
+            (source_line body.Html source) × GoesOn self.old.placing.builder between
+            (after_line position.at line.next) × PutsBlock between self.new.placing.builder) }
         ensures items { IfOk result (λ _. (source : SourceLine)
             → IsRest self.old.placing.builder.text position line source
             → ends_html_at self.old.placing.builder.text position line kind ≡ false
-            → IfFitted self.old.placing self.new.placing
-            (HasItems self.old.placing.builder self.new.placing.builder
-            (source_line body.Html source))) }
+            → HasItems self.old.placing.builder self.new.placing.builder
+            (source_line body.Html source)) }
         ensures goes_on { IfOk result (λ _.
             ends_html_at self.old.placing.builder.text position line kind ≡ false →
-            IfFitted self.old.placing self.new.placing
-            (GoesOn self.old.placing.builder self.new.placing.builder
-            (after_line position.at line.next))) }
+            GoesOn self.old.placing.builder self.new.placing.builder
+            (after_line position.at line.next)) }
         ensures leaf { IfOk result (λ _. (s : Source) (frames : List Frame) (inside : Forest Block)
             (b : Block) (lines : List SourceLine) (source : SourceLine) (now : Kind)
             → IsLeafIn s self.old.placing.builder frames inside b false
             → b.kind ≡ html_leaf kind false lines
             → IsLineRest self.old.placing.builder.text position line source
-            → leaf_with s source b.kind ≡ Some now → IfFitted self.old.placing self.new.placing
-            (IsLeafIn s self.new.placing.builder frames inside
-            (record b { last = source.next; kind = now }) (has_ended now))) }
+            → leaf_with s source b.kind ≡ Some now
+            → IsLeafIn s self.new.placing.builder frames inside
+            (record b { last = source.next; kind = now }) (has_ended now)) }
         ensures same { self.new ≡ record self.old { placing = self.new.placing } }
     {
         self.add_html_line(line, position)?;
@@ -472,16 +443,14 @@ impl<'a> Pass<'a> {
         requires { MayAddLine self.old.placing.builder position.at line.next }
         ensures text { IfOk result (λ _. self.new.placing.builder.text
             ≡ self.old.placing.builder.text) }
-        ensures goes_on { IfOk result (λ _. IfFitted self.old.placing self.new.placing
-            (GoesOn self.old.placing.builder self.new.placing.builder
-            (after_line position.at line.next))) }
-        ensures texts { IfOk result (λ _. IfFitted self.old.placing self.new.placing
-            (HasMoreTexts self.old.placing.builder self.new.placing.builder)) }
+        ensures goes_on { IfOk result (λ _. GoesOn self.old.placing.builder self.new.placing.builder
+            (after_line position.at line.next)) }
+        ensures texts { IfOk result (λ _. HasMoreTexts self.old.placing.builder
+            self.new.placing.builder) }
         ensures items { IfOk result (λ _. (source : SourceLine)
             → IsRest self.old.placing.builder.text position line source
-            → IfFitted self.old.placing self.new.placing
-            (HasItems self.old.placing.builder self.new.placing.builder
-            (source_line body.Html source))) }
+            → HasItems self.old.placing.builder self.new.placing.builder
+            (source_line body.Html source)) }
         ensures same { self.new ≡ record self.old { placing = self.new.placing } }
     {
         self.placing.step_to(position.at);
@@ -497,12 +466,10 @@ impl<'a> Pass<'a> {
         requires { IsInLeaf self.old.placing.builder }
         ensures text { self.new.placing.builder.text ≡ self.old.placing.builder.text }
         ensures ends { ends_html_at self.old.placing.builder.text position line kind ≡ true
-            → IfFitted self.old.placing self.new.placing
-            (self.new.placing.builder
-            ≡ closed self.old.placing.builder self.new.placing.builder.levels) }
+            → self.new.placing.builder
+            ≡ closed self.old.placing.builder self.new.placing.builder.levels }
         ensures tree { ends_html_at self.old.placing.builder.text position line kind ≡ true
-            → IfFitted self.old.placing self.new.placing
-            (PutsBlock self.old.placing.builder self.new.placing.builder) }
+            → PutsBlock self.old.placing.builder self.new.placing.builder }
         ensures goes_on { ends_html_at self.old.placing.builder.text position line kind ≡ false
             → self.new ≡ self.old }
         ensures same { self.new ≡ record self.old { placing = self.new.placing } }
@@ -517,25 +484,22 @@ impl<'a> Pass<'a> {
         requires { MayOpenLeaf self.old.placing.builder position.at line.next }
         ensures text { IfOk result (λ _. self.new.placing.builder.text
             ≡ self.old.placing.builder.text) }
-        ensures opens { IfOk result (λ _. IfFitted self.old.placing self.new.placing
-            (self.new.placing.builder
+        ensures opens { IfOk result (λ _. self.new.placing.builder
             ≡ record (opened self.old.placing.builder position.at body.IndentCodeBlock) {
               at = after_line position.at line.next;
               run = self.new.placing.builder.run;
               levels = self.new.placing.builder.levels;
               texts = self.new.placing.builder.texts;
-            })) }
+            }) }
         ensures items { IfOk result (λ _. (source : SourceLine)
             → IsRest self.old.placing.builder.text position line source
-            → IfFitted self.old.placing self.new.placing
-            (OpensWith self.old.placing.builder self.new.placing.builder
-            (source_line (body.Text false) source))) }
+            → OpensWith self.old.placing.builder self.new.placing.builder
+            (source_line (body.Text false) source)) }
         ensures leaf { IfOk result (λ _. (s : Source) (frames : List Frame) (inside : Forest Block)
             (b : Block) (source : SourceLine) → IsBuilt s self.old.placing.builder frames inside
             → IsLineRest self.old.placing.builder.text position line source
             → is_blank_rest source ≡ false → b.kind ≡ indented_leaf (source ∷ [])
-            → b.start ≡ position.at → IfFitted self.old.placing self.new.placing
-            (IsLeafIn s self.new.placing.builder frames inside b false)) }
+            → b.start ≡ position.at → IsLeafIn s self.new.placing.builder frames inside b false) }
         ensures kind { IfOk result (λ _. self.new.leaf ≡ leaf_kind.Indented) }
         ensures same { self.new
             ≡ record self.old { placing = self.new.placing; leaf = self.new.leaf } }
@@ -552,26 +516,24 @@ impl<'a> Pass<'a> {
             line.next }
         ensures text { IfOk result (λ _. self.new.placing.builder.text
             ≡ self.old.placing.builder.text) }
-        ensures goes_on { IfOk result (λ _. IfFitted self.old.placing self.new.placing
-            (GoesOn self.old.placing.builder self.new.placing.builder
-            (after_line position.at line.next))) }
+        ensures goes_on { IfOk result (λ _. GoesOn self.old.placing.builder self.new.placing.builder
+            (after_line position.at line.next)) }
         ensures items { IfOk result (λ _. (blank : List SourceLine) (source : SourceLine)
             → AreHeld self.old.blanks.items blank
             → IsRest self.old.placing.builder.text position line source
-            → IfFitted self.old.placing self.new.placing
-            (HasItems self.old.placing.builder self.new.placing.builder
-            (source_lines (body.Text false) (blank ++ source ∷ [])))) }
+            → HasItems self.old.placing.builder self.new.placing.builder
+            (source_lines (body.Text false) (blank ++ source ∷ []))) }
         ensures leaf { IfOk result (λ _. (s : Source) (frames : List Frame) (inside : Forest Block)
             (b : Block) (lines : List SourceLine) (blank : List SourceLine) (source : SourceLine)
             → IsLeafIn s self.old.placing.builder frames inside b false
             → b.kind ≡ indented_leaf (lines ++ blank) → code_lines (lines ++ blank) ≡ lines
             → AreHeld self.old.blanks.items blank
             → IsLineRest self.old.placing.builder.text position line source
-            → is_blank_rest source ≡ false → IfFitted self.old.placing self.new.placing
-            (IsLeafIn s self.new.placing.builder frames inside (record b {
+            → is_blank_rest source ≡ false
+            → IsLeafIn s self.new.placing.builder frames inside (record b {
               last = source.next;
               kind = indented_leaf ((lines ++ blank) ++ source ∷ []);
-            }) false)) }
+            }) false) }
         ensures emptied { IfOk result (λ _. self.new.blanks.items ≡ []) }
         ensures same { self.new
             ≡ record self.old { placing = self.new.placing; blanks = self.new.blanks } }

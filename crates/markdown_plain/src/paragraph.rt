@@ -4,7 +4,7 @@ ghost use Rattle.std.specs.Prelude.{◌≡◌, ℕ, ◌<◌, ◌≤◌, ◌++◌
 ghost use Rattle.std.specs.Prelude.{MatchOption, ◌+◌, ◌==◌, drop, not, slice_get, take, if◌then◌else◌};
 ghost use Rattle.markdown_base.specs.declared.item.ItemBody.TheVariants as body;
 ghost use Rattle.markdown_builder.specs.BuilderView.{Opens};
-ghost use Rattle.markdown_plain.specs.Fitting.{AllFitted, BracesStand, IfFitted, GoesOn};
+ghost use Rattle.markdown_plain.specs.Fitting.{BracesStand, GoesOn};
 ghost use Rattle.markdown_plain.specs.Fitting.{OpensHeading, OpensHeadingOf, defining};
 ghost use Rattle.markdown_plain.specs.Closable.{AreAhead, AreClosable, EndsHeading, HasRoomFor, HasTask};
 ghost use Rattle.markdown_plain.specs.Closable.{MayMakeRoom};
@@ -67,23 +67,21 @@ fn take_definition<'a>(
 ) -> Result<usize, AllocError>
     requires { AreAhead placing.old.builder lines.now }
     ensures text { IfOk result (λ _. placing.new.builder.text ≡ placing.old.builder.text) }
-    ensures steps { IfOk result (λ _. IfFitted placing.old placing.new
-        (placing.new.builder ≡ defining placing.old.builder placing.new.builder.definitions
-        placing.new.builder.at)) }
+    ensures steps { IfOk result (λ _. placing.new.builder
+        ≡ defining placing.old.builder placing.new.builder.definitions placing.new.builder.at) }
     ensures within { IfOk result (λ taken. taken ≤ length lines.now) }
     ensures none { IfOk result (λ taken. taken ≡ 0 → placing.new ≡ placing.old) }
-    ensures after { IfOk result (λ taken. 0 < taken → IfFitted placing.old placing.new
-        (placing.new.builder.at ≡ end_of lines.now taken)) }
+    ensures after { IfOk result (λ taken. 0 < taken
+        → placing.new.builder.at ≡ end_of lines.now taken) }
     ensures takes { IfOk result (λ taken. (sources : List SourceLine)
         → IsParagraph placing.old.builder.text lines.now sources
-        → IfFitted placing.old placing.new
-        (TakesDefinitions names placing.old.builder placing.new.builder lines.now sources taken)) }
+        → TakesDefinitions names placing.old.builder placing.new.builder lines.now sources taken) }
     ensures over { IfOk result (λ taken. taken ≡ 0 → (sources : List SourceLine)
         → IsParagraph placing.old.builder.text lines.now sources
         → divided names placing.old.builder.text sources
         ≡ record { definitions = []; lines = sources }) }
     ensures ahead { IfOk result (λ taken. AreAhead placing.old.builder lines.now
-        → AllFitted placing.new → AreAhead placing.new.builder (drop taken lines.now)) }
+        → AreAhead placing.new.builder (drop taken lines.now)) }
 {
     let text = placing.text();
     let Some(first) = lines.first() else {
@@ -115,18 +113,16 @@ fn take_definitions<'a>(
 ) -> Result<usize, AllocError>
     requires { AreAhead placing.old.builder lines.now }
     ensures text { IfOk result (λ _. placing.new.builder.text ≡ placing.old.builder.text) }
-    ensures steps { IfOk result (λ _. IfFitted placing.old placing.new
-        (placing.new.builder ≡ defining placing.old.builder placing.new.builder.definitions
-        placing.new.builder.at)) }
+    ensures steps { IfOk result (λ _. placing.new.builder
+        ≡ defining placing.old.builder placing.new.builder.definitions placing.new.builder.at) }
     ensures within { IfOk result (λ taken. taken ≤ length lines.now) }
-    ensures after { IfOk result (λ taken. 0 < taken → IfFitted placing.old placing.new
-        (placing.new.builder.at ≡ end_of lines.now taken)) }
+    ensures after { IfOk result (λ taken. 0 < taken
+        → placing.new.builder.at ≡ end_of lines.now taken) }
     ensures divides { IfOk result (λ taken. (sources : List SourceLine)
         → IsParagraph placing.old.builder.text lines.now sources
-        → IfFitted placing.old placing.new
-        (IsDivided names placing.old.builder placing.new.builder sources taken)) }
+        → IsDivided names placing.old.builder placing.new.builder sources taken) }
     ensures ahead { IfOk result (λ taken. AreAhead placing.old.builder lines.now
-        → AllFitted placing.new → AreAhead placing.new.builder (drop taken lines.now)) }
+        → AreAhead placing.new.builder (drop taken lines.now)) }
 {
     let mut taken = 0;
     'definitions: while taken < lines.len() {
@@ -151,17 +147,14 @@ fn add_broken_line(
     requires ahead { placing.old.builder.at ≤ line.start }
     requires line { IsInText placing.old.builder.text line }
     ensures text { IfOk result (λ _. placing.new.builder.text ≡ placing.old.builder.text) }
-    ensures goes_on { IfOk result (λ _. IfFitted placing.old placing.new
-        (GoesOn placing.old.builder placing.new.builder line.next)) }
-    ensures texts { IfOk result (λ _. IfFitted placing.old placing.new
-        (HasMoreTexts placing.old.builder placing.new.builder)) }
-    ensures over { IfOk result (λ _. IfFitted placing.old placing.new
-        (placing.old.builder.run ≡ None → placing.new.builder.run ≡ None)) }
+    ensures goes_on { IfOk result (λ _. GoesOn placing.old.builder placing.new.builder line.next) }
+    ensures texts { IfOk result (λ _. HasMoreTexts placing.old.builder placing.new.builder) }
+    ensures over { IfOk result (λ _. placing.old.builder.run ≡ None
+        → placing.new.builder.run ≡ None) }
     ensures items { IfOk result (λ _. (source : SourceLine)
-        → IsTextLine placing.old.builder.text line source → IfFitted placing.old placing.new
-        (placing.old.builder.run ≡ None → placing.old.builder.at ≡ line.start
-        → HasItems placing.old.builder placing.new.builder
-        (line_or_nothing (record { text = placing.old.builder.text; options = options }) source))) }
+        → IsTextLine placing.old.builder.text line source → placing.old.builder.run ≡ None
+        → placing.old.builder.at ≡ line.start → HasItems placing.old.builder placing.new.builder
+        (line_or_nothing (record { text = placing.old.builder.text; options = options }) source)) }
 {
     if line.start == line.stop {
         placing.step_to(line.next);
@@ -184,15 +177,12 @@ fn add_last_line(
     requires ahead { placing.old.builder.at ≤ line.start }
     requires line { IsLastInText placing.old.builder.text line }
     ensures text { IfOk result (λ _. placing.new.builder.text ≡ placing.old.builder.text) }
-    ensures goes_on { IfOk result (λ _. IfFitted placing.old placing.new
-        (GoesOn placing.old.builder placing.new.builder line.next)) }
-    ensures texts { IfOk result (λ _. IfFitted placing.old placing.new
-        (HasMoreTexts placing.old.builder placing.new.builder)) }
+    ensures goes_on { IfOk result (λ _. GoesOn placing.old.builder placing.new.builder line.next) }
+    ensures texts { IfOk result (λ _. HasMoreTexts placing.old.builder placing.new.builder) }
     ensures items { IfOk result (λ _. (source : SourceLine)
-        → IsTextLine placing.old.builder.text line source → IfFitted placing.old placing.new
-        (placing.old.builder.run ≡ None → placing.old.builder.at ≡ line.start
-        → HasItems placing.old.builder placing.new.builder
-        (lines_items placing.old.builder.text (item_extensions options) (source ∷ [])))) }
+        → IsTextLine placing.old.builder.text line source → placing.old.builder.run ≡ None
+        → placing.old.builder.at ≡ line.start → HasItems placing.old.builder placing.new.builder
+        (lines_items placing.old.builder.text (item_extensions options) (source ∷ []))) }
 {
     let content = bytes_of(placing.text(), line.start, line.stop);
     let end = line.start.saturating_add(trimmed_length(content));
@@ -221,17 +211,15 @@ fn begin_line(
     requires line { IsInText placing.old.builder.text line }
     requires task { HasTask placing.old.builder.text task line }
     ensures text { IfOk result (λ _. placing.new.builder.text ≡ placing.old.builder.text) }
-    ensures goes_on { IfOk result (λ rest. IfFitted placing.old placing.new
-        (GoesOn placing.old.builder placing.new.builder rest.start)) }
-    ensures texts { IfOk result (λ _. IfFitted placing.old placing.new
-        (HasMoreTexts placing.old.builder placing.new.builder)) }
+    ensures goes_on { IfOk result (λ rest. GoesOn placing.old.builder placing.new.builder
+        rest.start) }
+    ensures texts { IfOk result (λ _. HasMoreTexts placing.old.builder placing.new.builder) }
     ensures rest { IfOk result (λ rest. rest ≡ record line { start = rest.start }) }
-    ensures over { IfOk result (λ _. IfFitted placing.old placing.new
-        (placing.old.builder.run ≡ None → placing.new.builder.run ≡ None)) }
+    ensures over { IfOk result (λ _. placing.old.builder.run ≡ None
+        → placing.new.builder.run ≡ None) }
     ensures items { IfOk result (λ _. (source : SourceLine)
         → IsTextLine placing.old.builder.text line source → BeginsWithTask task source
-        → IfFitted placing.old placing.new
-        (HasItems placing.old.builder placing.new.builder (task_items task source))) }
+        → HasItems placing.old.builder placing.new.builder (task_items task source)) }
     ensures source { IfOk result (λ rest. (source : SourceLine)
         → IsTextLine placing.old.builder.text line source → BeginsWithTask task source
         → IsTextLine placing.old.builder.text rest (after_task task source)) }
@@ -275,22 +263,17 @@ fn add_line(
     requires within { number < length lines.now }
     requires room { HasRoomFor placing.old.builder lines.now number ends }
     ensures text { IfOk result (λ _. placing.new.builder.text ≡ placing.old.builder.text) }
-    ensures goes_on { IfOk result (λ _. IfFitted placing.old placing.new
-        (GoesOn placing.old.builder placing.new.builder
-        (option_map_or (λ line. line.next) (slice_get lines.now number) 0))) }
-    ensures texts { IfOk result (λ _. IfFitted placing.old placing.new
-        (HasMoreTexts placing.old.builder placing.new.builder)) }
-    ensures over { IfOk result (λ _. IfFitted placing.old placing.new
-        (placing.old.builder.run ≡ None → number + 1 < length lines.now
-        → placing.new.builder.run ≡ None)) }
+    ensures goes_on { IfOk result (λ _. GoesOn placing.old.builder placing.new.builder
+        (option_map_or (λ line. line.next) (slice_get lines.now number) 0)) }
+    ensures texts { IfOk result (λ _. HasMoreTexts placing.old.builder placing.new.builder) }
+    ensures over { IfOk result (λ _. placing.old.builder.run ≡ None → number + 1 < length lines.now
+        → placing.new.builder.run ≡ None) }
     ensures left { IfOk result (λ _. (sources : List SourceLine) (all : List (Forest Shown))
         → AreTextLines placing.old.builder.text lines.now sources
         → IsLeft (record { text = placing.old.builder.text; options = options }) ends
-        (drop number sources) placing.old.builder.levels all → IfFitted placing.old placing.new
-        (placing.old.builder.run ≡ None
+        (drop number sources) placing.old.builder.levels all → placing.old.builder.run ≡ None
         → IsLeft (record { text = placing.old.builder.text; options = options })
-        (record ends { task = None }) (drop (number + 1) sources)
-        placing.new.builder.levels all)) }
+        (record ends { task = None }) (drop (number + 1) sources) placing.new.builder.levels all) }
 {
     let line = begin_line(placing, lines[number], ends.task)?;
     if number == lines.len() - 1 {
@@ -310,16 +293,15 @@ fn add_lines(
 ) -> Result<(), AllocError>
     requires { HasRoomFor placing.old.builder lines.now from ends }
     ensures text { IfOk result (λ _. placing.new.builder.text ≡ placing.old.builder.text) }
-    ensures goes_on { IfOk result (λ _. from < length lines.now → IfFitted placing.old placing.new
-        (GoesOn placing.old.builder placing.new.builder (lines_end lines.now))) }
-    ensures texts { IfOk result (λ _. IfFitted placing.old placing.new
-        (HasMoreTexts placing.old.builder placing.new.builder)) }
+    ensures goes_on { IfOk result (λ _. from < length lines.now
+        → GoesOn placing.old.builder placing.new.builder (lines_end lines.now)) }
+    ensures texts { IfOk result (λ _. HasMoreTexts placing.old.builder placing.new.builder) }
     ensures items { IfOk result (λ _. (sources : List SourceLine)
         → AreTextLines placing.old.builder.text lines.now sources
-        → HaveEnds (drop from sources) ends → IfFitted placing.old placing.new
-        (placing.old.builder.run ≡ None → HasItems placing.old.builder placing.new.builder
+        → HaveEnds (drop from sources) ends → placing.old.builder.run ≡ None
+        → HasItems placing.old.builder placing.new.builder
         (text_items (record { text = placing.old.builder.text; options = options }) ends.task
-        (before_braces ends.braces (drop from sources))))) }
+        (before_braces ends.braces (drop from sources)))) }
 {
     'lines: for number in from..lines.len() {
         let task = if number == from { ends.task } else { None };
@@ -347,14 +329,12 @@ fn open_text(
 ) -> Result<(), AllocError>
     requires { placing.old.builder.leaf ≡ false }
     ensures text { IfOk result (λ _. placing.new.builder.text ≡ placing.old.builder.text) }
-    ensures opens { IfOk result (λ _. IfFitted placing.old placing.new
-        (MatchOption heading
-        (Opens placing.old.builder placing.new.builder body.Paragraph)
-        (λ h. OpensHeading placing.old.builder placing.new.builder h.0))) }
+    ensures opens { IfOk result (λ _.
+        MatchOption heading (Opens placing.old.builder placing.new.builder body.Paragraph)
+        (λ h. OpensHeading placing.old.builder placing.new.builder h.0)) }
     ensures leaf { IfOk result (λ _. BracesStand placing.old.builder.text braces
-        → IfFitted placing.old placing.new (MatchOption heading
-        (Opens placing.old.builder placing.new.builder body.Paragraph)
-        (λ h. OpensHeadingOf placing.old.builder placing.new.builder h.0 braces))) }
+        → MatchOption heading (Opens placing.old.builder placing.new.builder body.Paragraph)
+        (λ h. OpensHeadingOf placing.old.builder placing.new.builder h.0 braces)) }
 {
     match heading {
         Some((level, _)) => open_heading(alloc, placing, level, braces),
@@ -388,12 +368,10 @@ impl<'a> Pass<'a> {
         ensures goes_on { has_paragraph self.old ≡ true
             → self.new ≡ record self.old { lines = self.new.lines } }
         ensures begins { IfOk result (λ _. has_paragraph self.old ≡ false
-            → IfFitted self.old.placing self.new.placing
-            (self.new.placing.builder.blocks
-            ≡ room_in depth (without_leaf self.old.placing.builder))) }
+            → self.new.placing.builder.blocks
+            ≡ room_in depth (without_leaf self.old.placing.builder)) }
         ensures outside { IfOk result (λ _. has_paragraph self.old ≡ false
-            → IfFitted self.old.placing self.new.placing
-            (self.new.placing.builder.leaf ≡ false)) }
+            → self.new.placing.builder.leaf ≡ false) }
         ensures task { IfOk result (λ _. has_paragraph self.old ≡ false
             → self.new.task ≡ task_at self.new line start) }
         ensures untried { IfOk result (λ _. has_paragraph self.old ≡ false
@@ -414,16 +392,14 @@ impl<'a> Pass<'a> {
             × IsLooseBefore self.new.looseness frames nil) }
         ensures forgets { IfOk result (λ _. (s : Source) (frames : List Frame)
             (inside : Forest Block) → self.old.lines.items ≡ [] → depth ≤ length frames
-            → MayClose s self.old frames inside → IfFitted self.old.placing self.new.placing
-            (StandsFor s self.new (take (room_depth depth frames) frames)
-            (rebuilt (drop (room_depth depth frames) frames) inside))) }
+            → MayClose s self.old frames inside
+            → StandsFor s self.new (take (room_depth depth frames) frames)
+            (rebuilt (drop (room_depth depth frames) frames) inside)) }
         ensures finishes { IfOk result (λ _. (s : Source) (frames : List Frame)
             (inside : Forest Block) (b : Block) → self.old.lines.items ≡ [] → depth ≤ length frames
             → MayEnd s self.old frames inside b None
-            → IfFitted self.old.placing self.new.placing
-            (StandsFor s self.new (take (room_depth depth frames) frames)
-            (rebuilt (drop (room_depth depth frames) frames)
-            (followed_by inside (leaf_block b))))) }
+            → StandsFor s self.new (take (room_depth depth frames) frames)
+            (rebuilt (drop (room_depth depth frames) frames) (followed_by inside (leaf_block b)))) }
         ensures first { IfOk result (λ _. has_paragraph self.old ≡ false → (s : Source)
             (frames : List Frame) (inside : Forest Block) (b : Block) (source : SourceLine)
             → IsBuilt s self.new.placing.builder frames inside → s.options ≡ self.old.options
@@ -446,16 +422,14 @@ impl<'a> Pass<'a> {
             → IsLooseAs self.old.looseness frames inside → depth ≤ length frames
             → (is_nil (rebuilt (drop (room_depth depth frames) frames) inside) ≡ false
             → BlanksKnown self.old.looseness.blank_from 0 frames inside)
-            → IfFitted self.old.placing self.new.placing (IsLooseBefore self.new.looseness
-            (take (room_depth depth frames) frames)
-            (rebuilt (drop (room_depth depth frames) frames) inside))) }
+            → IsLooseBefore self.new.looseness (take (room_depth depth frames) frames)
+            (rebuilt (drop (room_depth depth frames) frames) inside)) }
         ensures options { self.new.options ≡ self.old.options }
         ensures unheld { IfOk result (λ _. self.old.blanks.items ≡ []
             → self.new.blanks.items ≡ []) }
         ensures dropped { IfOk result (λ _. self.old.placing.builder.leaf ≡ true
             → self.new.blanks.items ≡ []) }
         ensures here { IfOk result (λ _. has_paragraph self.old ≡ false → IsClosable self.old
-            → AllFitted self.new.placing
             → AreClosable self.new.placing.builder self.old.placed) }
     {
         if !self.has_paragraph() {
@@ -502,20 +476,18 @@ impl<'a> Pass<'a> {
         ensures text { IfOk result (λ _. self.new.placing.builder.text
             ≡ self.old.placing.builder.text) }
         ensures placed { IfOk result (λ _. from < length self.old.lines.items
-            → IfFitted self.old.placing self.new.placing
-            (IsPlacedTo self.old.placing.builder self.new.placing.builder
-            (paragraph_end self.old.lines.items heading))) }
-        ensures texts { IfOk result (λ _. IfFitted self.old.placing self.new.placing
-            (HasMoreTexts self.old.placing.builder self.new.placing.builder)) }
+            → IsPlacedTo self.old.placing.builder self.new.placing.builder
+            (paragraph_end self.old.lines.items heading)) }
+        ensures texts { IfOk result (λ _. HasMoreTexts self.old.placing.builder
+            self.new.placing.builder) }
         ensures tree { IfOk result (λ _. (sources : List SourceLine) (marked : ℕ) (b : Block)
             → AreTextLines self.old.placing.builder.text self.old.lines.items sources
             → from < length self.old.lines.items → AreSome (drop from sources)
             → (if from == 0 then self.old.task else None)
             ≡ first_task (source_of self.old) marked (drop from sources)
             → b.last ≡ paragraph_end self.old.lines.items heading
-            → IfFitted self.old.placing self.new.placing
-            (HasTrees self.old.placing.builder self.new.placing.builder
-            (shown_ended (source_of self.old) marked b heading (drop from sources)))) }
+            → HasTrees self.old.placing.builder self.new.placing.builder
+            (shown_ended (source_of self.old) marked b heading (drop from sources))) }
         ensures same { self.new ≡ record self.old { placing = self.new.placing } }
     {
         if let Some(first) = self.lines.get(from) {
@@ -546,47 +518,41 @@ impl<'a> Pass<'a> {
         requires heading { EndsHeading self.old.placing.builder.text self.old.lines.items heading }
         ensures text { IfOk result (λ _. self.new.placing.builder.text
             ≡ self.old.placing.builder.text) }
-        ensures ends { IfOk result (λ left. left ≡ true → IfFitted self.old.placing self.new.placing
-            (IsPlacedTo
+        ensures ends { IfOk result (λ left. left ≡ true
+            → IsPlacedTo
             (record self.old.placing.builder { definitions = self.new.placing.builder.definitions })
-            self.new.placing.builder (paragraph_end self.old.lines.items heading))) }
+            self.new.placing.builder (paragraph_end self.old.lines.items heading)) }
         ensures defines { IfOk result (λ left. left ≡ false
-            → IfFitted self.old.placing self.new.placing
-            (self.new.placing.builder
+            → self.new.placing.builder
             ≡ defining self.old.placing.builder self.new.placing.builder.definitions
-            self.new.placing.builder.at)) }
+            self.new.placing.builder.at) }
         ensures after { IfOk result (λ left. left ≡ false → 0 < length self.old.lines.items
-            → IfFitted self.old.placing self.new.placing
-            (self.new.placing.builder.at ≡ lines_end self.old.lines.items)) }
+            → self.new.placing.builder.at ≡ lines_end self.old.lines.items) }
         ensures definitions { IfOk result (λ _. (sources : List SourceLine)
             → IsParagraph self.old.placing.builder.text self.old.lines.items sources
-            → IfFitted self.old.placing self.new.placing (self.new.placing.builder.definitions
-            ≡ self.old.placing.builder.definitions
-            ++ (divided_of self.old sources).definitions)) }
+            → self.new.placing.builder.definitions ≡ self.old.placing.builder.definitions
+            ++ (divided_of self.old sources).definitions) }
         ensures tree { IfOk result (λ _. (sources : List SourceLine) (marked : ℕ) (b : Block)
             → IsParagraph self.old.placing.builder.text self.old.lines.items sources
             → self.old.task ≡ first_task (source_of self.old) marked sources
             → EndsFrom marked sources
             → b.last ≡ paragraph_end self.old.lines.items heading
-            → IfFitted self.old.placing self.new.placing
-            (HasTrees self.old.placing.builder self.new.placing.builder
+            → HasTrees self.old.placing.builder self.new.placing.builder
             (shown_ended (source_of self.old) marked b heading
-            (divided_of self.old sources).lines))) }
+            (divided_of self.old sources).lines)) }
         ensures left { IfOk result (λ left. (sources : List SourceLine)
             → IsParagraph self.old.placing.builder.text self.old.lines.items sources
-            → IfFitted self.old.placing self.new.placing
-            (left ≡ not (length (divided_of self.old sources).lines == 0))) }
+            → left ≡ not (length (divided_of self.old sources).lines == 0)) }
         ensures frame { IfOk result (λ left. (s : Source) (frames : List Frame)
             (inside : Forest Block) (b : Block) (sources : List SourceLine)
             → HoldsParagraph s self.old frames inside b sources → s.options ≡ self.old.options
-            → IfFitted self.old.placing self.new.placing
-            (IsPlaced s self.new.placing.builder frames (followed_by inside
-            (leaf_block (ended_block b sources left heading))))) }
+            → IsPlaced s self.new.placing.builder frames (followed_by inside
+            (leaf_block (ended_block b sources left heading)))) }
         ensures emptied { IfOk result (λ _. self.new.lines.items ≡ []) }
         ensures same { self.new
             ≡ record self.old { placing = self.new.placing; lines = self.new.lines } }
         ensures here { IfOk result (λ left. left ≡ false → IsClosable self.old
-            → has_paragraph self.old ≡ true → AllFitted self.new.placing → IsClosable self.new) }
+            → has_paragraph self.old ≡ true → IsClosable self.new) }
     {
         let names = entity_names(self.options);
         let taken = take_definitions(self.alloc, &mut self.placing, &self.lines, names)?;

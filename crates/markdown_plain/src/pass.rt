@@ -13,7 +13,7 @@ ghost use Rattle.markdown_plain.specs.Frames.{Frame, forgotten, rebuilt, room_de
 ghost use Rattle.markdown_builder.specs.TreeLevels.{followed_by};
 ghost use Rattle.markdown_lines.specs.SourceLines.{SourceLine};
 ghost use Rattle.markdown_plain.specs.OpenLeaves.{IsPlaced, IsUnended, leaf_block};
-ghost use Rattle.markdown_plain.specs.Fitting.{AllFitted, HasBody, IfFitted, PutsBlock, closed};
+ghost use Rattle.markdown_plain.specs.Fitting.{HasBody, PutsBlock, closed};
 ghost use Rattle.markdown_plain.specs.OpenedFrames.{MayOpen};
 ghost use Rattle.markdown_plain.specs.OpenBlocks.{has_leaf, innermost_is, is_list, room_in};
 ghost use Rattle.markdown_plain.specs.OpenBlocks.{without_leaf};
@@ -141,9 +141,9 @@ impl<'a> Pass<'a> {
         requires closable { AreClosable self.old.placing.builder self.old.placed }
         requires some { self.old.placing.builder.blocks ≡ [] → ⊥ }
         ensures text { self.new.placing.builder.text ≡ self.old.placing.builder.text }
-        ensures closes { IfFitted self.old.placing self.new.placing (self.new.placing.builder
+        ensures closes { self.new.placing.builder
             ≡ record (closed self.old.placing.builder self.new.placing.builder.levels)
-            { at = closing_place self.old }) }
+            { at = closing_place self.old } }
         ensures same { self.new
             ≡ record self.old { placing = self.new.placing; looseness = self.new.looseness } }
         ensures looseness { self.new.looseness ≡ record self.old.looseness {
@@ -155,8 +155,7 @@ impl<'a> Pass<'a> {
             && self.old.looseness.item_is_empty) }
         ensures forgets { (s : Source) (frames : List Frame) (f : Frame) (inside : Forest Block)
             → MayClose s self.old (frames ++ f ∷ []) inside
-            → IfFitted self.old.placing self.new.placing
-            (MayClose s self.new frames (forgotten f inside)) }
+            → MayClose s self.new frames (forgotten f inside) }
         ensures loose { (texts : List (List ℕ)) (frames : List Frame) (f : Frame)
             (inside : Forest Block)
             → AreOpen texts self.old.placing.builder.blocks (frames ++ f ∷ [])
@@ -164,7 +163,7 @@ impl<'a> Pass<'a> {
             → IsLooseAs self.old.looseness (frames ++ f ∷ []) inside
             → IsLooseAs self.new.looseness frames (forgotten f inside) }
         ensures here { AreClosable self.old.placing.builder self.old.placed
-            → (self.old.placing.builder.blocks ≡ [] → ⊥) → AllFitted self.new.placing
+            → (self.old.placing.builder.blocks ≡ [] → ⊥)
             → AreClosable self.new.placing.builder self.old.placed }
     {
         match innermost(&self.placing) {
@@ -189,11 +188,9 @@ impl<'a> Pass<'a> {
         ensures kept { IfOk result (λ _. has_leaf self.old.placing.builder ≡ false
             → self.old.lines.items ≡ [] → length self.old.placing.builder.blocks ≤ depth
             → self.new ≡ self.old) }
-        ensures closes { IfOk result (λ _. IfFitted self.old.placing self.new.placing
-            (self.new.placing.builder.blocks
-            ≡ take depth (without_leaf self.old.placing.builder))) }
-        ensures outside { IfOk result (λ _. IfFitted self.old.placing self.new.placing
-            (self.new.placing.builder.leaf ≡ false)) }
+        ensures closes { IfOk result (λ _. self.new.placing.builder.blocks
+            ≡ take depth (without_leaf self.old.placing.builder)) }
+        ensures outside { IfOk result (λ _. self.new.placing.builder.leaf ≡ false) }
         ensures ended { IfOk result (λ _. self.new.lines.items ≡ []) }
         ensures dropped { IfOk result (λ _. self.old.placing.builder.leaf ≡ true
             → self.new.blanks.items ≡ []) }
@@ -211,20 +208,19 @@ impl<'a> Pass<'a> {
         } }
         ensures forgets { IfOk result (λ _. (s : Source) (frames : List Frame)
             (inside : Forest Block) → self.old.lines.items ≡ []
-            → MayClose s self.old frames inside → IfFitted self.old.placing self.new.placing
-            (MayClose s self.new (take depth frames) (rebuilt (drop depth frames) inside))) }
+            → MayClose s self.old frames inside → MayClose s self.new (take depth frames)
+            (rebuilt (drop depth frames) inside)) }
         ensures loose { IfOk result (λ _. (texts : List (List ℕ)) (frames : List Frame)
             (inside : Forest Block) → AreOpen texts (without_leaf self.old.placing.builder) frames
             → AreNested frames → IsLooseAs self.old.looseness frames inside
-            → IfFitted self.old.placing self.new.placing (IsLooseAs self.new.looseness
-            (take depth frames) (rebuilt (drop depth frames) inside))) }
+            → IsLooseAs self.new.looseness (take depth frames) (rebuilt (drop depth frames)
+            inside)) }
         ensures finishes { IfOk result (λ _. (s : Source) (frames : List Frame)
             (inside : Forest Block) (b : Block) (held : Option (List SourceLine))
             → MayEnd s self.old frames inside b held
-            → IfFitted self.old.placing self.new.placing (MayClose s self.new (take depth frames)
-            (rebuilt (drop depth frames) (followed_by inside (leaf_block b))))) }
+            → MayClose s self.new (take depth frames) (rebuilt (drop depth frames)
+            (followed_by inside (leaf_block b)))) }
         ensures here { IfOk result (λ _. IsClosable self.old
-            → AllFitted self.new.placing
             → AreClosable self.new.placing.builder self.old.placed) }
     {
         self.end_leaf()?;
@@ -244,11 +240,9 @@ impl<'a> Pass<'a> {
             → self.old.lines.items ≡ [] → length self.old.placing.builder.blocks ≤ depth
             → innermost_is is_list self.old.placing.builder.blocks ≡ false
             → self.new.placing ≡ self.old.placing) }
-        ensures closes { IfOk result (λ _. IfFitted self.old.placing self.new.placing
-            (self.new.placing.builder.blocks
-            ≡ room_in depth (without_leaf self.old.placing.builder))) }
-        ensures outside { IfOk result (λ _. IfFitted self.old.placing self.new.placing
-            (self.new.placing.builder.leaf ≡ false)) }
+        ensures closes { IfOk result (λ _. self.new.placing.builder.blocks
+            ≡ room_in depth (without_leaf self.old.placing.builder)) }
+        ensures outside { IfOk result (λ _. self.new.placing.builder.leaf ≡ false) }
         ensures ended { IfOk result (λ _. self.new.lines.items ≡ []) }
         ensures dropped { IfOk result (λ _. self.old.placing.builder.leaf ≡ true
             → self.new.blanks.items ≡ []) }
@@ -267,18 +261,17 @@ impl<'a> Pass<'a> {
             }) }
         ensures forgets { IfOk result (λ _. (s : Source) (frames : List Frame)
             (inside : Forest Block) → self.old.lines.items ≡ [] → depth ≤ length frames
-            → MayClose s self.old frames inside → IfFitted self.old.placing self.new.placing
-            (StandsFor s self.new (take (room_depth depth frames) frames)
-            (rebuilt (drop (room_depth depth frames) frames) inside))) }
+            → MayClose s self.old frames inside
+            → StandsFor s self.new (take (room_depth depth frames) frames)
+            (rebuilt (drop (room_depth depth frames) frames) inside)) }
         ensures loose { IfOk result (λ _. (texts : List (List ℕ)) (frames : List Frame)
             (inside : Forest Block) → AreOpen texts (without_leaf self.old.placing.builder) frames
             → AreNested frames → IsLooseAs self.old.looseness frames inside
             → depth ≤ length frames
             → (is_nil (rebuilt (drop (room_depth depth frames) frames) inside) ≡ false
             → BlanksKnown self.old.looseness.blank_from 0 frames inside)
-            → IfFitted self.old.placing self.new.placing (IsLooseBefore self.new.looseness
-            (take (room_depth depth frames) frames)
-            (rebuilt (drop (room_depth depth frames) frames) inside))) }
+            → IsLooseBefore self.new.looseness (take (room_depth depth frames) frames)
+            (rebuilt (drop (room_depth depth frames) frames) inside)) }
         ensures inside { IfOk result (λ _. (s : Source) (frames : List Frame)
             → MayOpen s self.old frames nil → depth ≡ length frames
             → IsLooseAs self.old.looseness frames nil
@@ -287,12 +280,9 @@ impl<'a> Pass<'a> {
         ensures finishes { IfOk result (λ _. (s : Source) (frames : List Frame)
             (inside : Forest Block) (b : Block) (held : Option (List SourceLine))
             → depth ≤ length frames → MayEnd s self.old frames inside b held
-            → IfFitted self.old.placing self.new.placing
-            (StandsFor s self.new (take (room_depth depth frames) frames)
-            (rebuilt (drop (room_depth depth frames) frames)
-            (followed_by inside (leaf_block b))))) }
+            → StandsFor s self.new (take (room_depth depth frames) frames)
+            (rebuilt (drop (room_depth depth frames) frames) (followed_by inside (leaf_block b)))) }
         ensures here { IfOk result (λ _. IsClosable self.old
-            → AllFitted self.new.placing
             → AreClosable self.new.placing.builder self.old.placed) }
     {
         self.close_down(depth)?;
@@ -311,13 +301,11 @@ impl<'a> Pass<'a> {
         requires { MayEndLeaf self.old }
         ensures text { IfOk result (λ _. self.new.placing.builder.text
             ≡ self.old.placing.builder.text) }
-        ensures ends { IfOk result (λ _. IfFitted self.old.placing self.new.placing
-            (self.new.placing.builder.blocks ≡ without_leaf self.old.placing.builder)) }
+        ensures ends { IfOk result (λ _. self.new.placing.builder.blocks
+            ≡ without_leaf self.old.placing.builder) }
         ensures tree { IfOk result (λ _. self.old.placing.builder.leaf ≡ true
-            → IfFitted self.old.placing self.new.placing
-            (PutsBlock self.old.placing.builder self.new.placing.builder)) }
-        ensures outside { IfOk result (λ _. IfFitted self.old.placing self.new.placing
-            (self.new.placing.builder.leaf ≡ false)) }
+            → PutsBlock self.old.placing.builder self.new.placing.builder) }
+        ensures outside { IfOk result (λ _. self.new.placing.builder.leaf ≡ false) }
         ensures ended { IfOk result (λ _. self.new.lines.items ≡ []) }
         ensures dropped { IfOk result (λ _. self.old.placing.builder.leaf ≡ true
             → self.new.blanks.items ≡ []) }
@@ -326,8 +314,7 @@ impl<'a> Pass<'a> {
         ensures frame { IfOk result (λ _. (s : Source) (frames : List Frame)
             (inside : Forest Block) (b : Block) (held : Option (List SourceLine))
             → IsUnended s self.old frames inside b held → s.options ≡ self.old.options
-            → IfFitted self.old.placing self.new.placing
-            (IsPlaced s self.new.placing.builder frames (followed_by inside (leaf_block b)))) }
+            → IsPlaced s self.new.placing.builder frames (followed_by inside (leaf_block b))) }
         ensures none { IfOk result (λ _. has_leaf self.old.placing.builder ≡ false
             → self.old.lines.items ≡ [] → self.new ≡ self.old) }
         ensures same { self.new ≡ record self.old {
@@ -336,7 +323,6 @@ impl<'a> Pass<'a> {
           blanks = self.new.blanks;
         } }
         ensures here { IfOk result (λ _. IsClosable self.old
-            → AllFitted self.new.placing
             → AreClosable self.new.placing.builder self.old.placed) }
     {
         if self.has_leaf() {
@@ -367,15 +353,14 @@ fn close_list(placing: &mut Placing<'_>, character: u8, first: u64, loose: bool)
     requires outside { placing.old.builder.leaf ≡ false }
     requires some { placing.old.builder.blocks ≡ [] → ⊥ }
     ensures text { placing.new.builder.text ≡ placing.old.builder.text }
-    ensures settles { IfFitted placing.old placing.new ((settled : BuilderView)
-        × HasBody placing.old.builder settled (body.List (not loose) character first)
-        × (placing.new.builder ≡ closed settled placing.new.builder.levels)) }
-    ensures closes { IfFitted placing.old placing.new
-        (placing.new.builder ≡ closed placing.old.builder placing.new.builder.levels) }
-    ensures tree { IfFitted placing.old placing.new ((settled : BuilderView)
+    ensures settles { (settled : BuilderView) × HasBody placing.old.builder settled
+        (body.List (not loose) character first)
+        × (placing.new.builder ≡ closed settled placing.new.builder.levels) }
+    ensures closes { placing.new.builder ≡ closed placing.old.builder placing.new.builder.levels }
+    ensures tree { (settled : BuilderView)
         × (settled ≡ record placing.old.builder { blocks = settled.blocks })
         × HasBody placing.old.builder settled (body.List (not loose) character first)
-        × PutsBlock settled placing.new.builder) }
+        × PutsBlock settled placing.new.builder }
 {
     placing.change(ItemBody::List(!loose, character, first));
     placing.close();

@@ -47,7 +47,7 @@ impl<'a> Placing<'a> {
     ghost use Rattle.markdown_items.specs.LineItems.{item_extensions};
     ghost use Rattle.markdown_items.specs.RestOfLine.{HasSpecialRun, RunIsOver};
     ghost use Rattle.markdown_lines.specs.Lines.{IsNextContent};
-    ghost use Rattle.markdown_plain.specs.Fitting.{IfFitted, IsAhead};
+    ghost use Rattle.markdown_plain.specs.Fitting.{IsAhead};
     ghost use Rattle.markdown_plain.specs.Fitting.{BeginsAtContent, GoesOn, HasBody, PutsBlock, closed, defining, stepped};
     ghost use Rattle.markdown_plain.specs.Fits.{HasContent, MayStep};
     ghost use Rattle.markdown_plain.specs.LeafTrees.{HasMoreTexts};
@@ -100,8 +100,7 @@ impl<'a> Placing<'a> {
     pub fn step_to(&mut self, to: usize)
         requires { MayStep self.old.builder to }
         ensures text { self.new.builder.text ≡ self.old.builder.text }
-        ensures steps { IfFitted self.old self.new
-            (self.new.builder ≡ stepped self.old.builder to) }
+        ensures steps { self.new.builder ≡ stepped self.old.builder to }
     {
         self.builder.skip(to);
     }
@@ -112,7 +111,7 @@ impl<'a> Placing<'a> {
         requires outside { self.old.builder.leaf ≡ false }
         ensures text { IfOk result (λ _. self.new.builder.text ≡ self.old.builder.text) }
         ensures opens { IfOk result (λ _.
-            IfFitted self.old self.new (Opens self.old.builder self.new.builder body)) }
+            Opens self.old.builder self.new.builder body) }
     {
         self.stretches.enter(self.builder.open_blocks())?;
         match self.builder.open(body) {
@@ -128,9 +127,8 @@ impl<'a> Placing<'a> {
     pub fn open_code(&mut self, info: CowStr<'a>) -> Result<(), AllocError>
         requires { self.old.builder.leaf ≡ false }
         ensures text { IfOk result (λ _. self.new.builder.text ≡ self.old.builder.text) }
-        ensures opens { IfOk result (λ _. IfFitted self.old self.new
-            (OpensNaming self.old.builder self.new.builder body.FencedCodeBlock
-            (text_of info.entry))) }
+        ensures opens { IfOk result (λ _. OpensNaming self.old.builder self.new.builder
+            body.FencedCodeBlock (text_of info.entry)) }
         ensures listed { IfOk result (λ _. self.new.builder.footnotes
             ≡ self.old.builder.footnotes) }
     {
@@ -152,8 +150,8 @@ impl<'a> Placing<'a> {
     ) -> Result<(), AllocError>
         requires { self.old.builder.leaf ≡ false }
         ensures text { IfOk result (λ _. self.new.builder.text ≡ self.old.builder.text) }
-        ensures opens { IfOk result (λ _. IfFitted self.old self.new
-            (OpensAttributed self.old.builder self.new.builder level (words_of attributes.entry))) }
+        ensures opens { IfOk result (λ _. OpensAttributed self.old.builder self.new.builder level
+            (words_of attributes.entry)) }
     {
         self.stretches.enter(self.builder.open_blocks())?;
         match self.builder.open_heading(level, attributes) {
@@ -169,12 +167,10 @@ impl<'a> Placing<'a> {
     pub fn open_note(&mut self, name: CowStr<'a>, listed: CowStr<'a>) -> Result<(), AllocError>
         requires { self.old.builder.leaf ≡ false }
         ensures text { IfOk result (λ _. self.new.builder.text ≡ self.old.builder.text) }
-        ensures opens { IfOk result (λ _. IfFitted self.old self.new
-            (OpensNaming self.old.builder self.new.builder body.FootnoteDefinition
-            (text_of name.entry))) }
-        ensures listed { IfOk result (λ _. IfFitted self.old self.new
-            (self.new.builder.footnotes
-            ≡ self.old.builder.footnotes ++ text_of listed.entry ∷ [])) }
+        ensures opens { IfOk result (λ _. OpensNaming self.old.builder self.new.builder
+            body.FootnoteDefinition (text_of name.entry)) }
+        ensures listed { IfOk result (λ _. self.new.builder.footnotes
+            ≡ self.old.builder.footnotes ++ text_of listed.entry ∷ []) }
     {
         self.stretches.enter(self.builder.open_blocks())?;
         match self.builder.open_footnote(name, listed) {
@@ -190,8 +186,8 @@ impl<'a> Placing<'a> {
     pub fn open_table(&mut self, alignments: Vec<Alignment>) -> Result<(), AllocError>
         requires { self.old.builder.leaf ≡ false }
         ensures text { IfOk result (λ _. self.new.builder.text ≡ self.old.builder.text) }
-        ensures opens { IfOk result (λ _. IfFitted self.old self.new
-            (OpensTable self.old.builder self.new.builder alignments.items)) }
+        ensures opens { IfOk result (λ _. OpensTable self.old.builder self.new.builder
+            alignments.items) }
     {
         self.stretches.enter(self.builder.open_blocks())?;
         match self.builder.open_table(alignments) {
@@ -226,8 +222,7 @@ impl<'a> Placing<'a> {
         requires { HasContent self.old.builder }
         ensures same { self.new.builder
             ≡ record self.old.builder { blocks = self.new.builder.blocks } }
-        ensures begins { IfFitted self.old self.new
-            (BeginsAtContent self.old.builder self.new.builder) }
+        ensures begins { BeginsAtContent self.old.builder self.new.builder }
     {
         let Some(content) = self.content_of_block() else {
             return;
@@ -243,8 +238,7 @@ impl<'a> Placing<'a> {
         requires some { self.old.builder.blocks ≡ [] → ⊥ }
         ensures same { self.new.builder
             ≡ record self.old.builder { blocks = self.new.builder.blocks } }
-        ensures changes { IfFitted self.old self.new
-            (HasBody self.old.builder self.new.builder body) }
+        ensures changes { HasBody self.old.builder self.new.builder body }
     {
         self.builder.change(body);
     }
@@ -257,8 +251,8 @@ impl<'a> Placing<'a> {
         requires inside { self.old.builder.leaf ≡ true }
         requires ahead { IsAhead self.old.builder end }
         ensures text { IfOk result (λ _. self.new.builder.text ≡ self.old.builder.text) }
-        ensures appends { IfOk result (λ _. IfFitted self.old self.new
-            (AppendsItem self.old.builder self.new.builder body end)) }
+        ensures appends { IfOk result (λ _. AppendsItem self.old.builder self.new.builder body
+            end) }
     {
         match self.builder.inline(body, end) {
             Ok(()) => Ok(()),
@@ -273,9 +267,9 @@ impl<'a> Placing<'a> {
     pub fn add_owed(&mut self, owed: usize) -> Result<(), AllocError>
         requires { self.old.builder.leaf ≡ true }
         ensures text { IfOk result (λ _. self.new.builder.text ≡ self.old.builder.text) }
-        ensures owed { IfOk result (λ _. 0 < owed → IfFitted self.old self.new
-            (AppendsText self.old.builder self.new.builder self.old.builder.at
-            (owed_spaces owed))) }
+        ensures owed { IfOk result (λ _. 0 < owed
+            → AppendsText self.old.builder self.new.builder self.old.builder.at
+            (owed_spaces owed)) }
         ensures nothing { IfOk result (λ _. owed ≡ 0 → self.new ≡ self.old) }
     {
         let spaces = match owed {
@@ -299,25 +293,18 @@ impl<'a> Placing<'a> {
         requires inside { self.old.builder.leaf ≡ true }
         requires ahead { IsAhead self.old.builder end }
         ensures text { IfOk result (λ _. self.new.builder.text ≡ self.old.builder.text) }
-        ensures appends { IfOk result (λ _. IfFitted self.old self.new
-            (GoesOn self.old.builder self.new.builder end)) }
-        ensures items { IfOk result (λ _. IfFitted self.old self.new
-            (self.old.builder.run ≡ None → self.new.builder.levels
-            ≡ with_items self.old.builder.levels
-            (content_items self.old.builder.text (item_extensions options)
-            self.old.builder.at end))) }
-        ensures further { IfOk result (λ _. IfFitted self.old self.new
-            (RunIsOver end self.old.builder self.old.builder.at → self.new.builder.levels
-            ≡ with_items self.old.builder.levels
-            (content_items self.old.builder.text (item_extensions options)
-            self.old.builder.at end))) }
-        ensures over { IfOk result (λ _. IfFitted self.old self.new
-            (HasSpecialRun (item_extensions options) self.old.builder
-            → HasSpecialRun (item_extensions options) self.new.builder)) }
-        ensures inside { IfOk result (λ _. IfFitted self.old self.new
-            (AddsItems self.old.builder self.new.builder)) }
-        ensures texts { IfOk result (λ _. IfFitted self.old self.new
-            (HasMoreTexts self.old.builder self.new.builder)) }
+        ensures appends { IfOk result (λ _. GoesOn self.old.builder self.new.builder end) }
+        ensures items { IfOk result (λ _. self.old.builder.run ≡ None → self.new.builder.levels
+            ≡ with_items self.old.builder.levels (content_items self.old.builder.text
+            (item_extensions options) self.old.builder.at end)) }
+        ensures further { IfOk result (λ _. RunIsOver end self.old.builder self.old.builder.at
+            → self.new.builder.levels ≡ with_items self.old.builder.levels
+            (content_items self.old.builder.text (item_extensions options) self.old.builder.at
+            end)) }
+        ensures over { IfOk result (λ _. HasSpecialRun (item_extensions options) self.old.builder
+            → HasSpecialRun (item_extensions options) self.new.builder) }
+        ensures inside { IfOk result (λ _. AddsItems self.old.builder self.new.builder) }
+        ensures texts { IfOk result (λ _. HasMoreTexts self.old.builder self.new.builder) }
     {
         match items(&mut self.builder, self.alloc, end, options) {
             Ok(()) => Ok(()),
@@ -333,8 +320,8 @@ impl<'a> Placing<'a> {
         requires outside { self.old.builder.leaf ≡ false }
         requires ahead { IsAhead self.old.builder end }
         ensures text { IfOk result (λ _. self.new.builder.text ≡ self.old.builder.text) }
-        ensures appends { IfOk result (λ _. IfFitted self.old self.new
-            (AppendsItem self.old.builder self.new.builder body.Rule end)) }
+        ensures appends { IfOk result (λ _. AppendsItem self.old.builder self.new.builder body.Rule
+            end) }
     {
         match self.builder.rule(end) {
             Ok(()) => Ok(()),
@@ -350,15 +337,14 @@ impl<'a> Placing<'a> {
         requires ahead { IsAhead self.old.builder found.end }
         requires bracket { slice_get self.old.builder.text self.old.builder.at ≡ Some 91 }
         ensures text { IfOk result (λ _. self.new.builder.text ≡ self.old.builder.text) }
-        ensures adds { IfOk result (λ _. IfFitted self.old self.new
-            (self.new.builder
+        ensures adds { IfOk result (λ _. self.new.builder
             ≡ defining self.old.builder (self.old.builder.definitions ++ record {
               label = text_of found.entry.label;
               destination = text_of found.entry.destination;
               title = option_map text_of found.entry.title;
               start = self.old.builder.at;
               end = found.entry.end;
-            } ∷ []) found.entry.end)) }
+            } ∷ []) found.entry.end) }
     {
         let Definition {
             label,
@@ -381,9 +367,8 @@ impl<'a> Placing<'a> {
         requires some { self.old.builder.blocks ≡ [] → ⊥ }
         requires other { is_in_row self.old.builder.blocks ≡ false }
         ensures text { self.new.builder.text ≡ self.old.builder.text }
-        ensures closes { IfFitted self.old self.new
-            (self.new.builder ≡ closed self.old.builder self.new.builder.levels) }
-        ensures tree { IfFitted self.old self.new (PutsBlock self.old.builder self.new.builder) }
+        ensures closes { self.new.builder ≡ closed self.old.builder self.new.builder.levels }
+        ensures tree { PutsBlock self.old.builder self.new.builder }
     {
         self.close_innermost();
     }
@@ -393,9 +378,8 @@ impl<'a> Placing<'a> {
         requires some { self.old.builder.blocks ≡ [] → ⊥ }
         requires even { InnermostRowIsEven self.old.builder }
         ensures text { self.new.builder.text ≡ self.old.builder.text }
-        ensures closes { IfFitted self.old self.new
-            (self.new.builder ≡ closed self.old.builder self.new.builder.levels) }
-        ensures tree { IfFitted self.old self.new (PutsBlock self.old.builder self.new.builder) }
+        ensures closes { self.new.builder ≡ closed self.old.builder self.new.builder.levels }
+        ensures tree { PutsBlock self.old.builder self.new.builder }
     {
         self.close_innermost();
     }
@@ -407,9 +391,8 @@ impl<'a> Placing<'a> {
         requires some { self.old.builder.blocks ≡ [] → ⊥ }
         requires even { InnermostRowIsEven self.old.builder }
         ensures text { self.new.builder.text ≡ self.old.builder.text }
-        ensures closes { IfFitted self.old self.new
-            (self.new.builder ≡ closed self.old.builder self.new.builder.levels) }
-        ensures tree { IfFitted self.old self.new (PutsBlock self.old.builder self.new.builder) }
+        ensures closes { self.new.builder ≡ closed self.old.builder self.new.builder.levels }
+        ensures tree { PutsBlock self.old.builder self.new.builder }
     {
         self.builder.close();
         self.stretches.leave(self.builder.open_blocks());

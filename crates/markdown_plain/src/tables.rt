@@ -6,7 +6,7 @@ ghost use Rattle.std.specs.Option.{is_some, option_map};
 ghost use Rattle.markdown_builder.specs.Bodies.{is_leaf, is_plain_block};
 ghost use Rattle.markdown_builder.specs.EvenRows.{is_table_row, open_columns};
 ghost use Rattle.markdown_plain.specs.Readable.{MayGoOn};
-ghost use Rattle.markdown_plain.specs.Fitting.{GoesOn, IfFitted};
+ghost use Rattle.markdown_plain.specs.Fitting.{GoesOn};
 ghost use Rattle.markdown_items.specs.ContentItems.{AddsItems};
 ghost use Rattle.markdown_items.specs.LineItems.{item_extensions};
 ghost use Rattle.markdown_lines.specs.BlockBeginnings.{Source};
@@ -73,17 +73,14 @@ fn add_cell_items(
     requires ahead { placing.old.builder.at ≤ cell.from }
     requires cell { IsCellIn placing.old.builder.text cell }
     ensures text { IfOk result (λ _. placing.new.builder.text ≡ placing.old.builder.text) }
-    ensures goes_on { IfOk result (λ _. IfFitted placing.old placing.new
-        (GoesOn placing.old.builder placing.new.builder placing.new.builder.at)) }
-    ensures inside { IfOk result (λ _. IfFitted placing.old placing.new
-        (AddsItems placing.old.builder placing.new.builder)) }
-    ensures texts { IfOk result (λ _. IfFitted placing.old placing.new
-        (HasMoreTexts placing.old.builder placing.new.builder)) }
+    ensures goes_on { IfOk result (λ _. GoesOn placing.old.builder placing.new.builder
+        placing.new.builder.at) }
+    ensures inside { IfOk result (λ _. AddsItems placing.old.builder placing.new.builder) }
+    ensures texts { IfOk result (λ _. HasMoreTexts placing.old.builder placing.new.builder) }
     ensures items { IfOk result (λ _. (escapes ≡ false → IsOnePiece placing.old.builder.text cell)
         → IsCellIn placing.old.builder.text cell → placing.old.builder.run ≡ None
-        → IfFitted placing.old placing.new
-        (HasItems placing.old.builder placing.new.builder
-        (cell_items placing.old.builder.text (item_extensions options) cell.from cell.to))) }
+        → HasItems placing.old.builder placing.new.builder (cell_items placing.old.builder.text
+        (item_extensions options) cell.from cell.to)) }
     ensures within { IfOk result (λ _. placing.new.builder.at ≤ cell.to) }
 {
     let mut from = cell.from;
@@ -113,17 +110,13 @@ fn place_cell(
     requires may { MayAddCell placing.old.builder cell.start }
     requires cell { IsCellIn placing.old.builder.text cell }
     ensures text { IfOk result (λ _. placing.new.builder.text ≡ placing.old.builder.text) }
-    ensures placed { IfOk result (λ _. IfFitted placing.old placing.new
-        (IsPlacedTo placing.old.builder placing.new.builder cell.end)) }
-    ensures texts { IfOk result (λ _. IfFitted placing.old placing.new
-        (HasMoreTexts placing.old.builder placing.new.builder)) }
-    ensures tree { IfOk result (λ _. IfFitted placing.old placing.new
-        (PutsTree placing.old.builder placing.new.builder)) }
+    ensures placed { IfOk result (λ _. IsPlacedTo placing.old.builder placing.new.builder
+        cell.end) }
+    ensures texts { IfOk result (λ _. HasMoreTexts placing.old.builder placing.new.builder) }
+    ensures tree { IfOk result (λ _. PutsTree placing.old.builder placing.new.builder) }
     ensures shown { IfOk result (λ _. (escapes ≡ false → IsOnePiece placing.old.builder.text cell)
-        → IsCellIn placing.old.builder.text cell → IfFitted placing.old placing.new
-        (HasTrees placing.old.builder placing.new.builder
-        (shown_cells (record { text = placing.old.builder.text; options = options })
-        (cell ∷ [])))) }
+        → IsCellIn placing.old.builder.text cell → HasTrees placing.old.builder placing.new.builder
+        (shown_cells (record { text = placing.old.builder.text; options = options }) (cell ∷ []))) }
 {
     placing.step_to(cell.start);
     placing.open_block(ItemBody::TableCell)?;
@@ -138,14 +131,11 @@ fn place_cell(
 fn place_empty_cell(placing: &mut Placing<'_>, at: usize) -> Result<(), AllocError>
     requires { MayAddCell placing.old.builder at }
     ensures text { IfOk result (λ _. placing.new.builder.text ≡ placing.old.builder.text) }
-    ensures placed { IfOk result (λ _. IfFitted placing.old placing.new
-        (IsPlacedTo placing.old.builder placing.new.builder at)) }
-    ensures texts { IfOk result (λ _. IfFitted placing.old placing.new
-        (HasMoreTexts placing.old.builder placing.new.builder)) }
-    ensures tree { IfOk result (λ _. IfFitted placing.old placing.new
-        (PutsTree placing.old.builder placing.new.builder)) }
-    ensures shown { IfOk result (λ _. IfFitted placing.old placing.new
-        (HasTrees placing.old.builder placing.new.builder (empty_cells 1 at))) }
+    ensures placed { IfOk result (λ _. IsPlacedTo placing.old.builder placing.new.builder at) }
+    ensures texts { IfOk result (λ _. HasMoreTexts placing.old.builder placing.new.builder) }
+    ensures tree { IfOk result (λ _. PutsTree placing.old.builder placing.new.builder) }
+    ensures shown { IfOk result (λ _. HasTrees placing.old.builder placing.new.builder
+        (empty_cells 1 at)) }
 {
     placing.step_to(at);
     placing.open_block(ItemBody::TableCell)?;
@@ -166,18 +156,17 @@ fn place_row(
     requires outside { is_leaf row ≡ false }
     requires may { MayAddRow placing.old.builder line }
     ensures text { IfOk result (λ _. placing.new.builder.text ≡ placing.old.builder.text) }
-    ensures placed { IfOk result (λ _. IfFitted placing.old placing.new
-        (IsPlacedTo placing.old.builder placing.new.builder line.next)) }
-    ensures texts { IfOk result (λ _. IfFitted placing.old placing.new
-        (HasMoreTexts placing.old.builder placing.new.builder)) }
+    ensures placed { IfOk result (λ _. IsPlacedTo placing.old.builder placing.new.builder
+        line.next) }
+    ensures texts { IfOk result (λ _. HasMoreTexts placing.old.builder placing.new.builder) }
     ensures found { IfOk result (λ found. found ≡ min (open_columns placing.old.builder)
         (length (row_cells_at placing.old.builder.text line.start line.stop))) }
     ensures tree { IfOk result (λ _. is_table_row row ≡ true
         → IsInText placing.old.builder.text line → (source : SourceLine)
-        → IsTextLine placing.old.builder.text line source → IfFitted placing.old placing.new
-        (HasTrees placing.old.builder placing.new.builder
+        → IsTextLine placing.old.builder.text line source
+        → HasTrees placing.old.builder placing.new.builder
         (shown_row (record { text = placing.old.builder.text; options = options })
-        (open_columns placing.old.builder) row source))) }
+        (open_columns placing.old.builder) row source)) }
 {
     let text = placing.text();
     let columns = placing.builder.columns();
@@ -331,8 +320,7 @@ impl<'a> Pass<'a> {
             → IsLastLine s self.old head before from
             → IsRowRest s self.old.placing.builder.text line position l
             → AreAhead self.old.placing.builder self.old.lines.items
-            → IfFitted self.old.placing self.new.placing
-            (HasTable s self.new.placing.builder frames inside b before from l line.next)) }
+            → HasTable s self.new.placing.builder frames inside b before from l line.next) }
         ensures same { IfOk result (λ is. is ≡ false
             → self.new ≡ record self.old { tried = self.new.tried }) }
     {
@@ -442,12 +430,10 @@ impl<'a> Pass<'a> {
             → HoldsParagraph s self.old frames inside b (before ++ from ∷ [])
             → source_of self.old ≡ s → last_of self.old.lines.items ≡ Some head
             → AreAhead self.old.placing.builder self.old.lines.items
-            → IfFitted self.old.placing self.new.placing
-            (IsOpenIn s self.new.placing.builder frames (before_table inside b before) false
-            (begun_table from from.next alignments.items))) }
-        ensures here { IfOk result (λ _. IfFitted self.old.placing self.new.placing
-            ((self.new.placing.builder.at ≡ head.next)
-            × (self.new.placing.builder.blocks ≡ [] → ⊥))) }
+            → IsOpenIn s self.new.placing.builder frames (before_table inside b before) false
+            (begun_table from from.next alignments.items)) }
+        ensures here { IfOk result (λ _. (self.new.placing.builder.at ≡ head.next)
+            × (self.new.placing.builder.blocks ≡ [] → ⊥)) }
     {
         let _head = self.lines.pop();
         if !self.lines.is_empty() {
@@ -481,8 +467,7 @@ impl<'a> Pass<'a> {
             → is_blank_rest (reached_of s before source).rest ≡ false
             → innermost_is is_table self.old.placing.builder.blocks ≡ true
             → IsCounted s self.old (blocks_before before)
-            → IfFitted self.old.placing self.new.placing (PlacesFor s self.new line.next
-            (with_next_line s (blocks_before before) source))) }
+            → PlacesFor s self.new line.next (with_next_line s (blocks_before before) source)) }
         ensures counted { IfOk result (λ is. is ≡ true → (s : Source) (before : lines.Before)
             (source : SourceLine) → ahead.old.text.now ≡ s.text
             → IsReachedBy s self.old line reached before source
@@ -525,19 +510,16 @@ impl<'a> Pass<'a> {
             - length (row_cells_at self.old.placing.builder.text start line.stop))) }
         ensures most { IfOk result (λ _. self.new.tables.most ≡ self.old.tables.most) }
         ensures placed { IfOk result (λ added. added ≡ true
-            → IfFitted self.old.placing self.new.placing
-            (IsPlacedTo self.old.placing.builder self.new.placing.builder line.next)) }
+            → IsPlacedTo self.old.placing.builder self.new.placing.builder line.next) }
         ensures texts { IfOk result (λ added. added ≡ true
-            → IfFitted self.old.placing self.new.placing
-            (HasMoreTexts self.old.placing.builder self.new.placing.builder)) }
+            → HasMoreTexts self.old.placing.builder self.new.placing.builder) }
         ensures tree { IfOk result (λ added. added ≡ true
             → IsInText self.old.placing.builder.text (held_line line start)
             → (source : SourceLine)
             → IsTextLine self.old.placing.builder.text (held_line line start) source
-            → IfFitted self.old.placing self.new.placing
-            (HasTrees self.old.placing.builder self.new.placing.builder
-            (shown_row (source_of self.old) (open_columns self.old.placing.builder)
-            body.TableRow source))) }
+            → HasTrees self.old.placing.builder self.new.placing.builder
+            (shown_row (source_of self.old) (open_columns self.old.placing.builder) body.TableRow
+            source)) }
     {
         if !self.may_be_row(start, line.stop) {
             return Ok(false);

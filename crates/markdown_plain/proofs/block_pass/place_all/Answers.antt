@@ -1,4 +1,4 @@
--- All lines were read, and every call fitted: no block is open then, and only white space is left.
+-- All lines were read: no block is open then, and only white space is left.
 use Rattle.std.proofs.Common.{◌≡◌, [], length, rules, subst, sym}
 use Rattle.markdown_lines.specs.BlockBeginnings.{Source}
 use Rattle.markdown_lines.specs.Lines.{AllPass, is_in_blank_line}
@@ -43,7 +43,7 @@ pub step_to-requires : goal.step_to-requires
 step_to-requires c =
     let may = may_read (goal.at.step_to-requires c).In_ok-pass in
     let all = subst (λ (p : Placing). AllPass is_in_blank_line p.builder.text p.builder.at (length p.builder.text))
-    (sym c.into_placing-placing.ensures) (c.in_ok-read_lines.ensures.left may.s may.stands may.counted tt) in
+    (sym c.into_placing-placing.ensures) (c.in_ok-read_lines.ensures.left may.s may.stands may.counted) in
     let end : length c.into_placing-placing.result.builder.text ≡ length c.as_bytes.result.now = search rules in
     record {
       ahead = (search rules, search rules);
@@ -55,7 +55,7 @@ step_to-requires c =
 all_made : (c : goal.After-step_to) (may : MayReadText c.in_ok-pass.pass)
     → IsBuilt may.s c.step_to.new.self.builder [] (blocks_of may.s)
 all_made c may =
-    let built = (c.in_ok-read_lines.ensures.made may.s may.stands may.counted tt).1 in
+    let built = c.in_ok-read_lines.ensures.made may.s may.stands may.counted in
     stepped_built may.s c.into_placing-placing.result.builder c.step_to.new.self.builder (search rules)
     (subst (λ (p : Placing). IsBuilt may.s p.builder [] (blocks_of may.s)) (sym c.into_placing-placing.ensures) built)
 

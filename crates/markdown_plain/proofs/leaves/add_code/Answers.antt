@@ -8,37 +8,30 @@ use Rattle.markdown_plain.proofs.LeafTreesLemmas.{line_added, line_over, no_text
 use Rattle.markdown_plain.proofs.leaves.add_code.Goals as goal
 
 pub returns-then-line-clause-items : goal.returns-then-line-clause-items
-returns-then-line-clause-items c = λ source is fitted.
+returns-then-line-clause-items c = λ source is.
     let o = owed_added c.args.placing.now c.step_to.new.self c.add_owed.new.self c.args.line.start c.args.line.owed
-    c.step_to.ensures.steps c.in_ok-add_owed.ensures.owed c.in_ok-add_owed.ensures.nothing fitted in (
-      o.0,
-      line_over c.args.placing.now.builder.levels (body.Text false) c.args.line source c.add_owed.new.self.builder is
-          o.1 (grind (arith, nat_tests, c.if-line.true)),
-    )
+    c.step_to.ensures.steps c.in_ok-add_owed.ensures.owed c.in_ok-add_owed.ensures.nothing in
+    line_over c.args.placing.now.builder.levels (body.Text false) c.args.line source c.add_owed.new.self.builder is
+    o (grind (arith, nat_tests, c.if-line.true))
 
 pub returns-clause-items : goal.returns-clause-items
 returns-clause-items c =
-    IfOk-weaker c.add_inline.result _ _ (λ done appends source is fitted.
-    let added = appends fitted in
+    IfOk-weaker c.add_inline.result _ _ (λ done appends source is.
     let o = owed_added c.args.placing.now c.step_to.new.self c.add_owed.new.self c.args.line.start c.args.line.owed
-    c.step_to.ensures.steps c.in_ok-add_owed.ensures.owed c.in_ok-add_owed.ensures.nothing added.0 in (
-      o.0,
-      line_added c.args.placing.now.builder.levels (body.Text false) c.args.line source c.add_owed.new.self.builder
-          c.add_inline.new.self.builder is o.1 (grind (arith, nat_tests, c.if-line.false)) added.1,
-    )) c.add_inline.ensures.appends
+    c.step_to.ensures.steps c.in_ok-add_owed.ensures.owed c.in_ok-add_owed.ensures.nothing in
+    line_added c.args.placing.now.builder.levels (body.Text false) c.args.line source c.add_owed.new.self.builder
+    c.add_inline.new.self.builder is o (grind (arith, nat_tests, c.if-line.false)) appends)
+    c.add_inline.ensures.appends
 
 pub returns-then-line-clause-texts : goal.returns-then-line-clause-texts
-returns-then-line-clause-texts c = λ fitted.
+returns-then-line-clause-texts c =
     owed_text c.args.placing.now c.step_to.new.self c.add_owed.new.self c.args.line.start c.args.line.owed
-    c.step_to.ensures.steps c.in_ok-add_owed.ensures.owed c.in_ok-add_owed.ensures.nothing fitted
+    c.step_to.ensures.steps c.in_ok-add_owed.ensures.owed c.in_ok-add_owed.ensures.nothing
 
 pub returns-clause-texts : goal.returns-clause-texts
 returns-clause-texts c =
-    IfOk-weaker c.add_inline.result _ _ (λ done appends fitted.
-    let added = appends fitted in
+    IfOk-weaker c.add_inline.result _ _ (λ done appends.
     let o = owed_text c.args.placing.now c.step_to.new.self c.add_owed.new.self c.args.line.start c.args.line.owed
-    c.step_to.ensures.steps c.in_ok-add_owed.ensures.owed c.in_ok-add_owed.ensures.nothing added.0 in (
-      o.0,
-      texts_after c.args.placing.now.builder c.add_owed.new.self.builder c.add_inline.new.self.builder o.1
-          (no_text _ _ (ap (λ (b : BuilderView). b.texts) added.1)),
-    )) c.add_inline.ensures.appends
+    c.step_to.ensures.steps c.in_ok-add_owed.ensures.owed c.in_ok-add_owed.ensures.nothing in
+    texts_after c.args.placing.now.builder c.add_owed.new.self.builder c.add_inline.new.self.builder o
+    (no_text _ _ (ap (λ (b : BuilderView). b.texts) appends))) c.add_inline.ensures.appends

@@ -14,10 +14,10 @@ use Rattle.markdown_plain.proofs.leaves.add_codes.Goals as goal
 pub lines-init : goal.lines-init
 lines-init c = record {
   text = refl;
-  goes_on = λ fitted. (fitted, refl);
-  texts = λ fitted. (fitted, no_text _ _ refl);
-  items = λ sources are fitted. (fitted, sym (no_items c.args.placing.now.builder.levels));
-  reached = λ fitted. (fitted, refl);
+  goes_on = refl;
+  texts = no_text _ _ refl;
+  items = λ sources are. sym (no_items c.args.placing.now.builder.levels);
+  reached = refl;
 }
 
 pub lines-preserved : goal.lines-preserved
@@ -26,25 +26,21 @@ lines-preserved c =
     record {
       text = c.in_ok-add_code.ensures.text ∙ before.text;
       goes_on = search rules;
-      texts = λ fitted.
-          let more = c.in_ok-add_code.ensures.texts fitted in
-          let kept = before.texts more.0 in
-          (kept.0, texts_after _ c.lines.placing.builder _ kept.1 more.1);
-      items = λ sources are fitted.
+      texts =
+          let more = c.in_ok-add_code.ensures.texts in
+          let kept = before.texts in
+          texts_after _ c.lines.placing.builder _ kept more;
+      items = λ sources are.
           let line = slice_get-get_or c.args.lines.now c.lines.line-index _ c.lines-test.true in
-          let kept = before.items sources are (c.in_ok-add_code.ensures.goes_on fitted).0 in (
-            kept.0,
-            more_lines c.args.placing.now.builder.levels c.lines.placing.builder.levels
-                c.add_code.new.placing.builder.levels (body.Text false) c.args.lines.now sources c.lines.line-index _
-                are line kept.1 (λ source is. (c.in_ok-add_code.ensures.items source is fitted).1),
-          );
-      reached = λ fitted.
+          let kept = before.items sources are in
+          more_lines c.args.placing.now.builder.levels c.lines.placing.builder.levels
+          c.add_code.new.placing.builder.levels (body.Text false) c.args.lines.now sources c.lines.line-index _
+          are line kept (λ source is. c.in_ok-add_code.ensures.items source is);
+      reached =
           let line = slice_get-get_or c.args.lines.now c.lines.line-index _ c.lines-test.true in
-          let goes = c.in_ok-add_code.ensures.goes_on fitted in (
-            (before.reached goes.0).0,
-            ap (λ (v : BuilderView). v.at) goes.1
-                ∙ sym (after_one_more c.args.placing.now.builder.at c.args.lines.now c.lines.line-index _ line),
-          );
+          let goes = c.in_ok-add_code.ensures.goes_on in
+          ap (λ (v : BuilderView). v.at) goes
+          ∙ sym (after_one_more c.args.placing.now.builder.at c.args.lines.now c.lines.line-index _ line);
     }
 
 -- the next line fits
@@ -52,28 +48,24 @@ pub add_code-requires : goal.add_code-requires
 add_code-requires c =
     let before = c.lines.invariant in
     let line = slice_get-get_or c.args.lines.now c.lines.line-index _ c.lines-test.true in
-    let at = (before.reached tt).1 in
+    let at = before.reached in
     let next = comes_next _ c.args.placing.now.builder.at c.args.lines.now c.lines.line-index _ c.requires.are line in
     let low = next.low in
     goes_on_fits c.args.placing.now.builder c.lines.placing.builder c.lines.placing.builder.at _ _
-    (before.goes_on tt).1 c.requires.inside (omega (arith, at, low)) next.boundary next.next
+    before.goes_on c.requires.inside (omega (arith, at, low)) next.boundary next.next
 
 pub returns-clause-items : goal.returns-clause-items
-returns-clause-items c = λ sources are fitted.
-    let done = c.lines.invariant.items sources are fitted in
+returns-clause-items c = λ sources are.
+    let done = c.lines.invariant.items sources are in
     let all = takes_all c.args.lines.now sources are in
-    let number : c.lines.line-index ≡ length c.args.lines.now = search rules in (
-      done.0,
-      done.1 ∙ ap (λ n. with_items c.args.placing.now.builder.levels (source_lines (body.Text false) (take n sources)))
-          number
-          ∙ ap (λ ls. with_items c.args.placing.now.builder.levels (source_lines (body.Text false) ls)) all,
-    )
+    let number : c.lines.line-index ≡ length c.args.lines.now = search rules in
+    done ∙ ap (λ n. with_items c.args.placing.now.builder.levels (source_lines (body.Text false) (take n sources)))
+    number
+    ∙ ap (λ ls. with_items c.args.placing.now.builder.levels (source_lines (body.Text false) ls)) all
 
 pub returns-clause-reached : goal.returns-clause-reached
-returns-clause-reached c = λ fitted.
-    let done = c.lines.invariant.reached fitted in
-    let number : c.lines.line-index ≡ length c.args.lines.now = search rules in (
-      done.0,
-      done.1 ∙ ap (λ n. after_lines c.args.placing.now.builder.at (take n c.args.lines.now)) number
-          ∙ ap (after_lines c.args.placing.now.builder.at) (take-length c.args.lines.now),
-    )
+returns-clause-reached c =
+    let done = c.lines.invariant.reached in
+    let number : c.lines.line-index ≡ length c.args.lines.now = search rules in
+    done ∙ ap (λ n. after_lines c.args.placing.now.builder.at (take n c.args.lines.now)) number
+    ∙ ap (after_lines c.args.placing.now.builder.at) (take-length c.args.lines.now)

@@ -4,7 +4,7 @@ use Rattle.markdown_base.specs.declared.item.ItemBody.TheVariants as body
 use Rattle.markdown_block_rules.specs.LineContents.{source_lines}
 use Rattle.markdown_lines.specs.SourceLines.{SourceLine}
 use Rattle.markdown_plain.specs.Fits.{after_lines}
-use Rattle.markdown_plain.specs.Fitting.{IfFitted, GoesOn}
+use Rattle.markdown_plain.specs.Fitting.{GoesOn}
 use Rattle.markdown_plain.specs.HeldSources.{AreHeld}
 use Rattle.markdown_plain.specs.LeafTrees.{HasItems, HasMoreTexts}
 use Rattle.markdown_plain.proofs.leaves.add_codes.Given as goal
@@ -12,11 +12,9 @@ use Rattle.markdown_plain.proofs.leaves.add_codes.Given as goal
 abbrev pub invariant-lines : goal.invariant-lines
 invariant-lines l = record {
   text : l.placing.builder.text ≡ l.fn.placing.builder.text;
-  goes_on : IfFitted l.fn.placing l.placing (GoesOn l.fn.placing.builder l.placing.builder l.placing.builder.at);
-  texts : IfFitted l.fn.placing l.placing (HasMoreTexts l.fn.placing.builder l.placing.builder);
-  items : (sources : List SourceLine) → AreHeld l.lines sources → IfFitted l.fn.placing l.placing
-      (HasItems l.fn.placing.builder l.placing.builder
-      (source_lines (body.Text false) (take l.line-index sources)));
-  reached : IfFitted l.fn.placing l.placing
-      (l.placing.builder.at ≡ after_lines l.fn.placing.builder.at (take l.line-index l.lines));
+  goes_on : GoesOn l.fn.placing.builder l.placing.builder l.placing.builder.at;
+  texts : HasMoreTexts l.fn.placing.builder l.placing.builder;
+  items : (sources : List SourceLine) → AreHeld l.lines sources → HasItems l.fn.placing.builder l.placing.builder
+      (source_lines (body.Text false) (take l.line-index sources));
+  reached : l.placing.builder.at ≡ after_lines l.fn.placing.builder.at (take l.line-index l.lines);
 }

@@ -30,7 +30,7 @@ step_to-requires c =
     let to = (trimmed old.text line c.trimmed_length.result c.requires.line size).high in
     let next = c.requires.line.next in
     let end : c.saturating_add-end.result ≡ line.start + c.trimmed_length.result = search rules in
-    let read = (c.in_ok-add_items.ensures.appends tt).1 in
+    let read = c.in_ok-add_items.ensures.appends in
     let begun = still_open old c.add_items.new.self.builder (ap (λ (b : BuilderView). b.leaf) read)
     (ap (λ (b : BuilderView). b.blocks) read) c.requires.inside in
     record {

@@ -21,7 +21,7 @@ use Rattle.markdown_plain.proofs.paragraph.add_line.Goals as goal
 
 pub returns-then-number-lines-clause-left : goal.returns-then-number-lines-clause-left
 returns-then-number-lines-clause-left c =
-    IfOk-weaker c.add_last_line.result _ _ (λ done items sources all are left fitted.
+    IfOk-weaker c.add_last_line.result _ _ (λ done items sources all are left.
     let text = c.args.placing.now.builder.text in
     let s : Source = record { text = text; options = c.args.options } in
     let levels = c.args.placing.now.builder.levels in
@@ -38,35 +38,31 @@ returns-then-number-lines-clause-left c =
     let cut : IsTextLine text c.cut_off.result content = subst (λ (l : HeldLine). IsTextLine text l content)
     (sym c.cut_off.ensures) (cut_line text c.in_ok-line.line (after_task ends.task t.source) ends.braces rest
     (open_after_task ends.task ends.braces t.source alone.fit.task alone.fit.braces)) in
-    let added = items content (subst (λ tx. IsTextLine tx c.cut_off.result content) (sym same) cut) fitted in
-    let begun = c.in_ok-line.ensures.items t.source t.is alone.fit.task added.0 in (
-      begun.0,
-      λ run.
-          let at = ap (λ (b : BuilderView). b.at) (c.in_ok-line.ensures.goes_on added.0).1
-          ∙ sym (ap (λ (l : HeldLine). l.start) c.cut_off.ensures) in
-          let last = added.1 ((c.in_ok-line.ensures.over added.0).1 run) at
-          ∙ ap (λ tx. with_items c.begin_line.new.placing.builder.levels
-          (lines_items tx (item_extensions c.args.options) (content ∷ []))) same in
-          subst (λ ls. IsLeft s (record ends { task = None }) ls c.add_last_line.new.placing.builder.levels all)
-          (sym none) (last_line_left s ends.task ends.braces t.source levels c.begin_line.new.placing.builder.levels
-          c.add_last_line.new.placing.builder.levels all alone begun.1 last),
-    )) c.add_last_line.ensures.items
+    let added = items content (subst (λ tx. IsTextLine tx c.cut_off.result content) (sym same) cut) in
+    let begun = c.in_ok-line.ensures.items t.source t.is alone.fit.task in
+    λ run.
+    let at = ap (λ (b : BuilderView). b.at) c.in_ok-line.ensures.goes_on
+    ∙ sym (ap (λ (l : HeldLine). l.start) c.cut_off.ensures) in
+    let last = added (c.in_ok-line.ensures.over run) at
+    ∙ ap (λ tx. with_items c.begin_line.new.placing.builder.levels
+    (lines_items tx (item_extensions c.args.options) (content ∷ []))) same in
+    subst (λ ls. IsLeft s (record ends { task = None }) ls c.add_last_line.new.placing.builder.levels all)
+    (sym none) (last_line_left s ends.task ends.braces t.source levels c.begin_line.new.placing.builder.levels
+    c.add_last_line.new.placing.builder.levels all alone begun last)) c.add_last_line.ensures.items
 
 pub returns-else-number-lines-clause-goes_on : goal.returns-else-number-lines-clause-goes_on
 returns-else-number-lines-clause-goes_on c =
-    IfOk-weaker c.add_broken_line.result _ _ (λ done on fitted.
-    let added = on fitted in
-    let begun = c.in_ok-line.ensures.goes_on added.0 in
+    IfOk-weaker c.add_broken_line.result _ _ (λ done on.
+    let begun = c.in_ok-line.ensures.goes_on in
     let next = ap (λ (l : HeldLine). l.next) c.in_ok-line.ensures.rest
-    ∙ sym (got c.args.lines.now c.args.number _ c.requires.within) in (
-      begun.0,
-      goes_on_twice c.args.placing.now.builder c.begin_line.new.placing.builder
-          c.add_broken_line.new.placing.builder _ c.in_ok-line.line.next _ begun.1 added.1 next,
-    )) c.add_broken_line.ensures.goes_on
+    ∙ sym (got c.args.lines.now c.args.number _ c.requires.within) in
+    goes_on_twice c.args.placing.now.builder c.begin_line.new.placing.builder
+    c.add_broken_line.new.placing.builder _ c.in_ok-line.line.next _ begun on next)
+    c.add_broken_line.ensures.goes_on
 
 pub returns-else-number-lines-clause-left : goal.returns-else-number-lines-clause-left
 returns-else-number-lines-clause-left c =
-    IfOk-weaker c.add_broken_line.result _ _ (λ done items sources all are left fitted.
+    IfOk-weaker c.add_broken_line.result _ _ (λ done items sources all are left.
     let text = c.args.placing.now.builder.text in
     let s : Source = record { text = text; options = c.args.options } in
     let levels = c.args.placing.now.builder.levels in
@@ -82,45 +78,39 @@ returns-else-number-lines-clause-left c =
     (subst (λ (ls : List SourceLine). IsLeft s ends ls levels all) t.left left) in
     let content = after_task ends.task t.source in
     let rest = c.in_ok-line.ensures.source t.source t.is whole.fit.task in
-    let added = items content (subst (λ tx. IsTextLine tx c.in_ok-line.line content) (sym same) rest) fitted in
-    let begun = c.in_ok-line.ensures.items t.source t.is whole.fit.task added.0 in (
-      begun.0,
-      λ run.
-          let at = ap (λ (b : BuilderView). b.at) (c.in_ok-line.ensures.goes_on added.0).1 in
-          let line = added.1 ((c.in_ok-line.ensures.over added.0).1 run) at
-          ∙ ap (λ tx. with_items c.begin_line.new.placing.builder.levels
-          (line_or_nothing (record { text = tx; options = c.args.options }) content)) same in
-          subst (λ ls. IsLeft s (record ends { task = None }) ls c.add_broken_line.new.placing.builder.levels all)
-          (sym behind.are) (broken_line_left s ends.task ends.braces t.source behind.first behind.more levels
-          c.begin_line.new.placing.builder.levels c.add_broken_line.new.placing.builder.levels all whole begun.1 line),
-    )) c.add_broken_line.ensures.items
+    let added = items content (subst (λ tx. IsTextLine tx c.in_ok-line.line content) (sym same) rest) in
+    let begun = c.in_ok-line.ensures.items t.source t.is whole.fit.task in
+    λ run.
+    let at = ap (λ (b : BuilderView). b.at) c.in_ok-line.ensures.goes_on in
+    let line = added (c.in_ok-line.ensures.over run) at
+    ∙ ap (λ tx. with_items c.begin_line.new.placing.builder.levels
+    (line_or_nothing (record { text = tx; options = c.args.options }) content)) same in
+    subst (λ ls. IsLeft s (record ends { task = None }) ls c.add_broken_line.new.placing.builder.levels all)
+    (sym behind.are) (broken_line_left s ends.task ends.braces t.source behind.first behind.more levels
+    c.begin_line.new.placing.builder.levels c.add_broken_line.new.placing.builder.levels all whole begun line))
+    c.add_broken_line.ensures.items
 
 pub returns-then-number-lines-clause-texts : goal.returns-then-number-lines-clause-texts
 returns-then-number-lines-clause-texts c =
-    IfOk-weaker c.add_last_line.result _ _ (λ done texts fitted.
-    let added = texts fitted in
-    let begun = c.in_ok-line.ensures.texts added.0 in
-    (begun.0, texts_after _ _ _ begun.1 added.1)) c.add_last_line.ensures.texts
+    IfOk-weaker c.add_last_line.result _ _ (λ done texts.
+    let begun = c.in_ok-line.ensures.texts in
+    texts_after _ _ _ begun texts) c.add_last_line.ensures.texts
 
 pub returns-else-number-lines-clause-texts : goal.returns-else-number-lines-clause-texts
 returns-else-number-lines-clause-texts c =
-    IfOk-weaker c.add_broken_line.result _ _ (λ done texts fitted.
-    let added = texts fitted in
-    let begun = c.in_ok-line.ensures.texts added.0 in
-    (begun.0, texts_after _ _ _ begun.1 added.1)) c.add_broken_line.ensures.texts
+    IfOk-weaker c.add_broken_line.result _ _ (λ done texts.
+    let begun = c.in_ok-line.ensures.texts in
+    texts_after _ _ _ begun texts) c.add_broken_line.ensures.texts
 
 pub returns-then-number-lines-clause-goes_on : goal.returns-then-number-lines-clause-goes_on
 returns-then-number-lines-clause-goes_on c =
-    IfOk-weaker c.add_last_line.result _ _ (λ done on fitted.
-    let added = on fitted in
-    let begun = c.in_ok-line.ensures.goes_on added.0 in
+    IfOk-weaker c.add_last_line.result _ _ (λ done on.
+    let begun = c.in_ok-line.ensures.goes_on in
     let next = ap (λ (l : HeldLine). l.next) c.cut_off.ensures
     ∙ (ap (λ (l : HeldLine). l.next) c.in_ok-line.ensures.rest
-    ∙ sym (got c.args.lines.now c.args.number _ c.requires.within)) in (
-      begun.0,
-      goes_on_twice c.args.placing.now.builder c.begin_line.new.placing.builder
-          c.add_last_line.new.placing.builder _ c.cut_off.result.next _ begun.1 added.1 next,
-    )) c.add_last_line.ensures.goes_on
+    ∙ sym (got c.args.lines.now c.args.number _ c.requires.within)) in
+    goes_on_twice c.args.placing.now.builder c.begin_line.new.placing.builder
+    c.add_last_line.new.placing.builder _ c.cut_off.result.next _ begun on next) c.add_last_line.ensures.goes_on
 
 -- the last line is cut off at braces
 pub add_last_line-requires-clause-line : goal.add_last_line-requires-clause-line

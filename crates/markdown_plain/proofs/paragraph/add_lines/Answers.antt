@@ -31,10 +31,10 @@ lines-preserved c =
       none = search rules;
       goes_on = search rules;
       over = search rules;
-      texts = λ fitted.
-          let added = c.in_ok-add_line.ensures.texts fitted in
-          let before = c.lines.invariant.texts added.0 in
-          (before.0, texts_after _ _ _ before.1 added.1);
+      texts =
+          let added = c.in_ok-add_line.ensures.texts in
+          let before = c.lines.invariant.texts in
+          texts_after _ _ _ before added;
       room =
           let ends = c.args.ends in
           let low = c.lines.auto.number in
@@ -46,42 +46,37 @@ lines-preserved c =
           (room_after c.lines.placing.builder c.add_line.new.placing.builder c.args.lines.now c.lines.number
           (record ends { task = c.if-number-from.task }) any_line _ c.lines-test.true here
           (got c.args.lines.now c.lines.number any_line c.lines-test.true)
-          (c.in_ok-add_line.ensures.goes_on tt).1);
-      left = λ sources are fit fitted.
+          c.in_ok-add_line.ensures.goes_on);
+      left = λ sources are fit.
           let text = c.args.placing.now.builder.text in
           let same = c.lines.invariant.text in
-          let begun = (c.in_ok-add_line.ensures.goes_on fitted).0 in
-          let before = c.lines.invariant.left sources are fit begun in
+          let before = c.lines.invariant.left sources are fit in
           let ends = c.args.ends in
           let low = c.lines.auto.number in
-          let past : (c.lines.number + 1 == c.args.from) ≡ false = grind (arith, nat_tests, low) in (
-            before.0,
-            λ run.
-                let here = left_of_same text c.lines.placing.builder.text c.args.options _ c.if-number-from.task
-                ends.braces (drop c.lines.number sources) c.lines.placing.builder.levels _ (sym same) (sym (task_is c))
-                (before.1 run) in
-                let added = c.in_ok-add_line.ensures.left sources _
-                (subst (λ t. AreTextLines t c.args.lines.now sources)
-                (sym same) are) here fitted in
-                left_of_same c.lines.placing.builder.text text c.args.options None _ ends.braces
-                (drop (c.lines.number + 1) sources) c.add_line.new.placing.builder.levels _ same
-                (sym (on_false (c.lines.number + 1 == c.args.from) ends.task None past))
-                (added.1 ((c.lines.invariant.over begun).1 run c.lines-test.true)),
-          );
+          let past : (c.lines.number + 1 == c.args.from) ≡ false = grind (arith, nat_tests, low) in
+          λ run.
+          let here = left_of_same text c.lines.placing.builder.text c.args.options _ c.if-number-from.task
+          ends.braces (drop c.lines.number sources) c.lines.placing.builder.levels _ (sym same) (sym (task_is c))
+          (before run) in
+          let added = c.in_ok-add_line.ensures.left sources _
+          (subst (λ t. AreTextLines t c.args.lines.now sources)
+          (sym same) are) here in
+          left_of_same c.lines.placing.builder.text text c.args.options None _ ends.braces
+          (drop (c.lines.number + 1) sources) c.add_line.new.placing.builder.levels _ same
+          (sym (on_false (c.lines.number + 1 == c.args.from) ends.task None past))
+          (added (c.lines.invariant.over run c.lines-test.true));
     }
 
 pub returns-clause-items : goal.returns-clause-items
-returns-clause-items c = λ sources are fit fitted.
-    let left = c.lines.invariant.left sources are fit fitted in (
-      left.0,
-      λ run.
-          let none = none_behind sources c.lines.number (omega (
-            arith,
-            as_many c.args.placing.now.builder.text
-                c.args.lines.now sources are,
-            c.lines-test.false,
-          )) in
-          nothing_left (record { text = c.args.placing.now.builder.text; options = c.args.options })
-          (record c.args.ends { task = if c.lines.number == c.args.from then c.args.ends.task else None })
-          (drop c.lines.number sources) c.lines.placing.builder.levels _ none (left.1 run),
-    )
+returns-clause-items c = λ sources are fit.
+    let left = c.lines.invariant.left sources are fit in
+    λ run.
+    let none = none_behind sources c.lines.number (omega (
+      arith,
+      as_many c.args.placing.now.builder.text
+          c.args.lines.now sources are,
+      c.lines-test.false,
+    )) in
+    nothing_left (record { text = c.args.placing.now.builder.text; options = c.args.options })
+    (record c.args.ends { task = if c.lines.number == c.args.from then c.args.ends.task else None })
+    (drop c.lines.number sources) c.lines.placing.builder.levels _ none (left run)

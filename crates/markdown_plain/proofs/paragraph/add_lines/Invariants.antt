@@ -5,7 +5,7 @@ use Rattle.std.specs.Prelude.{◌==◌, if◌then◌else◌}
 use Rattle.markdown_builder.specs.BuilderView.{with_items}
 use Rattle.markdown_lines.specs.SourceLines.{SourceLine}
 use Rattle.markdown_block_rules.specs.BlockRules.{before_braces}
-use Rattle.markdown_plain.specs.Fitting.{IfFitted, GoesOn}
+use Rattle.markdown_plain.specs.Fitting.{GoesOn}
 use Rattle.markdown_plain.specs.Closable.{HasRoomFor}
 use Rattle.markdown_plain.specs.HeldSources.{AreTextLines}
 use Rattle.markdown_plain.specs.LeafTrees.{HasMoreTexts}
@@ -16,18 +16,17 @@ abbrev pub invariant-lines : goal.invariant-lines
 invariant-lines l = record {
   text : l.placing.builder.text ≡ l.fn.placing.builder.text;
   none : l.number ≡ l.from → l.placing ≡ l.fn.placing;
-  goes_on : l.from < l.number → IfFitted l.fn.placing l.placing (GoesOn l.fn.placing.builder l.placing.builder
-      (option_map_or (λ line. line.next) (slice_get l.lines (l.number - 1)) 0));
-  over : IfFitted l.fn.placing l.placing (l.fn.placing.builder.run ≡ None → l.number < length l.lines
-      → l.placing.builder.run ≡ None);
-  texts : IfFitted l.fn.placing l.placing (HasMoreTexts l.fn.placing.builder l.placing.builder);
+  goes_on : l.from < l.number → GoesOn l.fn.placing.builder l.placing.builder (option_map_or (λ line. line.next)
+      (slice_get l.lines (l.number - 1)) 0);
+  over : l.fn.placing.builder.run ≡ None → l.number < length l.lines → l.placing.builder.run ≡ None;
+  texts : HasMoreTexts l.fn.placing.builder l.placing.builder;
   room : HasRoomFor l.placing.builder l.lines l.number
       (record l.ends { task = if l.number == l.from then l.ends.task else None });
   left : (sources : List SourceLine) → AreTextLines l.fn.placing.builder.text l.lines sources
-      → HaveEnds (drop l.from sources) l.ends → IfFitted l.fn.placing l.placing (l.fn.placing.builder.run ≡ None
+      → HaveEnds (drop l.from sources) l.ends → l.fn.placing.builder.run ≡ None
       → IsLeft (record { text = l.fn.placing.builder.text; options = l.options })
       (record l.ends { task = if l.number == l.from then l.ends.task else None }) (drop l.number sources)
       l.placing.builder.levels (with_items l.fn.placing.builder.levels
       (text_items (record { text = l.fn.placing.builder.text; options = l.options }) l.ends.task
-      (before_braces l.ends.braces (drop l.from sources)))));
+      (before_braces l.ends.braces (drop l.from sources))));
 }

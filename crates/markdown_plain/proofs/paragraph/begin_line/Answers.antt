@@ -16,36 +16,32 @@ use Rattle.markdown_plain.proofs.paragraph.begin_line.Goals.{After-task_length-l
 use Rattle.markdown_plain.proofs.paragraph.begin_line.Goals as goal
 
 pub returns-in_default-clause-items : goal.returns-in_default-clause-items
-returns-in_default-clause-items c = λ source is task fitted.
-    let stepped = c.step_to.ensures.steps fitted in
-    let none = c.in_default.is in (
-      stepped.0,
-      ap (λ (b : BuilderView). b.levels) stepped.1
-          ∙ sym (ap (λ t. with_items c.args.placing.now.builder.levels (task_items t source)) none
-          ∙ no_items c.args.placing.now.builder.levels),
-    )
+returns-in_default-clause-items c = λ source is task.
+    let stepped = c.step_to.ensures.steps in
+    let none = c.in_default.is in
+    ap (λ (b : BuilderView). b.levels) stepped
+    ∙ sym (ap (λ t. with_items c.args.placing.now.builder.levels (task_items t source)) none
+    ∙ no_items c.args.placing.now.builder.levels)
 
 pub returns-clause-items : goal.returns-clause-items
-returns-clause-items c = λ source is task fitted.
+returns-clause-items c = λ source is task.
     let marker = subst (λ t. BeginsWithTask t source) c.in-Some.is task in
     let inside = (marked_line c.args.placing.now.builder.text c.args.line source c.in-Some.done is marker).0 in
     let end : c.saturating_add.result ≡ source.left.scanned + 3 =
     subst (λ n. c.saturating_add.result ≡ n + 3) is.start (search rules) in
     let levels = c.args.placing.now.builder.levels in
-    let after = c.step_to-2.ensures.steps fitted in
-    let marked = c.in_ok-add_inline.ensures.appends after.0 in
-    let before = c.step_to.ensures.steps marked.0 in (
-      before.0,
-      ap (λ (b : BuilderView). b.levels) after.1
-          ∙ (ap (λ (b : BuilderView). b.levels) marked.1
-          ∙ (ap (λ (b : BuilderView). with_items b.levels
-          (plain_item b.at c.saturating_add.result (body.TaskListMarker c.in-Some.done) ∷ [])) before.1
-          ∙ (ap (λ n. with_items levels (plain_item n c.saturating_add.result
-          (body.TaskListMarker c.in-Some.done) ∷ [])) is.start
-          ∙ (ap (λ n. with_items levels (plain_item source.left.scanned n
-          (body.TaskListMarker c.in-Some.done) ∷ [])) end
-          ∙ sym (ap (λ t. with_items levels (task_items t source)) c.in-Some.is))))),
-    )
+    let after = c.step_to-2.ensures.steps in
+    let marked = c.in_ok-add_inline.ensures.appends in
+    let before = c.step_to.ensures.steps in
+    ap (λ (b : BuilderView). b.levels) after
+    ∙ (ap (λ (b : BuilderView). b.levels) marked
+    ∙ (ap (λ (b : BuilderView). with_items b.levels
+    (plain_item b.at c.saturating_add.result (body.TaskListMarker c.in-Some.done) ∷ [])) before
+    ∙ (ap (λ n. with_items levels (plain_item n c.saturating_add.result
+    (body.TaskListMarker c.in-Some.done) ∷ [])) is.start
+    ∙ (ap (λ n. with_items levels (plain_item source.left.scanned n
+    (body.TaskListMarker c.in-Some.done) ∷ [])) end
+    ∙ sym (ap (λ t. with_items levels (task_items t source)) c.in-Some.is)))))
 
 pub returns-clause-source : goal.returns-clause-source
 returns-clause-source c = λ source is task.
@@ -60,19 +56,17 @@ returns-clause-source c = λ source is task.
     c.in-Some.done _ is marker start)
 
 pub returns-in_default-clause-texts : goal.returns-in_default-clause-texts
-returns-in_default-clause-texts c = λ fitted.
-    let stepped = c.step_to.ensures.steps fitted in
-    (stepped.0, no_text _ _ (ap (λ (b : BuilderView). b.texts) stepped.1))
+returns-in_default-clause-texts c =
+    let stepped = c.step_to.ensures.steps in
+    no_text _ _ (ap (λ (b : BuilderView). b.texts) stepped)
 
 pub returns-clause-texts : goal.returns-clause-texts
-returns-clause-texts c = λ fitted.
-    let after = c.step_to-2.ensures.steps fitted in
-    let marked = c.in_ok-add_inline.ensures.appends after.0 in
-    let before = c.step_to.ensures.steps marked.0 in (
-      before.0,
-      no_text _ _ (ap (λ (b : BuilderView). b.texts) after.1 ∙ (ap (λ (b : BuilderView). b.texts) marked.1
-          ∙ ap (λ (b : BuilderView). b.texts) before.1)),
-    )
+returns-clause-texts c =
+    let after = c.step_to-2.ensures.steps in
+    let marked = c.in_ok-add_inline.ensures.appends in
+    let before = c.step_to.ensures.steps in
+    no_text _ _ (ap (λ (b : BuilderView). b.texts) after ∙ (ap (λ (b : BuilderView). b.texts) marked
+    ∙ ap (λ (b : BuilderView). b.texts) before))
 
 pub returns-in_default-clause-within : goal.returns-in_default-clause-within
 returns-in_default-clause-within c = λ is task. is
@@ -103,7 +97,7 @@ add_inline-requires-clause-ahead c =
     c.requires.task in
     let marker : c.saturating_add.result ≡ c.args.line.start + 3 = search rules in
     ahead_of text c.args.line.start _ c.step_to.new.self.builder c.step_to.ensures.text
-    (ap (λ (b : BuilderView). b.at) (c.step_to.ensures.steps tt).1) (omega (arith, marker))
+    (ap (λ (b : BuilderView). b.at) c.step_to.ensures.steps) (omega (arith, marker))
     (subst (IsCharBoundary text) (sym marker) after.marker)
 
 -- and what is left of the line begins after it
@@ -115,10 +109,10 @@ step_to-requires-2 c =
     let marker : c.saturating_add.result ≡ c.args.line.start + 3 = search rules in
     let start : c.saturating_add-start.result ≡ c.args.line.start
     + task_length (slice_range old.text c.args.line.start c.args.line.stop) = search rules in
-    let stepped = (c.step_to.ensures.steps tt).1 in
+    let stepped = c.step_to.ensures.steps in
     let begun = still_open old c.step_to.new.self.builder (ap (λ (b : BuilderView). b.leaf) stepped)
     (ap (λ (b : BuilderView). b.blocks) stepped) c.requires.inside in
-    let added = (c.in_ok-add_inline.ensures.appends tt).1 in
+    let added = c.in_ok-add_inline.ensures.appends in
     let marked = still_open c.step_to.new.self.builder c.add_inline.new.self.builder
     (ap (λ (b : BuilderView). b.leaf) added) (ap (λ (b : BuilderView). b.blocks) added) begun in
     record {

@@ -7,7 +7,7 @@ use Rattle.markdown_builder.specs.BuilderView.{BuilderView}
 use Rattle.markdown_lines.specs.HeldDefinitions.{IsFirstDefinition}
 use Rattle.markdown_lines.specs.SourceLines.{SourceLine}
 use Rattle.markdown_lines.specs.declared.definition.Definition.{Definition}
-use Rattle.markdown_plain.specs.Fitting.{AllFitted, IsAhead, IsWhiteOutside}
+use Rattle.markdown_plain.specs.Fitting.{IsAhead, IsWhiteOutside}
 use Rattle.markdown_plain.specs.HeldSources.{IsParagraph}
 use Rattle.markdown_plain.specs.TakenDefinitions.{TakesDefinitions}
 use Rattle.markdown_plain.specs.Closable.{AreAhead}
@@ -28,14 +28,11 @@ returns-in_default-clause-over c =
 
 pub returns-then-first-clause-takes : goal.returns-then-first-clause-takes
 returns-then-first-clause-takes c =
-    λ (sources : List SourceLine) (is : IsParagraph c.args.placing.now.builder.text c.args.lines.now sources)
-    (fitted : AllFitted c.step_to.new.self).
+    λ (sources : List SourceLine) (is : IsParagraph c.args.placing.now.builder.text c.args.lines.now sources).
     let there = sym c.first.ensures.value ∙ ap option_copied c.in-Some.is in
-    let steps = c.step_to.ensures.steps fitted in (
-      steps.0,
-      takes_empty c.args.names c.args.placing.now.builder c.step_to.new.self.builder c.args.lines.now sources
-          c.in-Some.first.now there c.if-first.true is (ap (λ (b : BuilderView). b.definitions) steps.1),
-    )
+    let steps = c.step_to.ensures.steps in
+    takes_empty c.args.names c.args.placing.now.builder c.step_to.new.self.builder c.args.lines.now sources
+    c.in-Some.first.now there c.if-first.true is (ap (λ (b : BuilderView). b.definitions) steps)
 
 pub returns-then-ne-clause-over : goal.returns-then-ne-clause-over
 returns-then-ne-clause-over c =
@@ -68,19 +65,15 @@ returns-in_default-2-clause-over c =
 
 pub returns-clause-after : goal.returns-clause-after
 returns-clause-after c =
-    λ some (fitted : AllFitted c.step_to-3.new.self).
-    let last = c.step_to-3.ensures.steps fitted in
-    let adds = c.in_ok-add_definition.ensures.adds last.0 in
-    let first = c.step_to-2.ensures.steps adds.0 in (
-      first.0,
-      ap (λ (b : BuilderView). b.at) last.1
-          ∙ end_of_last c.args.lines.now c.min-taken.result _ some (omega (arith, c.min-taken.ensures)),
-    )
+    λ some.
+    let last = c.step_to-3.ensures.steps in
+    let adds = c.in_ok-add_definition.ensures.adds in
+    ap (λ (b : BuilderView). b.at) last
+    ∙ end_of_last c.args.lines.now c.min-taken.result _ some (omega (arith, c.min-taken.ensures))
 
 pub returns-clause-takes : goal.returns-clause-takes
 returns-clause-takes c =
-    λ (sources : List SourceLine) (is : IsParagraph c.args.placing.now.builder.text c.args.lines.now sources)
-    (fitted : AllFitted c.step_to-3.new.self).
+    λ (sources : List SourceLine) (is : IsParagraph c.args.placing.now.builder.text c.args.lines.now sources).
     let old = c.args.placing.now.builder in
     let new = c.step_to-3.new.self.builder in
     let lines = c.args.lines.now in
@@ -96,21 +89,19 @@ returns-clause-takes c =
     let size = as_many old.text lines sources filled.are in
     let taken : found.lines ≡ c.min-taken.result =
     omega (arith, size, is_first.lines.0, is_first.lines.1, c.max.ensures, c.min-taken.ensures) in
-    let last = c.step_to-3.ensures.steps fitted in
-    let adds = c.in_ok-add_definition.ensures.adds last.0 in
-    let first = c.step_to-2.ensures.steps adds.0 in
-    let definitions = ap (λ (b : BuilderView). b.definitions) last.1
-    ∙ (ap (λ (b : BuilderView). b.definitions) adds.1 ∙ ap (λ (b : BuilderView). b.definitions ++ record {
+    let last = c.step_to-3.ensures.steps in
+    let adds = c.in_ok-add_definition.ensures.adds in
+    let first = c.step_to-2.ensures.steps in
+    let definitions = ap (λ (b : BuilderView). b.definitions) last
+    ∙ (ap (λ (b : BuilderView). b.definitions) adds ∙ ap (λ (b : BuilderView). b.definitions ++ record {
       label = text_of found.label;
       destination = text_of found.destination;
       title = option_map text_of found.title;
       start = b.at;
       end = found.end;
-    } ∷ []) first.1) in (
-      first.0,
-      subst (TakesDefinitions c.args.names old new lines sources) taken
-          (takes_first c.args.names old new lines sources line.start found filled is_first definitions),
-    )
+    } ∷ []) first) in
+    subst (TakesDefinitions c.args.names old new lines sources) taken
+    (takes_first c.args.names old new lines sources line.start found filled is_first definitions)
 
 pub step_to-requires : goal.step_to-requires
 step_to-requires c =
@@ -120,9 +111,9 @@ step_to-requires c =
     record { ahead = passes.ahead; white = passes.white }
 
 pub returns-then-first-clause-ahead : goal.returns-then-first-clause-ahead
-returns-then-first-clause-ahead c = λ is fitted.
+returns-then-first-clause-ahead c = λ is.
     let there = sym c.first.ensures.value ∙ ap option_copied c.in-Some.is in
-    let steps = (c.step_to.ensures.steps fitted).1 in
+    let steps = c.step_to.ensures.steps in
     ahead_after c.args.placing.now.builder c.step_to.new.self.builder c.args.lines.now 0 c.in-Some.first.now is there
     c.step_to.ensures.text (ap (λ (b : BuilderView). b.blocks) steps) (ap (λ (b : BuilderView). b.at) steps)
 
@@ -164,7 +155,7 @@ add_definition-requires-clause-ahead c =
     let d = defines (goal.at.add_definition-requires-clause-ahead c).After-step_to-2 c.requires in
     ahead_of c.args.placing.now.builder.text c.in-Some.first.now.start c.in-Some-2.found.end
     c.step_to-2.new.self.builder
-    c.step_to-2.ensures.text (ap (λ (b : BuilderView). b.at) (c.step_to-2.ensures.steps tt).1) d.low d.boundary
+    c.step_to-2.ensures.text (ap (λ (b : BuilderView). b.at) c.step_to-2.ensures.steps) d.low d.boundary
 
 pub step_to-requires-3 : goal.step_to-requires-3
 step_to-requires-3 c =
@@ -174,7 +165,7 @@ step_to-requires-3 c =
     let s = span before c.requires in
     let d = defines before c.requires in
     let text = c.in_ok-add_definition.ensures.text ∙ c.step_to-2.ensures.text in
-    let at = ap (λ (b : BuilderView). b.at) (c.in_ok-add_definition.ensures.adds tt).1 in
+    let at = ap (λ (b : BuilderView). b.at) c.in_ok-add_definition.ensures.adds in
     let now = c.add_definition.new.self.builder in
     let last = sym (last_next c.args.lines.now s.number c.min-taken.result s.line _ s.count_is s.there) in
     record {
@@ -183,16 +174,16 @@ step_to-requires-3 c =
     }
 
 pub returns-clause-ahead : goal.returns-clause-ahead
-returns-clause-ahead c = λ is fitted.
+returns-clause-ahead c = λ is.
     let old = c.args.placing.now.builder in
     let s = span (goal.at.returns-clause-ahead c).After-step_to-2 is in
-    let last = c.step_to-3.ensures.steps fitted in
-    let adds = c.in_ok-add_definition.ensures.adds last.0 in
-    let first = c.step_to-2.ensures.steps adds.0 in
+    let last = c.step_to-3.ensures.steps in
+    let adds = c.in_ok-add_definition.ensures.adds in
+    let first = c.step_to-2.ensures.steps in
     subst (λ n. AreAhead c.step_to-3.new.self.builder (drop n c.args.lines.now)) (sym s.count_is)
     (ahead_after old c.step_to-3.new.self.builder c.args.lines.now s.number s.line is s.there
     (c.step_to-3.ensures.text ∙ (c.in_ok-add_definition.ensures.text ∙ c.step_to-2.ensures.text))
-    (ap (λ (b : BuilderView). b.blocks) last.1 ∙ (ap (λ (b : BuilderView). b.blocks) adds.1
-    ∙ ap (λ (b : BuilderView). b.blocks) first.1))
-    (ap (λ (b : BuilderView). b.at) last.1
+    (ap (λ (b : BuilderView). b.blocks) last ∙ (ap (λ (b : BuilderView). b.blocks) adds
+    ∙ ap (λ (b : BuilderView). b.blocks) first))
+    (ap (λ (b : BuilderView). b.at) last
     ∙ last_next c.args.lines.now s.number c.min-taken.result s.line _ s.count_is s.there))

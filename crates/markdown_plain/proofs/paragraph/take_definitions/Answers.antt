@@ -4,7 +4,6 @@ use Rattle.std.proofs.Common.{slice_range}
 use Rattle.std.proofs.lemmas.List.{drop-drop, length-drop, take_all}
 use Rattle.markdown_lines.specs.SourceLines.{SourceLine}
 use Rattle.markdown_lines.specs.declared.held_line.HeldLine.{HeldLine}
-use Rattle.markdown_plain.specs.Fitting.{AllFitted}
 use Rattle.markdown_plain.specs.HeldSources.{IsParagraph}
 use Rattle.markdown_lines.specs.DefinitionRules.{divided}
 use Rattle.markdown_plain.specs.Closable.{AreAhead}
@@ -39,61 +38,53 @@ definitions-preserved c =
       text = search rules;
       steps = search rules;
       within = search rules;
-      after = λ _ (fitted : AllFitted c.take_definition.new.placing).
-          let now = c.in_ok-more.ensures.after some fitted in (
-            (c.definitions.invariant.steps now.0).0,
-            now.1 ∙ (ap (λ (ls : List HeldLine). end_of ls more) rest
-                ∙ (end_of_more lines taken more some ∙ ap (end_of lines) count)),
-          );
-      ahead = λ is (fitted : AllFitted c.take_definition.new.placing).
-          let before = (c.in_ok-more.ensures.steps fitted).0 in
+      after = λ _.
+          let now = c.in_ok-more.ensures.after some in
+          now ∙ (ap (λ (ls : List HeldLine). end_of ls more) rest
+          ∙ (end_of_more lines taken more some ∙ ap (end_of lines) count));
+      ahead = λ is.
           let all = drop-drop more taken lines in
           let there : taken + more ≡ c.saturating_add-taken.result = omega (arith, count) in
           subst (AreAhead new) (ap (drop more) rest ∙ (all ∙ ap (λ n. drop n lines) there))
           (c.in_ok-more.ensures.ahead
-          (subst (AreAhead mid) (sym rest) (c.definitions.invariant.ahead is before)) fitted);
-      takes = λ (sources : List SourceLine) (is : IsParagraph old.text lines sources)
-          (fitted : AllFitted c.take_definition.new.placing).
-          let before = c.definitions.invariant.takes sources is (c.in_ok-more.ensures.steps fitted).0 in
+          (subst (AreAhead mid) (sym rest) (c.definitions.invariant.ahead is)));
+      takes = λ (sources : List SourceLine) (is : IsParagraph old.text lines sources).
+          let before = c.definitions.invariant.takes sources is in
           let left = subst (λ (ls : List HeldLine). IsParagraph mid.text ls (drop taken sources)) (sym rest)
           (subst (λ (t : List ℕ). IsParagraph t (drop taken lines) (drop taken sources))
-          (sym c.definitions.invariant.text) before.1.left) in
+          (sym c.definitions.invariant.text) before.left) in
           let now = subst (λ (ls : List HeldLine). TakesDefinitions names mid new ls (drop taken sources) more) rest
-          (c.in_ok-more.ensures.takes (drop taken sources) left fitted).1 in (
-            before.0,
-            subst (TakesDefinitions names old new lines sources) count
-                (takes_more names old mid new lines sources taken more c.definitions.invariant.text before.1 now),
-          );
+          (c.in_ok-more.ensures.takes (drop taken sources) left) in
+          subst (TakesDefinitions names old new lines sources) count
+          (takes_more names old mid new lines sources taken more c.definitions.invariant.text before now);
     }
 
 pub returns-after-definitions-clause-divides : goal.returns-after-definitions-clause-divides
 returns-after-definitions-clause-divides c =
-    λ (sources : List SourceLine) (is : IsParagraph c.args.placing.now.builder.text c.args.lines.now sources)
-    (fitted : AllFitted c.definitions.placing).
+    λ (sources : List SourceLine) (is : IsParagraph c.args.placing.now.builder.text c.args.lines.now sources).
     let old = c.args.placing.now.builder in
     let lines = c.args.lines.now in
     let taken = c.definitions.taken in
-    let takes = c.definitions.invariant.takes sources is fitted in
-    let over = none_left c.args.names old.text lines sources taken takes.1.left.are
+    let takes = c.definitions.invariant.takes sources is in
+    let over = none_left c.args.names old.text lines sources taken takes.left.are
     (omega (arith, c.definitions-test.false)) in
-    (takes.0, is_divided c.args.names old c.definitions.placing.builder lines sources taken takes.1 over)
+    is_divided c.args.names old c.definitions.placing.builder lines sources taken takes over
 
 pub returns-after-definitions-clause-ahead : goal.returns-after-definitions-clause-ahead
-returns-after-definitions-clause-ahead c = λ is fitted. c.definitions.invariant.ahead is fitted
+returns-after-definitions-clause-ahead c = λ is. c.definitions.invariant.ahead is
 
 -- nothing more was taken
 none_more : (c : goal.Then-more-eq0) → c.take_definition.new.placing ≡ c.definitions.placing
 none_more c = c.in_ok-more.ensures.none (omega (arith, c.if-more-eq0.true))
 
 pub returns-then-more-eq0-clause-ahead : goal.returns-then-more-eq0-clause-ahead
-returns-then-more-eq0-clause-ahead c = λ is fitted.
+returns-then-more-eq0-clause-ahead c = λ is.
     subst (λ (p : Placing). AreAhead p.builder (drop c.definitions.taken c.args.lines.now)) (sym (none_more c))
-    (c.definitions.invariant.ahead is (subst AllFitted (none_more c) fitted))
+    (c.definitions.invariant.ahead is)
 
 pub returns-then-more-eq0-clause-divides : goal.returns-then-more-eq0-clause-divides
 returns-then-more-eq0-clause-divides c =
-    λ (sources : List SourceLine) (is : IsParagraph c.args.placing.now.builder.text c.args.lines.now sources)
-    (fitted : AllFitted c.take_definition.new.placing).
+    λ (sources : List SourceLine) (is : IsParagraph c.args.placing.now.builder.text c.args.lines.now sources).
     let names = c.args.names in
     let old = c.args.placing.now.builder in
     let mid = c.definitions.placing.builder in
@@ -102,14 +93,12 @@ returns-then-more-eq0-clause-divides c =
     let size = length-drop taken lines in
     let rest : slice_range lines taken (length lines) ≡ drop taken lines =
     take_all (length lines - taken) (drop taken lines) (omega (arith, size)) in
-    let takes = c.definitions.invariant.takes sources is (subst AllFitted (none_more c) fitted) in
+    let takes = c.definitions.invariant.takes sources is in
     let left = subst (λ (ls : List HeldLine). IsParagraph mid.text ls (drop taken sources)) (sym rest)
     (subst (λ (t : List ℕ). IsParagraph t (drop taken lines) (drop taken sources))
-    (sym c.definitions.invariant.text) takes.1.left) in
+    (sym c.definitions.invariant.text) takes.left) in
     let over = subst (λ t. divided names t (drop taken sources)
     ≡ record { definitions = []; lines = drop taken sources }) c.definitions.invariant.text
-    (c.in_ok-more.ensures.over (omega (arith, c.if-more-eq0.true)) (drop taken sources) left) in (
-      takes.0,
-      subst (λ (p : Placing). IsDivided names old p.builder sources taken) (sym (none_more c))
-          (is_divided names old mid lines sources taken takes.1 over),
-    )
+    (c.in_ok-more.ensures.over (omega (arith, c.if-more-eq0.true)) (drop taken sources) left) in
+    subst (λ (p : Placing). IsDivided names old p.builder sources taken) (sym (none_more c))
+    (is_divided names old mid lines sources taken takes over)

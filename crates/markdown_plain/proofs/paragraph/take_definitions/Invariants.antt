@@ -3,7 +3,7 @@
 use Rattle.std.proofs.Common.{◌≡◌, ◌<◌, ◌≤◌, ◌-◌, List, drop, length}
 use Rattle.markdown_lines.specs.SourceLines.{SourceLine}
 use Rattle.markdown_plain.specs.Closable.{AreAhead}
-use Rattle.markdown_plain.specs.Fitting.{AllFitted, IfFitted, defining}
+use Rattle.markdown_plain.specs.Fitting.{defining}
 use Rattle.markdown_plain.specs.HeldSources.{IsParagraph}
 use Rattle.markdown_plain.specs.Paragraphs.{end_of}
 use Rattle.markdown_plain.specs.TakenDefinitions.{TakesDefinitions}
@@ -12,15 +12,12 @@ use Rattle.markdown_plain.proofs.paragraph.take_definitions.Given as goal
 abbrev pub invariant-definitions : goal.invariant-definitions
 invariant-definitions l = record {
   text : l.placing.builder.text ≡ l.fn.placing.builder.text;
-  steps : IfFitted l.fn.placing l.placing (l.placing.builder
-      ≡ defining l.fn.placing.builder l.placing.builder.definitions l.placing.builder.at);
+  steps : l.placing.builder ≡ defining l.fn.placing.builder l.placing.builder.definitions l.placing.builder.at;
   within : l.taken ≤ length l.lines;
-  after : 0 < l.taken → IfFitted l.fn.placing l.placing (l.placing.builder.at ≡ end_of l.lines l.taken);
-  ahead : AreAhead l.fn.placing.builder l.lines → AllFitted l.placing
-      → AreAhead l.placing.builder (drop l.taken l.lines);
+  after : 0 < l.taken → l.placing.builder.at ≡ end_of l.lines l.taken;
+  ahead : AreAhead l.fn.placing.builder l.lines → AreAhead l.placing.builder (drop l.taken l.lines);
   takes : (sources : List SourceLine) → IsParagraph l.fn.placing.builder.text l.lines sources
-      → IfFitted l.fn.placing l.placing
-      (TakesDefinitions l.names l.fn.placing.builder l.placing.builder l.lines sources l.taken);
+      → TakesDefinitions l.names l.fn.placing.builder l.placing.builder l.lines sources l.taken;
 }
 
 abbrev pub decreases-definitions : goal.decreases-definitions

@@ -20,13 +20,11 @@ pub pieces-init : goal.pieces-init
 pieces-init c = record {
   text = search rules;
   goes_on = search rules;
-  inside = λ fitted. (fitted, adds_none c.args.placing.now.builder);
-  texts = λ fitted. (fitted, no_text _ _ refl);
+  inside = adds_none c.args.placing.now.builder;
+  texts = no_text _ _ refl;
   whole = λ once less. refl;
-  items = λ once is none fitted. (
-    fitted,
-    pieces_start (item_extensions c.args.options) c.args.placing.now.builder c.args.cell.from c.args.cell.to none,
-  );
+  items = λ once is none.
+      pieces_start (item_extensions c.args.options) c.args.placing.now.builder c.args.cell.from c.args.cell.to none;
   may =
       let is = c.requires.cell in
       let low = c.requires.ahead in
@@ -60,34 +58,30 @@ pieces-preserved c =
     record {
       text = search rules;
       goes_on = search rules;
-      inside = λ fitted.
-          let added = c.in_ok-add_items.ensures.inside fitted in
-          let moved = c.step_to.ensures.steps added.0 in
-          let before = c.pieces.invariant.inside moved.0 in (
-            before.0,
-            adds_later c.args.placing.now.builder c.pieces.placing.builder c.step_to.new.self.builder
-                c.add_items.new.self.builder before.1
-                (ap (λ (v : BuilderView). v.levels) moved.1) added.1,
-          );
-      texts = λ fitted.
-          let more = c.in_ok-add_items.ensures.texts fitted in
-          let moved = c.step_to.ensures.steps more.0 in
-          let before = c.pieces.invariant.texts moved.0 in (
-            before.0,
-            texts_after _ c.pieces.placing.builder _ before.1
-                (texts_after _ c.step_to.new.self.builder _
-                (no_text _ _ (ap (λ (v : BuilderView). v.texts) moved.1)) more.1),
-          );
+      inside =
+          let added = c.in_ok-add_items.ensures.inside in
+          let moved = c.step_to.ensures.steps in
+          let before = c.pieces.invariant.inside in
+          adds_later c.args.placing.now.builder c.pieces.placing.builder c.step_to.new.self.builder
+          c.add_items.new.self.builder before
+          (ap (λ (v : BuilderView). v.levels) moved) added;
+      texts =
+          let more = c.in_ok-add_items.ensures.texts in
+          let moved = c.step_to.ensures.steps in
+          let before = c.pieces.invariant.texts in
+          texts_after _ c.pieces.placing.builder _ before
+          (texts_after _ c.step_to.new.self.builder _
+          (no_text _ _ (ap (λ (v : BuilderView). v.texts) moved)) more);
       whole = λ once more. elim c.if-escapes.branch [
         | then-escapes w ↦ absurd (true≢false (sym w.if-escapes.true ∙ once))
         | else-escapes w ↦ absurd (omega (arith, w.length-is, there, past, more))
       ];
-      items = λ once is none fitted.
-          let appended = c.in_ok-add_items.ensures.appends fitted in
-          let further = c.in_ok-add_items.ensures.further fitted in
-          let over = c.in_ok-add_items.ensures.over fitted in
-          let moved = c.step_to.ensures.steps appended.0 in
-          let before = c.pieces.invariant.items once is none moved.0 in
+      items = λ once is none.
+          let appended = c.in_ok-add_items.ensures.appends in
+          let further = c.in_ok-add_items.ensures.further in
+          let over = c.in_ok-add_items.ensures.over in
+          let moved = c.step_to.ensures.steps in
+          let before = c.pieces.invariant.items once is none in
           let size : count ≡ piece_length (slice_range view.text from to) = elim c.if-escapes.branch [
             | then-escapes w ↦ w.length-is ∙ (w.piece_length-length.ensures.value
                 ∙ (ap piece_length w.bytes_of.ensures
@@ -98,14 +92,12 @@ pieces-preserved c =
                 ∙ (sym (once w.if-escapes.false)
                 ∙ (ap (λ n. piece_length (slice_range text n to)) (sym first)
                 ∙ ap (λ t. piece_length (slice_range t from to)) (sym same))))
-          ] in (
-            before.0,
-            piece_placed (item_extensions c.args.options) _ view c.add_items.new.self.builder from to stop next less
-                (subst (λ (t : List ℕ). to ≤ length t) (sym same) is.to.0) before.1
-                (places_piece (item_extensions c.args.options) view c.step_to.new.self.builder
-                c.add_items.new.self.builder from to stop next moved.1 appended.1 further.1 over.1
-                (there ∙ ap (λ n. from + n) size) after past),
-          );
+          ] in
+          piece_placed (item_extensions c.args.options) _ view c.add_items.new.self.builder from to stop next less
+          (subst (λ (t : List ℕ). to ≤ length t) (sym same) is.to.0) before
+          (places_piece (item_extensions c.args.options) view c.step_to.new.self.builder
+          c.add_items.new.self.builder from to stop next moved appended further over
+          (there ∙ ap (λ n. from + n) size) after past);
       may =
           let is = c.requires.cell in
           let piece : IsPieceIn text from to stop = elim c.if-escapes.branch [
@@ -118,7 +110,7 @@ pieces-preserved c =
                 (omega (arith, w.length-is, there, less))
           ] in
           piece_added text c.step_to.new.self.builder c.add_items.new.self.builder to stop next piece.high
-          (piece_cut text from to stop next is.to piece after past) (c.in_ok-add_items.ensures.appends tt).1;
+          (piece_cut text from to stop next is.to piece after past) c.in_ok-add_items.ensures.appends;
     }
 
 -- the next piece fits
@@ -152,17 +144,15 @@ add_items-requires-clause-ahead c =
           (omega (arith, w.length-is, there, less))
     ] in
     let cut = piece_cut text from to stop (stop + 2) is.to piece (λ more. refl) (λ over. omega (arith, over)) in
-    let steps = (c.step_to.ensures.steps tt).1 in
+    let steps = c.step_to.ensures.steps in
     ahead_of text from stop c.step_to.new.self.builder (ap (λ (v : BuilderView). v.text) steps ∙ same)
     (ap (λ (v : BuilderView). v.at) steps) piece.low cut.stop_at
 
 pub returns-clause-items : goal.returns-clause-items
-returns-clause-items c = λ once is none fitted.
-    let done = c.pieces.invariant.items once is none fitted in (
-      done.0,
-      pieces_done (item_extensions c.args.options) c.args.cell.to _ c.pieces.placing.builder c.pieces.from
-          (search rules) done.1,
-    )
+returns-clause-items c = λ once is none.
+    let done = c.pieces.invariant.items once is none in
+    pieces_done (item_extensions c.args.options) c.args.cell.to _ c.pieces.placing.builder c.pieces.from
+    (search rules) done
 
 pub returns-clause-within : goal.returns-clause-within
 returns-clause-within c = c.pieces.invariant.may.high

@@ -4,7 +4,7 @@ use Rattle.markdown_builder.specs.BuilderView.{with_items}
 use Rattle.markdown_items.specs.ContentItems.{AddsItems}
 use Rattle.markdown_items.specs.LineItems.{item_extensions}
 use Rattle.markdown_block_rules.specs.LineContents.{cell_items}
-use Rattle.markdown_plain.specs.Fitting.{IfFitted, GoesOn}
+use Rattle.markdown_plain.specs.Fitting.{GoesOn}
 use Rattle.markdown_plain.specs.LeafTrees.{HasMoreTexts}
 use Rattle.markdown_plain.specs.TableRows.{IsCellIn, IsOnePiece}
 use Rattle.markdown_plain.proofs.ShownRowsLemmas.{AwaitsPieces, MayAddPiece}
@@ -13,16 +13,14 @@ use Rattle.markdown_plain.proofs.tables.add_cell_items.Given as goal
 abbrev pub invariant-pieces : goal.invariant-pieces
 invariant-pieces l = record {
   text : l.placing.builder.text ≡ l.fn.placing.builder.text;
-  goes_on : IfFitted l.fn.placing l.placing (GoesOn l.fn.placing.builder l.placing.builder l.placing.builder.at);
-  inside : IfFitted l.fn.placing l.placing (AddsItems l.fn.placing.builder l.placing.builder);
-  texts : IfFitted l.fn.placing l.placing (HasMoreTexts l.fn.placing.builder l.placing.builder);
+  goes_on : GoesOn l.fn.placing.builder l.placing.builder l.placing.builder.at;
+  inside : AddsItems l.fn.placing.builder l.placing.builder;
+  texts : HasMoreTexts l.fn.placing.builder l.placing.builder;
   whole : l.escapes ≡ false → l.from < l.cell.to → l.from ≡ l.cell.from;
-  items : (l.escapes ≡ false → IsOnePiece l.fn.placing.builder.text l.cell)
-      → IsCellIn l.fn.placing.builder.text l.cell → l.fn.placing.builder.run ≡ None
-      → IfFitted l.fn.placing l.placing (AwaitsPieces (item_extensions l.options) l.cell.to
-      (with_items l.fn.placing.builder.levels
-      (cell_items l.fn.placing.builder.text (item_extensions l.options) l.cell.from l.cell.to))
-      l.placing.builder l.from);
+  items : (l.escapes ≡ false → IsOnePiece l.fn.placing.builder.text l.cell) → IsCellIn l.fn.placing.builder.text l.cell
+      → l.fn.placing.builder.run ≡ None → AwaitsPieces (item_extensions l.options) l.cell.to
+      (with_items l.fn.placing.builder.levels (cell_items l.fn.placing.builder.text (item_extensions l.options)
+      l.cell.from l.cell.to)) l.placing.builder l.from;
   may : MayAddPiece l.fn.placing.builder.text l.placing.builder l.from l.cell.to;
 }
 

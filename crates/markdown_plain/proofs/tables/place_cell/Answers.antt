@@ -12,49 +12,43 @@ use Rattle.markdown_plain.proofs.TableRowsLemmas.{cell_put}
 use Rattle.markdown_plain.proofs.tables.place_cell.Goals as goal
 
 pub returns-clause-texts : goal.returns-clause-texts
-returns-clause-texts c = λ fitted.
-    let closed = c.close.ensures.closes fitted in
-    let moved = c.step_to-2.ensures.steps closed.0 in
-    let filled = c.in_ok-add_cell_items.ensures.texts moved.0 in
-    let opened = c.in_ok-open_block.ensures.opens filled.0 in
-    let begun = c.step_to.ensures.steps opened.0 in (
-      begun.0,
-      texts_after _ _ _ (texts_after _ _ _ (no_text _ _ (ap (λ (v : BuilderView). v.texts) opened.1
-          ∙ ap (λ (v : BuilderView). v.texts) begun.1)) filled.1)
-          (no_text _ _ (ap (λ (v : BuilderView). v.texts) closed.1 ∙ ap (λ (v : BuilderView). v.texts) moved.1)),
-    )
+returns-clause-texts c =
+    let closed = c.close.ensures.closes in
+    let moved = c.step_to-2.ensures.steps in
+    let filled = c.in_ok-add_cell_items.ensures.texts in
+    let opened = c.in_ok-open_block.ensures.opens in
+    let begun = c.step_to.ensures.steps in
+    texts_after _ _ _ (texts_after _ _ _ (no_text _ _ (ap (λ (v : BuilderView). v.texts) opened
+    ∙ ap (λ (v : BuilderView). v.texts) begun)) filled)
+    (no_text _ _ (ap (λ (v : BuilderView). v.texts) closed ∙ ap (λ (v : BuilderView). v.texts) moved))
 
 pub returns-clause-tree : goal.returns-clause-tree
-returns-clause-tree c = λ fitted.
-    let put = c.close.ensures.tree fitted in
-    let moved = c.step_to-2.ensures.steps put.0 in
-    let filled = c.in_ok-add_cell_items.ensures.inside moved.0 in
-    let opened = c.in_ok-open_block.ensures.opens filled.0 in
-    let begun = c.step_to.ensures.steps opened.0 in (
-      begun.0,
-      cell_put c.args.placing.now.builder c.open_block.new.self.builder c.step_to-2.new.self.builder
-          c.close.new.self.builder
-          (ap (λ (v : BuilderView). v.levels) opened.1 ∙ ap (λ (v : BuilderView). v.levels ++ nil ∷ []) begun.1)
-          (filled.1.0, ap (λ (v : BuilderView). v.levels) moved.1 ∙ filled.1.1) put.1,
-    )
+returns-clause-tree c =
+    let put = c.close.ensures.tree in
+    let moved = c.step_to-2.ensures.steps in
+    let filled = c.in_ok-add_cell_items.ensures.inside in
+    let opened = c.in_ok-open_block.ensures.opens in
+    let begun = c.step_to.ensures.steps in
+    cell_put c.args.placing.now.builder c.open_block.new.self.builder c.step_to-2.new.self.builder
+    c.close.new.self.builder
+    (ap (λ (v : BuilderView). v.levels) opened ∙ ap (λ (v : BuilderView). v.levels ++ nil ∷ []) begun)
+    (filled.0, ap (λ (v : BuilderView). v.levels) moved ∙ filled.1) put
 
 pub returns-clause-shown : goal.returns-clause-shown
-returns-clause-shown c = λ once is fitted.
+returns-clause-shown c = λ once is.
     let text : List ℕ = c.args.placing.now.builder.text in
     let same : c.open_block.new.self.builder.text ≡ text = c.in_ok-open_block.ensures.text ∙ c.step_to.ensures.text in
-    let put = c.close.ensures.tree fitted in
-    let moved = c.step_to-2.ensures.steps put.0 in
-    let goes = c.in_ok-add_cell_items.ensures.goes_on moved.0 in
-    let opened = c.in_ok-open_block.ensures.opens goes.0 in
-    let begun = c.step_to.ensures.steps opened.0 in
+    let put = c.close.ensures.tree in
+    let moved = c.step_to-2.ensures.steps in
+    let goes = c.in_ok-add_cell_items.ensures.goes_on in
+    let opened = c.in_ok-open_block.ensures.opens in
+    let begun = c.step_to.ensures.steps in
     let filled = c.in_ok-add_cell_items.ensures.items
     (λ whole. subst (λ (t : List ℕ). IsOnePiece t c.args.cell) (sym same) (once whole))
     (subst (λ (t : List ℕ). IsCellIn t c.args.cell) (sym same) is)
-    (ap (λ (v : BuilderView). v.run) opened.1) moved.0 in
+    (ap (λ (v : BuilderView). v.run) opened) in
     let items = subst (λ (t : List ℕ). HasItems c.open_block.new.self.builder c.add_cell_items.new.placing.builder
-    (cell_items t (item_extensions c.args.options) c.args.cell.from c.args.cell.to)) same filled.1 in (
-      begun.0,
-      cell_shown (record { text = text; options = c.args.options }) c.args.cell c.args.placing.now.builder
-          c.step_to.new.self.builder c.open_block.new.self.builder c.add_cell_items.new.placing.builder
-          c.step_to-2.new.self.builder c.close.new.self.builder begun.1 opened.1 goes.1 items moved.1 put.1,
-    )
+    (cell_items t (item_extensions c.args.options) c.args.cell.from c.args.cell.to)) same filled in
+    cell_shown (record { text = text; options = c.args.options }) c.args.cell c.args.placing.now.builder
+    c.step_to.new.self.builder c.open_block.new.self.builder c.add_cell_items.new.placing.builder
+    c.step_to-2.new.self.builder c.close.new.self.builder begun opened goes items moved put

@@ -9,33 +9,27 @@ use Rattle.markdown_plain.proofs.TableRowsLemmas.{cell_put}
 use Rattle.markdown_plain.proofs.tables.place_empty_cell.Goals as goal
 
 pub returns-clause-texts : goal.returns-clause-texts
-returns-clause-texts c = λ fitted.
-    let closed = c.close.ensures.closes fitted in
-    let opened = c.in_ok-open_block.ensures.opens closed.0 in
-    let begun = c.step_to.ensures.steps opened.0 in (
-      begun.0,
-      no_text _ _ (ap (λ (v : BuilderView). v.texts) closed.1 ∙ (ap (λ (v : BuilderView). v.texts) opened.1
-          ∙ ap (λ (v : BuilderView). v.texts) begun.1)),
-    )
+returns-clause-texts c =
+    let closed = c.close.ensures.closes in
+    let opened = c.in_ok-open_block.ensures.opens in
+    let begun = c.step_to.ensures.steps in
+    no_text _ _ (ap (λ (v : BuilderView). v.texts) closed ∙ (ap (λ (v : BuilderView). v.texts) opened
+    ∙ ap (λ (v : BuilderView). v.texts) begun))
 
 pub returns-clause-tree : goal.returns-clause-tree
-returns-clause-tree c = λ fitted.
-    let put = c.close.ensures.tree fitted in
-    let opened = c.in_ok-open_block.ensures.opens put.0 in
-    let begun = c.step_to.ensures.steps opened.0 in (
-      begun.0,
-      cell_put c.args.placing.now.builder c.open_block.new.self.builder c.open_block.new.self.builder
-          c.close.new.self.builder
-          (ap (λ (v : BuilderView). v.levels) opened.1 ∙ ap (λ (v : BuilderView). v.levels ++ nil ∷ []) begun.1)
-          (adds_none c.open_block.new.self.builder) put.1,
-    )
+returns-clause-tree c =
+    let put = c.close.ensures.tree in
+    let opened = c.in_ok-open_block.ensures.opens in
+    let begun = c.step_to.ensures.steps in
+    cell_put c.args.placing.now.builder c.open_block.new.self.builder c.open_block.new.self.builder
+    c.close.new.self.builder
+    (ap (λ (v : BuilderView). v.levels) opened ∙ ap (λ (v : BuilderView). v.levels ++ nil ∷ []) begun)
+    (adds_none c.open_block.new.self.builder) put
 
 pub returns-clause-shown : goal.returns-clause-shown
-returns-clause-shown c = λ fitted.
-    let put = c.close.ensures.tree fitted in
-    let opened = c.in_ok-open_block.ensures.opens put.0 in
-    let begun = c.step_to.ensures.steps opened.0 in (
-      begun.0,
-      empty_shown c.args.at c.args.placing.now.builder c.step_to.new.self.builder c.open_block.new.self.builder
-          c.close.new.self.builder begun.1 opened.1 put.1,
-    )
+returns-clause-shown c =
+    let put = c.close.ensures.tree in
+    let opened = c.in_ok-open_block.ensures.opens in
+    let begun = c.step_to.ensures.steps in
+    empty_shown c.args.at c.args.placing.now.builder c.step_to.new.self.builder c.open_block.new.self.builder
+    c.close.new.self.builder begun opened put

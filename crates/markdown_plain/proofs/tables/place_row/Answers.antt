@@ -9,7 +9,6 @@ use Rattle.markdown_lines.specs.declared.table_row.Cell.{Cell}
 use Rattle.markdown_block_rules.specs.BlockRules.{shown_cells, shown_row}
 use Rattle.markdown_plain.specs.declared.placing.Placing.{Placing}
 use Rattle.markdown_plain.specs.Closable.{IsInText}
-use Rattle.markdown_plain.specs.Fitting.{IfFitted}
 use Rattle.markdown_plain.specs.HeldSources.{IsTextLine}
 use Rattle.markdown_plain.specs.LeafTrees.{HasMoreTexts, HasTrees}
 use Rattle.markdown_plain.specs.TableRows.{IsCellIn, IsOnePiece}
@@ -37,48 +36,39 @@ found_all c cell value =
     none_lacking c.cells.found c.cells.count _ _ c.cells.invariant.few c.cells.invariant.lacking more
 
 -- texts follow those that there were
-more_again : (first old now new : Placing) → new ≡ now → IfFitted first old (HasMoreTexts first.builder old.builder)
-    → IfFitted old now (HasMoreTexts old.builder now.builder)
-    → IfFitted first new (HasMoreTexts first.builder new.builder)
-more_again first old now new same before cell = λ fitted.
-    let more = cell tt in
-    let kept = before more.0 in (
-      kept.0,
-      subst (λ (p : Placing). HasMoreTexts first.builder p.builder) (sym same)
-          (texts_after first.builder old.builder now.builder kept.1 more.1),
-    )
+more_again : (first old now new : Placing) → new ≡ now → HasMoreTexts first.builder old.builder
+    → HasMoreTexts old.builder now.builder → HasMoreTexts first.builder new.builder
+more_again first old now new same before cell =
+    subst (λ (p : Placing). HasMoreTexts first.builder p.builder) (sym same)
+    (texts_after first.builder old.builder now.builder before cell)
 
 pub cells-init : goal.cells-init
 cells-init c = record {
   text = search rules;
   row = search rules;
-  more = λ fitted.
-      let opened = c.in_ok-open_block.ensures.opens fitted in
-      let begun = c.step_to.ensures.steps opened.0 in (
-        begun.0,
-        no_text _ _ (ap (λ (v : BuilderView). v.texts) opened.1 ∙ ap (λ (v : BuilderView). v.texts) begun.1),
-      );
+  more =
+      let opened = c.in_ok-open_block.ensures.opens in
+      let begun = c.step_to.ensures.steps in
+      no_text _ _ (ap (λ (v : BuilderView). v.texts) opened ∙ ap (λ (v : BuilderView). v.texts) begun);
   cells = search rules;
   few = search rules;
   all = search rules;
   lacking = search rules;
   left = sym c.cells_start-start.ensures;
-  shown = λ is fitted.
-      let opened = c.in_ok-open_block.ensures.opens fitted in
-      let begun = c.step_to.ensures.steps opened.0 in (
-        begun.0,
-        ap (λ (v : BuilderView). v.levels) opened.1 ∙ ap (λ (v : BuilderView). v.levels ++ nil ∷ []) begun.1,
-      );
+  shown = λ is.
+      let opened = c.in_ok-open_block.ensures.opens in
+      let begun = c.step_to.ensures.steps in
+      ap (λ (v : BuilderView). v.levels) opened ∙ ap (λ (v : BuilderView). v.levels ++ nil ∷ []) begun;
   inside = λ is.
       let content = is.content in
       let ending = is.ending in
       record {
         low = c.args.line.start;
-        here = λ fitted.
-            let opened = c.in_ok-open_block.ensures.opens fitted in
-            let begun = c.step_to.ensures.steps opened.0 in
+        here =
+            let opened = c.in_ok-open_block.ensures.opens in
+            let begun = c.step_to.ensures.steps in
             let here : c.open_block.new.self.builder.at ≡ c.args.line.start =
-            ap (λ (v : BuilderView). v.at) opened.1 ∙ ap (λ (v : BuilderView). v.at) begun.1 in
+            ap (λ (v : BuilderView). v.at) opened ∙ ap (λ (v : BuilderView). v.at) begun in
             omega (arith, here);
         after = omega arith;
         before = omega (arith, content, ending);
@@ -101,10 +91,10 @@ cells-preserved c = record {
   ];
   cells = elim c.match-next_cell.branch [
     | in-Some+in_ok-place_cell-in-Some w ↦ cell_counted c.args.placing.now.builder.levels c.cells.count
-        c.args.placing.now c.cells.placing w.place_cell.new.placing c.match-next_cell.placing w.placing-is
+        c.cells.placing w.place_cell.new.placing c.match-next_cell.placing w.placing-is
         c.cells.invariant.cells w.in_ok-place_cell-in-Some.ensures.tree
     | in-None+in_ok-place_empty_cell-in-None w ↦ cell_counted c.args.placing.now.builder.levels c.cells.count
-        c.args.placing.now c.cells.placing w.place_empty_cell.new.placing c.match-next_cell.placing w.placing-is
+        c.cells.placing w.place_empty_cell.new.placing c.match-next_cell.placing w.placing-is
         c.cells.invariant.cells w.in_ok-place_empty_cell-in-None.ensures.tree
   ];
   few = elim c.match-next_cell.branch [
@@ -157,19 +147,18 @@ cells-preserved c = record {
         (omega (arith, begins, after, before)) (omega (arith, content, last)) in
         let same = found_all c cell w.in-Some.ensures.value in
         cell_added (record { text = text; options = c.args.options }) c.args.placing.now.builder.levels _ _ cell
-        c.cells.found c.cells.count c.match-next_cell.found c.args.line.next c.args.placing.now c.cells.placing
+        c.cells.found c.cells.count c.match-next_cell.found c.args.line.next c.cells.placing
         w.place_cell.new.placing c.match-next_cell.placing w.placing-is same w.found-is
         (c.cells.invariant.left ∙ w.in-Some.ensures.value) (c.cells.invariant.shown is)
-        (subst (λ (t : List ℕ). IfFitted c.cells.placing w.place_cell.new.placing
-        (HasTrees c.cells.placing.builder w.place_cell.new.placing.builder
-        (shown_cells (record { text = t; options = c.args.options }) (cell ∷ [])))) kept
+        (subst (λ (t : List ℕ). HasTrees c.cells.placing.builder w.place_cell.new.placing.builder
+        (shown_cells (record { text = t; options = c.args.options }) (cell ∷ []))) kept
         (w.in_ok-place_cell-in-Some.ensures.shown
         (λ none. subst (λ (t : List ℕ). IsOnePiece t cell) (sym kept) (once none))
         (subst (λ (t : List ℕ). IsCellIn t cell) (sym kept) next.inside)))
     | in-None+in_ok-place_empty_cell-in-None w ↦
         empty_added (record { text = c.text-text.result.now; options = c.args.options })
         c.args.placing.now.builder.levels _ c.cells.found c.cells.count c.match-next_cell.found c.args.line.next
-        c.args.placing.now c.cells.placing w.place_empty_cell.new.placing c.match-next_cell.placing w.placing-is
+        c.cells.placing w.place_empty_cell.new.placing c.match-next_cell.placing w.placing-is
         w.found-is c.cells.invariant.few (c.cells.invariant.shown is) w.in_ok-place_empty_cell-in-None.ensures.shown
   ];
   inside = λ is. elim c.match-next_cell.branch [
@@ -178,59 +167,53 @@ cells-preserved c = record {
         after_cell c.text-text.result.now c.args.line c.match-next_cell.placing w.in-Some.cell _ _ row.low is row.after
         (comes_next c.text-text.result.now c.args.line c.cells.placing _ _ w.in-Some.cell w.in-Some.ensures.value row)
         (ap (λ n. cells_left c.text-text.result.now n c.args.line.stop) w.start-is)
-        (λ fitted. ap (λ (p : Placing). p.builder.at) w.placing-is
-        ∙ ap (λ (v : BuilderView). v.at) (w.in_ok-place_cell-in-Some.ensures.placed
-        tt).1)
+        (ap (λ (p : Placing). p.builder.at) w.placing-is
+        ∙ ap (λ (v : BuilderView). v.at) w.in_ok-place_cell-in-Some.ensures.placed)
     | in-None+in_ok-place_empty_cell-in-None w ↦
         after_empty c.text-text.result.now c.args.line c.match-next_cell.placing _ is
         (ap (λ n. cells_left c.text-text.result.now n c.args.line.stop) w.start-is
         ∙ nothing_left c.text-text.result.now c.args.line.stop)
-        (λ fitted. ap (λ (p : Placing). p.builder.at) w.placing-is
-        ∙ ap (λ (v : BuilderView). v.at) (w.in_ok-place_empty_cell-in-None.ensures.placed
-        tt).1)
+        (ap (λ (p : Placing). p.builder.at) w.placing-is
+        ∙ ap (λ (v : BuilderView). v.at) w.in_ok-place_empty_cell-in-None.ensures.placed)
   ];
 }
 
 pub returns-clause-texts : goal.returns-clause-texts
-returns-clause-texts c = λ fitted.
-    let closed = c.close_row.ensures.closes fitted in
-    let moved = c.step_to-2.ensures.steps closed.0 in
-    let kept = c.cells.invariant.more moved.0 in (
-      kept.0,
-      texts_after _ c.cells.placing.builder _ kept.1
-          (no_text _ _ (ap (λ (v : BuilderView). v.texts) closed.1 ∙ ap (λ (v : BuilderView). v.texts) moved.1)),
-    )
+returns-clause-texts c =
+    let closed = c.close_row.ensures.closes in
+    let moved = c.step_to-2.ensures.steps in
+    let kept = c.cells.invariant.more in
+    texts_after _ c.cells.placing.builder _ kept
+    (no_text _ _ (ap (λ (v : BuilderView). v.texts) closed ∙ ap (λ (v : BuilderView). v.texts) moved))
 
 pub returns-clause-tree : goal.returns-clause-tree
-returns-clause-tree c = λ is inside source stands fitted.
+returns-clause-tree c = λ is inside source stands.
     let text = c.text-text.result.now in
-    let put = c.close_row.ensures.tree fitted in
-    let moved = c.step_to-2.ensures.steps put.0 in
-    let row = c.cells.invariant.row moved.0 in
+    let put = c.close_row.ensures.tree in
+    let moved = c.step_to-2.ensures.steps in
+    let row = c.cells.invariant.row in
     let in_row = row_stepped c.args.placing.now.builder c.cells.placing.builder c.step_to-2.new.self.builder c.args.row
-    c.args.line.start c.args.line.next moved.1
+    c.args.line.start c.args.line.next moved
     (row_opened c.args.placing.now.builder c.cells.placing.builder c.args.row c.args.line.start c.requires.outside
-    row.1)
+    row)
     in
     let shown = c.cells.invariant.shown
-    (subst (λ (t : List ℕ). IsInText t c.args.line) (sym c.text-text.ensures) inside) moved.0 in
+    (subst (λ (t : List ℕ). IsInText t c.args.line) (sym c.text-text.ensures) inside) in
     let done : c.cells.count ≡ c.columns-columns.result =
-    grind (arith, nat_tests, c.cells-test.false, c.cells.auto.count-end) in (
-      row.0,
-      subst (λ (t : List ℕ). HasTrees c.args.placing.now.builder c.close_row.new.self.builder
-          (shown_row (record { text = t; options = c.args.options })
-          (open_columns c.args.placing.now.builder) c.args.row
-          source)) c.text-text.ensures
-          (row_placed (record { text = text; options = c.args.options }) c.args.placing.now.builder
-          c.step_to-2.new.self.builder c.close_row.new.self.builder c.args.row c.args.line source c.cells.found
-          c.cells.count (open_columns c.args.placing.now.builder) is
-          in_row.blocks
-          (ap (λ (v : BuilderView). v.at) moved.1) (ap (λ (v : BuilderView). v.levels) moved.1 ∙ shown.1)
-          (done ∙ c.columns-columns.ensures)
-          (found_is c.cells.found c.cells.count _ _ c.cells.invariant.few c.cells.invariant.all
-          c.cells.invariant.lacking)
-          (subst (λ (t : List ℕ). IsTextLine t c.args.line source) (sym c.text-text.ensures) stands) put.1),
-    )
+    grind (arith, nat_tests, c.cells-test.false, c.cells.auto.count-end) in
+    subst (λ (t : List ℕ). HasTrees c.args.placing.now.builder c.close_row.new.self.builder
+    (shown_row (record { text = t; options = c.args.options })
+    (open_columns c.args.placing.now.builder) c.args.row
+    source)) c.text-text.ensures
+    (row_placed (record { text = text; options = c.args.options }) c.args.placing.now.builder
+    c.step_to-2.new.self.builder c.close_row.new.self.builder c.args.row c.args.line source c.cells.found
+    c.cells.count (open_columns c.args.placing.now.builder) is
+    in_row.blocks
+    (ap (λ (v : BuilderView). v.at) moved) (ap (λ (v : BuilderView). v.levels) moved ∙ shown)
+    (done ∙ c.columns-columns.ensures)
+    (found_is c.cells.found c.cells.count _ _ c.cells.invariant.few c.cells.invariant.all
+    c.cells.invariant.lacking)
+    (subst (λ (t : List ℕ). IsTextLine t c.args.line source) (sym c.text-text.ensures) stands) put)
 
 -- the next cell fits into the row, and so do the empty ones at its end
 pub place_cell-requires-clause-may : goal.place_cell-requires-clause-may
@@ -238,13 +221,13 @@ place_cell-requires-clause-may c =
     let may = c.requires.may in
     let row = c.cells.invariant.inside
     (subst (λ (t : List ℕ). IsInText t c.args.line) (sym c.text-text.ensures) may.inside) in
-    let here = row.here tt in
+    let here = row.here in
     let cell = c.in-Some.cell in
     let next = comes_next c.text-text.result.now c.args.line c.cells.placing _ _ cell c.in-Some.ensures.value row in
     let after = next.after in
     may_add_cell c.args.placing.now.builder c.cells.placing.builder c.args.row c.args.line.start cell.start
     (row_opened c.args.placing.now.builder c.cells.placing.builder c.args.row c.args.line.start c.requires.outside
-    (c.cells.invariant.row tt).1) (omega (arith, here, after))
+    c.cells.invariant.row) (omega (arith, here, after))
     (subst (λ (t : List ℕ). IsCellIn t cell) c.text-text.ensures next.inside).start
 
 pub place_empty_cell-requires : goal.place_empty_cell-requires
@@ -252,21 +235,21 @@ place_empty_cell-requires c =
     let may = c.requires.may in
     let row = c.cells.invariant.inside
     (subst (λ (t : List ℕ). IsInText t c.args.line) (sym c.text-text.ensures) may.inside) in
-    let here = row.here tt in
+    let here = row.here in
     let last = row.before in
     may_add_cell c.args.placing.now.builder c.cells.placing.builder c.args.row c.args.line.start c.args.line.next
     (row_opened c.args.placing.now.builder c.cells.placing.builder c.args.row c.args.line.start c.requires.outside
-    (c.cells.invariant.row tt).1) (omega (arith, here, last)) may.inside.next
+    c.cells.invariant.row) (omega (arith, here, last)) may.inside.next
 
 -- the line ends after its cells
 pub step_to-requires-2 : goal.step_to-requires-2
 step_to-requires-2 c =
     let may = c.requires.may in
     let in_row = row_opened c.args.placing.now.builder c.cells.placing.builder c.args.row c.args.line.start
-    c.requires.outside (c.cells.invariant.row tt).1 in
+    c.requires.outside c.cells.invariant.row in
     let row = c.cells.invariant.inside
     (subst (λ (t : List ℕ). IsInText t c.args.line) (sym c.text-text.ensures) may.inside) in
-    let here = row.here tt in
+    let here = row.here in
     let last = row.before in
     may_step c.cells.placing.builder c.args.line.next (omega (arith, here, last))
     (subst (λ (t : List ℕ). IsCharBoundary t c.args.line.next) (sym c.cells.invariant.text) may.inside.next) in_row.some
@@ -274,20 +257,20 @@ step_to-requires-2 c =
 pub close_row-requires-clause-some : goal.close_row-requires-clause-some
 close_row-requires-clause-some c =
     (row_stepped c.args.placing.now.builder c.cells.placing.builder c.step_to-2.new.self.builder c.args.row
-    c.args.line.start c.args.line.next (c.step_to-2.ensures.steps tt).1
+    c.args.line.start c.args.line.next c.step_to-2.ensures.steps
     (row_opened c.args.placing.now.builder c.cells.placing.builder c.args.row c.args.line.start c.requires.outside
-    (c.cells.invariant.row tt).1)).some
+    c.cells.invariant.row)).some
 
 pub close_row-requires-clause-even : goal.close_row-requires-clause-even
 close_row-requires-clause-even c =
-    let moved = c.step_to-2.ensures.steps tt in
-    let row = c.cells.invariant.row moved.0 in
-    let cells = c.cells.invariant.cells moved.0 in
+    let moved = c.step_to-2.ensures.steps in
+    let row = c.cells.invariant.row in
+    let cells = c.cells.invariant.cells in
     let done : c.cells.count ≡ c.columns-columns.result =
     grind (arith, nat_tests, c.cells-test.false, c.cells.auto.count-end) in
     row_is_even c.args.placing.now.builder c.step_to-2.new.self.builder
     (record { start = c.args.line.start; body = c.args.row }) c.cells.count
-    (ap (λ (v : BuilderView). v.blocks) moved.1 ∙ ap (λ (v : BuilderView). v.blocks) row.1)
-    (ap (λ (v : BuilderView). v.alignments) moved.1 ∙ ap (λ (v : BuilderView). v.alignments) row.1)
-    (cells.1.0, ap (λ (v : BuilderView). v.levels) moved.1 ∙ cells.1.1, cells.1.2)
+    (ap (λ (v : BuilderView). v.blocks) moved ∙ ap (λ (v : BuilderView). v.blocks) row)
+    (ap (λ (v : BuilderView). v.alignments) moved ∙ ap (λ (v : BuilderView). v.alignments) row)
+    (cells.0, ap (λ (v : BuilderView). v.levels) moved ∙ cells.1, cells.2)
     (done ∙ c.columns-columns.ensures)

@@ -41,8 +41,7 @@ returns-clause-tree c =
     c.add_code.ensures.text
 
 pub returns-then-is_closing_fence-clause-leaf : goal.returns-then-is_closing_fence-clause-leaf
-returns-then-is_closing_fence-clause-leaf c = λ s frames inside b opening lines source kind is_open same fence is grown
-    fitted.
+returns-then-is_closing_fence-clause-leaf c = λ s frames inside b opening lines source kind is_open same fence is grown.
     let old = c.args.self.now.placing.builder in
     let new = c.close.new.self.builder in
     let next = c.args.line.next in
@@ -50,22 +49,19 @@ returns-then-is_closing_fence-clause-leaf c = λ s frames inside b opening lines
     let closes_now = sym
     (closes_alike s old.text c.args.position c.args.line source c.args.fence is_open.around.text is)
     ∙ ends in
-    let close = c.close.ensures.closes fitted in
-    let step = c.step_to.ensures.steps close.0 in
+    let close = c.close.ensures.closes in
+    let step = c.step_to.ensures.steps in
     let is_closed : new ≡ record (closed old new.levels) { at = next } =
-    close.1 ∙ ap (λ (v : BuilderView). closed v new.levels) step.1 in
+    close ∙ ap (λ (v : BuilderView). closed v new.levels) step in
     let put : PutsBlock (stepped old next) new =
-    subst (λ (v : BuilderView). PutsBlock v new) step.1 (c.close.ensures.tree fitted).1 in (
-      step.0,
-      fenced_closed s old new frames inside b opening lines source kind next is.rest.next is_open same grown
-          (ap (closes s source) fence ∙ closes_now) is_closed put,
-    )
+    subst (λ (v : BuilderView). PutsBlock v new) step c.close.ensures.tree in
+    fenced_closed s old new frames inside b opening lines source kind next is.rest.next is_open same grown
+    (ap (closes s source) fence ∙ closes_now) is_closed put
 
 pub returns-clause-leaf : goal.returns-clause-leaf
 returns-clause-leaf c =
     IfOk-weaker c.add_code.result _ _
-    (λ done all s frames inside b opening lines source kind is_open same fence is grown
-    fitted.
+    (λ done all s frames inside b opening lines source kind is_open same fence is grown.
     let old = c.args.self.now.placing.builder in
     let new = c.add_code.new.placing.builder in
     let one = cut c.args.fence.indent source in
@@ -77,15 +73,14 @@ returns-clause-leaf c =
     (search rules) is.rest) in
     let within = cut_within c.args.fence.indent source in
     let ends = rest_ends old.text c.args.position c.args.line source is in
-    let goes = all.first fitted in (
-      goes.0,
-      fenced_added s old new frames inside b opening lines source kind is_open same grown
-          (ap (closes s source) fence ∙ closes_not)
-          (subst (GoesOn old new) (after_held c.rest_of.result one held (omega (arith, within, ends))) goes.1)
-          (all.second fitted).1
-          (subst (λ (f : Fence). HasItems old new (source_line (body.Text false) (cut f.indent source))) (sym fence)
-          (all.third one held fitted).1),
-    )) (ok_three c.add_code.result _ _ _ c.add_code.ensures.goes_on c.add_code.ensures.texts c.add_code.ensures.items)
+    let goes = all.first in
+    fenced_added s old new frames inside b opening lines source kind is_open same grown
+    (ap (closes s source) fence ∙ closes_not)
+    (subst (GoesOn old new) (after_held c.rest_of.result one held (omega (arith, within, ends))) goes)
+    all.second
+    (subst (λ (f : Fence). HasItems old new (source_line (body.Text false) (cut f.indent source))) (sym fence)
+    (all.third one held))) (ok_three c.add_code.result _ _ _ c.add_code.ensures.goes_on c.add_code.ensures.texts
+    c.add_code.ensures.items)
 
 -- the rest of the line fits after the fence's indentation
 pub add_code-requires : goal.add_code-requires

@@ -14,13 +14,10 @@ use Rattle.markdown_plain.proofs.LeafTreesLemmas.{no_text, put_heading, texts_af
 use Rattle.markdown_plain.proofs.pass.Pass.add_heading.Goals as goal
 
 pub returns-clause-tree : goal.returns-clause-tree
-returns-clause-tree c = λ stand fitted.
-    let put = c.close.ensures.tree fitted in
-    let last = c.step_to-2.ensures.steps put.0 in
-    let filled = c.in_ok-add_items.ensures.items last.0 in
-    let goes = c.in_ok-add_items.ensures.appends last.0 in
-    let first = c.step_to.ensures.steps filled.0 in
-    let opens = c.in_ok-open_heading.ensures.heading stand first.0 in
+returns-clause-tree c = λ stand.
+    let put = c.close.ensures.tree in
+    let filled = c.in_ok-add_items.ensures.items in
+    let opens = c.in_ok-open_heading.ensures.heading stand in
     let run : c.step_to.new.self.builder.run ≡ None = search rules in
     let text : c.step_to.new.self.builder.text ≡ c.args.self.now.placing.builder.text = search rules in
     let at : c.step_to-2.new.self.builder.at ≡ c.args.line.next = search rules in
@@ -32,37 +29,33 @@ returns-clause-tree c = λ stand fitted.
     let items = content_items c.args.self.now.placing.builder.text (item_extensions c.args.self.now.options)
     c.args.heading.from c.args.heading.to in
     let levels : c.step_to-2.new.self.builder.levels ≡ with_items c.open_heading.new.placing.builder.levels items =
-    kept ∙ (filled.1 run
+    kept ∙ (filled run
     ∙ (ap (λ ls. with_items ls (content_items c.step_to.new.self.builder.text (item_extensions c.args.self.now.options)
     c.step_to.new.self.builder.at c.args.heading.to)) before
     ∙ (ap (λ t. with_items c.open_heading.new.placing.builder.levels (content_items t
     (item_extensions c.args.self.now.options) c.step_to.new.self.builder.at c.args.heading.to)) text
     ∙ ap (λ n. with_items c.open_heading.new.placing.builder.levels (content_items c.args.self.now.placing.builder.text
-    (item_extensions c.args.self.now.options) n c.args.heading.to)) from))) in (
-      opens.0,
-      λ some. put_heading (source_of c.args.self.now) c.args.self.now.placing.builder
-          c.open_heading.new.placing.builder c.step_to-2.new.self.builder c.close.new.self.builder c.args.heading.level
-          c.args.heading.braces items refl opens.1 blocks headings levels put.1 some
-          ∙ ap (λ n. with_trees c.args.self.now.placing.builder.levels (shown_heading (source_of c.args.self.now)
-          c.args.self.now.placing.builder.at n c.args.heading.level c.args.heading.braces (chain_of items))) at,
-    )
+    (item_extensions c.args.self.now.options) n c.args.heading.to)) from))) in
+    λ some. put_heading (source_of c.args.self.now) c.args.self.now.placing.builder
+    c.open_heading.new.placing.builder c.step_to-2.new.self.builder c.close.new.self.builder c.args.heading.level
+    c.args.heading.braces items refl opens blocks headings levels put some
+    ∙ ap (λ n. with_trees c.args.self.now.placing.builder.levels (shown_heading (source_of c.args.self.now)
+    c.args.self.now.placing.builder.at n c.args.heading.level c.args.heading.braces (chain_of items))) at
 
 pub returns-clause-leaf : goal.returns-clause-leaf
-returns-clause-leaf c = λ s frames inside b built options kind start last stand fitted.
+returns-clause-leaf c = λ s frames inside b built options kind start last stand.
     let old = c.args.self.now.placing.builder in
-    let made = returns-clause-tree c stand fitted in
-    let closed = c.close.ensures.closes fitted in
-    let over = c.step_to-2.ensures.steps closed.0 in
-    let filled = c.in_ok-add_items.ensures.texts over.0 in
-    let first = c.step_to.ensures.steps filled.0 in
-    let opened = (c.in_ok-open_heading.ensures.opens first.0).1 in
+    let made = returns-clause-tree c stand in
+    let closed = c.close.ensures.closes in
+    let over = c.step_to-2.ensures.steps in
+    let filled = c.in_ok-add_items.ensures.texts in
+    let first = c.step_to.ensures.steps in
+    let opened = c.in_ok-open_heading.ensures.opens in
     let texts : HasMoreTexts old c.close.new.self.builder =
-    texts_after _ _ _ (no_text _ _ (ap (λ (v : BuilderView). v.texts) first.1
+    texts_after _ _ _ (no_text _ _ (ap (λ (v : BuilderView). v.texts) first
     ∙ ap (λ (v : BuilderView). v.texts) opened.1))
-    (texts_after _ _ _ filled.1 (no_text _ _ (ap (λ (v : BuilderView). v.texts) closed.1
-    ∙ ap (λ (v : BuilderView). v.texts) over.1))) in
-    let placed : IsPlacedTo old c.close.new.self.builder c.args.line.next = search (rules, outer_of_opened) in (
-      made.0,
-      heading_placed s old c.close.new.self.builder c.args.self.now.options frames inside b c.args.heading
-          c.args.line.next built options kind start last placed texts made.1,
-    )
+    (texts_after _ _ _ filled (no_text _ _ (ap (λ (v : BuilderView). v.texts) closed
+    ∙ ap (λ (v : BuilderView). v.texts) over))) in
+    let placed : IsPlacedTo old c.close.new.self.builder c.args.line.next = search (rules, outer_of_opened) in
+    heading_placed s old c.close.new.self.builder c.args.self.now.options frames inside b c.args.heading
+    c.args.line.next built options kind start last placed texts made

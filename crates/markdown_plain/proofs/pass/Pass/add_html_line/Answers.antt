@@ -8,42 +8,36 @@ use Rattle.markdown_plain.proofs.LeafTreesLemmas.{rest_from, rest_held, texts_af
 use Rattle.markdown_plain.proofs.pass.Pass.add_html_line.Goals as goal
 
 pub returns-in_ok-add_inline-clause-items : goal.returns-in_ok-add_inline-clause-items
-returns-in_ok-add_inline-clause-items c = λ source is fitted.
-    let added = c.in_ok-add_inline.ensures.appends fitted in
+returns-in_ok-add_inline-clause-items c = λ source is.
+    let added = c.in_ok-add_inline.ensures.appends in
     let o = owed_added c.args.self.now.placing c.step_to.new.self c.add_owed.new.self c.args.position.at
     c.args.position.owed
-    c.step_to.ensures.steps c.in_ok-add_owed.ensures.owed c.in_ok-add_owed.ensures.nothing added.0 in (
-      o.0,
-      line_added c.args.self.now.placing.builder.levels body.Html (rest_from c.args.line c.args.position) source
-          c.add_owed.new.self.builder c.add_inline.new.self.builder
-          (rest_held c.args.self.now.placing.builder.text c.args.position c.args.line source is) o.1
-          (grind (arith, nat_tests, c.if-position-line.true)) added.1,
-    )
+    c.step_to.ensures.steps c.in_ok-add_owed.ensures.owed c.in_ok-add_owed.ensures.nothing in
+    line_added c.args.self.now.placing.builder.levels body.Html (rest_from c.args.line c.args.position) source
+    c.add_owed.new.self.builder c.add_inline.new.self.builder
+    (rest_held c.args.self.now.placing.builder.text c.args.position c.args.line source is) o
+    (grind (arith, nat_tests, c.if-position-line.true)) added
 
 pub returns-else-position-line-clause-items : goal.returns-else-position-line-clause-items
-returns-else-position-line-clause-items c = λ source is fitted.
+returns-else-position-line-clause-items c = λ source is.
     let o = owed_added c.args.self.now.placing c.step_to.new.self c.add_owed.new.self c.args.position.at
     c.args.position.owed
-    c.step_to.ensures.steps c.in_ok-add_owed.ensures.owed c.in_ok-add_owed.ensures.nothing fitted in (
-      o.0,
-      line_over c.args.self.now.placing.builder.levels body.Html (rest_from c.args.line c.args.position) source
-          c.add_owed.new.self.builder
-          (rest_held c.args.self.now.placing.builder.text c.args.position c.args.line source is) o.1
-          (grind (arith, nat_tests, c.if-position-line.false)),
-    )
+    c.step_to.ensures.steps c.in_ok-add_owed.ensures.owed c.in_ok-add_owed.ensures.nothing in
+    line_over c.args.self.now.placing.builder.levels body.Html (rest_from c.args.line c.args.position) source
+    c.add_owed.new.self.builder
+    (rest_held c.args.self.now.placing.builder.text c.args.position c.args.line source is) o
+    (grind (arith, nat_tests, c.if-position-line.false))
 
 pub returns-in_ok-add_inline-clause-texts : goal.returns-in_ok-add_inline-clause-texts
-returns-in_ok-add_inline-clause-texts c = λ fitted.
-    let added = c.in_ok-add_inline.ensures.appends fitted in
+returns-in_ok-add_inline-clause-texts c =
+    let added = c.in_ok-add_inline.ensures.appends in
     let o = owed_text c.args.self.now.placing c.step_to.new.self c.add_owed.new.self c.args.position.at
     c.args.position.owed
-    c.step_to.ensures.steps c.in_ok-add_owed.ensures.owed c.in_ok-add_owed.ensures.nothing added.0 in (
-      o.0,
-      texts_after c.args.self.now.placing.builder c.add_owed.new.self.builder c.add_inline.new.self.builder o.1
-          (no_text _ _ (ap (λ (b : BuilderView). b.texts) added.1)),
-    )
+    c.step_to.ensures.steps c.in_ok-add_owed.ensures.owed c.in_ok-add_owed.ensures.nothing in
+    texts_after c.args.self.now.placing.builder c.add_owed.new.self.builder c.add_inline.new.self.builder o
+    (no_text _ _ (ap (λ (b : BuilderView). b.texts) added))
 
 pub returns-else-position-line-clause-texts : goal.returns-else-position-line-clause-texts
-returns-else-position-line-clause-texts c = λ fitted.
+returns-else-position-line-clause-texts c =
     owed_text c.args.self.now.placing c.step_to.new.self c.add_owed.new.self c.args.position.at c.args.position.owed
-    c.step_to.ensures.steps c.in_ok-add_owed.ensures.owed c.in_ok-add_owed.ensures.nothing fitted
+    c.step_to.ensures.steps c.in_ok-add_owed.ensures.owed c.in_ok-add_owed.ensures.nothing

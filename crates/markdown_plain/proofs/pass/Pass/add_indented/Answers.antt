@@ -14,21 +14,18 @@ use Rattle.markdown_plain.proofs.pass.Pass.add_indented.Goals as goal
 
 pub returns-clause-items : goal.returns-clause-items
 returns-clause-items c =
-    IfOk-weaker c.add_code.result _ _ (λ done items blank source are is fitted.
+    IfOk-weaker c.add_code.result _ _ (λ done items blank source are is.
     let line = subst (λ line. IsHeld line source) (sym c.rest_of.ensures)
     (rest_held c.args.self.now.placing.builder.text c.args.position c.args.line source is) in
-    let second = items source line fitted in
+    let second = items source line in
     let first = c.in_ok-add_codes.ensures.items blank
-    (subst (λ lines. AreHeld lines blank) (sym c.deref.ensures.value) are) second.0 in (
-      first.0,
-      second.1 ∙ (ap (λ ls. with_items ls (source_line (body.Text false) source)) first.1
-          ∙ line_after c.args.self.now.placing.builder.levels (body.Text false) blank source),
-    )) c.add_code.ensures.items
+    (subst (λ lines. AreHeld lines blank) (sym c.deref.ensures.value) are) in
+    second ∙ (ap (λ ls. with_items ls (source_line (body.Text false) source)) first
+    ∙ line_after c.args.self.now.placing.builder.levels (body.Text false) blank source)) c.add_code.ensures.items
 
 pub returns-clause-leaf : goal.returns-clause-leaf
 returns-clause-leaf c =
-    IfOk-weaker c.add_code.result _ _ (λ done all s frames inside b lines blank source is_open same code are is some
-    fitted.
+    IfOk-weaker c.add_code.result _ _ (λ done all s frames inside b lines blank source is_open same code are is some.
     let old = c.args.self.now.placing.builder in
     let mid = c.add_codes.new.placing.builder in
     let new = c.add_code.new.placing.builder in
@@ -36,21 +33,20 @@ returns-clause-leaf c =
     (rest_held old.text c.args.position c.args.line source is.rest) in
     let stop = stop_after source in
     let ends = rest_ends old.text c.args.position c.args.line source is in
-    let goes = all.first fitted in
-    let before = c.in_ok-add_codes.ensures.goes_on goes.0 in
+    let goes = all.first in
+    let before = c.in_ok-add_codes.ensures.goes_on in
     let first = c.in_ok-add_codes.ensures.items blank
-    (subst (λ lines. AreHeld lines blank) (sym c.deref.ensures.value) are) goes.0 in (
-      before.0,
-      indented_added s old new frames inside b lines blank source is_open same code some
-          (subst (GoesOn old new) (after_held c.rest_of.result source held (omega (arith, stop, ends)))
-          (goes.1 ∙ ap (λ (v : BuilderView). record v {
-            at = after_line c.rest_of.result.start c.rest_of.result.next;
-            run = new.run;
-            levels = new.levels;
-            texts = new.texts;
-          }) before.1))
-          (texts_after old mid new (c.in_ok-add_codes.ensures.texts goes.0).1 (all.second fitted).1)
-          ((all.third source held fitted).1
-          ∙ (ap (λ ls. with_items ls (source_line (body.Text false) source)) first.1
-          ∙ line_after old.levels (body.Text false) blank source)),
-    )) (ok_three c.add_code.result _ _ _ c.add_code.ensures.goes_on c.add_code.ensures.texts c.add_code.ensures.items)
+    (subst (λ lines. AreHeld lines blank) (sym c.deref.ensures.value) are) in
+    indented_added s old new frames inside b lines blank source is_open same code some
+    (subst (GoesOn old new) (after_held c.rest_of.result source held (omega (arith, stop, ends)))
+    (goes ∙ ap (λ (v : BuilderView). record v {
+      at = after_line c.rest_of.result.start c.rest_of.result.next;
+      run = new.run;
+      levels = new.levels;
+      texts = new.texts;
+    }) before))
+    (texts_after old mid new c.in_ok-add_codes.ensures.texts all.second)
+    ((all.third source held)
+    ∙ (ap (λ ls. with_items ls (source_line (body.Text false) source)) first
+    ∙ line_after old.levels (body.Text false) blank source))) (ok_three c.add_code.result _ _ _
+    c.add_code.ensures.goes_on c.add_code.ensures.texts c.add_code.ensures.items)

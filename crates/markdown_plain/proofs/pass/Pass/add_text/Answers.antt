@@ -3,7 +3,6 @@ use Rattle.std.proofs.Common.{◌≡◌, ◌∙◌, ◌++◌, ◌∷◌, [], ap,
 use Rattle.markdown_base.specs.Forest.{nil}
 use Rattle.markdown_lines.specs.declared.held_line.HeldLine.{HeldLine}
 use Rattle.markdown_plain.specs.Closable.{AreClosable}
-use Rattle.markdown_plain.specs.Fitting.{AllFitted}
 use Rattle.markdown_plain.specs.declared.placing.Placing.{Placing}
 use Rattle.markdown_plain.specs.Paragraphs.{has_paragraph, task_at}
 use Rattle.markdown_plain.specs.Settled.{IsLooseBefore}
@@ -21,15 +20,14 @@ abbrev line_of : goal.In_ok-push → HeldLine
 line_of c = record { start = c.args.start; stop = c.args.line.stop; next = c.args.line.next; owed = 0 }
 
 pub returns-clause-finishes : goal.returns-clause-finishes
-returns-clause-finishes c = λ s frames inside b none few may fitted.
+returns-clause-finishes c = λ s frames inside b none few may.
     let self = c.if-not-has_paragraph.self in
     elim c.if-not-has_paragraph.branch [
       | then-not-has_paragraph+in_ok-make_room w ↦
           let placing = ap (λ (p : Pass). p.placing) w.self-is in
           let placed = ap (λ (p : Pass). p.placed) w.self-is in
-          let made = w.in_ok-make_room.ensures.finishes s frames inside b None few may
-          (subst AllFitted placing fitted) in
-          (made.0, stands_on s w.make_room.new.self _ _ _ placing placed made.1)
+          let made = w.in_ok-make_room.ensures.finishes s frames inside b None few may in
+          stands_on s w.make_room.new.self _ _ _ placing placed made
       | else-not-has_paragraph w ↦
           let held : has_paragraph c.args.self.now ≡ true = search rules in
           absurd (true≢false (sym held ∙ no_paragraph c.args.self.now none))
@@ -80,12 +78,12 @@ returns-clause-inside c = λ s frames may deep loose.
 
 -- what was closed may be, where room was made
 pub returns-clause-here : goal.returns-clause-here
-returns-clause-here c = λ none closable fitted.
+returns-clause-here c = λ none closable.
     elim c.if-not-has_paragraph.branch [
       | then-not-has_paragraph+in_ok-make_room w ↦
           let placing = ap (λ (p : Pass). p.placing) w.self-is in
           subst (λ (p : Placing). AreClosable p.builder c.args.self.now.placed) (sym placing)
-          (w.in_ok-make_room.ensures.here closable (subst AllFitted placing fitted))
+          (w.in_ok-make_room.ensures.here closable)
       | else-not-has_paragraph w ↦
           let held : has_paragraph c.args.self.now ≡ true = search rules in absurd (true≢false (sym held ∙ none))
     ]

@@ -5,9 +5,6 @@ use Rattle.markdown_plain.proofs.pass.Pass.add_thematic_break.Goals as goal
 
 pub returns-clause-leaf : goal.returns-clause-leaf
 returns-clause-leaf c =
-    IfOk-weaker c.add_rule.result _ _ (λ done adds s frames inside b built kind start last fitted.
-    let added = adds fitted in (
-      added.0,
-      break_placed s c.args.self.now.placing.builder _ frames inside b c.args.line.next built added.1 kind start
-          last,
-    )) c.add_rule.ensures.appends
+    IfOk-weaker c.add_rule.result _ _ (λ done adds s frames inside b built kind start last.
+    break_placed s c.args.self.now.placing.builder _ frames inside b c.args.line.next built adds kind start
+    last) c.add_rule.ensures.appends

@@ -129,7 +129,7 @@ returns-clause-value c = λ (s : Source) (head : HeldLine) (before : List Source
 
 -- the table, open up to the end of the line
 pub returns-clause-frame : goal.returns-clause-frame
-returns-clause-frame c = λ is s frames inside b head before from l holds last_line rest ahead fitted.
+returns-clause-frame c = λ is s frames inside b head before from l holds last_line rest ahead.
     let pass = c.args.self.now in
     let read = c.read_space-space.result in
     let text = c.text-text.result.now in
@@ -143,18 +143,16 @@ returns-clause-frame c = λ is s frames inside b head before from l holds last_l
     let fits = read_fits s pass c.in-Some.head before from l c.args.line c.args.position read text
     (option_map (λ (alignments : Vec Alignment Global). alignments.items) c.in_ok-alignments.field-0) reads
     c.args.position.before_stop (omega (arith, c.if-space-ge4.false)) c.in_ok-alignments.ensures in
-    let moved = c.step_to.ensures.steps fitted in
+    let moved = c.step_to.ensures.steps in
     let opened = c.in_ok-open_table.ensures.frame s frames inside b before from
     (holds_tried s pass now frames inside b (before ++ from ∷ []) same holds)
     (ap source_of same ∙ last.source) (ap (λ (p : Pass). last_of p.lines.items) same ∙ last.there)
-    (ahead_tried pass now same ahead) moved.0 in (
-      tt,
-      record {
-        found = found;
-        begins = found_alignments s before from l found
-            (sym (ap (option_map (λ (alignments : Vec Alignment Global). alignments.items)) c.in-Some-2.is) ∙ fits)
-            (sym c.if-not-branch.false ∙ c.in_ok-may_be_head.ensures.value s before from last);
-        opened = table_stepped s c.open_table.new.self.placing.builder c.step_to.new.self.builder frames
-            (before_table inside b before) from from.next c.args.line.next found moved.1 opened.1;
-      },
-    )
+    (ahead_tried pass now same ahead) in
+    record {
+      found = found;
+      begins = found_alignments s before from l found
+          (sym (ap (option_map (λ (alignments : Vec Alignment Global). alignments.items)) c.in-Some-2.is) ∙ fits)
+          (sym c.if-not-branch.false ∙ c.in_ok-may_be_head.ensures.value s before from last);
+      opened = table_stepped s c.open_table.new.self.placing.builder c.step_to.new.self.builder frames
+          (before_table inside b before) from from.next c.args.line.next found moved opened;
+    }

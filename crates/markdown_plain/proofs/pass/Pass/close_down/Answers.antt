@@ -7,7 +7,6 @@ use Rattle.markdown_lines.specs.BlockBeginnings.{Source}
 use Rattle.markdown_block_rules.specs.BlockGrowth.{Block}
 use Rattle.markdown_plain.specs.Closable.{AreClosable}
 use Rattle.markdown_plain.specs.Closing.{MayClose}
-use Rattle.markdown_plain.specs.Fitting.{AllFitted}
 use Rattle.markdown_plain.specs.Frames.{Frame, rebuilt}
 use Rattle.markdown_plain.specs.OpenLeaves.{leaf_block}
 use Rattle.markdown_plain.specs.declared.pass.Pass.{Pass}
@@ -23,14 +22,13 @@ use Rattle.markdown_plain.specs.Settled.{AreOpen, IsLooseAs}
 use Rattle.markdown_plain.proofs.pass.Pass.close_down.Goals as goal
 
 -- one block less is open, and before there were more than stay
-one_less_open : (c : goal.After-close_block) → AllFitted c.close_block.new.self.placing
-    → (c.args.depth < length c.blocks-2.self.placing.builder.blocks)
+one_less_open : (c : goal.After-close_block) → (c.args.depth < length c.blocks-2.self.placing.builder.blocks)
     × (suc (length c.close_block.new.self.placing.builder.blocks) ≡ length c.blocks-2.self.placing.builder.blocks)
-one_less_open c fitted =
-    let done = c.close_block.ensures.closes fitted in
-    let left = (c.blocks-2.invariant.left done.0).1 in
+one_less_open c =
+    let done = c.close_block.ensures.closes in
+    let left = c.blocks-2.invariant.left in
     let more : c.args.depth < length c.blocks-2.self.placing.builder.blocks = omega (arith, left) in
-    let same = ap (λ (b : BuilderView). length b.blocks) done.1
+    let same = ap (λ (b : BuilderView). length b.blocks) done
     ∙ length_of_outer c.blocks-2.self.placing.builder.blocks in (more, omega (arith, more, same))
 
 -- where the block quotes end stays the same
@@ -43,65 +41,57 @@ placed_same : (c : goal.After-close_block)
 placed_same c here = subst (AreClosable c.blocks-2.self.placing.builder) (sym (placed_is c)) here
 
 -- a block is open before each turn
-some_open : (c : goal.After-close_block) → AllFitted c.blocks-2.self.placing
-    → c.blocks-2.self.placing.builder.blocks ≡ [] → ⊥
-some_open c fitted none =
-    let left = (c.blocks-2.invariant.left fitted).1 in
+some_open : (c : goal.After-close_block) → c.blocks-2.self.placing.builder.blocks ≡ [] → ⊥
+some_open c none =
+    let left = c.blocks-2.invariant.left in
     let some : 0 < length c.blocks-2.self.placing.builder.blocks = omega (arith, left) in
     absurd (omega (arith, some, ap length none))
 
 pub blocks-2-preserved : goal.blocks-2-preserved
 blocks-2-preserved c =
     let before = c.blocks-2.invariant in
-    let fits = λ (fitted : AllFitted c.close_block.new.self.placing). (c.close_block.ensures.closes fitted).0 in
     record {
       text = cc;
       kept = λ none. absurd (omega (arith, none, c.blocks-2-test.true, c.blocks-2.auto._closed));
-      closes = λ fitted.
-          let done = c.close_block.ensures.closes fitted in
-          let kept = before.closes done.0 in (
-            kept.0,
-            ap (λ (b : BuilderView). take c.args.depth b.blocks) done.1
-                ∙ take_of_outer c.args.depth _ (one_less_open c fitted).0
-                ∙ kept.1,
-          );
-      left = λ fitted.
-          let left = before.left (fits fitted) in
-          let less = (one_less_open c fitted).1 in (left.0, omega (arith, left.1, less));
-      outside = λ fitted.
-          let done = c.close_block.ensures.closes fitted in
-          ((before.closes done.0).0, ap (λ (b : BuilderView). b.leaf) done.1);
+      closes =
+          let done = c.close_block.ensures.closes in
+          let kept = before.closes in
+          ap (λ (b : BuilderView). take c.args.depth b.blocks) done
+          ∙ take_of_outer c.args.depth _ (one_less_open c).0
+          ∙ kept;
+      left =
+          let left = before.left in
+          let less = (one_less_open c).1 in omega (arith, left, less);
+      outside =
+          let done = c.close_block.ensures.closes in
+          ap (λ (b : BuilderView). b.leaf) done;
       ended = search rules;
       dropped = search rules;
       unheld = search rules;
       same = search rules;
       looseness = search rules;
-      least = λ fitted.
-          let closed = one_less_open c fitted in
-          ((before.least (fits fitted)).0, λ few. absurd (omega (arith, closed.0, closed.1, few)));
-      here = λ is fitted.
-          let here = before.here is (fits fitted) in
+      least =
+          let closed = one_less_open c in
+          λ few. absurd (omega (arith, closed.0, closed.1, few));
+      here = λ is.
+          let here = before.here is in
           subst (AreClosable c.close_block.new.self.placing.builder) (placed_is c)
-          (c.close_block.ensures.here (placed_same c here) (some_open c (fits fitted)) fitted);
-      forgets = λ s frames inside may fitted.
-          let stands = before.forgets s frames inside may (fits fitted) in (
-            stands.0,
-            (one_less s c.blocks-2.self c.close_block.new.self frames inside _ _ refl (one_less_open c fitted).1
-                stands.1
-                (c.close_block.ensures.forgets s) fitted).1,
-          );
-      loose = λ texts frames inside these nested loose fitted.
-          let done = c.close_block.ensures.closes fitted in
-          let closed = before.loose texts frames inside these nested loose done.0 in
-          let left = (before.left done.0).1 in
+          (c.close_block.ensures.here (placed_same c here) (some_open c));
+      forgets = λ s frames inside may.
+          let stands = before.forgets s frames inside may in
+          one_less s c.blocks-2.self c.close_block.new.self frames inside _ _ refl (one_less_open c).1
+          stands
+          (c.close_block.ensures.forgets s);
+      loose = λ texts frames inside these nested loose.
+          let done = c.close_block.ensures.closes in
+          let closed = before.loose texts frames inside these nested loose in
+          let left = before.left in
           let blocks = c.blocks-2.self.placing.builder.blocks in
-          let some : 0 < length blocks = omega (arith, left) in (
-            closed.0,
-            one_closed texts frames inside blocks c.close_block.new.self.placing.builder.blocks
-                c.blocks-2.self.looseness c.close_block.new.self.looseness
-                (ap (λ (b : BuilderView). b.blocks) done.1) some
-                (record { loose = c.close_block.ensures.loose texts }) nested closed.1,
-          );
+          let some : 0 < length blocks = omega (arith, left) in
+          one_closed texts frames inside blocks c.close_block.new.self.placing.builder.blocks
+          c.blocks-2.self.looseness c.close_block.new.self.looseness
+          (ap (λ (b : BuilderView). b.blocks) done) some
+          (record { loose = c.close_block.ensures.loose texts }) nested closed;
     }
 
 -- what is open beyond the outermost blocks may be closed
@@ -114,7 +104,7 @@ close_block-requires-clause-closable c =
     let none = subst (λ (p : Pass). length p.placing.builder.blocks ≤ depth) (sym kept) few in
     absurd (omega (arith, none, c.blocks-2-test.true, c.blocks-2.auto._closed))) in
     subst (AreClosable c.blocks-2.self.placing.builder) (sym (ap (λ (p : Pass). p.placed) c.blocks-2.invariant.same))
-    (c.blocks-2.invariant.here (c.requires open_) tt)
+    (c.blocks-2.invariant.here (c.requires open_))
 
 pub blocks-2-init : goal.blocks-2-init
 blocks-2-init c = record {
@@ -129,65 +119,54 @@ blocks-2-init c = record {
   same = search rules;
   looseness = search rules;
   least = search rules;
-  here = λ is fitted. c.in_ok-end_leaf.ensures.here is fitted;
-  forgets = λ s frames inside may fitted. (
-    fitted,
-    all_kept s c.end_leaf.new.self frames inside _ (open_containers s c.end_leaf.new.self frames inside may) may,
-  );
-  loose = λ texts frames inside these nested loose fitted.
+  here = λ is. c.in_ok-end_leaf.ensures.here is;
+  forgets = λ s frames inside may.
+      all_kept s c.end_leaf.new.self frames inside _ (open_containers s c.end_leaf.new.self frames inside may) may;
+  loose = λ texts frames inside these nested loose.
       let old = c.args.self.now in
       let new = c.end_leaf.new.self in
-      let ends = c.in_ok-end_leaf.ensures.ends fitted in
-      let now : new.looseness ≡ old.looseness = search rules in (
-        ends.0,
-        none_closed texts frames inside new.placing.builder.blocks new.looseness
-            (subst (λ (bs : List OpenBlock). AreOpen texts bs frames) (sym ends.1) these)
-            (subst (λ l. IsLooseAs l frames inside) (sym now) loose),
-      );
+      let ends = c.in_ok-end_leaf.ensures.ends in
+      let now : new.looseness ≡ old.looseness = search rules in
+      none_closed texts frames inside new.placing.builder.blocks new.looseness
+      (subst (λ (bs : List OpenBlock). AreOpen texts bs frames) (sym ends) these)
+      (subst (λ l. IsLooseAs l frames inside) (sym now) loose);
 }
 
 -- the blocks that the pass stood for after the leaf are the same
 closed_from : (c : goal.After-blocks-2) (s : Source) (frames : List Frame) (inside : Forest Block)
-    → MayClose s c.end_leaf.new.self frames inside → AllFitted c.blocks-2.self.placing
-    → MayClose s c.blocks-2.self (take c.args.depth frames) (rebuilt (drop c.args.depth frames) inside)
-closed_from c s frames inside may fitted =
+    → MayClose s c.end_leaf.new.self frames inside → MayClose s c.blocks-2.self (take c.args.depth frames)
+    (rebuilt (drop c.args.depth frames) inside)
+closed_from c s frames inside may =
     let loop = c.blocks-2 in
-    let left = (loop.invariant.left fitted).1 in
+    let left = loop.invariant.left in
     let all = open_containers s c.end_leaf.new.self frames inside may in
     closed_to s loop.self frames inside (length loop.self.placing.builder.blocks) c.args.depth
     (omega (arith, left, c.depth-closed-end.ensures, c.blocks-2-test.false))
-    (λ few. let least = (loop.invariant.least fitted).1 few in omega (arith, least, all))
-    (loop.invariant.forgets s frames inside may fitted).1
+    (λ few. let least = loop.invariant.least few in omega (arith, least, all))
+    (loop.invariant.forgets s frames inside may)
 
 pub returns-clause-forgets : goal.returns-clause-forgets
-returns-clause-forgets c = λ s frames inside none may fitted.
+returns-clause-forgets c = λ s frames inside none may.
     let now = c.args.self.now in
     let same : c.end_leaf.new.self ≡ now = c.in_ok-end_leaf.ensures.none
-    (built_outside s now.placing.builder frames inside may.stands.built) none in (
-      (c.blocks-2.invariant.outside fitted).0,
-      closed_from c s frames inside (subst (λ (p : Pass). MayClose s p frames inside) (sym same) may) fitted,
-    )
+    (built_outside s now.placing.builder frames inside may.stands.built) none in
+    closed_from c s frames inside (subst (λ (p : Pass). MayClose s p frames inside) (sym same) may)
 
 pub returns-clause-finishes : goal.returns-clause-finishes
-returns-clause-finishes c = λ s frames inside b held may fitted.
-    let placed = c.in_ok-end_leaf.ensures.frame s frames inside b held may.unended may.options
-    tt in (
-      placed.0,
-      closed_from c s frames (followed_by inside (leaf_block b))
-          (ended_may_close s c.args.self.now c.end_leaf.new.self frames inside b held may
-          c.in_ok-end_leaf.ensures.same placed.1) fitted,
-    )
+returns-clause-finishes c = λ s frames inside b held may.
+    let placed = c.in_ok-end_leaf.ensures.frame s frames inside b held may.unended may.options in
+    closed_from c s frames (followed_by inside (leaf_block b))
+    (ended_may_close s c.args.self.now c.end_leaf.new.self frames inside b held may
+    c.in_ok-end_leaf.ensures.same placed)
 
 pub returns-clause-loose : goal.returns-clause-loose
-returns-clause-loose c = λ texts frames inside these nested loose fitted.
-    let closed = c.blocks-2.invariant.loose texts frames inside these nested loose fitted in
-    let kept = c.blocks-2.invariant.closes fitted in
+returns-clause-loose c = λ texts frames inside these nested loose.
+    let closed = c.blocks-2.invariant.loose texts frames inside these nested loose in
+    let kept = c.blocks-2.invariant.closes in
     let blocks = c.blocks-2.self.placing.builder.blocks in
     let before = without_leaf c.args.self.now.placing.builder in
-    let left = (c.blocks-2.invariant.left fitted).1 in
+    let left = c.blocks-2.invariant.left in
     let end = c.blocks-2-test.false in
     let all = c.depth-closed-end.ensures in
-    let most : length blocks ≤ c.args.depth = omega (arith, left, end, all) in (
-      kept.0,
-      all_closed texts frames inside c.args.depth before blocks c.blocks-2.self.looseness these kept.1 most closed.1,
-    )
+    let most : length blocks ≤ c.args.depth = omega (arith, left, end, all) in
+    all_closed texts frames inside c.args.depth before blocks c.blocks-2.self.looseness these kept most closed

@@ -8,7 +8,6 @@ use Rattle.markdown_plain.specs.Closable.{AreClosable, IsClosable}
 use Rattle.markdown_plain.specs.Closing.{MayClose}
 use Rattle.markdown_plain.specs.Frames.{Frame, rebuilt, AreNested}
 use Rattle.markdown_plain.proofs.ClosedListsLemmas.{AreClosedTo}
-use Rattle.markdown_plain.specs.Fitting.{IfFitted, AllFitted}
 use Rattle.markdown_plain.specs.OpenBlocks.{without_leaf}
 use Rattle.markdown_plain.specs.Settled.{AreOpen, IsLooseAs}
 use Rattle.markdown_plain.proofs.pass.Pass.close_down.Given as goal
@@ -17,11 +16,9 @@ abbrev pub invariant-blocks-2 : goal.invariant-blocks-2
 invariant-blocks-2 l = record {
   text : l.self.placing.builder.text ≡ l.fn.self.placing.builder.text;
   kept : length l.initial.self.placing.builder.blocks ≤ l.depth → l.self ≡ l.initial.self;
-  closes : IfFitted l.fn.self.placing l.self.placing
-      (take l.depth l.self.placing.builder.blocks ≡ take l.depth (without_leaf l.fn.self.placing.builder));
-  left : IfFitted l.fn.self.placing l.self.placing
-      (length l.self.placing.builder.blocks + l._closed ≡ length l.initial.self.placing.builder.blocks + l.depth);
-  outside : IfFitted l.fn.self.placing l.self.placing (l.self.placing.builder.leaf ≡ false);
+  closes : take l.depth l.self.placing.builder.blocks ≡ take l.depth (without_leaf l.fn.self.placing.builder);
+  left : length l.self.placing.builder.blocks + l._closed ≡ length l.initial.self.placing.builder.blocks + l.depth;
+  outside : l.self.placing.builder.leaf ≡ false;
   ended : l.self.lines.items ≡ [];
   dropped : l.fn.self.placing.builder.leaf ≡ true → l.self.blanks.items ≡ [];
   unheld : l.fn.self.blanks.items ≡ [] → l.self.blanks.items ≡ [];
@@ -35,16 +32,15 @@ invariant-blocks-2 l = record {
     lists = l.self.looseness.lists;
     item_is_empty = l.self.looseness.item_is_empty;
   };
-  least : IfFitted l.fn.self.placing l.self.placing (length l.self.placing.builder.blocks < l.depth
-      → length l.initial.self.placing.builder.blocks ≤ length l.self.placing.builder.blocks);
-  here : IsClosable l.fn.self → AllFitted l.self.placing
-      → AreClosable l.self.placing.builder l.fn.self.placed;
+  least : length l.self.placing.builder.blocks < l.depth → length l.initial.self.placing.builder.blocks ≤ length
+      l.self.placing.builder.blocks;
+  here : IsClosable l.fn.self → AreClosable l.self.placing.builder l.fn.self.placed;
   forgets : (s : Source) (frames : List Frame) (inside : Forest Block) → MayClose s l.initial.self frames inside
-      → IfFitted l.initial.self.placing l.self.placing
-      (MayClose s l.self (take (length l.self.placing.builder.blocks) frames)
-      (rebuilt (drop (length l.self.placing.builder.blocks) frames) inside));
+      → MayClose s l.self (take (length l.self.placing.builder.blocks) frames)
+      (rebuilt (drop (length l.self.placing.builder.blocks) frames) inside);
   loose : (texts : List (List ℕ)) (frames : List Frame) (inside : Forest Block)
       → AreOpen texts (without_leaf l.fn.self.placing.builder) frames → AreNested frames
-      → IsLooseAs l.fn.self.looseness frames inside → IfFitted l.fn.self.placing l.self.placing (AreClosedTo texts
-      frames inside (length l.self.placing.builder.blocks) l.self.placing.builder.blocks l.self.looseness);
+      → IsLooseAs l.fn.self.looseness frames inside
+      → AreClosedTo texts frames inside (length l.self.placing.builder.blocks) l.self.placing.builder.blocks
+      l.self.looseness;
 }

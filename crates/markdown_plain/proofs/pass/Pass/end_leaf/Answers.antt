@@ -8,7 +8,6 @@ use Rattle.markdown_lines.specs.BlockBeginnings.{Source}
 use Rattle.markdown_lines.specs.SourceLines.{SourceLine}
 use Rattle.markdown_block_rules.specs.BlockGrowth.{Block}
 use Rattle.markdown_plain.proofs.LeavesInPlaceLemmas.{closed_leaf}
-use Rattle.markdown_plain.specs.Fitting.{AllFitted, IfFitted}
 use Rattle.markdown_plain.specs.Frames.{Frame}
 use Rattle.markdown_plain.specs.OpenBlocks.{has_leaf}
 use Rattle.markdown_plain.specs.OpenLeaves.{IsPlaced, IsUnended, is_table, leaf_block}
@@ -16,40 +15,38 @@ use Rattle.markdown_plain.proofs.OpenTablesLemmas.{built_outside, open_has_leaf}
 use Rattle.markdown_plain.proofs.pass.Pass.end_leaf.Goals as goal
 
 pub returns-then-has_leaf-clause-frame : goal.returns-then-has_leaf-clause-frame
-returns-then-has_leaf-clause-frame c = λ s frames inside b held unended options fitted.
-    let closes = c.close.ensures.closes fitted in
-    (closes.0, placed c s frames inside b held unended (sym c.has_leaf.ensures ∙ c.if-has_leaf.true) fitted)
+returns-then-has_leaf-clause-frame c = λ s frames inside b held unended options.
+    let closes = c.close.ensures.closes in
+    (placed c s frames inside b held unended (sym c.has_leaf.ensures ∙ c.if-has_leaf.true))
   where
     placed : (c : goal.After-close) (s : Source) (frames : List Frame) (inside : Forest Block) (b : Block)
         (held : Option (List SourceLine)) → IsUnended s c.args.self.now frames inside b held
-        → has_leaf c.args.self.now.placing.builder ≡ true → AllFitted c.close.new.self
-        → IsPlaced s c.close.new.self.builder frames (followed_by inside (leaf_block b))
-    placed c s frames inside b None unended leaf fitted =
+        → has_leaf c.args.self.now.placing.builder ≡ true → IsPlaced s c.close.new.self.builder frames
+        (followed_by inside (leaf_block b))
+    placed c s frames inside b None unended leaf =
         closed_leaf s c.args.self.now.placing.builder c.close.new.self.builder frames inside (not (is_table b.kind)) b
-        unended.0 (c.close.ensures.closes fitted).1 (c.close.ensures.tree fitted).1 unended.1
-    placed c s frames inside b (Some sources) holds leaf fitted =
+        unended.0 c.close.ensures.closes c.close.ensures.tree unended.1
+    placed c s frames inside b (Some sources) holds leaf =
         absurd (true≢false (sym leaf
         ∙ built_outside s c.args.self.now.placing.builder frames inside holds.built))
 
 pub returns-in_ok-end_paragraph-clause-frame : goal.returns-in_ok-end_paragraph-clause-frame
-returns-in_ok-end_paragraph-clause-frame c = λ s frames inside b held unended options fitted.
-    placed c s frames inside b held unended options (sym c.has_leaf.ensures ∙ c.if-has_leaf.false) fitted
+returns-in_ok-end_paragraph-clause-frame c = λ s frames inside b held unended options.
+    placed c s frames inside b held unended options (sym c.has_leaf.ensures ∙ c.if-has_leaf.false)
   where
     placed : (c : goal.In_ok-end_paragraph) (s : Source) (frames : List Frame) (inside : Forest Block) (b : Block)
         (held : Option (List SourceLine)) → IsUnended s c.args.self.now frames inside b held
-        → s.options ≡ c.args.self.now.options
-        → has_leaf c.args.self.now.placing.builder ≡ false
-        → IfFitted c.args.self.now.placing c.end_paragraph.new.self.placing
-        (IsPlaced s c.end_paragraph.new.self.placing.builder frames (followed_by inside (leaf_block b)))
-    placed c s frames inside b None unended options outside fitted =
+        → s.options ≡ c.args.self.now.options → has_leaf c.args.self.now.placing.builder ≡ false
+        → IsPlaced s c.end_paragraph.new.self.placing.builder frames (followed_by inside (leaf_block b))
+    placed c s frames inside b None unended options outside =
         absurd (true≢false (sym (open_has_leaf s c.args.self.now.placing.builder frames inside b unended.1)
         ∙ outside))
-    placed c s frames inside b (Some sources) holds options outside fitted =
-        c.in_ok-end_paragraph.ensures.frame s frames inside b sources holds options fitted
+    placed c s frames inside b (Some sources) holds options outside =
+        c.in_ok-end_paragraph.ensures.frame s frames inside b sources holds options
 
 -- something has not ended, so that one of the two was there
 pub returns-else-not-is_empty-clause-frame : goal.returns-else-not-is_empty-clause-frame
-returns-else-not-is_empty-clause-frame c = λ s frames inside b held unended options fitted.
+returns-else-not-is_empty-clause-frame c = λ s frames inside b held unended options.
     let empty : (length c.args.self.now.lines.items == 0) ≡ true = search rules in
     absurd (none s frames inside b held unended (sym c.has_leaf.ensures ∙ c.if-has_leaf.false) empty)
   where

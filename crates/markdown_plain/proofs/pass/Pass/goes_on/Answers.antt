@@ -18,13 +18,13 @@ use Rattle.markdown_plain.proofs.pass.Pass.goes_on.Goals as goal
 
 pub returns-in_ok-add_fenced-in-Fenced-clause-places :
     goal.returns-in_ok-add_fenced-in-Fenced-clause-places
-returns-in_ok-add_fenced-in-Fenced-clause-places c = λ goes s before source by leaf none fits.
+returns-in_ok-add_fenced-in-Fenced-clause-places c = λ goes s before source by leaf none.
     fenced_places s c.args.self.now c.add_fenced.new.self c.args.line c.args.reached before source c.in-Fenced.fence
     c.in-Fenced.is leaf c.in_ok-add_fenced-in-Fenced.ensures.same c.in_ok-add_fenced-in-Fenced.ensures.text
-    (c.in_ok-add_fenced-in-Fenced.ensures.leaf s) by by none fits
+    (c.in_ok-add_fenced-in-Fenced.ensures.leaf s) by by none
 
 pub returns-in_ok-add_html-in-Html-clause-places : goal.returns-in_ok-add_html-in-Html-clause-places
-returns-in_ok-add_html-in-Html-clause-places c = λ goes s before source by leaf none fits.
+returns-in_ok-add_html-in-Html-clause-places c = λ goes s before source by leaf none.
     let kind = c.in-Html.kind in
     let blank = nat_le c.args.line.stop c.args.reached.content in
     let more : (blank && ends_at_blank kind) ≡ false =
@@ -38,11 +38,11 @@ returns-in_ok-add_html-in-Html-clause-places c = λ goes s before source by leaf
     ] in
     html_places s c.args.self.now c.add_html.new.self c.args.line c.args.reached before source kind c.in-Html.is leaf
     c.in_ok-add_html-in-Html.ensures.same c.in_ok-add_html-in-Html.ensures.text
-    (c.in_ok-add_html-in-Html.ensures.leaf s) more by by none fits
+    (c.in_ok-add_html-in-Html.ensures.leaf s) more by by none
 
 pub returns-in_ok-add_indented-in-Indented-clause-places :
     goal.returns-in_ok-add_indented-in-Indented-clause-places
-returns-in_ok-add_indented-in-Indented-clause-places c = λ goes s before source by leaf none fits.
+returns-in_ok-add_indented-in-Indented-clause-places c = λ goes s before source by leaf none.
     let old = c.args.self.now in
     let left = left_from old.placing.builder.text c.args.reached.position c.args.line.stop in
     let read = c.read_space-before in
@@ -55,14 +55,14 @@ returns-in_ok-add_indented-in-Indented-clause-places c = λ goes s before source
     indented_places s old c.add_indented.new.self c.args.line c.args.reached before source read.result.after
     c.in-Indented.is leaf c.in_ok-add_indented-in-Indented.ensures.same
     c.in_ok-add_indented-in-Indented.ensures.emptied c.in_ok-add_indented-in-Indented.ensures.text
-    (c.in_ok-add_indented-in-Indented.ensures.leaf s) (search rules) filled four by by none fits
+    (c.in_ok-add_indented-in-Indented.ensures.leaf s) (search rules) filled four by by none
 
 pub returns-in_ok-add_metadata-in-Metadata-clause-places :
     goal.returns-in_ok-add_metadata-in-Metadata-clause-places
-returns-in_ok-add_metadata-in-Metadata-clause-places c = λ goes s before source by leaf none fits.
+returns-in_ok-add_metadata-in-Metadata-clause-places c = λ goes s before source by leaf none.
     metadata_places s c.args.self.now c.add_metadata.new.self c.args.line c.args.reached before source
     c.in-Metadata.kind c.in-Metadata.is leaf c.in_ok-add_metadata-in-Metadata.ensures.same
-    c.in_ok-add_metadata-in-Metadata.ensures.text (c.in_ok-add_metadata-in-Metadata.ensures.leaf s) by by none fits
+    c.in_ok-add_metadata-in-Metadata.ensures.text (c.in_ok-add_metadata-in-Metadata.ensures.leaf s) by by none
 
 pub returns-then-ends_at_blank-clause-leaves_off : goal.returns-then-ends_at_blank-clause-leaves_off
 returns-then-ends_at_blank-clause-leaves_off c = λ goes. (

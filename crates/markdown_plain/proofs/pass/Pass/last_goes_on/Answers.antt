@@ -50,16 +50,15 @@ returns-then-not-reached-clause-off c = λ goes. (
 
 pub returns-then-is_in_leaf-clause-places : goal.returns-then-is_in_leaf-clause-places
 returns-then-is_in_leaf-clause-places c =
-    IfOk-weaker c.goes_on.result _ _ (λ went told goes s before source text by counted fitted.
+    IfOk-weaker c.goes_on.result _ _ (λ went told goes s before source text by counted.
     let old = c.args.self.now in
     let leaf = sym c.is_in_leaf.ensures ∙ c.if-is_in_leaf.true in
     let all = all_go s old c.args.line c.args.reached before source by c.if-not-reached.false in
-    let placed = told goes s before source by leaf all fitted in (
-      placed.0,
-      subst (PlacesFor s c.goes_on.new.self c.args.line.next)
-          (sym (next_as_line s old before source c.args.line.start by.stands counted
-          (leaf_no_table s old before.frames before.inside before.last by.stands.unended leaf)).0) placed.1,
-    )) c.goes_on.ensures.places
+    let placed = told goes s before source by leaf all in
+    subst (PlacesFor s c.goes_on.new.self c.args.line.next)
+    (sym (next_as_line s old before source c.args.line.start by.stands counted
+    (leaf_no_table s old before.frames before.inside before.last by.stands.unended leaf)).0) placed)
+    c.goes_on.ensures.places
 
 pub returns-then-is_in_leaf-clause-counted : goal.returns-then-is_in_leaf-clause-counted
 returns-then-is_in_leaf-clause-counted c =

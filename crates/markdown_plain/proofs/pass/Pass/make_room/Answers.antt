@@ -7,7 +7,6 @@ use Rattle.markdown_builder.specs.BuilderView.{BuilderView}
 use Rattle.markdown_builder.specs.TreeLevels.{followed_by}
 use Rattle.markdown_lines.specs.BlockBeginnings.{Source}
 use Rattle.markdown_block_rules.specs.BlockGrowth.{Block}
-use Rattle.markdown_plain.specs.Fitting.{AllFitted, IfFitted}
 use Rattle.markdown_plain.specs.Frames.{Frame, rebuilt, room_depth}
 use Rattle.markdown_plain.specs.OpenLeaves.{leaf_block}
 use Rattle.markdown_plain.specs.declared.pass.Pass.{Pass}
@@ -20,94 +19,74 @@ use Rattle.markdown_plain.specs.Settled.{AreOpen, IsLooseAs}
 use Rattle.markdown_plain.proofs.pass.Pass.make_room.Goals.{then-is_in_list, else-is_in_list}
 use Rattle.markdown_plain.proofs.pass.Pass.make_room.Goals as goal
 use Rattle.markdown_builder.specs.declared.open_block.OpenBlock.{OpenBlock}
-use Rattle.markdown_plain.proofs.ClosedListsLemmas.{AddsBlock, AreClosedTo, IsRoom, closed_down, room_left}
+use Rattle.markdown_plain.proofs.ClosedListsLemmas.{AddsBlock, IsRoom, closed_down, room_left}
 use Rattle.markdown_plain.proofs.ClosedListsLemmas.{room_made, room_there}
 use Rattle.markdown_plain.specs.OpenBlocks.{innermost_is, is_list, without_leaf}
 use Rattle.markdown_plain.specs.Settled.{BlanksKnown}
 
 -- a list in the way is closed
 made_room : (c : goal.After-add_block) (s : Source) (frames : List Frame) (inside : Forest Block)
-    → c.args.depth ≤ length frames → IfFitted c.args.self.now.placing c.close_down.new.self.placing
-    (MayClose s c.close_down.new.self (take c.args.depth frames) (rebuilt (drop c.args.depth frames) inside))
-    → IfFitted c.args.self.now.placing c.if-is_in_list.self.placing
-    (StandsFor s c.if-is_in_list.self (take (room_depth c.args.depth frames) frames)
-    (rebuilt (drop (room_depth c.args.depth frames) frames) inside))
-made_room c s frames inside few closed fits =
+    → c.args.depth ≤ length frames → MayClose s c.close_down.new.self (take c.args.depth frames)
+    (rebuilt (drop c.args.depth frames) inside)
+    → StandsFor s c.if-is_in_list.self (take (room_depth c.args.depth frames) frames)
+    (rebuilt (drop (room_depth c.args.depth frames) frames) inside)
+made_room c s frames inside few closed =
     let down = c.close_down.new.self in
     let depth = c.args.depth in
     elim c.if-is_in_list.branch [
       | then-is_in_list w ↦
-          let fitted_then = subst (λ (p : Pass). AllFitted p.placing) w.self-is fits in
-          let there = closed (w.close_block.ensures.closes fitted_then).0 in
-          let made = list_in_the_way s down w.close_block.new.self depth frames inside few there.1
-          (sym c.is_in_list.ensures ∙ w.if-is_in_list.true) (w.close_block.ensures.forgets s) fitted_then in (
-            there.0,
-            subst (λ (p : Pass). StandsFor s p (take (room_depth depth frames) frames)
-                (rebuilt (drop (room_depth depth frames) frames) inside)) (sym w.self-is) made.1,
-          )
+          let made = list_in_the_way s down w.close_block.new.self depth frames inside few closed
+          (sym c.is_in_list.ensures ∙ w.if-is_in_list.true) (w.close_block.ensures.forgets s) in
+          subst (λ (p : Pass). StandsFor s p (take (room_depth depth frames) frames)
+          (rebuilt (drop (room_depth depth frames) frames) inside)) (sym w.self-is) made
       | else-is_in_list w ↦
-          let there = closed (subst (λ (p : Pass). AllFitted p.placing) w.self-is fits) in (
-            there.0,
-            subst (λ (p : Pass). StandsFor s p (take (room_depth depth frames) frames)
-                (rebuilt (drop (room_depth depth frames) frames) inside)) (sym w.self-is)
-                (no_list_closed s down depth frames inside few there.1
-                (sym c.is_in_list.ensures ∙ w.if-is_in_list.false)),
-          )
+          subst (λ (p : Pass). StandsFor s p (take (room_depth depth frames) frames)
+          (rebuilt (drop (room_depth depth frames) frames) inside)) (sym w.self-is)
+          (no_list_closed s down depth frames inside few closed
+          (sym c.is_in_list.ensures ∙ w.if-is_in_list.false))
     ]
 
 pub returns-clause-forgets : goal.returns-clause-forgets
-returns-clause-forgets c = λ s frames inside none few may fitted.
-    let made = made_room c s frames inside few (c.in_ok-close_down.ensures.forgets s frames inside none may) fitted in
-    (made.0, stands_on s c.if-is_in_list.self _ _ _ refl refl made.1)
+returns-clause-forgets c = λ s frames inside none few may.
+    let made = made_room c s frames inside few (c.in_ok-close_down.ensures.forgets s frames inside none may) in
+    stands_on s c.if-is_in_list.self _ _ _ refl refl made
 
 pub returns-clause-finishes : goal.returns-clause-finishes
-returns-clause-finishes c = λ s frames inside b held few may fitted.
+returns-clause-finishes c = λ s frames inside b held few may.
     let made = made_room c s frames (followed_by inside (leaf_block b)) few
-    (c.in_ok-close_down.ensures.finishes s frames inside b held may) fitted in
-    (made.0, stands_on s c.if-is_in_list.self _ _ _ refl refl made.1)
+    (c.in_ok-close_down.ensures.finishes s frames inside b held may) in
+    stands_on s c.if-is_in_list.self _ _ _ refl refl made
 
 -- what is remembered before the block is added is that of the containers which it may begin in
 pub returns-clause-loose : goal.returns-clause-loose
-returns-clause-loose c = λ texts frames inside these nested loose within known fitted.
+returns-clause-loose c = λ texts frames inside these nested loose within known.
     let old = c.args.self.now in
     let down = c.close_down.new.self in
     let now = c.if-is_in_list.self in
     let n = room_depth c.args.depth frames in
     let blocks = down.placing.builder.blocks in
-    let closed : AllFitted down.placing
-    → AllFitted old.placing × AreClosedTo texts frames inside c.args.depth blocks down.looseness = λ fits.
-    let done = c.in_ok-close_down.ensures.loose texts frames inside these nested loose fits in (
-      done.0,
-      closed_down texts frames inside c.args.depth (without_leaf old.placing.builder) blocks down.looseness these within
-          (c.in_ok-close_down.ensures.closes fits).1 done.1,
-    ) in
-    let room : AllFitted old.placing × IsRoom texts frames inside n now.placing.builder.blocks now.looseness =
+    let closed = closed_down texts frames inside c.args.depth (without_leaf old.placing.builder) blocks down.looseness
+    these within c.in_ok-close_down.ensures.closes
+    (c.in_ok-close_down.ensures.loose texts frames inside these nested loose) in
+    let room : IsRoom texts frames inside n now.placing.builder.blocks now.looseness =
     elim c.if-is_in_list.branch [
       | then-is_in_list w ↦
-          let shut = w.close_block.ensures.closes (subst (λ (p : Pass). AllFitted p.placing) w.self-is fitted) in
-          let first = closed shut.0 in
-          let inner : innermost_is is_list blocks ≡ true = search rules in (
-            first.0,
-            subst (λ (p : Pass). IsRoom texts frames inside n p.placing.builder.blocks p.looseness) (sym w.self-is)
-                (room_left texts frames inside c.args.depth blocks w.close_block.new.self.placing.builder.blocks
-                down.looseness w.close_block.new.self.looseness (ap (λ (b : BuilderView). b.blocks) shut.1)
-                (record { loose = w.close_block.ensures.loose texts }) nested first.1 inner),
-          )
+          let shut = w.close_block.ensures.closes in
+          let inner : innermost_is is_list blocks ≡ true = search rules in
+          subst (λ (p : Pass). IsRoom texts frames inside n p.placing.builder.blocks p.looseness) (sym w.self-is)
+          (room_left texts frames inside c.args.depth blocks w.close_block.new.self.placing.builder.blocks
+          down.looseness w.close_block.new.self.looseness (ap (λ (b : BuilderView). b.blocks) shut)
+          (record { loose = w.close_block.ensures.loose texts }) nested closed inner)
       | else-is_in_list w ↦
-          let first = closed (subst (λ (p : Pass). AllFitted p.placing) w.self-is fitted) in
-          let inner : innermost_is is_list blocks ≡ false = search rules in (
-            first.0,
-            subst (λ (p : Pass). IsRoom texts frames inside n p.placing.builder.blocks p.looseness) (sym w.self-is)
-                (room_there texts frames inside c.args.depth blocks down.looseness first.1 inner),
-          )
+          let inner : innermost_is is_list blocks ≡ false = search rules in
+          subst (λ (p : Pass). IsRoom texts frames inside n p.placing.builder.blocks p.looseness) (sym w.self-is)
+          (room_there texts frames inside c.args.depth blocks down.looseness closed inner)
     ] in
-    let from : now.looseness.blank_from ≡ old.looseness.blank_from = search rules in (
-      room.0,
-      room_made texts frames inside n now.placing.builder.blocks now.looseness c.add_block.new.self
-          (subst (λ (bs : List OpenBlock). AddsBlock texts bs now.looseness c.add_block.new.self) c.open_blocks.ensures
-          (record { loose = c.add_block.ensures.begins texts })) nested
-          (λ some. subst (λ from. BlanksKnown from 0 frames inside) (sym from) (known some)) room.1,
-    )
+    let from : now.looseness.blank_from ≡ old.looseness.blank_from = search rules in
+    room_made texts frames inside n now.placing.builder.blocks now.looseness c.add_block.new.self
+    (subst (λ (bs : List OpenBlock). AddsBlock texts bs now.looseness c.add_block.new.self) c.open_blocks.ensures
+    (record { loose = c.add_block.ensures.begins texts })) nested
+    (λ some. subst (λ from. BlanksKnown from 0 frames inside) (sym from) (known some)) room
 
 -- nothing is closed inside a container that was opened last
 pub returns-clause-inside : goal.returns-clause-inside
@@ -147,4 +126,4 @@ close_block-requires-clause-closable c =
     absurd (true≢false (sym list ∙ (ap (λ (p : Pass). innermost_is is_list p.placing.builder.blocks) kept
     ∙ room.other)))) in
     subst (AreClosable down.placing.builder) (sym (ap (λ (p : Pass). p.placed) c.in_ok-close_down.ensures.same))
-    (c.in_ok-close_down.ensures.here (c.requires filled) tt)
+    (c.in_ok-close_down.ensures.here (c.requires filled))

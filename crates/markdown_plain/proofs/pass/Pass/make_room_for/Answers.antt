@@ -28,6 +28,6 @@ makes c (Ok done) is =
 pub returns-clause-room : goal.returns-clause-room
 returns-clause-room c =
     IfOk-weaker c.make_room.result _ _
-    (λ done room s turn source at start b blocks here found begins needs fitted.
+    (λ done room s turn source at start b blocks here found begins needs.
     room_for s c.args.self.now c.make_room.new.self c.args.rest.now turn source at start b blocks room here found
-    begins needs fitted) (makes c c.make_room.result refl)
+    begins needs) (makes c c.make_room.result refl)

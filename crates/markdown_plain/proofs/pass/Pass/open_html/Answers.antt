@@ -12,7 +12,6 @@ use Rattle.markdown_plain.specs.HeldSources.{IsRest}
 use Rattle.markdown_plain.specs.LeafTrees.{HasTrees}
 use Rattle.std.proofs.Common.{◌∙◌, ap, sym, arith}
 use Rattle.markdown_block_rules.specs.BlockGrowth.{ends_html}
-use Rattle.markdown_plain.specs.Fitting.{AllFitted}
 use Rattle.markdown_plain.specs.OpenLeaves.{IsLeafIn, IsOpenIn}
 use Rattle.markdown_plain.specs.Paragraphs.{IsPlacedTo}
 use Rattle.markdown_plain.proofs.HtmlLeavesLemmas.{html_alike, html_begins, html_opened, html_placed}
@@ -24,37 +23,34 @@ use Rattle.markdown_plain.proofs.LeafTreesLemmas.{no_text, put_begun, rest_from,
 use Rattle.markdown_plain.proofs.pass.Pass.open_html.Goals as goal
 
 pub returns-clause-tree : goal.returns-clause-tree
-returns-clause-tree c = λ source is ends fitted.
+returns-clause-tree c = λ source is ends.
     let old = c.args.self.now.placing.builder in
     let filled = c.add_html_line.new.self.placing.builder in
     let begun = c.begin_at_content.new.self.builder in
     let text : begun.text ≡ old.text = search rules in
     let same : filled.text ≡ old.text = search rules in
     let put = c.end_html.ensures.tree (subst (λ t. ends_html_at t c.args.position c.args.line c.args.kind ≡ true)
-    (search rules) ends) fitted in
-    let begins = c.begin_at_content.ensures.begins put.0 in
+    (search rules) ends) in
+    let begins = c.begin_at_content.ensures.begins in
     let line = c.in_ok-add_html_line.ensures.items source
-    (subst (λ t. IsRest t c.args.position c.args.line source) (search rules) is) begins.0 in
-    let opens = c.in_ok-open_block.ensures.opens line.0 in
-    let steps = c.step_to.ensures.steps opens.0 in
+    (subst (λ t. IsRest t c.args.position c.args.line source) (search rules) is) in
+    let opens = c.in_ok-open_block.ensures.opens in
+    let steps = c.step_to.ensures.steps in
     let opened : Opens (stepped old c.args.position.at) c.open_block.new.self.builder body.HtmlBlock =
-    subst (λ (b : BuilderView). Opens b c.open_block.new.self.builder body.HtmlBlock) steps.1 opens.1 in
+    subst (λ (b : BuilderView). Opens b c.open_block.new.self.builder body.HtmlBlock) steps opens in
     let at : begun.at ≡ after_line c.args.position.at c.args.line.next = search rules in
     let blocks : filled.blocks ≡ c.open_block.new.self.builder.blocks = search rules in
     let kept : begun.levels ≡ filled.levels = search rules in
     let made = put_begun old c.open_block.new.self.builder filled begun c.end_html.new.self.placing.builder
-    c.args.position.at (source_line body.Html source) opened blocks line.1 begins.1 kept put.1 in (
-      steps.0,
-      (
-        made.0,
-        subst (λ t. IsNextContent t c.args.position.at (Some made.0)) same made.1,
-        subst (λ n. HasTrees old c.end_html.new.self.placing.builder
-            (shown_over made.0 n body.HtmlBlock None (chain_of (source_line body.Html source)))) at made.2,
-      ),
+    c.args.position.at (source_line body.Html source) opened blocks line begins kept put in (
+      made.0,
+      subst (λ t. IsNextContent t c.args.position.at (Some made.0)) same made.1,
+      subst (λ n. HasTrees old c.end_html.new.self.placing.builder
+          (shown_over made.0 n body.HtmlBlock None (chain_of (source_line body.Html source)))) at made.2,
     )
 
 pub returns-clause-leaf : goal.returns-clause-leaf
-returns-clause-leaf c = λ s frames inside b source built is kind content last fitted.
+returns-clause-leaf c = λ s frames inside b source built is kind content last.
     let old = c.args.self.now.placing.builder in
     let new = c.end_html.new.self.placing.builder in
     let filled = c.add_html_line.new.self.placing.builder in
@@ -65,51 +61,45 @@ returns-clause-leaf c = λ s frames inside b source built is kind content last f
     let end : to ≡ source.next =
     after_held (rest_from c.args.line c.args.position) source
     (rest_held old.text c.args.position c.args.line source is.rest) (omega (arith, stop, next)) in
-    on_value (λ ends. AllFitted c.args.self.now.placing × IsLeafIn s new frames inside b ends)
+    on_value (λ ends. IsLeafIn s new frames inside b ends)
     (ends_html c.args.kind source)
     (λ e.
     let at_end = alike ∙ e in
-    let made = returns-clause-tree c source is.rest at_end fitted in
+    let made = returns-clause-tree c source is.rest at_end in
     let placed : IsPlacedTo old new to = search (rules, outer_of_opened, at_end) in
     let more : new.texts ≡ filled.texts = search (rules, at_end) in
     let before : c.open_block.new.self.builder.texts ≡ old.texts = search rules in
-    let put = c.end_html.ensures.tree (subst (λ t. ends_html_at t c.args.position c.args.line c.args.kind ≡ true)
-    (search rules) at_end) fitted in
-    let begins = c.begin_at_content.ensures.begins put.0 in
-    let texts = (c.in_ok-add_html_line.ensures.texts begins.0).1 in (
-      made.0,
-      html_placed s old new frames inside b c.args.kind source (ends_html c.args.kind source) made.1.0 to built kind
-          (same_content old.text c.args.position.at b.start made.1.0 content made.1.1) (last ∙ sym end) placed
-          (texts_after old c.open_block.new.self.builder new (no_text old c.open_block.new.self.builder before)
-          (texts_after c.open_block.new.self.builder filled new texts (no_text filled new more))) made.1.2,
-    ))
+    let begins = c.begin_at_content.ensures.begins in
+    let texts = c.in_ok-add_html_line.ensures.texts in
+    html_placed s old new frames inside b c.args.kind source (ends_html c.args.kind source) made.0 to built kind
+    (same_content old.text c.args.position.at b.start made.0 content made.1) (last ∙ sym end) placed
+    (texts_after old c.open_block.new.self.builder new (no_text old c.open_block.new.self.builder before)
+    (texts_after c.open_block.new.self.builder filled new texts (no_text filled new more))) made.2)
     (λ e.
     let text : c.begin_at_content.new.self.builder.text ≡ old.text = search rules in
     let same : filled.text ≡ old.text = search rules in
     let kept = c.end_html.ensures.goes_on (ap (λ t. ends_html_at t c.args.position c.args.line c.args.kind) text
     ∙ (alike ∙ e)) in
-    let begins = c.begin_at_content.ensures.begins (subst (λ (p : Pass). AllFitted p.placing) kept fitted) in
-    let goes = c.in_ok-add_html_line.ensures.goes_on begins.0 in
+    let begins = c.begin_at_content.ensures.begins in
+    let goes = c.in_ok-add_html_line.ensures.goes_on in
     let line = c.in_ok-add_html_line.ensures.items source
-    (subst (λ t. IsRest t c.args.position c.args.line source) (search rules) is.rest) begins.0 in
-    let more = c.in_ok-add_html_line.ensures.texts begins.0 in
-    let first = c.in_ok-open_block.ensures.opens goes.0 in
-    let steps = c.step_to.ensures.steps first.0 in
+    (subst (λ t. IsRest t c.args.position c.args.line source) (search rules) is.rest) in
+    let more = c.in_ok-add_html_line.ensures.texts in
+    let first = c.in_ok-open_block.ensures.opens in
+    let steps = c.step_to.ensures.steps in
     let begun = c.begin_at_content.new.self.builder in
     let now = c.open_block.new.self.builder in
     let opened : Opens (stepped old c.args.position.at) now body.HtmlBlock =
-    subst (λ (v : BuilderView). Opens v now body.HtmlBlock) steps.1 first.1 in
-    let made = html_begins old now filled begun c.args.position.at to opened goes.1 begins.1
-    c.begin_at_content.ensures.same in (
-      steps.0,
-      subst (λ (p : Pass). IsOpenIn s p.placing.builder frames inside true b) (sym kept)
-          (html_opened s old begun frames inside b c.args.kind source (ends_html c.args.kind source) made.start to built
-          kind (same_content old.text c.args.position.at b.start made.start content
-          (subst (λ t. IsNextContent t c.args.position.at (Some made.start)) same made.content)) (last
-          ∙ sym end) made.same
-          (texts_after old now begun (no_text old now (ap (λ (v : BuilderView). v.texts) opened))
-          (texts_after now filled begun more.1
-          (no_text filled begun (ap (λ (v : BuilderView). v.texts) c.begin_at_content.ensures.same))))
-          (ap (λ (v : BuilderView). v.levels) c.begin_at_content.ensures.same
-          ∙ (line.1 ∙ ap (λ (v : BuilderView). with_items v.levels (source_line body.Html source)) opened))),
-    ))
+    subst (λ (v : BuilderView). Opens v now body.HtmlBlock) steps first in
+    let made = html_begins old now filled begun c.args.position.at to opened goes begins
+    c.begin_at_content.ensures.same in
+    subst (λ (p : Pass). IsOpenIn s p.placing.builder frames inside true b) (sym kept)
+    (html_opened s old begun frames inside b c.args.kind source (ends_html c.args.kind source) made.start to built
+    kind (same_content old.text c.args.position.at b.start made.start content
+    (subst (λ t. IsNextContent t c.args.position.at (Some made.start)) same made.content)) (last
+    ∙ sym end) made.same
+    (texts_after old now begun (no_text old now (ap (λ (v : BuilderView). v.texts) opened))
+    (texts_after now filled begun more
+    (no_text filled begun (ap (λ (v : BuilderView). v.texts) c.begin_at_content.ensures.same))))
+    (ap (λ (v : BuilderView). v.levels) c.begin_at_content.ensures.same
+    ∙ (line ∙ ap (λ (v : BuilderView). with_items v.levels (source_line body.Html source)) opened))))

@@ -9,7 +9,7 @@ use Rattle.markdown_lines.specs.BlockBeginnings.{Source}
 use Rattle.markdown_block_rules.specs.BlockGrowth.{Block, item_container}
 use Rattle.markdown_plain.specs.Beginning.{HoldsLast}
 use Rattle.markdown_plain.specs.Closing.{MayClose}
-use Rattle.markdown_plain.specs.Fitting.{AllFitted, IfFitted, stepped, IsAhead}
+use Rattle.markdown_plain.specs.Fitting.{stepped, IsAhead}
 use Rattle.markdown_plain.specs.Standing.{with_last}
 use Rattle.markdown_plain.specs.Frames.{Frame, forgotten, innermost_is, is_list, rebuilt}
 use Rattle.markdown_plain.specs.OpenedFrames.{with_frame}
@@ -46,19 +46,17 @@ item_in c s frames inside b opens steps start same listed built =
 
 pub returns-clause-begins : goal.returns-clause-begins
 returns-clause-begins c =
-    IfOk-weaker c.open_block.result _ _ (λ done opens s frames inside list b may deep starts is start same fitted.
-    let last = opens fitted in
-    let first = c.step_to.ensures.steps last.0 in
+    IfOk-weaker c.open_block.result _ _ (λ done opens s frames inside list b may deep starts is start same.
+    let first = c.step_to.ensures.steps in
     let many = as_many_containers s c.args.self.now.placing.builder frames inside may.built in
     let kept = c.in_ok-close_down.ensures.kept
     (built_outside s c.args.self.now.placing.builder frames inside may.built) may.lines (omega (arith, many, deep)) in
     let listed = c.in_ok-open_list.ensures.begins s frames inside list
-    (subst (λ (p : Pass). IsBuilt s p.placing.builder frames inside) (sym kept) may.built) may.free starts is first.0
-    in (
-      subst (λ (p : Pass). AllFitted p.placing) kept listed.0,
-      item_in c s (with_frame frames inside list) nil b last.1 first.1 start same
-          (inner_last is_list frames (record { before = inside; block = list }) ∙ ap is_list is) listed.1,
-    )) c.open_block.ensures.opens
+    (subst (λ (p : Pass). IsBuilt s p.placing.builder frames inside) (sym kept) may.built) may.free starts is
+    in
+    item_in c s (with_frame frames inside list) nil b opens first start same
+    (inner_last is_list frames (record { before = inside; block = list }) ∙ ap is_list is) listed)
+    c.open_block.ensures.opens
 
 -- nothing is closed inside a container that was opened last
 pub returns-clause-inside : goal.returns-clause-inside
@@ -81,60 +79,53 @@ returns-clause-inside c =
 -- what is not reached is closed
 closed_down : (c : goal.After-open_block) (s : Source) (frames : List Frame) (inside : Forest Block)
     (last : Option Block) → HoldsLast s c.args.self.now frames inside last
-    → IfFitted c.args.self.now.placing c.close_down.new.self.placing (MayClose s c.close_down.new.self
-    (take c.args.depth frames) (rebuilt (drop c.args.depth frames) (with_last inside last)))
+    → MayClose s c.close_down.new.self (take c.args.depth frames) (rebuilt (drop c.args.depth frames)
+    (with_last inside last))
 closed_down c s frames inside None holds = c.in_ok-close_down.ensures.forgets s frames inside holds.1 holds.0
 closed_down c s frames inside (Some b) holds = c.in_ok-close_down.ensures.finishes s frames inside b holds.0 holds.1
 
 pub returns-clause-frame : goal.returns-clause-frame
 returns-clause-frame c =
-    IfOk-weaker c.open_block.result _ _ (λ done opens s frames inside before list b holds starts is start same fitted.
-    let last = opens fitted in
-    let first = c.step_to.ensures.steps last.0 in
+    IfOk-weaker c.open_block.result _ _ (λ done opens s frames inside before list b holds starts is start same.
+    let first = c.step_to.ensures.steps in
     let outer = take c.args.depth frames in
     let below = rebuilt (drop c.args.depth frames) (with_last inside before) in
     let listed = c.in_ok-open_list.ensures in
-    let down = closed_down c s frames inside before holds (listed.around first.0).0 in
+    let down = closed_down c s frames inside before holds in
     let put : (fs : List Frame) (before : Forest Block) → innermost_is is_list fs ≡ true
     → IsBuilt s c.open_list.new.self.placing.builder fs before
     → IsBuilt s c.open_block.new.self.builder (with_frame fs before b) nil =
-    λ fs before innermost built. item_in c s fs before b last.1 first.1 start same innermost built in
+    λ fs before innermost built. item_in c s fs before b opens first start same innermost built in
     let put_first : (fs : List Frame) (before : Forest Block)
     → IsBuilt s c.open_list.new.self.placing.builder (with_frame fs before list) nil
     → IsBuilt s c.open_block.new.self.builder (with_frame (with_frame fs before list) nil b) nil =
     λ fs before built. put (with_frame fs before list) nil
-    (inner_last is_list fs (record { before = before; block = list }) ∙ ap is_list is) built in (
-      down.0,
-      item_placed (λ fs. IsBuilt s c.open_block.new.self.builder fs nil) c.args.item.marker list b outer below
-          (λ goes_on. put outer below (list_for_item c.args.item.marker outer goes_on)
-          (listed.continues s outer below down.1.stands.built goes_on first.0).1)
-          (λ free. put_first outer below
-          (listed.begins s outer below list down.1.stands.built free starts is first.0).1)
-          (λ others f whole ends other. put_first others (forgotten f below)
-          (listed.changes s others f below list (subst (λ fs. MayClose s c.close_down.new.self fs below) whole down.1)
-          ends other starts is first.0).1),
-    )) c.open_block.ensures.opens
+    (inner_last is_list fs (record { before = before; block = list }) ∙ ap is_list is) built in
+    item_placed (λ fs. IsBuilt s c.open_block.new.self.builder fs nil) c.args.item.marker list b outer below
+    (λ goes_on. put outer below (list_for_item c.args.item.marker outer goes_on)
+    (listed.continues s outer below down.stands.built goes_on))
+    (λ free. put_first outer below
+    (listed.begins s outer below list down.stands.built free starts is))
+    (λ others f whole ends other. put_first others (forgotten f below)
+    (listed.changes s others f below list (subst (λ fs. MayClose s c.close_down.new.self fs below) whole down)
+    ends other starts is))) c.open_block.ensures.opens
 
 pub returns-clause-loose : goal.returns-clause-loose
 returns-clause-loose c =
-    IfOk-weaker c.open_block.result _ _ (λ done opens s frames inside last list b holds loose known lists items fitted.
+    IfOk-weaker c.open_block.result _ _ (λ done opens s frames inside last list b holds loose known lists items.
     let old = c.args.self.now in
     let down = c.close_down.new.self in
     let depth = c.args.depth in
     let blocks = with_last inside last in
-    let first = c.step_to.ensures.steps (opens fitted).0 in
     let listed = c.in_ok-open_list.ensures in
-    let there = (listed.around first.0).0 in
     let around = last_open s old frames inside last holds in
-    let closed = closed_down c s frames inside last holds there in
-    let left = c.in_ok-close_down.ensures.loose around.texts frames blocks around.are around.nested loose there in
+    let closed = closed_down c s frames inside last holds in
+    let left = c.in_ok-close_down.ensures.loose around.texts frames blocks around.are around.nested loose in
     let from : down.looseness.blank_from ≡ old.looseness.blank_from =
-    ap (λ (l : Looseness). l.blank_from) c.close_down.ensures.looseness in (
-      closed.0,
-      (listed.loose s (take depth frames) (rebuilt (drop depth frames) blocks) list b closed.1.stands.built left.1
-          (subst (λ n. BlanksKnown n 0 (take depth frames) (rebuilt (drop depth frames) blocks)) (sym from)
-          (known_of_outermost old.looseness.blank_from depth frames blocks known)) lists items first.0).1,
-    )) c.open_block.ensures.opens
+    ap (λ (l : Looseness). l.blank_from) c.close_down.ensures.looseness in
+    listed.loose s (take depth frames) (rebuilt (drop depth frames) blocks) list b closed.stands.built left
+    (subst (λ n. BlanksKnown n 0 (take depth frames) (rebuilt (drop depth frames) blocks)) (sym from)
+    (known_of_outermost old.looseness.blank_from depth frames blocks known)) lists items) c.open_block.ensures.opens
 
 -- ---- the calls
 
@@ -152,13 +143,13 @@ may_begin c (by_closing may) =
     let old = c.args.self.now in
     let down = c.close_down.new.self in
     let done = c.in_ok-close_down.ensures in
-    let here = done.here may.closable tt in
+    let here = done.here may.closable in
     record {
       outside = here.outside;
       ahead = item_ahead old.placing.builder down.placing.builder old.placed c.args.at done.text here may.low
           may.boundary;
       white = item_white old.placing.builder down.placing.builder old.placed c.args.at c.args.depth done.text
-          (done.closes tt).1 here may.white;
+          done.closes here may.white;
       closable = λ list. subst (AreClosable down.placing.builder) (sym (ap (λ (p : Pass). p.placed) done.same)) here;
     }
 may_begin c (in_room free may) =
@@ -196,7 +187,7 @@ open_list-requires-clause-closable c =
 pub step_to-requires : goal.step_to-requires
 step_to-requires c =
     let may = may_begin (goal.at.step_to-requires c).In_ok-close_down c.requires in
-    let listed = c.in_ok-open_list.ensures.here may.outside may.ahead.0 tt in
+    let listed = c.in_ok-open_list.ensures.here may.outside may.ahead.0 in
     record {
       ahead = listed_ahead c.close_down.new.self.placing.builder _ c.args.at c.in_ok-open_list.ensures.text may.ahead.1
           listed;
@@ -206,5 +197,5 @@ step_to-requires c =
 pub open_block-requires-clause-outside : goal.open_block-requires-clause-outside
 open_block-requires-clause-outside c =
     let may = may_begin (goal.at.open_block-requires-clause-outside c).In_ok-close_down c.requires in
-    ap (λ (b : BuilderView). b.leaf) (c.step_to.ensures.steps tt).1
-    ∙ (c.in_ok-open_list.ensures.here may.outside may.ahead.0 tt).outside
+    ap (λ (b : BuilderView). b.leaf) c.step_to.ensures.steps
+    ∙ (c.in_ok-open_list.ensures.here may.outside may.ahead.0).outside

@@ -10,7 +10,7 @@ use Rattle.markdown_builder.specs.declared.open_block.OpenBlock.{OpenBlock}
 use Rattle.markdown_lines.specs.BlockBeginnings.{Source}
 use Rattle.markdown_block_rules.specs.BlockGrowth.{Block, list_container}
 use Rattle.markdown_plain.specs.Closing.{MayClose}
-use Rattle.markdown_plain.specs.Fitting.{AllFitted, IfFitted, stepped}
+use Rattle.markdown_plain.specs.Fitting.{stepped}
 use Rattle.markdown_plain.specs.Frames.{Frame, forgotten, is_list, rebuilt, room_depth}
 use Rattle.markdown_plain.specs.OpenedFrames.{is_list_for, with_frame, with_list}
 use Rattle.markdown_plain.specs.NewContainers.{is_list_of}
@@ -27,7 +27,7 @@ use Rattle.markdown_plain.proofs.pass.Pass.open_list.Goals.{in-Some+in-MaybeEmph
 use Rattle.markdown_plain.proofs.pass.Pass.open_list.Goals as goal
 
 pub returns-then-character-marker-clause-begins : goal.returns-then-character-marker-clause-begins
-returns-then-character-marker-clause-begins c = λ s frames inside b built none start same fitted.
+returns-then-character-marker-clause-begins c = λ s frames inside b built none start same.
     let list : own.innermost_is own.is_list c.args.self.now.placing.builder.blocks ≡ true = search rules in
     absurd (true≢false (sym list ∙ (list_innermost s c.args.self.now.placing.builder frames inside built ∙ none)))
 
@@ -38,7 +38,7 @@ begins c = search rules
 
 pub returns-clause-continues : goal.returns-clause-continues
 returns-clause-continues c =
-    IfOk-weaker c.open_list.result _ _ (λ done read s frames inside built goes_on fitted.
+    IfOk-weaker c.open_list.result _ _ (λ done read s frames inside built goes_on.
     absurd (true≢false (sym goes_on ∙ (sym (list_goes_on c.args.marker s c.args.self.now.placing.builder frames inside
     built) ∙ begins c)))) c.open_list.ensures.read
 
@@ -50,21 +50,19 @@ none_closed c none = search (rules, none)
 
 pub returns-clause-begins : goal.returns-clause-begins
 returns-clause-begins c =
-    IfOk-weaker c.open_list.result _ _ (λ done read s frames inside b built fits start same fitted.
+    IfOk-weaker c.open_list.result _ _ (λ done read s frames inside b built fits start same.
     let list = body.List true c.args.marker.character c.args.marker.first in
     let now = c.open_block.new.self.builder in
-    let last = c.in_ok-open_block.ensures.opens fitted in
-    let first = c.step_to.ensures.steps last.0 in
-    let kept = none_closed c (list_innermost s c.args.self.now.placing.builder frames inside built ∙ fits) in (
-      subst (λ (p : Pass). AllFitted p.placing) kept first.0,
-      plain_is_built s c.args.self.now.placing.builder now frames inside b c.args.at (list_container c.args.marker)
-          list (list_is c.args.marker)
-          (subst (λ (p : Pass). Opens (stepped p.placing.builder c.args.at) now list) kept
-          (subst (λ (v : BuilderView). Opens v now list) first.1 last.1)) start same fits built,
-    )) c.open_list.ensures.read
+    let last = c.in_ok-open_block.ensures.opens in
+    let first = c.step_to.ensures.steps in
+    let kept = none_closed c (list_innermost s c.args.self.now.placing.builder frames inside built ∙ fits) in
+    plain_is_built s c.args.self.now.placing.builder now frames inside b c.args.at (list_container c.args.marker)
+    list (list_is c.args.marker)
+    (subst (λ (p : Pass). Opens (stepped p.placing.builder c.args.at) now list) kept
+    (subst (λ (v : BuilderView). Opens v now list) first last)) start same fits built) c.open_list.ensures.read
 
 pub returns-then-character-marker-clause-changes : goal.returns-then-character-marker-clause-changes
-returns-then-character-marker-clause-changes c = λ s frames f inside b may list other start same fitted.
+returns-then-character-marker-clause-changes c = λ s frames f inside b may list other start same.
     let goes_on : own.innermost_is (is_list_of c.args.marker.character) c.args.self.now.placing.builder.blocks ≡ true =
     search rules in
     absurd (true≢false (sym goes_on
@@ -72,16 +70,14 @@ returns-then-character-marker-clause-changes c = λ s frames f inside b may list
     ∙ (inner_last (is_list_for c.args.marker) frames f ∙ other))))
 
 -- another list is closed
-list_closed : (c : goal.After-open_list)
-    → own.innermost_is own.is_list c.args.self.now.placing.builder.blocks ≡ true
+list_closed : (c : goal.After-open_list) → own.innermost_is own.is_list c.args.self.now.placing.builder.blocks ≡ true
     → (s : Source) (frames : List Frame) (f : Frame) (inside : Forest Block)
-    → MayClose s c.args.self.now (frames ++ f ∷ []) inside
-    → IfFitted c.args.self.now.placing c.match-innermost.self.placing
-    (MayClose s c.match-innermost.self frames (forgotten f inside))
+    → MayClose s c.args.self.now (frames ++ f ∷ []) inside → MayClose s c.match-innermost.self frames
+    (forgotten f inside)
 list_closed c list s frames f inside may =
     elim c.match-innermost.branch [
       | in-Some-List+else-character-marker w ↦
-          subst (λ (p : Pass). IfFitted c.args.self.now.placing p.placing (MayClose s p frames (forgotten f inside)))
+          subst (λ (p : Pass). MayClose s p frames (forgotten f inside))
           (sym w.self-is) (w.close_block.ensures.forgets s frames f inside may)
       | in-Some+in-MaybeEmphasis-1 w ↦ absurd (true≢false (sym list ∙ search rules))
       | in-None-1 w ↦ absurd (true≢false (sym list ∙ search rules))
@@ -89,20 +85,18 @@ list_closed c list s frames f inside may =
 
 pub returns-clause-changes : goal.returns-clause-changes
 returns-clause-changes c =
-    IfOk-weaker c.open_list.result _ _ (λ done read s frames f inside b may is other start same fitted.
+    IfOk-weaker c.open_list.result _ _ (λ done read s frames f inside b may is other start same.
     let list = body.List true c.args.marker.character c.args.marker.first in
     let now = c.open_block.new.self.builder in
-    let last = c.in_ok-open_block.ensures.opens fitted in
-    let first = c.step_to.ensures.steps last.0 in
+    let last = c.in_ok-open_block.ensures.opens in
+    let first = c.step_to.ensures.steps in
     let innermost = list_innermost s c.args.self.now.placing.builder (frames ++ f ∷ []) inside may.stands.built
     ∙ (inner_last is_list frames f ∙ is) in
-    let closed = list_closed c innermost s frames f inside may first.0 in (
-      closed.0,
-      plain_is_built s c.match-innermost.self.placing.builder now frames (forgotten f inside) b c.args.at
-          (list_container c.args.marker) list (list_is c.args.marker)
-          (subst (λ (v : BuilderView). Opens v now list) first.1 last.1) start same
-          (list_outside frames f is may.stands.built.nested) closed.1.stands.built,
-    )) c.open_list.ensures.read
+    let closed = list_closed c innermost s frames f inside may in
+    plain_is_built s c.match-innermost.self.placing.builder now frames (forgotten f inside) b c.args.at
+    (list_container c.args.marker) list (list_is c.args.marker)
+    (subst (λ (v : BuilderView). Opens v now list) first last) start same
+    (list_outside frames f is may.stands.built.nested) closed.stands.built) c.open_list.ensures.read
 
 pub returns-then-character-marker-clause-loose_begins : goal.returns-then-character-marker-clause-loose_begins
 returns-then-character-marker-clause-loose_begins c = λ s frames inside list b built none loose known lists items.
@@ -129,24 +123,22 @@ returns-clause-loose_begins c =
 
 -- an item more in the list that goes on
 pub returns-then-character-marker-clause-loose : goal.returns-then-character-marker-clause-loose
-returns-then-character-marker-clause-loose c = λ s frames inside list b built loose known lists items fitted.
+returns-then-character-marker-clause-loose c = λ s frames inside list b built loose known lists items.
     let marker = c.args.marker in
     let view = c.args.self.now.placing.builder in
     let goes_on : own.innermost_is (is_list_of marker.character) view.blocks ≡ true = search rules in
-    let listed = sym (list_goes_on marker s view frames inside built) ∙ goes_on in (
-      fitted,
-      subst (λ fs. IsLooseAs c.add_item.new.self fs nil)
-          (ap (λ (test : Bool). if test then with_frame frames inside b
-          else with_frame (with_list list frames inside) nil b) (sym listed))
-          (c.add_item.ensures.begins view.texts frames inside b
-          (subst (λ (bs : List OpenBlock). AreOpen view.texts bs frames) (sym c.open_blocks.ensures) built.blocks)
-          built.nested (list_for_item marker frames listed) loose known items),
-    )
+    let listed = sym (list_goes_on marker s view frames inside built) ∙ goes_on in
+    subst (λ fs. IsLooseAs c.add_item.new.self fs nil)
+    (ap (λ (test : Bool). if test then with_frame frames inside b
+    else with_frame (with_list list frames inside) nil b) (sym listed))
+    (c.add_item.ensures.begins view.texts frames inside b
+    (subst (λ (bs : List OpenBlock). AreOpen view.texts bs frames) (sym c.open_blocks.ensures) built.blocks)
+    built.nested (list_for_item marker frames listed) loose known items)
 
 -- a list in the way is closed, and another one begins
 pub returns-clause-loose : goal.returns-clause-loose
 returns-clause-loose c =
-    IfOk-weaker c.open_list.result _ _ (λ done added s frames inside list b built loose known lists items fitted.
+    IfOk-weaker c.open_list.result _ _ (λ done added s frames inside list b built loose known lists items.
     let old = c.args.self.now in
     let now = c.match-innermost.self in
     let view = old.placing.builder in
@@ -154,46 +146,36 @@ returns-clause-loose c =
     let n = room_depth (length frames) frames in
     let f : Frame = record { before = rebuilt (drop n frames) inside; block = list } in
     let g : Frame = record { before = nil; block = b } in
-    let last = c.in_ok-open_block.ensures.opens fitted in
-    let first = c.step_to.ensures.steps last.0 in
     let here = subst (λ k. AreClosedTo texts frames inside k view.blocks old.looseness)
     (as_many_containers s view frames inside built)
     (none_closed_so_far texts frames inside view.blocks old.looseness built.blocks loose) in
-    let room : AllFitted old.placing × IsRoom texts frames inside n now.placing.builder.blocks now.looseness =
+    let room : IsRoom texts frames inside n now.placing.builder.blocks now.looseness =
     elim c.match-innermost.branch [
       | in-Some-List+else-character-marker w ↦
-          let shut = w.close_block.ensures.closes (subst (λ (p : Pass). AllFitted p.placing) w.self-is first.0) in
-          let inner : own.innermost_is own.is_list view.blocks ≡ true = search rules in (
-            shut.0,
-            subst (λ (p : Pass). IsRoom texts frames inside n p.placing.builder.blocks p.looseness) (sym w.self-is)
-                (room_left texts frames inside (length frames) view.blocks
-                w.close_block.new.self.placing.builder.blocks old.looseness w.close_block.new.self.looseness
-                (ap (λ (v : BuilderView). v.blocks) shut.1) (record { loose = w.close_block.ensures.loose texts })
-                built.nested here inner),
-          )
+          let shut = w.close_block.ensures.closes in
+          let inner : own.innermost_is own.is_list view.blocks ≡ true = search rules in
+          subst (λ (p : Pass). IsRoom texts frames inside n p.placing.builder.blocks p.looseness) (sym w.self-is)
+          (room_left texts frames inside (length frames) view.blocks
+          w.close_block.new.self.placing.builder.blocks old.looseness w.close_block.new.self.looseness
+          (ap (λ (v : BuilderView). v.blocks) shut) (record { loose = w.close_block.ensures.loose texts })
+          built.nested here inner)
       | in-Some+in-MaybeEmphasis-1 w ↦
-          let inner : own.innermost_is own.is_list view.blocks ≡ false = search rules in (
-            subst (λ (p : Pass). AllFitted p.placing) w.self-is first.0,
-            subst (λ (p : Pass). IsRoom texts frames inside n p.placing.builder.blocks p.looseness) (sym w.self-is)
-                (room_there texts frames inside (length frames) view.blocks old.looseness here inner),
-          )
+          let inner : own.innermost_is own.is_list view.blocks ≡ false = search rules in
+          subst (λ (p : Pass). IsRoom texts frames inside n p.placing.builder.blocks p.looseness) (sym w.self-is)
+          (room_there texts frames inside (length frames) view.blocks old.looseness here inner)
       | in-None-1 w ↦
-          let inner : own.innermost_is own.is_list view.blocks ≡ false = search rules in (
-            subst (λ (p : Pass). AllFitted p.placing) w.self-is first.0,
-            subst (λ (p : Pass). IsRoom texts frames inside n p.placing.builder.blocks p.looseness) (sym w.self-is)
-                (room_there texts frames inside (length frames) view.blocks old.looseness here inner),
-          )
+          let inner : own.innermost_is own.is_list view.blocks ≡ false = search rules in
+          subst (λ (p : Pass). IsRoom texts frames inside n p.placing.builder.blocks p.looseness) (sym w.self-is)
+          (room_there texts frames inside (length frames) view.blocks old.looseness here inner)
     ] in
     let from : now.looseness.blank_from ≡ old.looseness.blank_from = search rules in
     let other = sym (list_goes_on c.args.marker s view frames inside built) ∙ begins c in
     let made = room_made texts frames inside n now.placing.builder.blocks now.looseness c.add_block.new.self
     (subst (λ (bs : List OpenBlock). AddsBlock texts bs now.looseness c.add_block.new.self) c.open_blocks-2.ensures
     (record { loose = c.add_block.ensures.begins texts })) built.nested
-    (λ some. subst (λ from. BlanksKnown from 0 frames inside) (sym from) known) room.1 in (
-      room.0,
-      subst (λ fs. IsLooseAs c.open_list.new.self fs nil)
-          (sym (append_assoc (take n frames) (f ∷ []) (g ∷ []))
-          ∙ ap (λ (test : Bool). if test then with_frame frames inside b
-          else with_frame (with_list list frames inside) nil b) (sym other))
-          (added (take n frames) (rebuilt (drop n frames) inside) list b made lists items),
-    )) c.open_list.ensures.begins
+    (λ some. subst (λ from. BlanksKnown from 0 frames inside) (sym from) known) room in
+    subst (λ fs. IsLooseAs c.open_list.new.self fs nil)
+    (sym (append_assoc (take n frames) (f ∷ []) (g ∷ []))
+    ∙ ap (λ (test : Bool). if test then with_frame frames inside b
+    else with_frame (with_list list frames inside) nil b) (sym other))
+    (added (take n frames) (rebuilt (drop n frames) inside) list b made lists items)) c.open_list.ensures.begins

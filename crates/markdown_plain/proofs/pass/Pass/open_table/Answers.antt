@@ -16,7 +16,6 @@ use Rattle.markdown_lines.specs.SourceLines.{SourceLine}
 use Rattle.markdown_block_rules.specs.BlockGrowth.{Block}
 use Rattle.markdown_plain.specs.declared.pass.Pass.{Pass}
 use Rattle.markdown_plain.specs.Closable.{AreAhead, IsInText}
-use Rattle.markdown_plain.specs.Fitting.{AllFitted}
 use Rattle.markdown_plain.specs.Frames.{Frame}
 use Rattle.markdown_plain.specs.Settled.{IsBuilt}
 use Rattle.markdown_plain.specs.TableHeads.{before_table, last_of}
@@ -38,12 +37,10 @@ all_of c there =
 
 -- what is built once they have ended
 front_built : (c : goal.In_ok-_found) (s : Source) (frames : List Frame) (inside : Forest Block) (b : Block)
-    (before : List SourceLine) (from : SourceLine)
-    → HasFront s c.args.self.now frames inside b before from c.pop-head.new.self.items c.args.head
-    → s.options ≡ c.args.self.now.options → AllFitted c.if-not-is_empty.self.placing
-    → AllFitted c.args.self.now.placing
-    × IsBuilt s c.if-not-is_empty.self.placing.builder frames (before_table inside b before)
-front_built c s frames inside b before from has options fitted =
+    (before : List SourceLine) (from : SourceLine) → HasFront s c.args.self.now frames inside b before from
+    c.pop-head.new.self.items c.args.head → s.options ≡ c.args.self.now.options
+    → IsBuilt s c.if-not-is_empty.self.placing.builder frames (before_table inside b before)
+front_built c s frames inside b before from has options =
     let front = c.pop-head.new.self.items in
     elim c.if-not-is_empty.branch [
       | then-not-is_empty+in_ok-end_paragraph w ↦
@@ -51,20 +48,15 @@ front_built c s frames inside b before from has options fitted =
           let now : Pass = record c.args.self.now { lines = c.pop-head.new.self } in
           let held = front_holds s c.args.self.now now frames inside b before from front c.args.head has refl refl
           some in
-          let ended = w.in_ok-end_paragraph.ensures.frame s frames inside _ before held.0 options
-          (subst (λ (p : Pass). AllFitted p.placing) w.self-is fitted) in (
-            ended.0,
-            subst (λ (p : Pass). IsBuilt s p.placing.builder frames (before_table inside b before)) (sym w.self-is)
-                (subst (IsBuilt s w.end_paragraph.new.self.placing.builder frames) (sym held.1) ended.1.built),
-          )
+          let ended = w.in_ok-end_paragraph.ensures.frame s frames inside _ before held.0 options in
+          subst (λ (p : Pass). IsBuilt s p.placing.builder frames (before_table inside b before)) (sym w.self-is)
+          (subst (IsBuilt s w.end_paragraph.new.self.placing.builder frames) (sym held.1) ended.built)
       | else-not-is_empty w ↦
-          let none : length front ≡ 0 = grind (arith, nat_tests, c.is_empty.ensures, w.if-not-is_empty.false) in (
-            subst (λ (p : Pass). AllFitted p.placing) w.self-is fitted,
-            subst (λ (p : Pass). IsBuilt s p.placing.builder frames (before_table inside b before)) (sym w.self-is)
-                (subst (IsBuilt s c.args.self.now.placing.builder frames)
-                (sym (front_none s c.args.self.now frames inside b before from front c.args.head has none))
-                has.holds.built),
-          )
+          let none : length front ≡ 0 = grind (arith, nat_tests, c.is_empty.ensures, w.if-not-is_empty.false) in
+          subst (λ (p : Pass). IsBuilt s p.placing.builder frames (before_table inside b before)) (sym w.self-is)
+          (subst (IsBuilt s c.args.self.now.placing.builder frames)
+          (sym (front_none s c.args.self.now frames inside b before from front c.args.head has none))
+          has.holds.built)
     ]
 
 front_options : (c : goal.In_ok-_found) → c.if-not-is_empty.self.options ≡ c.args.self.now.options
@@ -74,29 +66,21 @@ front_options c = elim c.if-not-is_empty.branch [
   | else-not-is_empty w ↦ ap (λ (p : Pass). p.options) w.self-is
 ]
 
-front_before : (c : goal.In_ok-_found) → AllFitted c.if-not-is_empty.self.placing
-    → AllFitted c.args.self.now.placing
-front_before c fitted = elim c.if-not-is_empty.branch [
-  | then-not-is_empty+in_ok-end_paragraph w ↦
-      tt
-  | else-not-is_empty w ↦ subst (λ (p : Pass). AllFitted p.placing) w.self-is fitted
-]
-
 pub returns-clause-frame : goal.returns-clause-frame
-returns-clause-frame c = λ s frames inside b before from holds source there ahead fitted.
+returns-clause-frame c = λ s frames inside b before from holds source there ahead.
     let pass = c.args.self.now in
     let text = pass.placing.builder.text in
     let front = c.pop-head.new.self.items in
     let all = all_of c there in
     let has : HasFront s pass frames inside b before from front c.args.head = record { holds = holds; all = all } in
     let first = c.if-not-is_empty.self.placing.builder in
-    let placed = c.in_ok-_found.ensures.placed fitted in
-    let opened = c.in_ok-open_table.ensures.opens placed.0 in
-    let moved = c.step_to.ensures.steps opened.0 in
-    let built = front_built c s frames inside b before from has (ap (λ (s : Source). s.options) (sym source)) moved.0 in
+    let placed = c.in_ok-_found.ensures.placed in
+    let opened = c.in_ok-open_table.ensures.opens in
+    let moved = c.step_to.ensures.steps in
+    let built = front_built c s frames inside b before from has (ap (λ (s : Source). s.options) (sym source)) in
     let same : c.open_table.new.self.builder.text ≡ text =
-    ap (λ (v : BuilderView). v.text) opened.1.2 ∙ (ap (λ (v : BuilderView). v.text) moved.1
-    ∙ (built.1.text ∙ sym holds.built.text)) in
+    ap (λ (v : BuilderView). v.text) opened.2 ∙ (ap (λ (v : BuilderView). v.text) moved
+    ∙ (built.text ∙ sym holds.built.text)) in
     let line = head_is s pass frames inside b before from front c.args.head has in
     let inside_it = head_in_text pass.placing.builder front c.args.head
     (subst (AreAhead pass.placing.builder) all ahead) in
@@ -105,35 +89,29 @@ returns-clause-frame c = λ s frames inside b before from holds source there ahe
       text = c.open_table.new.self.builder.text;
       options = c.if-not-is_empty.self.options;
     }) (open_columns c.open_table.new.self.builder) body.TableHead from) =
-    (c.in_ok-_found.ensures.tree refl
+    c.in_ok-_found.ensures.tree refl
     (subst (λ (t : List ℕ). IsInText t c.args.head) (sym same) inside_it) from
-    (subst (λ (t : List ℕ). IsTextLine t c.args.head from) (sym same) line) fitted).1 in (
-      built.0,
-      table_begun s frames (before_table inside b before) c.args.head from c.args.alignments.items first
-          c.step_to.new.self.builder c.open_table.new.self.builder c.place_row.new.placing.builder built.1 (record {
-            steps = moved.1;
-            opens = opened.1;
-            placed = placed.1;
-            texts = (c.in_ok-_found.ensures.texts fitted).1;
-            row = subst (λ (s : Source). HasTrees c.open_table.new.self.builder c.place_row.new.placing.builder
-                (shown_row s (open_columns c.open_table.new.self.builder) body.TableHead from))
-                (ap (λ (t : List ℕ). record { text = t; options = c.if-not-is_empty.self.options }) same
-                ∙ (ap (λ o. record { text = text; options = o }) (front_options c) ∙ source)) row;
-            is = subst (λ (t : List ℕ). IsTextLine t c.args.head from) holds.built.text line;
-          }),
-    )
+    (subst (λ (t : List ℕ). IsTextLine t c.args.head from) (sym same) line) in
+    table_begun s frames (before_table inside b before) c.args.head from c.args.alignments.items first
+    c.step_to.new.self.builder c.open_table.new.self.builder c.place_row.new.placing.builder built (record {
+      steps = moved;
+      opens = opened;
+      placed = placed;
+      texts = c.in_ok-_found.ensures.texts;
+      row = subst (λ (s : Source). HasTrees c.open_table.new.self.builder c.place_row.new.placing.builder
+          (shown_row s (open_columns c.open_table.new.self.builder) body.TableHead from))
+          (ap (λ (t : List ℕ). record { text = t; options = c.if-not-is_empty.self.options }) same
+          ∙ (ap (λ o. record { text = text; options = o }) (front_options c) ∙ source)) row;
+      is = subst (λ (t : List ℕ). IsTextLine t c.args.head from) holds.built.text line;
+    })
 
 pub returns-clause-here : goal.returns-clause-here
-returns-clause-here c = λ fitted.
-    let placed = c.in_ok-_found.ensures.placed fitted in
-    let opened = c.in_ok-open_table.ensures.opens placed.0 in
-    let moved = c.step_to.ensures.steps opened.0 in (
-      front_before c moved.0,
-      (
-        ap (λ (v : BuilderView). v.at) placed.1,
-        some_opened c.place_row.new.placing.builder.blocks c.step_to.new.self.builder.blocks _
-            (ap (λ (v : BuilderView). v.blocks) placed.1 ∙ ap (λ (v : BuilderView). v.blocks) opened.1.2),
-      ),
+returns-clause-here c =
+    let placed = c.in_ok-_found.ensures.placed in
+    let opened = c.in_ok-open_table.ensures.opens in (
+      ap (λ (v : BuilderView). v.at) placed,
+      some_opened c.place_row.new.placing.builder.blocks c.step_to.new.self.builder.blocks _
+          (ap (λ (v : BuilderView). v.blocks) placed ∙ ap (λ (v : BuilderView). v.blocks) opened.2),
     )
 
 -- the lines that are held back are those before the head, and the head
@@ -162,9 +140,9 @@ front_ended c =
           subst (λ (p : Pass). IsEndedAt old p.placing.builder (past old.at front)) (sym w.self-is)
           (ended_at old w.end_paragraph.new.self.placing.builder front w.in_ok-end_paragraph.field-0 some
           c.requires.outside
-          (λ left. (w.in_ok-end_paragraph.ensures.ends left tt).1)
-          (λ none. (w.in_ok-end_paragraph.ensures.defines none tt).1)
-          (λ none. (w.in_ok-end_paragraph.ensures.after none some tt).1))
+          (λ left. w.in_ok-end_paragraph.ensures.ends left)
+          (λ none. w.in_ok-end_paragraph.ensures.defines none)
+          (λ none. w.in_ok-end_paragraph.ensures.after none some))
       | else-not-is_empty w ↦
           let none : length front ≡ 0 = grind (arith, nat_tests, c.is_empty.ensures, w.if-not-is_empty.false) in
           none_ended old c.if-not-is_empty.self.placing.builder front none c.requires.outside
@@ -183,8 +161,8 @@ place_row-requires-clause-may c =
     let old = c.args.self.now.placing.builder in
     let front = c.pop-head.new.self.items in
     let ended = front_ended (goal.at.place_row-requires-clause-may c).After-step_to-arg-1 in
-    let moved = (c.step_to.ensures.steps tt).1 in
-    let opened = (c.in_ok-open_table.ensures.opens tt).1 in
+    let moved = c.step_to.ensures.steps in
+    let opened = c.in_ok-open_table.ensures.opens in
     let is = head_in_text old front c.args.head
     (ahead_with (goal.at.place_row-requires-clause-may c).After-is_empty) in
     let same : c.open_table.new.self.builder.text ≡ old.text =

@@ -11,7 +11,7 @@ use Rattle.markdown_block_rules.specs.BlockRules.{before_braces}
 use Rattle.markdown_plain.proofs.ParagraphBracesLemmas.{begin_first, heading_open}
 use Rattle.markdown_plain.proofs.ParagraphTreesLemmas.{any_default, takes_line}
 use Rattle.markdown_plain.proofs.PlacedParagraphsLemmas.{IsAtEnd, moved_to, none_run, opens_no_text, placed_tree}
-use Rattle.markdown_plain.specs.Fitting.{AllFitted, stepped}
+use Rattle.markdown_plain.specs.Fitting.{stepped}
 use Rattle.markdown_plain.specs.HeldSources.{AreTextLines}
 use Rattle.markdown_plain.specs.ParagraphItems.{HaveEnds, OpenInLast, heading_braces, text_items}
 use Rattle.markdown_plain.specs.Paragraphs.{first_task, lines_end, paragraph_end, shown_ended, source_of}
@@ -35,23 +35,20 @@ same c =
       | in_default w ↦ w.self-is ∙ ap (λ (p : Pass). record c.args.self.now { placing = p.placing }) (sym w.self-is)
     ]
 
-begins : (c : goal.After-close) (source : SourceLine)
-    → ((other : HeldLine) → (get_or c.args.self.now.lines.items c.args.from other).start ≡ source.left.scanned)
-    → c.args.from < length c.args.self.now.lines.items → AllFitted c.match-get.self.placing
-    → AllFitted c.args.self.now.placing
-    × (c.match-get.self.placing.builder ≡ stepped c.args.self.now.placing.builder source.left.scanned)
-begins c source start less fitted =
+begins : (c : goal.After-close) (source : SourceLine) → ((other : HeldLine)
+    → (get_or c.args.self.now.lines.items c.args.from other).start ≡ source.left.scanned)
+    → c.args.from < length c.args.self.now.lines.items
+    → (c.match-get.self.placing.builder ≡ stepped c.args.self.now.placing.builder source.left.scanned)
+begins c source start less =
     elim c.match-get.branch [
       | in-Some w ↦
-          let steps = w.step_to.ensures.steps (subst (λ (p : Pass). AllFitted p.placing) w.self-is fitted) in
+          let steps = w.step_to.ensures.steps in
           let first = subst (λ r. IfSome r (λ x. x.now ≡ get_or c.deref.result.now c.args.from x.now)) w.in-Some.is
           c.get.ensures.lookup.1 in
-          let held = first ∙ ap (λ ls. get_or ls c.args.from w.in-Some.first.now) c.deref.ensures.value in (
-            steps.0,
-            ap (λ (p : Pass). p.placing.builder) w.self-is
-                ∙ (steps.1 ∙ ap (stepped c.args.self.now.placing.builder)
-                (ap (λ (l : HeldLine). l.start) held ∙ start w.in-Some.first.now)),
-          )
+          let held = first ∙ ap (λ ls. get_or ls c.args.from w.in-Some.first.now) c.deref.ensures.value in
+          ap (λ (p : Pass). p.placing.builder) w.self-is
+          ∙ (steps ∙ ap (stepped c.args.self.now.placing.builder)
+          (ap (λ (l : HeldLine). l.start) held ∙ start w.in-Some.first.now))
       | in_default w ↦ absurd (search rules)
     ]
 
@@ -68,41 +65,34 @@ lines_are : (c : goal.After-close) → c.deref-2.result.now ≡ c.args.self.now.
 lines_are c = c.deref-2.ensures.value ∙ ap (λ (p : Pass). p.lines.items) (same c)
 
 ends : (c : goal.After-close) → c.args.from < length c.args.self.now.lines.items
-    → AllFitted c.match-heading.self.placing
-    → AllFitted c.add_lines.new.placing × IsAtEnd c.add_lines.new.placing.builder c.match-heading.self.placing.builder
+    → IsAtEnd c.add_lines.new.placing.builder c.match-heading.self.placing.builder
     (paragraph_end c.args.self.now.lines.items c.args.heading)
-ends c less fitted =
+ends c less =
     elim c.match-heading.branch [
       | in-Some-heading w ↦
           let steps = w.step_to-in-Some-heading.ensures.steps
-          (subst (λ (p : Pass). AllFitted p.placing) w.self-is fitted)
-          in (
-            steps.0,
-            moved_to c.add_lines.new.placing.builder c.match-heading.self.placing.builder _
-                (ap (λ (p : Pass). p.placing.builder) w.self-is
-                ∙ (steps.1 ∙ ap (λ heading. stepped c.add_lines.new.placing.builder
-                (paragraph_end c.args.self.now.lines.items heading)) (sym w.in-Some-heading.is))),
-          )
+          in
+          moved_to c.add_lines.new.placing.builder c.match-heading.self.placing.builder _
+          (ap (λ (p : Pass). p.placing.builder) w.self-is
+          ∙ (steps ∙ ap (λ heading. stepped c.add_lines.new.placing.builder
+          (paragraph_end c.args.self.now.lines.items heading)) (sym w.in-Some-heading.is)))
       | in_default-heading w ↦
-          let filled = subst (λ (p : Pass). AllFitted p.placing) w.self-is fitted in
           let goes = c.in_ok-add_lines.ensures.goes_on
-          (subst (λ (ls : List HeldLine). c.args.from < length ls) (sym (lines_are c)) less) filled in
-          let at = ap (λ (v : BuilderView). v.at) goes.1
+          (subst (λ (ls : List HeldLine). c.args.from < length ls) (sym (lines_are c)) less) in
+          let at = ap (λ (v : BuilderView). v.at) goes
           ∙ (ap lines_end (lines_are c)
-          ∙ sym (ap (paragraph_end c.args.self.now.lines.items) w.in_default-heading.is)) in (
-            filled,
-            moved_to c.add_lines.new.placing.builder c.match-heading.self.placing.builder _
-                (ap (λ (p : Pass). p.placing.builder) w.self-is
-                ∙ ap (λ n. stepped c.add_lines.new.placing.builder n) at),
-          )
+          ∙ sym (ap (paragraph_end c.args.self.now.lines.items) w.in_default-heading.is)) in
+          moved_to c.add_lines.new.placing.builder c.match-heading.self.placing.builder _
+          (ap (λ (p : Pass). p.placing.builder) w.self-is
+          ∙ ap (λ n. stepped c.add_lines.new.placing.builder n) at)
     ]
 
 pub returns-clause-tree : goal.returns-clause-tree
-returns-clause-tree c = λ sources marked b are less some first end fitted.
+returns-clause-tree c = λ sources marked b are less some first end.
     let pass = c.args.self.now in
     let text = pass.placing.builder.text in
-    let put = c.close.ensures.tree fitted in
-    let over = ends c less put.0 in
+    let put = c.close.ensures.tree in
+    let over = ends c less in
     let lines = drop c.args.from sources in
     let pass_same = same c in
     let text_same : c.match-get.self.placing.builder.text ≡ text = search rules in
@@ -123,84 +113,74 @@ returns-clause-tree c = λ sources marked b are less some first end fitted.
     } in
     let filled = c.in_ok-add_lines.ensures.items sources
     (subst (λ t. AreTextLines t c.deref-2.result.now sources) (sym open_same)
-    (subst (λ (ls : List HeldLine). AreTextLines text ls sources) (sym (lines_are c)) are)) fit over.0 in
-    let opens = c.in_ok-open_text.ensures.leaf c.last_braces.ensures.stand filled.0 in
+    (subst (λ (ls : List HeldLine). AreTextLines text ls sources) (sym (lines_are c)) are)) fit in
+    let opens = c.in_ok-open_text.ensures.leaf c.last_braces.ensures.stand in
     let nowhere : HeldLine = record { start = 0; stop = 0; next = 0; owed = 0 } in
     let t = takes_line text pass.lines.items sources c.args.from nowhere are less in
     let starts : (other : HeldLine) → (get_or pass.lines.items c.args.from other).start ≡ t.source.left.scanned =
     λ other. ap (λ (l : HeldLine). l.start) (any_default pass.lines.items c.args.from nowhere other less)
     ∙ t.is.start in
-    let begun = begins c t.source starts less opens.0 in
+    let begun = begins c t.source starts less in
     let run = none_run c.match-get.self.placing.builder c.open_text.new.placing.builder c.args.heading
-    c.last_braces.result opens.1 in
-    let goes = (c.in_ok-add_lines.ensures.goes_on
-    (subst (λ (ls : List HeldLine). c.args.from < length ls) (sym (lines_are c)) less) over.0).1 in
+    c.last_braces.result opens in
+    let goes = c.in_ok-add_lines.ensures.goes_on
+    (subst (λ (ls : List HeldLine). c.args.from < length ls) (sym (lines_are c)) less) in
     let levels = c.open_text.new.placing.builder.levels in
     let braces = c.last_braces.result in
     let items : c.add_lines.new.placing.builder.levels ≡ with_items levels (text_items (source_of pass)
     (first_task (source_of pass) marked (t.source ∷ drop (c.args.from + 1) sources))
     (before_braces braces (t.source ∷ drop (c.args.from + 1) sources))) =
-    filled.1 run
+    filled run
     ∙ (ap (λ tx. with_items levels (text_items (record { text = tx; options = c.match-get.self.options })
     c.if-from-eq0.ends (before_braces braces lines))) open_same
     ∙ (ap (λ o. with_items levels (text_items (record { text = text; options = o })
     c.if-from-eq0.ends (before_braces braces lines))) options_same
     ∙ (ap (λ k. with_items levels (text_items (source_of pass) k (before_braces braces lines))) task
     ∙ ap (λ (ls : List SourceLine). with_items levels (text_items (source_of pass)
-    (first_task (source_of pass) marked ls) (before_braces braces ls))) t.left))) in (
-      begun.0,
-      subst (λ (ls : List SourceLine). HasTrees pass.placing.builder c.close.new.self.builder
-          (shown_ended (source_of pass) marked b c.args.heading ls)) (sym t.left)
-          (placed_tree (source_of pass) pass.placing.builder c.match-get.self.placing.builder
-          c.open_text.new.placing.builder c.add_lines.new.placing.builder c.match-heading.self.placing.builder
-          c.close.new.self.builder marked b c.args.heading braces t.source (drop (c.args.from + 1) sources)
-          (sym text_same) (ap (λ (v : BuilderView). v.levels) begun.1) (ap (λ (v : BuilderView). v.at) begun.1)
-          (braces_are ∙ ap (heading_braces pass.options c.args.heading) t.left) opens.1 items
-          (over.1.open_blocks ∙ ap (λ (v : BuilderView). v.blocks) goes)
-          (over.1.headings ∙ ap (λ (v : BuilderView). v.headings) goes) over.1.levels (over.1.at ∙ sym end) put.1),
-    )
+    (first_task (source_of pass) marked ls) (before_braces braces ls))) t.left))) in
+    subst (λ (ls : List SourceLine). HasTrees pass.placing.builder c.close.new.self.builder
+    (shown_ended (source_of pass) marked b c.args.heading ls)) (sym t.left)
+    (placed_tree (source_of pass) pass.placing.builder c.match-get.self.placing.builder
+    c.open_text.new.placing.builder c.add_lines.new.placing.builder c.match-heading.self.placing.builder
+    c.close.new.self.builder marked b c.args.heading braces t.source (drop (c.args.from + 1) sources)
+    (sym text_same) (ap (λ (v : BuilderView). v.levels) begun) (ap (λ (v : BuilderView). v.at) begun)
+    (braces_are ∙ ap (heading_braces pass.options c.args.heading) t.left) opens items
+    (over.open_blocks ∙ ap (λ (v : BuilderView). v.blocks) goes)
+    (over.headings ∙ ap (λ (v : BuilderView). v.headings) goes) over.levels (over.at ∙ sym end) put)
 
 -- what is between the other calls appends no text
-begun_texts : (c : goal.After-close) → AllFitted c.match-get.self.placing → AllFitted c.args.self.now.placing
-    × (c.match-get.self.placing.builder.texts ≡ c.args.self.now.placing.builder.texts)
-begun_texts c fitted =
+begun_texts : (c : goal.After-close) → (c.match-get.self.placing.builder.texts ≡ c.args.self.now.placing.builder.texts)
+begun_texts c =
     elim c.match-get.branch [
       | in-Some w ↦
-          let steps = w.step_to.ensures.steps (subst (λ (p : Pass). AllFitted p.placing) w.self-is fitted) in
-          (steps.0, ap (λ (p : Pass). p.placing.builder.texts) w.self-is ∙ ap (λ (v : BuilderView). v.texts) steps.1)
-      | in_default w ↦ (
-        subst (λ (p : Pass). AllFitted p.placing) w.self-is fitted,
-        ap (λ (p : Pass). p.placing.builder.texts) w.self-is,
-      )
+          let steps = w.step_to.ensures.steps in
+          ap (λ (p : Pass). p.placing.builder.texts) w.self-is ∙ ap (λ (v : BuilderView). v.texts) steps
+      | in_default w ↦
+          ap (λ (p : Pass). p.placing.builder.texts) w.self-is
     ]
 
-ended_texts : (c : goal.After-close) → AllFitted c.match-heading.self.placing → AllFitted c.add_lines.new.placing
-    × (c.match-heading.self.placing.builder.texts ≡ c.add_lines.new.placing.builder.texts)
-ended_texts c fitted =
+ended_texts : (c : goal.After-close) → (c.match-heading.self.placing.builder.texts
+    ≡ c.add_lines.new.placing.builder.texts)
+ended_texts c =
     elim c.match-heading.branch [
       | in-Some-heading w ↦
-          let steps = w.step_to-in-Some-heading.ensures.steps
-          (subst (λ (p : Pass). AllFitted p.placing) w.self-is fitted) in
-          (steps.0, ap (λ (p : Pass). p.placing.builder.texts) w.self-is ∙ ap (λ (v : BuilderView). v.texts) steps.1)
-      | in_default-heading w ↦ (
-        subst (λ (p : Pass). AllFitted p.placing) w.self-is fitted,
-        ap (λ (p : Pass). p.placing.builder.texts) w.self-is,
-      )
+          let steps = w.step_to-in-Some-heading.ensures.steps in
+          ap (λ (p : Pass). p.placing.builder.texts) w.self-is ∙ ap (λ (v : BuilderView). v.texts) steps
+      | in_default-heading w ↦
+          ap (λ (p : Pass). p.placing.builder.texts) w.self-is
     ]
 
 pub returns-clause-texts : goal.returns-clause-texts
-returns-clause-texts c = λ fitted.
-    let closed = c.close.ensures.closes fitted in
-    let over = ended_texts c closed.0 in
-    let filled = c.in_ok-add_lines.ensures.texts over.0 in
-    let opens = c.in_ok-open_text.ensures.opens filled.0 in
-    let begun = begun_texts c opens.0 in
+returns-clause-texts c =
+    let closed = c.close.ensures.closes in
+    let over = ended_texts c in
+    let filled = c.in_ok-add_lines.ensures.texts in
+    let opens = c.in_ok-open_text.ensures.opens in
+    let begun = begun_texts c in
     let same = opens_no_text c.match-get.self.placing.builder c.open_text.new.placing.builder c.args.heading
-    opens.1 in (
-      begun.0,
-      texts_after _ _ _ (texts_after _ _ _ (no_text _ _ (same ∙ begun.1)) filled.1)
-          (no_text _ _ (ap (λ (v : BuilderView). v.texts) closed.1 ∙ over.1)),
-    )
+    opens in
+    texts_after _ _ _ (texts_after _ _ _ (no_text _ _ (same ∙ begun)) filled)
+    (no_text _ _ (ap (λ (v : BuilderView). v.texts) closed ∙ over))
 
 same_early : (c : After-last_braces) → c.match-get.self ≡ record c.args.self.now { placing = c.match-get.self.placing }
 same_early c =
@@ -243,7 +223,7 @@ at_first c =
           c.get.ensures.lookup.1 in
           let held = first ∙ ap (λ ls. get_or ls c.args.from line) c.deref.ensures.value in
           let t = first_line old c.args.from c.args.heading line is held in
-          let steps = (w.step_to.ensures.steps tt).1 in
+          let steps = w.step_to.ensures.steps in
           let same = ap (λ (p : Pass). p.placing.builder) w.self-is in
           record {
             text = ap (λ (b : BuilderView). b.text) (same ∙ steps);
@@ -260,7 +240,7 @@ add_lines-requires c =
     let is = c.requires in
     let first = at_first (goal.at.add_lines-requires c).After-last_braces in
     let opened = text_opened c.match-get.self.placing.builder c.open_text.new.placing.builder c.args.heading
-    (c.in_ok-open_text.ensures.opens tt).1 in
+    c.in_ok-open_text.ensures.opens in
     let old = c.args.self.now in
     let new = c.open_text.new.placing.builder in
     let text : old.placing.builder.text ≡ new.text = sym (opened.text ∙ first.text) in
@@ -293,13 +273,13 @@ at_last : (c : After-close-arg-1) → IsTextOpened c.match-get.self.placing.buil
 at_last c opened =
     let kept = same_late c in
     let lines = c.deref-2.ensures.value ∙ ap (λ (p : Pass). p.lines.items) kept in
-    let goes = (c.in_ok-add_lines.ensures.goes_on
-    (subst (λ (ls : List HeldLine). c.args.from < length ls) (sym lines) c.requires.some) tt).1 in
+    let goes = c.in_ok-add_lines.ensures.goes_on
+    (subst (λ (ls : List HeldLine). c.args.from < length ls) (sym lines) c.requires.some) in
     let blocks = ap (λ (b : BuilderView). b.blocks) goes in
     elim c.match-heading.branch [
       | in-Some-heading w ↦ record {
         blocks = ap (λ (p : Pass). p.placing.builder.blocks) w.self-is
-            ∙ (ap (λ (b : BuilderView). b.blocks) (w.step_to-in-Some-heading.ensures.steps tt).1 ∙ blocks);
+            ∙ (ap (λ (b : BuilderView). b.blocks) w.step_to-in-Some-heading.ensures.steps ∙ blocks);
       }
       | in_default-heading w ↦ record { blocks = ap (λ (p : Pass). p.placing.builder.blocks) w.self-is ∙ blocks }
     ]
@@ -307,13 +287,13 @@ at_last c opened =
 pub close-requires-clause-other : goal.close-requires-clause-other
 close-requires-clause-other c =
     let opened = text_opened c.match-get.self.placing.builder c.open_text.new.placing.builder c.args.heading
-    (c.in_ok-open_text.ensures.opens tt).1 in
+    c.in_ok-open_text.ensures.opens in
     let last = at_last (goal.at.close-requires-clause-other c).After-close-arg-1 opened in
     ap is_in_row last.blocks ∙ opened.other
 
 pub close-requires-clause-some : goal.close-requires-clause-some
 close-requires-clause-some c = λ none.
     let opened = text_opened c.match-get.self.placing.builder c.open_text.new.placing.builder c.args.heading
-    (c.in_ok-open_text.ensures.opens tt).1 in
+    c.in_ok-open_text.ensures.opens in
     let last = at_last (goal.at.close-requires-clause-some c).After-close-arg-1 opened in
     opened.inside.some (sym last.blocks ∙ none)

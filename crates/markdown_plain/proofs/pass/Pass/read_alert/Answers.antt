@@ -9,14 +9,13 @@ use Rattle.markdown_block_rules.specs.BlockGrowth as was
 use Rattle.markdown_block_rules.specs.BlockGrowth.{Block}
 use Rattle.markdown_plain.specs.Beginning.{HasRoom, IsFound, IsHere, MayBegin, Turn}
 use Rattle.markdown_plain.specs.Fits.{MayStep}
-use Rattle.markdown_plain.specs.Fitting.{AllFitted}
 use Rattle.markdown_plain.specs.Frames.{Frame, is_list}
 use Rattle.markdown_plain.specs.OpenLeaves.{BeginsText, leaf_block}
 use Rattle.markdown_plain.specs.OpenedFrames.{with_frame}
 use Rattle.markdown_plain.specs.Settled.{IsBuilt, IsLooseBefore}
 use Rattle.markdown_plain.specs.declared.pass.Pass.{Pass}
 use Rattle.markdown_plain.proofs.BegunBlocksLemmas.{begun_block, begun_in_room, keeps_leaf, source_kept, still_may}
-use Rattle.markdown_plain.proofs.BegunContainersLemmas.{fitted_before_line, in_line_more, line_in_room, loose_inside}
+use Rattle.markdown_plain.proofs.BegunContainersLemmas.{in_line_more, line_in_room, loose_inside}
 use Rattle.markdown_plain.proofs.BegunTextsLemmas.{end_begins, end_block, held_from, text_inside}
 use Rattle.markdown_plain.proofs.ClosableLemmas.{no_paragraph}
 use Rattle.markdown_plain.proofs.FramesInsideLemmas.{inner_last}
@@ -42,23 +41,21 @@ record IsAlert (c : goal.In_ok-add_text) (s : Source) (source : SourceLine) (blo
       (with_frame room.frames room.inside (begun_block source (was.alert_container c.args.kind))) nil
 
 is_alert : (c : goal.In_ok-add_text) (s : Source) (turn : Turn) (source : SourceLine) (blocks : Forest Block)
-    → IsHere s c.args.self.now c.args.rest.now turn source blocks
-    → IsFound s c.args.rest.now source c.args.at (start.Alert c.args.kind) → AllFitted c.open_quote.new.self.placing
-    → AllFitted c.make_room_for.new.self.placing → IsAlert c s source blocks
-is_alert c s turn source blocks state found fitted before =
+    → IsHere s c.args.self.now c.args.rest.now turn source blocks → IsFound s c.args.rest.now source c.args.at
+    (start.Alert c.args.kind) → IsAlert c s source blocks
+is_alert c s turn source blocks state found =
     let made = c.make_room_for.new.self in
     let quote = c.open_quote.new.self in
     let rest = c.args.rest.now in
     let a = begun_block source (was.alert_container c.args.kind) in
     let begins = line.begins_alert c.args.kind in
-    let room = (c.in_ok-make_room_for.ensures.room s turn source c.args.at (start.Alert c.args.kind) begins blocks state
-    found refl tt before).1 in
+    let room = c.in_ok-make_room_for.ensures.room s turn source c.args.at (start.Alert c.args.kind) begins blocks state
+    found refl tt in
     let f : Frame = record { before = room.inside; block = a } in
     let after = still_may s made quote rest.line room.frames room.inside room.may
     (keeps_leaf made quote c.open_quote.ensures.same c.in_ok-open_quote.ensures.text) in
-    let opens = (c.in_ok-open_quote.ensures.frame s room.frames room.inside a room.built room.free
-    (sym found.begins) refl
-    fitted).1 in
+    let opens = c.in_ok-open_quote.ensures.frame s room.frames room.inside a room.built room.free
+    (sym found.begins) refl in
     let inner = with_frame room.frames room.inside a in
     record {
       room = room;
@@ -72,7 +69,7 @@ is_alert c s turn source blocks state found fitted before =
     }
 
 pub returns-clause-places : goal.returns-clause-places
-returns-clause-places c = λ s turn source blocks state found fitted.
+returns-clause-places c = λ s turn source blocks state found.
     let made = c.make_room_for.new.self in
     let quote = c.open_quote.new.self in
     let now = c.add_text.new.self in
@@ -82,11 +79,10 @@ returns-clause-places c = λ s turn source blocks state found fitted.
     let b = end_block source in
     let held = held_from rest.line rest.line.stop in
     let begins = line.begins_alert c.args.kind in
-    let there = fitted_before_line quote now _ c.add_text.ensures.goes_on c.in_ok-add_text.ensures.begins fitted in
-    let opens = c.in_ok-open_quote.ensures.opens there in
+    let opens = c.in_ok-open_quote.ensures.opens in
     let first = c.in_ok-make_room_for.ensures.room s turn source c.args.at (start.Alert c.args.kind) begins blocks
-    state found refl tt opens.0 in
-    let alert = is_alert c s turn source blocks state found there opens.0 in
+    state found refl tt in
+    let alert = is_alert c s turn source blocks state found in
     let room = alert.room in
     let same = alert.same in
     let after = alert.may in
@@ -104,21 +100,19 @@ returns-clause-places c = λ s turn source blocks state found fitted.
     let paragraph = c.in_ok-add_text.ensures.first none s inner nil b (end_of_line source) built
     (sym (ap (λ (r : Source). r.options) after.source))
     (subst (λ text. BeginsText text held (end_of_line source) b) (sym (bytes ∙ texts))
-    (end_begins s.text rest.position rest.line source room.left.is room.filled)) more.items in (
-      first.0,
-      text_inside s now rest.line rest.line.stop inner nil blocks b (end_of_line source) refl
-          (source_kept s quote now bytes options after.source) paragraph more.quotes more.earlier same.1
-          (ap (λ (p : Pass). p.blanks.items) same.0 ∙ after.blanks) lines
-          (begun_in_room s made rest source begins blocks room
-          ∙ sym (rebuilt_more room.frames f (leaf_block b)))
-          room.items (c.in_ok-add_text.ensures.untried none)
-          (end_ready s made now rest source c.args.at inner c.args.kind room.left room.filled found.begins (record {
-            opens = ap (λ (p : Pass). p.placing.builder) same.0 ∙ opens.1;
-            built = built;
-            lines = lines;
-            task = c.in_ok-add_text.ensures.task none;
-          })),
-    )
+    (end_begins s.text rest.position rest.line source room.left.is room.filled)) more.items in
+    text_inside s now rest.line rest.line.stop inner nil blocks b (end_of_line source) refl
+    (source_kept s quote now bytes options after.source) paragraph more.quotes more.earlier same.1
+    (ap (λ (p : Pass). p.blanks.items) same.0 ∙ after.blanks) lines
+    (begun_in_room s made rest source begins blocks room
+    ∙ sym (rebuilt_more room.frames f (leaf_block b)))
+    room.items (c.in_ok-add_text.ensures.untried none)
+    (end_ready s made now rest source c.args.at inner c.args.kind room.left room.filled found.begins (record {
+      opens = ap (λ (p : Pass). p.placing.builder) same.0 ∙ opens;
+      built = built;
+      lines = lines;
+      task = c.in_ok-add_text.ensures.task none;
+    }))
 
 pub make_room_for-requires : goal.make_room_for-requires
 make_room_for-requires c =
@@ -131,9 +125,9 @@ open_quote-requires-clause-step c =
     let room = c.make_room_for.new.self in
     let rest = c.args.rest.now in
     let begins = line.begins_alert c.args.kind in
-    let has = (c.in_ok-make_room_for.ensures.room may.s may.turn may.source c.args.at (start.Alert c.args.kind) begins
+    let has = c.in_ok-make_room_for.ensures.room may.s may.turn may.source c.args.at (start.Alert c.args.kind) begins
     may.blocks
-    may.here may.found refl tt tt).1 in
+    may.here may.found refl tt in
     subst (MayStep room.placing.builder) (sym may.found.begins) has.ready
 
 pub open_quote-requires-clause-outside : goal.open_quote-requires-clause-outside
@@ -142,9 +136,9 @@ open_quote-requires-clause-outside c =
     let room = c.make_room_for.new.self in
     let rest = c.args.rest.now in
     let begins = line.begins_alert c.args.kind in
-    let has = (c.in_ok-make_room_for.ensures.room may.s may.turn may.source c.args.at (start.Alert c.args.kind) begins
+    let has = c.in_ok-make_room_for.ensures.room may.s may.turn may.source c.args.at (start.Alert c.args.kind) begins
     may.blocks
-    may.here may.found refl tt tt).1 in
+    may.here may.found refl tt in
     has.built.outside
 
 -- nothing is closed inside the alert
@@ -154,12 +148,12 @@ add_text-requires c = λ none.
     let made = c.make_room_for.new.self in
     let quote = c.open_quote.new.self in
     let a = begun_block may.source (was.alert_container c.args.kind) in
-    let room = (c.in_ok-make_room_for.ensures.room may.s may.turn may.source c.args.at (start.Alert c.args.kind)
-    (line.begins_alert c.args.kind) may.blocks may.here may.found refl tt tt).1 in
+    let room = c.in_ok-make_room_for.ensures.room may.s may.turn may.source c.args.at (start.Alert c.args.kind)
+    (line.begins_alert c.args.kind) may.blocks may.here may.found refl tt in
     let after = still_may may.s made quote c.args.rest.now.line room.frames room.inside room.may
     (keeps_leaf made quote c.open_quote.ensures.same c.in_ok-open_quote.ensures.text) in
-    let opens = (c.in_ok-open_quote.ensures.frame may.s room.frames room.inside a room.built room.free
-    (sym may.found.begins) refl tt).1 in
+    let opens = c.in_ok-open_quote.ensures.frame may.s room.frames room.inside a room.built room.free
+    (sym may.found.begins) refl in
     let inner = with_frame room.frames room.inside a in
     absurd (true≢false (sym (room_inside may.s quote inner c.depth.result
     (record {

@@ -8,7 +8,6 @@ use Rattle.markdown_block_rules.specs.BlockGrowth.{with_line, with_next_line}
 use Rattle.markdown_plain.specs.declared.containers.Reached as code
 use Rattle.markdown_plain.specs.declared.pass.Pass.{Pass}
 use Rattle.markdown_lines.specs.declared.line.Line.{Line}
-use Rattle.markdown_plain.specs.Fitting.{AllFitted, IfFitted}
 use Rattle.markdown_plain.specs.ReachedLines.{Before, GoesOffAs, IsReachedBy, blocks_before}
 use Rattle.markdown_plain.specs.Readable.{MayReadRest}
 use Rattle.markdown_plain.specs.Standing.{IsSource, Stands, StandsFor}
@@ -28,10 +27,10 @@ goes_by c s before source stands is =
     (c.reach-reached.ensures.frames s)
 
 pub returns-then-branch-clause-stands : goal.returns-then-branch-clause-stands
-returns-then-branch-clause-stands c = λ s before source same stands is counted fitted.
+returns-then-branch-clause-stands c = λ s before source same stands is counted.
     let placed = c.in_ok-last_goes_on.ensures.places c.if-branch.true s before source same
-    (goes_by c s before source stands is) counted (subst AllFitted c.see_content.ensures.placing fitted) in
-    (placed.0, c.see_content.ensures.stands s _ placed.1)
+    (goes_by c s before source stands is) counted in
+    c.see_content.ensures.stands s _ placed
 
 pub returns-then-branch-clause-counted : goal.returns-then-branch-clause-counted
 returns-then-branch-clause-counted c = λ s before source same stands is counted.
@@ -57,27 +56,23 @@ blank_off c s before source same stands is counted =
     (c.reach-reached.ensures.frames s)) counted
 
 -- the line makes the next blocks of those for which the pass stands then
-next_stands : (s : Source) (old now new : Pass) (line : Line) (found : code.Reached) (made : Before)
-    (source : SourceLine) → now ≡ old → (off : GoesOffAs s old line found made source)
-    → IfFitted now.placing new.placing (StandsFor s new line.next (with_line s (blocks_before off.before) source))
-    → IfFitted old.placing new.placing (StandsFor s new line.next (with_next_line s (blocks_before made) source))
-next_stands s old now new line found made source same off stands = λ fitted.
-    let done = stands fitted in (
-      subst (λ (p : Pass). AllFitted p.placing) same done.0,
-      subst (StandsFor s new line.next) (sym off.same) done.1,
-    )
+next_stands : (s : Source) (old new : Pass) (line : Line) (found : code.Reached) (made : Before)
+    (source : SourceLine) → (off : GoesOffAs s old line found made source)
+    → StandsFor s new line.next (with_line s (blocks_before off.before) source)
+    → StandsFor s new line.next (with_next_line s (blocks_before made) source)
+next_stands s old new line found made source off stands =
+    subst (StandsFor s new line.next) (sym off.same) stands
 
 pub returns-then-reached-line-clause-stands : goal.returns-then-reached-line-clause-stands
 returns-then-reached-line-clause-stands c =
     IfOk-weaker c.read_blank.result _ _ (λ done told s before source same stands is counted.
     let old = c.args.self.now in
-    let now = c.last_goes_on.new.self in
     let found = c.reach-reached.result in
     let kept = (c.in_ok-last_goes_on.ensures.off c.if-branch.false).0 in
     let off = blank_off c s before source same stands is counted in
     let low = c.if-reached-line.true in
     let end : nat_le c.args.line.stop found.content ≡ true = grind (arith, nat_tests, low) in
-    next_stands s old now c.read_blank.new.self c.args.line found before source kept off
+    next_stands s old c.read_blank.new.self c.args.line found before source off
     (told s off.before source
     (subst (λ (p : Pass). IsReachedBy s p c.args.line found off.before source) (sym kept) off.by)
     (sym off.by.reaches.blank ∙ end) off.off))
@@ -107,13 +102,12 @@ pub returns-clause-stands : goal.returns-clause-stands
 returns-clause-stands c =
     IfOk-weaker c.read_filled.result _ _ (λ done told s before source same stands is counted.
     let old = c.args.self.now in
-    let now = c.last_goes_on.new.self in
     let found = c.reach-reached.result in
     let kept = (c.in_ok-last_goes_on.ensures.off c.if-branch.false).0 in
     let off = filled_off c s before source same stands is counted in
     let low = c.if-reached-line.false in
     let end : nat_le c.args.line.stop found.content ≡ false = grind (arith, nat_tests, low) in
-    next_stands s old now c.read_filled.new.self c.args.line found before source kept off
+    next_stands s old c.read_filled.new.self c.args.line found before source off
     (told s off.before source (c.in_ok-last_goes_on.ensures.ahead ∙ same)
     (subst (λ (p : Pass). IsReachedBy s p c.args.line found off.before source) (sym kept) off.by)
     (sym off.by.reaches.blank ∙ end) off.off))

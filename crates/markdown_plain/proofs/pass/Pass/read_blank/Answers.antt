@@ -3,7 +3,6 @@ use Rattle.std.proofs.Common.{◌≡◌, ◌∙◌, ℕ, [], true, false, map, s
 use Rattle.markdown_lines.specs.BlockBeginnings.{Source}
 use Rattle.markdown_lines.specs.SourceLines.{SourceLine, is_blank_rest}
 use Rattle.markdown_block_rules.specs.BlockGrowth.{with_line}
-use Rattle.markdown_plain.specs.Fitting.{AllFitted, IfFitted}
 use Rattle.markdown_plain.specs.Frames.{touched}
 use Rattle.std.proofs.Common.{slice_range}
 use Rattle.std.specs.List.{list_all}
@@ -48,14 +47,13 @@ not_in_code c is code =
 
 seen : (c : goal.After-see_blank) (s : Source) (before : Before) (source : SourceLine) (placed : ℕ)
     → IsReachedBy s c.args.self.now c.args.line c.args.reached before source
-    → is_blank_rest (reached_of s before source).rest ≡ true
-    → ((reached_of s before source).inner ≡ [] → LeavesOff s (reached_of s before source).rest before.last)
+    → is_blank_rest (reached_of s before source).rest ≡ true → ((reached_of s before source).inner ≡ []
+    → LeavesOff s (reached_of s before source).rest before.last)
     → QuotesEnd placed (map (touched source) (reached_of s before source).outer)
     → SeesBlank c.args.self.now c.args.line source placed
-    → IfFitted c.args.self.now.placing c.if-in_code.self.placing
-    (StandsFor s (blank_seen c.if-in_code.self c.args.reached.quoted placed) c.args.line.next
-    (with_line s (blocks_before before) source))
-seen c s before source placed by blank off quotes sees fits =
+    → StandsFor s (blank_seen c.if-in_code.self c.args.reached.quoted placed) c.args.line.next
+    (with_line s (blocks_before before) source)
+seen c s before source placed by blank off quotes sees =
     let old = c.args.self.now in
     elim c.if-in_code.branch [
       | then-in_code+then-reached+in_ok-hold_blank w ↦
@@ -63,19 +61,17 @@ seen c s before source placed by blank off quotes sees fits =
           let mid = w.hold_blank.new.self in
           let all = none_inside (reached_of s before source).inner
           (sym by.reaches.all ∙ w.if-reached.true) in
-          let now = w.self-is ∙ w.in_ok-hold_blank.ensures.same in (
-            subst (λ (p : Pass). AllFitted p.placing) now fits,
-            subst (λ (p : Pass). StandsFor s (blank_seen p c.args.reached.quoted placed) c.args.line.next
-                (with_line s (blocks_before before) source)) (sym now)
-                (code_stands s old mid c.args.line c.args.reached before.frames before.inside before.last source placed
-                by blank all code.how code.there
-                (λ held are. w.in_ok-hold_blank.ensures.source held (reached_of s before source).rest are
-                by.reaches.rest) quotes sees
-                (let place = place_reached s old c.args.line c.args.reached before source by in
-                w.in_ok-hold_blank.ensures.fits
-                (line_fits_after old c.args.line c.args.reached.position.at by.stands.ready code.there place)
-                place.high place.ends)),
-          )
+          let now = w.self-is ∙ w.in_ok-hold_blank.ensures.same in
+          subst (λ (p : Pass). StandsFor s (blank_seen p c.args.reached.quoted placed) c.args.line.next
+          (with_line s (blocks_before before) source)) (sym now)
+          (code_stands s old mid c.args.line c.args.reached before.frames before.inside before.last source placed
+          by blank all code.how code.there
+          (λ held are. w.in_ok-hold_blank.ensures.source held (reached_of s before source).rest are
+          by.reaches.rest) quotes sees
+          (let place = place_reached s old c.args.line c.args.reached before source by in
+          w.in_ok-hold_blank.ensures.fits
+          (line_fits_after old c.args.line c.args.reached.position.at by.stands.ready code.there place)
+          place.high place.ends))
       | else-in_code+in_ok-close_down w ↦
           let mid = w.close_down.new.self in
           let closes : ClosesDown s old mid c.args.reached.depth = record {
@@ -89,22 +85,19 @@ seen c s before source placed by blank off quotes sees fits =
             from = search rules;
             here = w.in_ok-close_down.ensures.here;
           } in
-          let there = closed_to_reached s old mid c.args.line c.args.reached before source by closes
-          (subst (λ (p : Pass). AllFitted p.placing) w.self-is fits) in (
-            there.0,
-            subst (λ (p : Pass). StandsFor s (blank_seen p c.args.reached.quoted placed) c.args.line.next
-                (with_line s (blocks_before before) source)) (sym w.self-is)
-                (blank_stands s old mid c.args.line c.args.reached before source placed by blank
-                (λ none. goes_not s old before.frames before.inside before.last (reached_of s before source).rest
-                by.stands.unended (off none) (λ how there.
-                elim w.else-in_code.branch [
-                  | else-in_code-via-then-in_code+else-reached v ↦
-                      true≢false (sym (by.reaches.all ∙ ap are_none none) ∙ v.if-reached.false)
-                  | else-in_code-via-else-in_code v ↦
-                      not_in_code c v.if-in_code.false (record { how = how; there = there })
-                ]))
-                there.1 quotes sees),
-          )
+          let there = closed_to_reached s old mid c.args.line c.args.reached before source by closes in
+          subst (λ (p : Pass). StandsFor s (blank_seen p c.args.reached.quoted placed) c.args.line.next
+          (with_line s (blocks_before before) source)) (sym w.self-is)
+          (blank_stands s old mid c.args.line c.args.reached before source placed by blank
+          (λ none. goes_not s old before.frames before.inside before.last (reached_of s before source).rest
+          by.stands.unended (off none) (λ how there.
+          elim w.else-in_code.branch [
+            | else-in_code-via-then-in_code+else-reached v ↦
+                true≢false (sym (by.reaches.all ∙ ap are_none none) ∙ v.if-reached.false)
+            | else-in_code-via-else-in_code v ↦
+                not_in_code c v.if-in_code.false (record { how = how; there = there })
+          ]))
+          there quotes sees)
     ]
 
 -- closing blocks, or holding back the line, changes nothing of where the lines before it end
@@ -118,7 +111,7 @@ before_it c =
     ]
 
 pub returns-clause-stands : goal.returns-clause-stands
-returns-clause-stands c = λ s before source by blank off fits.
+returns-clause-stands c = λ s before source by blank off.
     let old = c.args.self.now in
     let same = c.see_blank.ensures.same in
     let text : c.if-in_code.self.placing.builder.text ≡ old.placing.builder.text = search rules in
@@ -130,9 +123,6 @@ returns-clause-stands c = λ s before source by blank off fits.
       moves = λ some. c.see_blank.ensures.placed (ap (list_all is_space_or_tab) bytes ∙ some);
       stays = λ white. c.see_blank.ensures.stays (ap (list_all is_space_or_tab) bytes ∙ white) ∙ before_it c;
     } in
-    let made = seen c s before source c.see_blank.new.self.placed by blank off quotes sees
-    (subst (λ (p : Pass). AllFitted p.placing) same fits) in (
-      made.0,
-      subst (λ (p : Pass). StandsFor s p c.args.line.next (with_line s (blocks_before before) source)) (sym same)
-          made.1,
-    )
+    let made = seen c s before source c.see_blank.new.self.placed by blank off quotes sees in
+    subst (λ (p : Pass). StandsFor s p c.args.line.next (with_line s (blocks_before before) source)) (sym same)
+    made

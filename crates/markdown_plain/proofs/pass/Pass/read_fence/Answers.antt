@@ -15,28 +15,25 @@ use Rattle.markdown_plain.proofs.HasRoomLemmas.{here_room}
 use Rattle.markdown_plain.proofs.pass.Pass.read_fence.Goals as goal
 
 pub returns-clause-places : goal.returns-clause-places
-returns-clause-places c = λ s turn source blocks here found stand fitted.
+returns-clause-places c = λ s turn source blocks here found stand.
     let room = c.make_room_for.new.self in
     let now = c.open_fenced.new.self in
     let rest = c.args.rest.now in
     let opening = c.args.opening in
     let b = begun_block source (was.fenced_leaf opening false []) in
     let begins = line.begins_fence opening in
-    let made = c.in_ok-make_room_for.ensures.room s turn source c.args.at (start.Fence opening) begins blocks here found
-    refl tt (c.in_ok-open_fenced.ensures.opens.2 fitted).0 in
-    let has = made.1 in
+    let has = c.in_ok-make_room_for.ensures.room s turn source c.args.at (start.Fence opening) begins blocks here found
+    refl tt in
     let keeps = keeps_rest room now c.open_fenced.ensures.same c.in_ok-open_fenced.ensures.text in
     let leaf = c.in_ok-open_fenced.ensures.leaf s has.frames has.inside b has.built
     (sym (ap (λ (r : Source). r.options) has.may.source))
     (subst (λ text. InfoStands text opening) (sym c.in_ok-make_room_for.ensures.text) stand) refl (sym found.begins)
-    (sym has.left.is.rest.next) fitted in (
-      made.0,
-      open_in_room s room now rest source begins blocks b has keeps (record { filled = refl; ends = refl }) refl refl
-          (sym has.left.is.rest.next)
-          (other_alone b.kind has.frames refl) leaf.1
-          (subst (λ (kind : LeafKind). IsLeafKind kind b.kind) (sym c.in_ok-open_fenced.ensures.kind) refl)
-          (keeps.blanks ∙ has.may.blanks) refl,
-    )
+    (sym has.left.is.rest.next) in
+    open_in_room s room now rest source begins blocks b has keeps (record { filled = refl; ends = refl }) refl refl
+    (sym has.left.is.rest.next)
+    (other_alone b.kind has.frames refl) leaf
+    (subst (λ (kind : LeafKind). IsLeafKind kind b.kind) (sym c.in_ok-open_fenced.ensures.kind) refl)
+    (keeps.blanks ∙ has.may.blanks) refl
 
 pub make_room_for-requires : goal.make_room_for-requires
 make_room_for-requires c =
@@ -49,7 +46,7 @@ open_fenced-requires c =
     let room = c.make_room_for.new.self in
     let rest = c.args.rest.now in
     let begins = line.begins_fence c.args.opening in
-    let has = (c.in_ok-make_room_for.ensures.room may.s may.turn may.source c.args.at (start.Fence c.args.opening)
+    let has = c.in_ok-make_room_for.ensures.room may.s may.turn may.source c.args.at (start.Fence c.args.opening)
     begins may.blocks
-    may.here may.found refl tt tt).1 in
+    may.here may.found refl tt in
     content_fits may.s room rest may.source begins may.blocks has c.args.at may.found.begins

@@ -11,7 +11,6 @@ use Rattle.markdown_plain.specs.declared.containers.Reached as code
 use Rattle.markdown_lines.specs.declared.line.Line.{Line}
 use Rattle.markdown_plain.specs.Beginning.{IsFirst, IsMadeOf, first}
 use Rattle.markdown_plain.specs.TableHeads.{IfParagraphLast, IsUntabled}
-use Rattle.markdown_plain.specs.Fitting.{AllFitted}
 use Rattle.markdown_plain.specs.ReachedLines.{Before, IsReachedBy, blocks_before, reached_of}
 use Rattle.markdown_plain.specs.Standing.{PlacesFor}
 use Rattle.markdown_plain.specs.TextLines.{IsTextFrom}
@@ -51,11 +50,10 @@ module _ (s : Source) (old now : Pass) (line : Line) (found : code.Reached) (bef
       (subst (λ (l : Line). IsReachedBy s old l found before source) (sym own) by) made filled off
 
 pub returns-clause-stands : goal.returns-clause-stands
-returns-clause-stands c = λ s before source same by filled off fitted.
+returns-clause-stands c = λ s before source same by filled off.
     let old = c.args.self.now in
     let blocks = with_line s (blocks_before before) source in
-    let so_far = subst AllFitted c.see_content.ensures.placing fitted in
-    let done : AllFitted old.placing × PlacesFor s c.if-not-branch.self c.args.line.next blocks =
+    let done : PlacesFor s c.if-not-branch.self c.args.line.next blocks =
     elim c.if-not-branch.branch [
       | then-not-branch+in_ok-read_rest w ↦
           let row = c.in_ok-read_delimiter_row.ensures in
@@ -65,18 +63,14 @@ returns-clause-stands c = λ s before source same by filled off fitted.
           (subst IsUtf8 c.text.ensures c.text.utf8) (row.same none) (row.untabled none s before source by) by
           w.rest_of-rest.ensures.line (w.rest_of-rest.ensures.made s same) filled off in
           let read = w.in_ok-read_rest.ensures.places s (first before source) (reached_of s before source).rest blocks
-          turn (subst (λ (p : Pass). AllFitted p.placing) w.self-is so_far) in (
-            tt,
-            subst (λ (p : Pass). PlacesFor s p c.args.line.next blocks) (sym w.self-is)
-                (subst (λ (l : Line). PlacesFor s w.read_rest.new.self l.next blocks) w.rest_of-rest.ensures.line
-                read.1),
-          )
+          turn in
+          subst (λ (p : Pass). PlacesFor s p c.args.line.next blocks) (sym w.self-is)
+          (subst (λ (l : Line). PlacesFor s w.read_rest.new.self l.next blocks) w.rest_of-rest.ensures.line read)
       | else-not-branch w ↦
-          let read = c.in_ok-read_delimiter_row.ensures.places w.if-not-branch.false s before source by filled
-          (subst (λ (p : Pass). AllFitted p.placing) w.self-is so_far) in
-          (read.0, subst (λ (p : Pass). PlacesFor s p c.args.line.next blocks) (sym w.self-is) read.1)
+          let read = c.in_ok-read_delimiter_row.ensures.places w.if-not-branch.false s before source by filled in
+          subst (λ (p : Pass). PlacesFor s p c.args.line.next blocks) (sym w.self-is) read
     ] in
-    (done.0, c.see_content.ensures.stands s blocks done.1)
+    c.see_content.ensures.stands s blocks done
 
 pub read_rest-requires : goal.read_rest-requires
 read_rest-requires c =

@@ -14,29 +14,25 @@ use Rattle.markdown_plain.proofs.HasRoomLemmas.{here_room}
 use Rattle.markdown_plain.proofs.pass.Pass.read_footnote.Goals as goal
 
 pub returns-clause-reads_on : goal.returns-clause-reads_on
-returns-clause-reads_on c = λ s turn source blocks state found boundary fitted.
+returns-clause-reads_on c = λ s turn source blocks state found boundary.
     let made = c.make_room_for.new.self in
     let now = c.open_footnote.new.self in
     let rest = c.args.rest.now in
     let label = text_of c.args.label in
     let begins = line.begins_footnote label (left_at rest.reader c.args.inside) in
     let kind = was.footnote_container label in
-    let there = (c.in_ok-open_footnote.ensures.opens fitted).0 in
-    let first = c.in_ok-make_room_for.ensures.room s turn source c.args.at (start.Footnote c.args.label c.args.inside)
-    begins blocks state found refl tt there in
-    let room = first.1 in
-    let at = (c.in_ok-open_footnote.ensures.here fitted).1 ∙ found.begins in
+    let room = c.in_ok-make_room_for.ensures.room s turn source c.args.at (start.Footnote c.args.label c.args.inside)
+    begins blocks state found refl tt in
+    let at = c.in_ok-open_footnote.ensures.here ∙ found.begins in
     let opens = c.in_ok-open_footnote.ensures.frame s room.frames room.inside (begun_block source kind) room.built
-    room.free (sym found.begins) refl fitted in
-    let text = sym c.in_ok-make_room_for.ensures.text ∙ ap (λ (r : Source). r.text) room.may.source in (
-      first.0,
-      room_inside s made now rest c.go_inside.new.rest source begins blocks c.args.inside kind room
-          c.go_inside.ensures.goes (rest_in_room s made rest source begins blocks room)
-          (past_in_room s made rest source begins blocks room) at
-          (subst (λ t. IsCharBoundary t c.args.inside.at) text boundary)
-          (keeps_leaf made now c.open_footnote.ensures.same c.in_ok-open_footnote.ensures.text) opens.1
-          (record { filled = refl; free = refl; empty = refl }) refl,
-    )
+    room.free (sym found.begins) refl in
+    let text = sym c.in_ok-make_room_for.ensures.text ∙ ap (λ (r : Source). r.text) room.may.source in
+    room_inside s made now rest c.go_inside.new.rest source begins blocks c.args.inside kind room
+    c.go_inside.ensures.goes (rest_in_room s made rest source begins blocks room)
+    (past_in_room s made rest source begins blocks room) at
+    (subst (λ t. IsCharBoundary t c.args.inside.at) text boundary)
+    (keeps_leaf made now c.open_footnote.ensures.same c.in_ok-open_footnote.ensures.text) opens
+    (record { filled = refl; free = refl; empty = refl }) refl
 
 pub make_room_for-requires : goal.make_room_for-requires
 make_room_for-requires c =
@@ -49,9 +45,9 @@ open_footnote-requires-clause-step c =
     let room = c.make_room_for.new.self in
     let rest = c.args.rest.now in
     let begins = line.begins_footnote (text_of c.args.label) (left_at c.args.rest.now.reader c.args.inside) in
-    let has = (c.in_ok-make_room_for.ensures.room may.s may.turn may.source c.args.at
+    let has = c.in_ok-make_room_for.ensures.room may.s may.turn may.source c.args.at
     (start.Footnote c.args.label c.args.inside) begins may.blocks
-    may.here may.found refl tt tt).1 in
+    may.here may.found refl tt in
     subst (MayStep room.placing.builder) (sym may.found.begins) has.ready
 
 pub open_footnote-requires-clause-outside : goal.open_footnote-requires-clause-outside
@@ -60,7 +56,7 @@ open_footnote-requires-clause-outside c =
     let room = c.make_room_for.new.self in
     let rest = c.args.rest.now in
     let begins = line.begins_footnote (text_of c.args.label) (left_at c.args.rest.now.reader c.args.inside) in
-    let has = (c.in_ok-make_room_for.ensures.room may.s may.turn may.source c.args.at
+    let has = c.in_ok-make_room_for.ensures.room may.s may.turn may.source c.args.at
     (start.Footnote c.args.label c.args.inside) begins may.blocks
-    may.here may.found refl tt tt).1 in
+    may.here may.found refl tt in
     has.built.outside

@@ -20,7 +20,7 @@ use Rattle.markdown_plain.proofs.HasRoomLemmas.{here_room}
 use Rattle.markdown_plain.proofs.pass.Pass.read_indented.Goals as goal
 
 pub returns-clause-places : goal.returns-clause-places
-returns-clause-places c = λ s turn source at blocks here found fitted.
+returns-clause-places c = λ s turn source at blocks here found.
     let room = c.make_room_for.new.self in
     let now = c.open_indented.new.self in
     let rest = c.args.rest.now in
@@ -30,23 +30,20 @@ returns-clause-places c = λ s turn source at blocks here found fitted.
     let kind = was.indented_leaf (l ∷ []) in
     let b : Block = record { start = code.at; first = source.next; last = source.next; kind = kind } in
     let begins = line.begins_indented left in
-    let made = c.in_ok-make_room_for.ensures.room s turn source at (start.IndentedCode code) begins blocks here found
-    refl tt (c.in_ok-open_indented.ensures.opens fitted).0 in
-    let has = made.1 in
+    let has = c.in_ok-make_room_for.ensures.room s turn source at (start.IndentedCode code) begins blocks here found
+    refl tt in
     let keeps = keeps_rest room now c.open_indented.ensures.same c.in_ok-open_indented.ensures.text in
     let text : room.placing.builder.text ≡ s.text = ap (λ (r : Source). r.text) has.may.source in
     let alike = code_in_room s room rest source left blocks has in
     let filled = blank_alike left source.left alike.0 ∙ has.filled in
     let leaf = c.in_ok-open_indented.ensures.leaf s has.frames has.inside b l has.built
     (subst (λ bytes. IsLineRest bytes code rest.line l) (sym text)
-    (code_left s rest source code has.left alike.0 alike.1)) filled refl refl fitted in (
-      made.0,
-      open_in_room s room now rest source begins blocks b has keeps (record { filled = refl; ends = filled }) refl refl
-          (code_ends b.first l filled ∙ sym has.left.is.rest.next)
-          (other_alone kind has.frames refl) leaf.1
-          (subst (λ (how : LeafKind). IsLeafKind how kind) (sym c.in_ok-open_indented.ensures.kind) tt)
-          (code_holds now.blanks.items l filled (keeps.blanks ∙ has.may.blanks)) refl,
-    )
+    (code_left s rest source code has.left alike.0 alike.1)) filled refl refl in
+    open_in_room s room now rest source begins blocks b has keeps (record { filled = refl; ends = filled }) refl refl
+    (code_ends b.first l filled ∙ sym has.left.is.rest.next)
+    (other_alone kind has.frames refl) leaf
+    (subst (λ (how : LeafKind). IsLeafKind how kind) (sym c.in_ok-open_indented.ensures.kind) tt)
+    (code_holds now.blanks.items l filled (keeps.blanks ∙ has.may.blanks)) refl
 
 pub make_room_for-requires : goal.make_room_for-requires
 make_room_for-requires c =
@@ -59,8 +56,8 @@ open_indented-requires c =
     let room = c.make_room_for.new.self in
     let rest = c.args.rest.now in
     let begins = line.begins_indented (left_at c.args.rest.now.reader c.args.code) in
-    let has = (c.in_ok-make_room_for.ensures.room may.s may.turn may.source c.requires.0
+    let has = c.in_ok-make_room_for.ensures.room may.s may.turn may.source c.requires.0
     (start.IndentedCode c.args.code) begins may.blocks
-    may.here may.found refl tt tt).1 in
+    may.here may.found refl tt in
     code_fits may.s room rest may.source c.args.code may.blocks has
     (subst (λ bytes. IsCharBoundary bytes c.args.code.at) (sym c.in_ok-make_room_for.ensures.text) may.fits.0)

@@ -8,7 +8,7 @@ use Rattle.markdown_plain.proofs.ReadyContainersLemmas.{may_open_item}
 use Rattle.markdown_plain.proofs.pass.Pass.read_item.Goals as goal
 
 pub returns-clause-reads_on : goal.returns-clause-reads_on
-returns-clause-reads_on c = λ s turn source blocks state found boundary fitted.
+returns-clause-reads_on c = λ s turn source blocks state found boundary.
     let old = c.args.self.now in
     let now = c.open_item.new.self in
     let rest = c.args.rest.now in
@@ -27,7 +27,7 @@ returns-clause-reads_on c = λ s turn source blocks state found boundary fitted.
       loose = opens.loose;
       begins = opens.begins;
       inside = opens.inside;
-    }) fitted
+    })
 
 pub open_item-requires : goal.open_item-requires
 open_item-requires c =

@@ -60,12 +60,12 @@ module _ (c : goal.After-read_text_line) (s : Source) (before : Before) (source 
 
 pub returns-clause-stands : goal.returns-clause-stands
 returns-clause-stands c =
-    IfOk-weaker c.read_text_line.result _ _ (λ done told s before source same stands is counted fitted.
+    IfOk-weaker c.read_text_line.result _ _ (λ done told s before source same stands is counted.
     let placed = told s before source stands is (text_here c s before source stands is)
-    (untabled c s before source stands is) fitted in
+    (untabled c s before source stands is) in
     let next = next_as_line s c.args.self.now before source c.args.line.start stands counted
     (no_table c s before source stands is) in
-    (placed.0, subst (StandsFor s c.read_text_line.new.self c.args.line.next) (sym next.0) placed.1))
+    subst (StandsFor s c.read_text_line.new.self c.args.line.next) (sym next.0) placed)
     c.read_text_line.ensures.stands
 
 pub returns-clause-counted : goal.returns-clause-counted

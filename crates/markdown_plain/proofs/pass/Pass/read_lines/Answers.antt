@@ -17,7 +17,7 @@ lines-init c = record {
   text = c.text-text.ensures;
   ahead = c.new-ahead.ensures;
   boundary = IsCharBoundary-start c.text-text.result.now c.text-text.utf8;
-  made = λ s stands counted fitted. (fitted, stands_first s c.args.self.now stands counted);
+  made = λ s stands counted. stands_first s c.args.self.now stands counted;
 }
 
 -- the line that is read is one of the text
@@ -37,46 +37,44 @@ lines-preserved c =
       text = search rules;
       ahead = search rules;
       boundary = next_between c.text-text.result.now c.lines.from c.line_from-line.result c.text-text.utf8 line.1;
-      made = λ s stands counted fitted.
-          let so_far = loop.made s stands counted tt in
+      made = λ s stands counted.
+          let so_far = loop.made s stands counted in
           let own = ap (λ (s : Source). s.text) stands.source in
           let text = c.text-text.ensures ∙ own in
           let next = stands_next s c.lines.self c.read_line.new.self c.lines.from c.line_from-line.result
           (loop.same ∙ own) (subst (λ (text : List ℕ). c.lines.from < length text) text line.0)
           (subst (λ (text : List ℕ). IsLineFrom text c.lines.from c.line_from-line.result) text line.1)
           (subst (λ (text : List ℕ). IsCharBoundary text c.lines.from) text loop.boundary)
-          (subst IsUtf8 text c.text-text.utf8) so_far.1
+          (subst IsUtf8 text c.text-text.utf8) so_far
           (λ before source. c.in_ok-read_line.ensures.stands s before source (loop.ahead ∙ text))
-          (λ before source. c.in_ok-read_line.ensures.counted s before source (loop.ahead ∙ text)) fitted in
-          (so_far.0, next.1);
+          (λ before source. c.in_ok-read_line.ensures.counted s before source (loop.ahead ∙ text)) in
+          next;
     }
 
 pub returns-clause-made : goal.returns-clause-made
 returns-clause-made c =
-    IfOk-weaker c.close_down.result _ _ (λ done told s stands counted fitted.
+    IfOk-weaker c.close_down.result _ _ (λ done told s stands counted.
     let end : length c.text-text.result.now ≤ c.lines.from = search rules in
     let text = c.text-text.ensures ∙ ap (λ (s : Source). s.text) stands.source in
-    let so_far = c.lines.invariant.made s stands counted (told.1 fitted).0 in (
-      so_far.0,
-      (whole_text s c.lines.self c.close_down.new.self c.lines.from
-          (subst (λ (text : List ℕ). length text ≤ c.lines.from) text end) so_far.1
-          (record { forgets = told.0.0; finishes = told.0.1 }) fitted).1,
-    ))
+    let so_far = c.lines.invariant.made s stands counted in
+    whole_text s c.lines.self c.close_down.new.self c.lines.from
+    (subst (λ (text : List ℕ). length text ≤ c.lines.from) text end) so_far
+    (record { forgets = told.0.0; finishes = told.0.1 }))
     (both_ok c.close_down.result _ _
     (both_ok c.close_down.result _ _ c.close_down.ensures.forgets c.close_down.ensures.finishes)
     c.close_down.ensures.outside)
 
 pub returns-clause-left : goal.returns-clause-left
 returns-clause-left c =
-    IfOk-weaker c.close_down.result _ _ (λ done told s stands counted fitted.
+    IfOk-weaker c.close_down.result _ _ (λ done told s stands counted.
     let text : c.close_down.new.self.placing.builder.text ≡ c.lines.self.placing.builder.text = told.1 in
     let end : length c.text-text.result.now ≤ c.lines.from = search rules in
     let whole = text ∙ (c.lines.invariant.same ∙ sym c.text-text.ensures) in
-    let closed = told.0.1 fitted in
-    let so_far = c.lines.invariant.made s stands counted closed.0 in
+    let closed = told.0.1 in
+    let so_far = c.lines.invariant.made s stands counted in
     white_left s c.lines.self c.close_down.new.self c.lines.from
-    (subst (λ (text : List ℕ). length text ≤ c.lines.from) (sym whole) end) so_far.1
-    (λ may. told.0.0 may fitted) closed.1 text)
+    (subst (λ (text : List ℕ). length text ≤ c.lines.from) (sym whole) end) so_far
+    (λ may. told.0.0 may) closed text)
     (both_ok c.close_down.result _ _
     (both_ok c.close_down.result _ _ c.close_down.ensures.here c.close_down.ensures.closes)
     c.close_down.ensures.text)
@@ -94,8 +92,8 @@ read_line-requires-clause-may c =
     (loop.same ∙ own)
     (subst (λ (text : List ℕ). IsLineFrom text c.lines.from c.line_from-line.result) text line.1)
     (subst (λ (text : List ℕ). IsCharBoundary text c.lines.from) text loop.boundary)
-    (subst IsUtf8 text c.text-text.utf8) (loop.made may.s may.stands may.counted tt).1
+    (subst IsUtf8 text c.text-text.utf8) (loop.made may.s may.stands may.counted)
 
 pub close_down-requires : goal.close_down-requires
 close_down-requires c = λ some.
-    (c.lines.invariant.made c.requires.s c.requires.stands c.requires.counted tt).1.stands.stands.ready.closable
+    (c.lines.invariant.made c.requires.s c.requires.stands c.requires.counted).stands.stands.ready.closable

@@ -4,7 +4,6 @@ use Rattle.std.specs.Str.{IsCharBoundary}
 use Rattle.markdown_base.specs.Forest.{nil}
 use Rattle.markdown_lines.specs.BlockBeginnings.{Source}
 use Rattle.markdown_plain.specs.TableRows.{IsCounted}
-use Rattle.markdown_plain.specs.Fitting.{IfFitted}
 use Rattle.markdown_plain.specs.Standing.{Stands}
 use Rattle.markdown_plain.proofs.WholeTextsLemmas.{StandsAt}
 use Rattle.markdown_plain.proofs.pass.Pass.read_lines.Given as goal
@@ -15,8 +14,7 @@ invariant-lines l = record {
   text : l.text ≡ l.fn.self.placing.builder.text;
   ahead : l.ahead.text.now ≡ l.text;
   boundary : IsCharBoundary l.text l.from;
-  made : (s : Source) → Stands s l.fn.self [] nil None 0 → IsCounted s l.fn.self nil
-      → IfFitted l.fn.self.placing l.self.placing (StandsAt s l.self l.from);
+  made : (s : Source) → Stands s l.fn.self [] nil None 0 → IsCounted s l.fn.self nil → StandsAt s l.self l.from;
 }
 
 abbrev pub decreases-lines : goal.decreases-lines

@@ -14,26 +14,23 @@ use Rattle.markdown_plain.proofs.HasRoomLemmas.{here_room}
 use Rattle.markdown_plain.proofs.pass.Pass.read_metadata.Goals as goal
 
 pub returns-clause-places : goal.returns-clause-places
-returns-clause-places c = λ s turn source at blocks here found fitted.
+returns-clause-places c = λ s turn source at blocks here found.
     let room = c.make_room_for.new.self in
     let now = c.open_metadata.new.self in
     let rest = c.args.rest.now in
     let kind = c.args.kind in
     let b = begun_block source (was.metadata_leaf kind false []) in
     let begins = line.begins_metadata kind in
-    let made = c.in_ok-make_room_for.ensures.room s turn source at (start.Metadata kind) begins blocks here found refl
-    tt (c.in_ok-open_metadata.ensures.opens fitted).0 in
-    let has = made.1 in
+    let has = c.in_ok-make_room_for.ensures.room s turn source at (start.Metadata kind) begins blocks here found refl
+    tt in
     let keeps = keeps_rest room now c.open_metadata.ensures.same c.in_ok-open_metadata.ensures.text in
     let leaf = c.in_ok-open_metadata.ensures.leaf s has.frames has.inside b has.built refl
-    (metadata_starts s room rest source kind blocks has) (sym has.left.is.rest.next) fitted in (
-      made.0,
-      open_in_room s room now rest source begins blocks b has keeps (record { filled = refl; ends = refl }) refl refl
-          (sym has.left.is.rest.next)
-          (λ is. metadata_alone s room rest source kind blocks has) leaf.1
-          (subst (λ (how : LeafKind). IsLeafKind how b.kind) (sym c.in_ok-open_metadata.ensures.kind) refl)
-          (keeps.blanks ∙ has.may.blanks) refl,
-    )
+    (metadata_starts s room rest source kind blocks has) (sym has.left.is.rest.next) in
+    open_in_room s room now rest source begins blocks b has keeps (record { filled = refl; ends = refl }) refl refl
+    (sym has.left.is.rest.next)
+    (λ is. metadata_alone s room rest source kind blocks has) leaf
+    (subst (λ (how : LeafKind). IsLeafKind how b.kind) (sym c.in_ok-open_metadata.ensures.kind) refl)
+    (keeps.blanks ∙ has.may.blanks) refl
 
 pub make_room_for-requires : goal.make_room_for-requires
 make_room_for-requires c =
@@ -46,8 +43,8 @@ open_metadata-requires c =
     let room = c.make_room_for.new.self in
     let rest = c.args.rest.now in
     let begins = line.begins_metadata c.args.kind in
-    let has = (c.in_ok-make_room_for.ensures.room may.s may.turn may.source c.requires.0 (start.Metadata c.args.kind)
+    let has = c.in_ok-make_room_for.ensures.room may.s may.turn may.source c.requires.0 (start.Metadata c.args.kind)
     begins may.blocks
-    may.here may.found refl tt tt).1 in
+    may.here may.found refl tt in
     content_fits may.s room rest may.source begins may.blocks has rest.line.start
     (sym (metadata_starts may.s room rest may.source c.args.kind may.blocks has))

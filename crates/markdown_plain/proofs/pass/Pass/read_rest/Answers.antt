@@ -67,16 +67,16 @@ returns-then-not-branch-clause-places c =
     c.if-not-branch.true c.in_ok-read_block.ensures.begins)
 
 pub returns-after-blocks-2-clause-places : goal.returns-after-blocks-2-clause-places
-returns-after-blocks-2-clause-places c = λ s turn source blocks here fitted.
+returns-after-blocks-2-clause-places c = λ s turn source blocks here.
     absurd (turns_end c.args.self.now c.blocks-2.self c.args.rest.now c.blocks-2.rest c.blocks-2._turn
-    c.blocks-2.invariant.keeps (omega arith) s turn source blocks here fitted)
+    c.blocks-2.invariant.keeps (omega arith) s turn source blocks here)
 
 -- text is added where the rest of the line is read
 pub add_text-requires : goal.add_text-requires
 add_text-requires c =
     let may = c.requires in
-    let here = (next_turn c.args.self.now c.blocks-2.self c.read_block.new.self c.args.rest.now c.blocks-2.rest
+    let here = next_turn c.args.self.now c.blocks-2.self c.read_block.new.self c.args.rest.now c.blocks-2.rest
     c.read_block.new.rest c.blocks-2._turn c.blocks-2.invariant.keeps
     (subst (BeginsThere c.blocks-2.self c.read_block.new.self c.blocks-2.rest c.read_block.new.rest)
-    c.if-not-branch.false c.in_ok-read_block.ensures.begins) may.s may.turn may.source may.blocks may.here tt).1 in
+    c.if-not-branch.false c.in_ok-read_block.ensures.begins) may.s may.turn may.source may.blocks may.here in
     here_room may.s c.read_block.new.self c.read_block.new.rest here.turn here.source may.blocks here.here

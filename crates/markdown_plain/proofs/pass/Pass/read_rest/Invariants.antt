@@ -1,5 +1,4 @@
--- The text stays, all calls fit, and what is to be read of the line makes the same blocks; each turn goes at least one
--- place on.
+-- The text stays, and what is to be read of the line makes the same blocks; each turn goes at least one place on.
 use Rattle.std.proofs.Common.{◌≡◌}
 use Rattle.markdown_plain.specs.Turns.{KeepsReading}
 use Rattle.markdown_plain.proofs.pass.Pass.read_rest.Given as goal

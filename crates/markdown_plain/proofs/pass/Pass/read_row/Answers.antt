@@ -63,7 +63,7 @@ returns-clause-places c =
     let new = c.add_row.new.self in
     let line = c.args.line in
     let made = c.add_row.ensures in
-    IfOk-weaker c.add_row.result _ _ (λ added told is s before source text by none filled table counted fitted.
+    IfOk-weaker c.add_row.result _ _ (λ added told is s before source text by none filled table counted.
     let met = (goal.at.returns-clause-places c).In_ok-begun in
     let here = starts met s before source text by filled in
     let is_text = sym (begins met s before source text by filled)
@@ -74,17 +74,15 @@ returns-clause-places c =
       counts = told.1.1.1.0 is;
       most = told.1.1.1.1.0;
     }) in
-    let placed = told.1.1.1.1.1.0 is fitted in
+    let placed = told.1.1.1.1.1.0 is in
     let puts = subst (PutsRow old new line) here (record {
-      placed = placed.1;
-      texts = (told.1.1.1.1.1.1.0 is fitted).1;
-      tree = λ inside source stands. (told.1.1.1.1.1.1.1 is inside source stands fitted).1;
-    }) in (
-      placed.0,
-      read_places s old new line c.args.reached before source table
-          (record { by = by; none = none; filled = filled; counted = counted }) is_text
-          (ap (λ n. may_be_row old n line.stop) (sym here) ∙ (sym told.0 ∙ is)) adds puts,
-    ))
+      placed = placed;
+      texts = told.1.1.1.1.1.1.0 is;
+      tree = λ inside source stands. told.1.1.1.1.1.1.1 is inside source stands;
+    }) in
+    read_places s old new line c.args.reached before source table
+    (record { by = by; none = none; filled = filled; counted = counted }) is_text
+    (ap (λ n. may_be_row old n line.stop) (sym here) ∙ (sym told.0 ∙ is)) adds puts)
     (both_ok c.add_row.result _ _ made.value
     (both_ok c.add_row.result _ _ made.same
     (both_ok c.add_row.result _ _ made.text

@@ -1,6 +1,4 @@
 -- The pass stands for what the line makes of its blocks.
-use Rattle.std.proofs.Common.{subst}
-use Rattle.markdown_plain.specs.Fitting.{AllFitted}
 use Rattle.markdown_plain.proofs.TextStepsLemmas.{AddsText, stands_holds, text_places}
 use Rattle.markdown_plain.proofs.pass.Pass.read_text_line.Goals as goal
 
@@ -27,9 +25,8 @@ adds c =
     }
 
 pub returns-clause-stands : goal.returns-clause-stands
-returns-clause-stands c = λ s before source stands is here untabled fitted.
+returns-clause-stands c = λ s before source stands is here untabled.
     let placed = text_places s c.args.self.now c.add_text.new.self c.args.line c.args.start c.args.depth source (adds c)
     is before.frames before.inside before.last untabled
-    (stands_holds s c.args.self.now before.frames before.inside before.last c.args.line.start stands) here
-    (subst AllFitted c.see_content.ensures.placing fitted) in
-    (placed.0, c.see_content.ensures.stands s _ placed.1)
+    (stands_holds s c.args.self.now before.frames before.inside before.last c.args.line.start stands) here in
+    (c.see_content.ensures.stands s _ placed)

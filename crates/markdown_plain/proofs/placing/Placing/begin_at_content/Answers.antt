@@ -10,20 +10,18 @@ pub returns-in_default-clause-begins : goal.returns-in_default-clause-begins
 returns-in_default-clause-begins c = absurd (c.content_of_block.ensures.some c.in_default.is)
 
 pub returns-clause-begins : goal.returns-clause-begins
-returns-clause-begins c = λ fitted.
-    let p = last_apart c.args.self.now.builder.blocks c.in-Some.ensures.open in (
-      fitted,
-      record {
-        start = c.in-Some.content;
-        blocks = record {
-          block = p.block;
-          was = p.is;
-          becomes = c.begin_later.ensures.begins (outer_of c.args.self.now.builder.blocks) p.block p.is;
-        };
-        content = rw (ap innermost_block p.is ∙ innermost_of_opened (outer_of c.args.self.now.builder.blocks) p.block)
-            at c.in-Some.ensures.next;
-      },
-    )
+returns-clause-begins c =
+    let p = last_apart c.args.self.now.builder.blocks c.in-Some.ensures.open in
+    record {
+      start = c.in-Some.content;
+      blocks = record {
+        block = p.block;
+        was = p.is;
+        becomes = c.begin_later.ensures.begins (outer_of c.args.self.now.builder.blocks) p.block p.is;
+      };
+      content = rw (ap innermost_block p.is ∙ innermost_of_opened (outer_of c.args.self.now.builder.blocks) p.block)
+          at c.in-Some.ensures.next;
+    }
 
 pub invariant_of-self : goal.invariant_of-self
 invariant_of-self c =

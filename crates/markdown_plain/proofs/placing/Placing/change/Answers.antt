@@ -7,16 +7,14 @@ use Rattle.markdown_plain.proofs.StretchesLemmas.{stretches_replaced}
 use Rattle.markdown_plain.proofs.placing.Placing.change.Goals as goal
 
 pub returns-clause-changes : goal.returns-clause-changes
-returns-clause-changes c = λ fitted.
+returns-clause-changes c =
     let some : c.args.self.now.builder.blocks ≡ [] → ⊥ = λ e. grind (arith, common_steps) in
-    let p = last_apart c.args.self.now.builder.blocks some in (
-      fitted,
-      record {
-        block = p.block;
-        was = p.is;
-        becomes = c.change.ensures.changed (outer_of c.args.self.now.builder.blocks) p.block p.is;
-      },
-    )
+    let p = last_apart c.args.self.now.builder.blocks some in
+    record {
+      block = p.block;
+      was = p.is;
+      becomes = c.change.ensures.changed (outer_of c.args.self.now.builder.blocks) p.block p.is;
+    }
 
 pub invariant_of-self : goal.invariant_of-self
 invariant_of-self c =
