@@ -145,6 +145,8 @@ impl<'a> LineReader<'a> {
 
     /// Returns a reader of a line of the text whose lines are `ahead`. `outermost` is whether the line is directly under
     /// the root: in no open container but a list.
+    // inlined, as `beginning`
+    #[inline(always)]
     pub fn new(
         alloc: Global,
         ahead: &mut LinesAhead<'a>,
@@ -242,6 +244,8 @@ impl<'a> LineReader<'a> {
     }
 
     /// Returns what the line begins after fewer than four columns of space, by the first byte there, other than metadata.
+    // inlined, as `beginning`
+    #[inline(always)]
     fn begun_after(&mut self, space: Space, before: Before) -> Result<BlockStart<'a>, AllocError>
         requires { space.columns < 4 }
         ensures begins { IfOk result (λ start. beginning_found self.old start

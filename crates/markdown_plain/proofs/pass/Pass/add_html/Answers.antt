@@ -25,23 +25,20 @@ returns-clause-leaf c = λ s frames inside b lines source now is_open same is gr
     (rest_held old.text c.args.position c.args.line source is.rest) (omega (arith, stop, next)) in
     let alike = ap (λ t. ends_html_at t c.args.position c.args.line c.args.kind) c.in_ok-add_html_line.ensures.text
     ∙ html_alike old.text c.args.position c.args.line source c.args.kind is in
-    let added =
-    line_added_to s old mid frames inside b (html_leaf c.args.kind false lines) kind_now source.next body.HtmlBlock None
-    body.Html lines source (html_lined s c.args.kind false lines)
+    let added = line_added_to s old mid frames inside b (html_leaf c.args.kind false lines) kind_now source.next
+    body.HtmlBlock None body.Html lines source (html_lined s c.args.kind false lines)
     (html_lined s c.args.kind ends (lines ++ source ∷ [])) same
     (subst (GoesOn old mid) end c.in_ok-add_html_line.ensures.goes_on)
     c.in_ok-add_html_line.ensures.texts (c.in_ok-add_html_line.ensures.items source is.rest) is_open in
     subst (λ k. IsLeafIn s new frames inside (grown_to b source.next k) (has_ended k))
     (html_with s source b now c.args.kind lines same grown)
-    (on_value (λ t. IsLeafIn s new frames inside
-    (grown_to b source.next kind_now) t)
-    ends
+    (on_value (λ t. IsLeafIn s new frames inside (grown_to b source.next kind_now) t) ends
     (λ e.
     let close = c.end_html.ensures.ends (alike ∙ e) in
     let put = c.end_html.ensures.tree (alike ∙ e) in
     closed_leaf s mid new frames inside true (grown_to b source.next kind_now) (html_lined s c.args.kind ends
-    (lines ++ source ∷ [])).leaf close put (added))
+    (lines ++ source ∷ [])).leaf close put added)
     (λ e.
     let kept = c.end_html.ensures.goes_on (alike ∙ e) in
     subst (λ (p : Pass). IsOpenIn s p.placing.builder frames inside true (grown_to b source.next kind_now)) (sym kept)
-    (added)))
+    added))
