@@ -20,7 +20,6 @@ import sys
 sys.dont_write_bytecode = True
 import hostile
 import random_blocks
-from fits import made_by
 
 HERE = os.path.dirname(os.path.abspath(__file__))
 PROGRAMS = ("markdown_html", "markdown_events")
@@ -37,6 +36,11 @@ MARKS = (
     "[a]:b [^a]:b a|b -|- |a| |-| :a"
 ).split(" ")
 SPACES = (" ", " ", "", "", "", "  ", "\t", "\n", "\n", "  \n", "\\\n", "\r\n", "\n\n", "\n> ", "\n- ", "\n    ")
+
+
+def made_by(script, size):
+    made = subprocess.run([sys.executable, os.path.join(HERE, script), str(size)], capture_output=True, text=True, check=True)
+    return made.stdout
 
 
 def inline(rng):
