@@ -69,6 +69,8 @@ fn length_before_ending(bytes: &[u8]) -> usize
 }
 
 /// Returns the offset of the first byte from `from` on that begins a line ending, or the length.
+// inlined, as `line_from`
+#[inline(always)]
 fn first_line_ending(bytes: &[u8], from: usize) -> usize
     requires { from ≤ length bytes.now }
     ensures { IsLineEnd bytes.now from result }

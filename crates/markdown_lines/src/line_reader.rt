@@ -244,7 +244,8 @@ impl<'a> LineReader<'a> {
     }
 
     /// Returns what the line begins after fewer than four columns of space, by the first byte there, other than metadata.
-    // inlined, as `beginning`
+    // inlined, as `beginning`, and so are all functions that are called with the reader: what is passed by its address is
+    // kept in memory
     #[inline(always)]
     fn begun_after(&mut self, space: Space, before: Before) -> Result<BlockStart<'a>, AllocError>
         requires { space.columns < 4 }
@@ -281,6 +282,8 @@ impl<'a> LineReader<'a> {
     }
 
     /// Returns the block quote whose marker is at a place, which is an alert or none.
+    // inlined, as `begun_after`
+    #[inline(always)]
     fn quote(&self, here: Position) -> BlockStart<'a>
         requires { here.at < self.now.stop }
         ensures { beginning_found self.now result
@@ -302,6 +305,8 @@ impl<'a> LineReader<'a> {
     }
 
     /// Returns the ATX heading that begins at a place, or text.
+    // inlined, as `begun_after`
+    #[inline(always)]
     fn heading(&self, here: Position) -> BlockStart<'a>
         ensures { IsFirstOf self.now
             (line.heading_in_line (source_read self.now) (left_at self.now here) ∷ []) result }
@@ -313,6 +318,8 @@ impl<'a> LineReader<'a> {
     }
 
     /// Returns an ATX heading of the line with what is read of attributes at its end.
+    // inlined, as `begun_after`
+    #[inline(always)]
     fn whole_heading(&self, here: Position, heading: AtxHeading) -> AtxHeading
         requires { here.at ≤ heading.from }
         ensures { result
@@ -326,6 +333,8 @@ impl<'a> LineReader<'a> {
     }
 
     /// Returns the code fence that begins after some space, where there is a backtick or a tilde, or text.
+    // inlined, as `begun_after`
+    #[inline(always)]
     fn fence(&self, space: Space) -> BlockStart<'a>
         requires { ((slice_index (left_at self.now space.after).bytes 0 == backtick)
             || (slice_index (left_at self.now space.after).bytes 0 == tilde)) ≡ true }
@@ -340,6 +349,8 @@ impl<'a> LineReader<'a> {
     }
 
     /// Returns the HTML block that begins at a place where there is a `<`, or text.
+    // inlined, as `begun_after`
+    #[inline(always)]
     fn html(&self, here: Position, before: Before) -> Result<BlockStart<'a>, AllocError>
         requires { slice_index (left_at self.now here).bytes 0 ≡ less_than }
         ensures { IfOk result (λ start. IsFirstOf self.now
@@ -353,6 +364,8 @@ impl<'a> LineReader<'a> {
     }
 
     /// Returns the footnote definition that begins at a place where there is a `[`, or text.
+    // inlined, as `begun_after`
+    #[inline(always)]
     fn footnote(&self, here: Position) -> Result<BlockStart<'a>, AllocError>
         requires { slice_index (left_at self.now here).bytes 0 ≡ open_bracket }
         ensures { IfOk result (λ start. IsFirstOf self.now
@@ -369,6 +382,8 @@ impl<'a> LineReader<'a> {
     }
 
     /// Returns the underline, the thematic break or the list item that begins after some space, or text.
+    // inlined, as `begun_after`
+    #[inline(always)]
     fn line_of_marks(&mut self, space: Space, before: Before) -> BlockStart<'a>
         requires { space.columns < 4 }
         ensures first { IsFirstOf self.old
@@ -391,6 +406,8 @@ impl<'a> LineReader<'a> {
     }
 
     /// Returns whether the rest of the line from a byte offset on is a thematic break.
+    // inlined, as `begun_after`
+    #[inline(always)]
     fn is_break(&mut self, at: usize) -> bool
         ensures value { result
             ≡ is_thematic_break (slice_range self.old.text.now at self.old.stop) }

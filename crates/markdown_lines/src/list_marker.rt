@@ -106,6 +106,8 @@ fn any_marker(bytes: &[u8]) -> Option<ListMarker>
 /// Returns the list marker at byte offset `at` in a line whose content ends before `stop`. A space, a tab or the end of
 /// the content has to follow it. An item that interrupts a paragraph must not be blank, and in an ordered list its
 /// number has to be 1.
+// inlined: it is called for each item
+#[inline(always)]
 pub fn list_marker(text: &str, at: usize, stop: usize, interrupts: bool) -> Option<ListMarker>
     ensures value { result ≡ list_marker_at text.now at stop interrupts }
     ensures within { IfSome result (λ marker. marker.width

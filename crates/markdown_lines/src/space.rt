@@ -44,6 +44,8 @@ fn past_white(position: Position, byte: u8, most: usize) -> Space
 
 /// Returns the white space that is read from a place on, at most `most` columns, in a line whose content ends before
 /// byte offset `stop`.
+// inlined: it is called for most lines
+#[inline(always)]
 pub fn read_space(text: &str, position: Position, stop: usize, most: usize) -> Space
     ensures value { IsSpaceAt text.now position stop most result }
     ensures few { result.columns ≤ most }

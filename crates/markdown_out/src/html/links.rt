@@ -21,6 +21,8 @@ fn link_lead(kind: LinkType) -> &'static str
 }
 
 /// Appends the Start of a link.
+// inlined: it is called for each link
+#[inline(always)]
 pub(super) fn put_link<'x>(
     s: &mut String,
     fresh: &mut bool,
