@@ -122,7 +122,7 @@ KNOWN = {
         and re.search(BLANK, text) and len(re.findall("<p>", ours)) > len(re.findall("<p>", theirs)),
     "`- <!-- a`, a blank line, `- b`": lambda text, ours, theirs: only_loose(ours, theirs) and re.search(r"<(!|\?|pre)", text)
         and re.search(BLANK, text) and len(re.findall("<p>", ours)) < len(re.findall("<p>", theirs)),
-    "`[a]: /u`, ` b`": lambda text, ours, theirs: re.search(DEFINES, text) and re.sub(r"(^|>)[ \t]+", r"\1", theirs) == ours,
+    "`> [a]: /u`, ` b`": lambda text, ours, theirs: re.search(DEFINES, text) and re.sub(r"(^|>)[ \t]+", r"\1", theirs) == ours,
     "`-`, a line of two spaces, `  a`": lambda text, ours, theirs: re.search(rf"(^|\n)(?:[ \t>]|\d*{ITEM})*\d*{ITEM}\n[ \t>]*[ \t]+\n", text),
     "`>`, a tab, `~~~`, and a line of `>` and a tab": lambda text, ours, theirs: re.search(r"\t[ \t>]*(~~~|```)", text)
         and ours.replace(" ", "") == theirs.replace(" ", ""),
