@@ -83,12 +83,12 @@ extern "C" {
 /**
  * ## Options
  *
- * Bits that enable extensions. `MARKDOWN_DEFAULT` is CommonMark. Those of the extended entry change nothing unless
- * `MARKDOWN_EXTENDED` is set, and bits that are not listed here change nothing at all.
+ * Bits that enable extensions. `MARKDOWN_DEFAULT` enables none, and leaves out what it says. The bits of the extended entry
+ * change nothing unless `MARKDOWN_EXTENDED` is set, and bits that are not listed here change nothing at all.
  */
 
-/** CommonMark 0.31.2 without extensions. E-mail addresses in angle brackets, and named entities other than `&amp;`,
- * `&lt;`, `&gt;` and `&quot;`, stay text, unless `MARKDOWN_EXTENDED` is set.
+/** CommonMark 0.31.2 without extensions, and with less: e-mail addresses in angle brackets, and named entities other than
+ * `&amp;`, `&lt;`, `&gt;` and `&quot;`, stay text, unless `MARKDOWN_EXTENDED` is set.
  */
 #define MARKDOWN_DEFAULT 0
 

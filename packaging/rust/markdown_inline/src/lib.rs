@@ -1,6 +1,6 @@
 //! Markdown to HTML, events and an outline, by a library that is proved to meet its contracts.
 //!
-//! It reads all of CommonMark 0.31.2, and the [`Extensions`] that a call enables.
+//! It reads CommonMark 0.31.2, and the [`Extensions`] that a call enables.
 //!
 //! ```
 //! use markdown_inline::{Extensions, to_safe_html};
