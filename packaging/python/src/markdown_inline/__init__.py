@@ -1,6 +1,6 @@
 """Markdown to HTML, to events and to an outline, by a parser that is proved to meet its contracts.
 
-It reads all of CommonMark 0.31.2, and the extensions that a call names (`EXTENSIONS`). Texts are `str`, and ranges count
+It reads CommonMark 0.31.2, and the extensions that a call names (`EXTENSIONS`). Texts are `str`, and ranges count
 their characters. The calls may be made from any number of threads, and let the others run meanwhile.
 """
 from ._library import EXTENSIONS, MarkdownError, TooDeep, UnknownExtension
