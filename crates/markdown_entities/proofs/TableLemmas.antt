@@ -26,7 +26,8 @@ sorted_groups : list_all are_sorted entity_groups ≡ true
 unfolding encode rise_after entity_groups
 sorted_groups = refl
 
-sorted_in : (groups : List (List EntityRow)) (n : ℕ) → list_all are_sorted groups ≡ true → AreSorted (get_or groups n [])
+sorted_in : (groups : List (List EntityRow)) (n : ℕ) → list_all are_sorted groups ≡ true
+    → AreSorted (get_or groups n [])
 sorted_in [] n all = refl
 sorted_in (rows ∷ groups) zero all = (and_parts (are_sorted rows) (list_all are_sorted groups) all).0
 sorted_in (rows ∷ groups) (suc n) all =

@@ -101,7 +101,8 @@ fn row_in_middle(rows: &str) -> Option<Row<'_>>
         MatchOption result (known ≡ [])
         (λ row. IsCut known row.before.now row.name.now row.characters.now row.after.now) }
     ensures shorter { IfSome result
-        (λ row. (length row.before.now < length rows.now) × (length row.after.now < length rows.now)) }
+        (λ row. (length row.before.now < length rows.now)
+        × (length row.after.now < length rows.now)) }
 {
     let (before, rest) = rows.split_at_checked(middle_row(rows.as_bytes()))?;
     let (name, rest) = rest.split_once(';')?;
