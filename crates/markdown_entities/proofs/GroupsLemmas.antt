@@ -48,7 +48,7 @@ later_here x true here both after rest none = cc
 later_here x false here both after rest none = rest none
 
 -- the first of two lists decides where it has the name, or the second does not
-named_later : (xs ys : List EntityRow) (name : List ℕ) → named_in xs name ≡ None
+pub named_later : (xs ys : List EntityRow) (name : List ℕ) → named_in xs name ≡ None
     → named_in (xs ++ ys) name ≡ named_in ys name
 unfolding named_in
 named_later [] ys name none = refl
@@ -56,7 +56,7 @@ named_later (x ∷ xs) ys name none =
     later_here x (bytes_eq x.0 name) (named_in xs name) (named_in (xs ++ ys) name) (named_in ys name)
     (named_later xs ys name) none
 
-named_only : (xs ys : List EntityRow) (name : List ℕ) → named_in ys name ≡ None
+pub named_only : (xs ys : List EntityRow) (name : List ℕ) → named_in ys name ≡ None
     → named_in (xs ++ ys) name ≡ named_in xs name
 unfolding named_in
 named_only [] ys name none = none

@@ -2,4 +2,6 @@ pub mod NamesLemmas
 pub mod RowsLemmas
 pub mod GroupsLemmas
 pub mod TableLemmas
+pub mod CutLemmas
+pub mod SearchLemmas
 pub mod NamedEntityLemmas

@@ -1,19 +1,17 @@
 -- The rows of a text, and the rows of the table with a name.
-use Rattle.std.proofs.Common.{◌≡◌, ◌≢◌, Bor, ℕ, zero, suc, ◌+◌, ◌<◌, Bool, true, false, not, ◌==◌, nat_eq}
+use Rattle.std.proofs.Common.{◌≡◌, ◌≢◌, ℕ, zero, suc, ◌+◌, ◌<◌, Bool, true, false, nat_eq}
 use Rattle.std.proofs.Common.{nat_le, List, [], ◌∷◌, ◌++◌, length, get_or, Option, Some, None, refl, sym}
-use Rattle.std.proofs.Common.{ap, ◌∙◌, arith, true≢false, le_of_suc-le-suc, not-suc-le-zero, add-suc}
-use Rattle.std.proofs.Common.{append_assoc, leb-true, lit<, ap₂, drop, length-append, cond}
+use Rattle.std.proofs.Common.{ap, ◌∙◌, true≢false, le_of_suc-le-suc, not-suc-le-zero, add-suc}
+use Rattle.std.proofs.Common.{append_assoc, leb-true, ap₂, drop, length-append, cond}
 use Rattle.std.proofs.Common.{encode_utf8_all, option_map}
-use Rattle.std.specs.Prelude.{MatchOption, bytes_eq}
+use Rattle.std.specs.Prelude.{bytes_eq}
 use Rattle.std.proofs.lemmas.Bool.{and_parts}
 use Rattle.std.proofs.lemmas.Option.{same_Some}
 use Rattle.std.proofs.lemmas.Slice.Eq.{bytes_eq-Decides}
-use Rattle.std.proofs.lemmas.Str.Pattern.{IsSplitOnceResult, split_after, split_parts}
-use Rattle.std.specs.Char.{is_ascii_alphanumeric}
 use Rattle.std.specs.List.{list_all, starts_with}
 use Rattle.markdown_entities.specs.EntityRow.{EntityRow}
-use Rattle.markdown_entities.specs.EntitySteps.{is_name, BeginsWithName, BeginsWithNoName, rows_text, named_in}
-use Rattle.markdown_entities.specs.EntitySteps.{characters_if, characters_of, is_row, row_text, AreRows}
+use Rattle.markdown_entities.specs.EntitySteps.{is_name, BeginsWithName, BeginsWithNoName, named_in}
+use Rattle.markdown_entities.specs.EntitySteps.{characters_of, is_row, AreRows}
 use Rattle.markdown_entities.specs.NamedEntity.{as_written, first_written, in_utf8}
 use Rattle.markdown_entities.proofs.NamesLemmas.{begins_split, begins_with, same_names}
 
@@ -26,98 +24,10 @@ not_mark test mark (b ∷ bytes) fails all zero lt =
 not_mark test mark (b ∷ bytes) fails all (suc i) lt =
     not_mark test mark bytes fails (and_parts (test b) (list_all test bytes) all).1 i (le_of_suc-le-suc lt)
 
--- ---- the text of rows
+-- ---- what rows are
 
-is_named : (row : EntityRow) → is_row row ≡ true → is_name row.0 ≡ true
+pub is_named : (row : EntityRow) → is_row row ≡ true → is_name row.0 ≡ true
 is_named row ok = (and_parts (is_name row.0) _ ok).0
-
--- split at the first space it gives the first row and the others
-row_split : (row : EntityRow) (rows : List EntityRow) (text : List ℕ) (r : Option (Bor (List ℕ) × Bor (List ℕ)))
-    → is_row row ≡ true → text ≡ rows_text (row ∷ rows) → IsSplitOnceResult 32 text r
-    → MatchOption r ⊥ (λ x. (x.0.now ≡ row_text row) × (x.1.now ≡ rows_text rows))
-unfolding rows_text
-row_split row rows text r ok e split =
-    let clear = (and_parts (nat_le (length row.0) 31) _ (and_parts (is_name row.0) _ ok).1).1 in
-    split_after 32 text (row_text row) (rows_text rows) r split (lit< tt) e
-    (not_mark (λ b. not (b == 32)) 32 (row_text row) refl clear)
-
-no_split : (text : List ℕ) (x : Bor (List ℕ) × Bor (List ℕ)) → text ≡ [] → IsSplitOnceResult 32 text (Some x) → ⊥
-no_split text x e split =
-    let parts : text ≡ x.0.now ++ (32 ∷ x.1.now) = (split_parts 32 text (Some x) split (lit< tt)).0 in
-    let sizes : length text ≡ length x.0.now + suc (length x.1.now) = ap length parts
-    ∙ length-append x.0.now (32 ∷ x.1.now) in
-    let none : length text ≡ 0 = ap length e in
-    absurd (omega (arith, sizes, none))
-
--- a row split at the first semicolon gives the name and the characters
-pub row_known : (r : EntityRow) (row : List ℕ) (found : Option (Bor (List ℕ) × Bor (List ℕ))) → is_row r ≡ true
-    → row ≡ row_text r → IsSplitOnceResult 59 row found
-    → MatchOption found ⊥ (λ x. (x.0.now ≡ r.0) × (x.1.now ≡ encode_utf8_all r.1))
-row_known r row found ok e split =
-    split_after 59 row r.0 (encode_utf8_all r.1) found split (lit< tt) e
-    (not_mark is_ascii_alphanumeric 59 r.0 refl (is_named r ok))
-
-not_here : (t : Bool) (xs : List ℕ) → None ≡ cond t (Some xs) None → t ≡ false
-not_here true xs e = cc
-not_here false xs e = refl
-
-here_is : (t : Bool) (ys xs : List ℕ) → Some ys ≡ cond t (Some xs) None → (t ≡ true) × (ys ≡ xs)
-here_is true ys xs e = (refl, same_Some ys xs e)
-here_is false ys xs e = cc
-
--- a row that is the name's, and one that is not
-pub own_row : (r : EntityRow) (row name : List ℕ) (known characters : Bor (List ℕ))
-    → IsSplitOnceResult 59 row (Some (known, characters)) → bytes_eq known.now name ≡ true → is_row r ≡ true
-    → row ≡ row_text r → Some characters.now ≡ characters_if r name
-own_row r row name known characters split same ok e =
-    let parts = row_known r row (Some (known, characters)) ok e split in
-    ap (λ bs. Some bs) parts.1
-    ∙ ap (λ t. cond t (Some (encode_utf8_all r.1)) None) (sym (sym (ap (λ bs. bytes_eq bs name) parts.0) ∙ same))
-
-pub other_row : (r : EntityRow) (row name : List ℕ) (known characters : Bor (List ℕ))
-    → IsSplitOnceResult 59 row (Some (known, characters)) → bytes_eq known.now name ≡ false → is_row r ≡ true
-    → row ≡ row_text r → None ≡ characters_if r name
-other_row r row name known characters split same ok e =
-    let parts = row_known r row (Some (known, characters)) ok e split in
-    ap (λ t. cond t (Some (encode_utf8_all r.1)) None) (sym (sym (ap (λ bs. bytes_eq bs name) parts.0) ∙ same))
-
--- where the first row does not have the name, the others remain
-pub next_rows : (left : List EntityRow) (rest name : List ℕ) (row others : Bor (List ℕ)) → rest ≡ rows_text left
-    → AreRows left → IsSplitOnceResult 32 rest (Some (row, others))
-    → ((r : EntityRow) → is_row r ≡ true → row.now ≡ row_text r → None ≡ characters_if r name)
-    → (more : List EntityRow) × (others.now ≡ rows_text more) × AreRows more × (named_in left name ≡ named_in more name)
-unfolding rows_text named_in
-next_rows [] rest name row others e ok split first = absurd (no_split rest (row, others) e split)
-next_rows (r ∷ left) rest name row others e ok split first =
-    let parts = and_parts (is_row r) (list_all is_row left) ok in
-    let cut = row_split r left rest (Some (row, others)) parts.0 e split in (
-      left,
-      cut.1,
-      parts.1,
-      ap (λ t. cond t (Some r) (named_in left name))
-          (not_here (bytes_eq r.0 name) (encode_utf8_all r.1) (first r parts.0 cut.0)),
-    )
-
--- where it has the name, its characters are those
-pub found_row : (left : List EntityRow) (rest name characters : List ℕ) (row others : Bor (List ℕ))
-    → rest ≡ rows_text left → AreRows left → IsSplitOnceResult 32 rest (Some (row, others))
-    → ((r : EntityRow) → is_row r ≡ true → row.now ≡ row_text r → Some characters ≡ characters_if r name)
-    → Some characters ≡ characters_of (named_in left name)
-unfolding rows_text named_in
-found_row [] rest name characters row others e ok split first = absurd (no_split rest (row, others) e split)
-found_row (r ∷ left) rest name characters row others e ok split first =
-    let parts = and_parts (is_row r) (list_all is_row left) ok in
-    let cut = row_split r left rest (Some (row, others)) parts.0 e split in
-    let here = here_is (bytes_eq r.0 name) characters (encode_utf8_all r.1) (first r parts.0 cut.0) in
-    ap (λ bs. Some bs) here.1 ∙ ap (λ t. characters_of (cond t (Some r) (named_in left name))) (sym here.0)
-
--- where no row is left, the name has none
-pub no_row : (left : List EntityRow) (rest name : List ℕ) → rest ≡ rows_text left → AreRows left
-    → IsSplitOnceResult 32 rest None → None ≡ characters_of (named_in left name)
-unfolding rows_text named_in
-no_row [] rest name e ok split = refl
-no_row (r ∷ left) rest name e ok split =
-    absurd (row_split r left rest None (and_parts (is_row r) (list_all is_row left) ok).0 e split)
 
 -- ---- the first row that is written
 

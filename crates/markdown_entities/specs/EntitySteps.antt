@@ -1,10 +1,12 @@
--- How the code finds a named entity: by its name's first letter.
+-- How the code finds a named entity: by its name's first letter, and then by halves of the rows that begin with it.
 use Rattle.std.specs.Prelude.{◌≡◌, ℕ, suc, ◌+◌, ◌-◌, ◌≤◌, Bool, true, false, not, ◌&&◌, ◌==◌, nat_le, List, [], ◌∷◌}
 use Rattle.std.specs.Prelude.{◌++◌, length, slice_index, encode_utf8_all, bytes_eq}
 use Rattle.std.specs.Prelude.{Option, Some, None, option_map, if◌then◌else◌}
 use Rattle.std.specs.Char.{is_ascii_alphanumeric}
 use Rattle.std.specs.List.{list_all}
 use Rattle.std.specs.Option.{option_map_or}
+use Rattle.std.specs.Cmp.Lexicographic.{slice_cmp}
+use Rattle.std.specs.Ordering.{is_lt, nat_cmp}
 use Rattle.markdown_base.specs.Bytes.{ampersand, semicolon, space}
 use Rattle.markdown_entities.specs.EntityRow.{EntityRow}
 
@@ -40,16 +42,40 @@ named_in (row ∷ rows) name = if bytes_eq row.0 name then Some row else named_i
 abbrev pub characters_of : Option EntityRow → Option (List ℕ)
 characters_of found = option_map (λ row. encode_utf8_all row.1) found
 
--- the characters of a row, if it is the row of the name
-abbrev pub characters_if : EntityRow → List ℕ → Option (List ℕ)
-characters_if row name = if bytes_eq row.0 name then Some (encode_utf8_all row.1) else None
-
 -- a name of letters and digits, not too long, and no space
 abbrev pub is_row : EntityRow → Bool
 is_row row = is_name row.0 && (nat_le (length row.0) 31 && list_all (λ b. not (b == space)) (row_text row))
 
 abbrev pub AreRows : List EntityRow → Type 0
 AreRows rows = list_all is_row rows ≡ true
+
+-- one name is before another in the order of bytes
+abbrev pub is_before : List ℕ → List ℕ → Bool
+is_before name other = is_lt (slice_cmp nat_cmp name other)
+
+-- each name is before the next, the first of them after the given one
+unfoldable pub rise_after : List ℕ → List EntityRow → Bool
+rise_after name [] = true
+rise_after name (row ∷ rows) = is_before name row.0 && rise_after row.0 rows
+
+-- the names rise in the order of bytes
+abbrev pub are_sorted : List EntityRow → Bool
+are_sorted [] = true
+are_sorted (row ∷ rows) = rise_after row.0 rows
+
+abbrev pub AreSorted : List EntityRow → Type 0
+AreSorted rows = are_sorted rows ≡ true
+
+-- one of the rows has the name and the characters, between the texts of the rows before and after it
+pub record IsCut (rows : List EntityRow) (before name characters after : List ℕ) : Type 0 where
+  pub earlier : List EntityRow
+  pub row : EntityRow
+  pub later : List EntityRow
+  pub whole : rows ≡ earlier ++ (row ∷ later)
+  pub before_is : before ≡ rows_text earlier
+  pub name_is : name ≡ row.0
+  pub characters_are : characters ≡ encode_utf8_all row.1
+  pub after_is : after ≡ rows_text later
 
 -- the place of a letter's names among the groups
 abbrev pub group_number : ℕ → Option ℕ

@@ -1,6 +1,6 @@
 -- The named entities of HTML: each name without its `&` and `;`, and the characters that it stands for. Written by
 -- .ci/entities.
-use Rattle.std.specs.Prelude.{ℕ, List, [], ◌∷◌, codes}
+use Rattle.std.specs.Prelude.{List, [], ◌∷◌, codes}
 use Rattle.markdown_entities.specs.EntityRow.{EntityRow}
 
 -- all names, in groups by the first letter, in the order of ASCII

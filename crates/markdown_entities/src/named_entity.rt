@@ -1,16 +1,18 @@
 //! The search for the named entity that bytes begin with.
-ghost use Rattle.std.specs.Prelude.{◌≡◌, ◌≤◌, ◌<◌, true, List, [], IfNone, IfSome, encode_utf8_all, get_or, length, map};
-ghost use Rattle.std.specs.Prelude.{slice_index};
+ghost use Rattle.std.specs.Prelude.{◌≡◌, ◌≤◌, ◌<◌, ◌-◌, ◌/◌, List, [], IfNone, IfSome, encode_utf8_all, get_or, length, map};
+ghost use Rattle.std.specs.Prelude.{slice_index, MatchOption};
 ghost use Rattle.std.specs.Char.{is_ascii_alphanumeric};
 ghost use Rattle.std.specs.List.{prefix_len};
 ghost use Rattle.std.specs.Option.{option_map};
+ghost use Rattle.markdown_base.specs.Bytes.{space};
 ghost use Rattle.markdown_entities.specs.EntityRow.{EntityRow};
 ghost use Rattle.markdown_entities.specs.EntityTable.{entity_groups};
-ghost use Rattle.markdown_entities.specs.EntitySteps.{AreRows, characters_if, characters_of, is_row, named_in, row_text};
+ghost use Rattle.markdown_entities.specs.EntitySteps.{AreRows, AreSorted, IsCut, characters_of, named_in};
 ghost use Rattle.markdown_entities.specs.EntitySteps.{BeginsWithName, BeginsWithNoName, group_number, rows_text};
 ghost use Rattle.markdown_entities.specs.NamedEntity.{entity_rows, in_utf8, named_entity};
 
 use crate::table::GROUPS;
+use std::cmp::Ordering;
 
 /// The most letters and digits that a name has.
 const LONGEST: usize = 31;
@@ -72,30 +74,60 @@ fn group(number: usize) -> &'static str
     text_at(&GROUPS, number)
 }
 
-/// Returns the characters in the text of a row, if it is the row of the name.
-fn characters_in_row<'t>(row: &'t str, name: &[u8]) -> Option<&'t str>
-    ensures { (known : EntityRow) → is_row known ≡ true → row.now ≡ row_text known
-        → option_map (λ found. found.now) result ≡ characters_if known name.now }
+/// Returns where the row begins that the middle of some rows is in.
+fn middle_row(rows: &[u8]) -> usize
+    ensures half { result ≤ length rows.now / 2 }
+    ensures after_space { 0 < result → slice_index rows.now (result - 1) ≡ space }
 {
-    let (known, characters) = row.split_once(';')?;
-    if known.as_bytes() == name {
-        Some(characters)
-    } else {
-        None
+    let mut start = rows.len() / 2;
+    while start > 0 && rows[start - 1] != b' ' {
+        start -= 1;
     }
+    start
 }
 
-/// Returns the characters of a name in the text of some rows.
-fn characters_in<'t>(text: &'t str, name: &[u8]) -> Option<&'t str>
-    ensures { (rows : List EntityRow) → text.now ≡ rows_text rows → AreRows rows →
-        option_map (λ found. found.now) result ≡ characters_of (named_in rows name.now) }
+/// A row, and the texts of the rows before and after it.
+#[derive(Clone, Copy)]
+struct Row<'t> {
+    before: &'t str,
+    name: &'t str,
+    characters: &'t str,
+    after: &'t str,
+}
+
+/// Returns the row in the middle of some rows, with those before and after it.
+fn row_in_middle(rows: &str) -> Option<Row<'_>>
+    ensures cases { (known : List EntityRow) → rows.now ≡ rows_text known → AreRows known →
+        MatchOption result (known ≡ [])
+        (λ row. IsCut known row.before.now row.name.now row.characters.now row.after.now) }
+    ensures shorter { IfSome result
+        (λ row. (length row.before.now < length rows.now)
+        × (length row.after.now < length rows.now)) }
 {
-    let mut rest = text;
-    while let Some((row, others)) = rest.split_once(' ') {
-        if let Some(characters) = characters_in_row(row, name) {
-            return Some(characters);
+    let (before, rest) = rows.split_at_checked(middle_row(rows.as_bytes()))?;
+    let (name, rest) = rest.split_once(';')?;
+    let (characters, after) = rest.split_once(' ')?;
+    Some(Row {
+        before,
+        name,
+        characters,
+        after,
+    })
+}
+
+/// Returns the characters of a name in the text of some rows, whose names rise in the order of bytes.
+fn characters_in<'t>(text: &'t str, name: &[u8]) -> Option<&'t str>
+    ensures { (known : List EntityRow) → text.now ≡ rows_text known → AreRows known
+        → AreSorted known → option_map (λ found. found.now) result
+        ≡ characters_of (named_in known name.now) }
+{
+    let mut rows = text;
+    while let Some(row) = row_in_middle(rows) {
+        match row.name.as_bytes().cmp(name) {
+            Ordering::Less => rows = row.after,
+            Ordering::Equal => return Some(row.characters),
+            Ordering::Greater => rows = row.before,
         }
-        rest = others;
     }
     None
 }

@@ -1,7 +1,7 @@
 //! The named entities of HTML, as texts. Written by .ci/entities.
 
-/// For each first letter, in the order of ASCII, the names that begin with it: each followed by `;`, its characters and
-/// a space.
+/// For each first letter, in the order of ASCII, the names that begin with it, in the order of bytes: each followed by `;`,
+/// its characters and a space.
 #[rattlefmt::skip]
 pub(crate) static GROUPS: [&str; 52] = [
     "\

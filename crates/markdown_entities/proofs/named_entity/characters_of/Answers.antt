@@ -4,7 +4,7 @@ use Rattle.std.proofs.Math.Nat.{zero-add}
 use Rattle.markdown_entities.specs.EntityTable.{entity_groups}
 use Rattle.markdown_entities.specs.EntitySteps.{characters_of}
 use Rattle.markdown_entities.proofs.GroupsLemmas.{group_rows, in_group, in_no_group}
-use Rattle.markdown_entities.proofs.TableLemmas.{table_groups}
+use Rattle.markdown_entities.proofs.TableLemmas.{group_sorted, table_groups}
 use Rattle.markdown_entities.proofs.named_entity.characters_of.Goals as goal
 
 pub returns-in_err-number : goal.returns-in_err-number
@@ -16,7 +16,7 @@ pub returns : goal.returns
 returns c =
     let groups = entity_groups in
     c.characters_in.ensures (get_or groups c.in_ok-number.number []) c.group.ensures
-    (group_rows 0 groups c.in_ok-number.number table_groups)
+    (group_rows 0 groups c.in_ok-number.number table_groups) (group_sorted c.in_ok-number.number)
     ∙ ap characters_of (sym
     (in_group 0 c.in_ok-number.number groups c.args.name.now table_groups
     (sym c.in_ok-number.ensures.value ∙ ap (λ n. Some n) (sym (zero-add c.in_ok-number.number)))))
