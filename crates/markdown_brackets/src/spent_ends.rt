@@ -1,13 +1,13 @@
 //! The ends of closing brackets that can no longer be references.
 use markdown_base::fault::Fault;
 use std::alloc::Global;
-use std::collections::HashSet;
+use std::collections::BTreeSet;
 
-/// For each `]` of a chain that ends the label of a full reference which was looked up, the byte offset after it. The
-/// allocation of the set is kept when it is emptied.
+/// For each `]` of a chain that ends the label of a full reference which was looked up, the byte offset after it.
+/// The set is ordered, so that emptying it before each chain costs no more than what is in it.
 #[derive(Drop)]
 pub struct SpentEnds {
-    ends: HashSet<usize>,
+    ends: BTreeSet<usize>,
 }
 
 impl SpentEnds {
@@ -20,7 +20,7 @@ impl SpentEnds {
         ensures { (end : ℕ) → is_spent result end ≡ false }
     {
         SpentEnds {
-            ends: HashSet::new(alloc),
+            ends: BTreeSet::new(alloc),
         }
     }
 

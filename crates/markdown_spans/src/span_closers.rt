@@ -18,7 +18,7 @@ use crate::span_text::SpanKind;
 use markdown_base::item::Item;
 use markdown_base::tree::Tree;
 use std::alloc::{AllocError, Global};
-use std::collections::HashMap;
+use std::collections::BTreeMap;
 use std::marker::Model;
 
 /// What closes a math span.
@@ -46,8 +46,9 @@ pub struct SpanClosers {
     ahead: Vec<KnownCloser>,
     /// The marks that a search has passed.
     noted: Vec<SpanMark>,
-    /// The number of the nearest mark of each key, while closers are determined.
-    nearest: HashMap<usize, usize>,
+    /// The number of the nearest mark of each key, while closers are determined. The map is ordered, so that emptying
+    /// it before each search that fails costs no more than what is in it.
+    nearest: BTreeMap<usize, usize>,
 }
 
 impl Model for SpanClosers {
@@ -62,7 +63,7 @@ impl Model for SpanClosers {
 /// Determines the closer of each recorded mark, with the first mark last.
 fn fill_ahead(
     noted: &mut Vec<SpanMark>,
-    nearest: &mut HashMap<usize, usize>,
+    nearest: &mut BTreeMap<usize, usize>,
     ahead: &mut Vec<KnownCloser>,
 ) -> Result<(), AllocError>
     ensures { OnOk result (reverse ahead.new.items ≡ known_closers noted.old.items) }
@@ -202,7 +203,7 @@ impl SpanClosers {
             failed: false,
             ahead: Vec::new(alloc),
             noted: Vec::new(alloc),
-            nearest: HashMap::new(alloc),
+            nearest: BTreeMap::new(alloc),
         }
     }
 
