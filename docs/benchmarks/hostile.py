@@ -1,7 +1,7 @@
 """Hostile texts for benchmarks, the same on each run: `hostile.py KIND BYTES` prints one of about so many bytes.
 
 `hostile.py --check PROGRAM [KIND ..]` tells whether a program takes at most 2.2 times the instructions at twice the size:
-for each kind, or these, at 5,000, 10,000 and 20,000 bytes, without an extension, with those that the kind needs, and with all.
+for each kind, or these, at 10,000, 20,000 and 40,000 bytes, without an extension, with those that the kind needs, and with all.
 PROGRAM is `markdown_html`, which takes extensions as words, or `markdown`, which reads by the extended entry; `--check` may
 be given for each. It prints a table of the instructions in millions, without those of a text of one letter, how often one size
 takes those of the one before, and how many a byte takes. A line where one size takes more than 2.2 times as many says so
@@ -83,13 +83,18 @@ def grown(part):
     return text
 
 
-def after(first, then):
-    """For half the size one family, and then another for the other half."""
-    return lambda size: family_text(first, size // 2) + then(size - size // 2)
+rising_backticks = grown(lambda number: "`" * (number + 1) + "a")
 
 
-def family_text(family, size):
-    return repeated(family, size) if isinstance(family, str) else family(size)
+def rising_and_falling_backticks(size):
+    runs = ["`" * length + "a" for length in range(1, max(math.isqrt(size), 2))]
+    return "".join(runs + runs[::-1])
+
+
+def wide_head(columns, size):
+    """A head of many cells, and rows of one."""
+    text = "|a" * columns + "|\n" + "|-" * columns + "|\n"
+    return text + "x\n" * ((size - len(text)) // 2)
 
 
 # what begins a block, in lines or in one line
@@ -203,7 +208,7 @@ CHAINS = {
     "chains-in-reference-images": of("[b]: c\n\n", ["![*a*"], ["][b]"]),
     "quotes-in-images": of(["!['a' "], ["](b)"]),
     "chains-after-references": of(["[a][b] "], "\n\n", ["*a*\n\n"]),
-    "chains-after-backticks": after(grown(lambda number: "`" * (number + 1) + "a"), before("\n\n", "`a\n\n")),
+    "chains-after-backticks": lambda size: rising_backticks(size // 2) + "\n\n" + repeated("`a\n\n", size // 2),
     "chains-after-dollars": first_half("$a ", "\n\n", "$a\n\n"),
     "chains-after-openers": first_half("[", "\n\n", "[\n\n"),
     "chains-after-runs": first_half("*a ", "\n\n", "*a\n\n"),
@@ -231,13 +236,6 @@ TABLES = {
     "table-lines": "|a|\n|-|\n\n",
     "tables-of-rows": "|a|\n|-|\n|b|\n\n",
 }
-
-
-def wide_head(columns, size):
-    """A head of many cells, and rows of one."""
-    text = "|a" * columns + "|\n" + "|-" * columns + "|\n"
-    return text + "x\n" * ((size - len(text)) // 2)
-
 
 # definitions of links and footnotes, and what looks them up
 DEFINITIONS = {
@@ -322,8 +320,8 @@ DELIMITERS = {
 SPANS = {
     "backticks": "`",
     "backtick-lines": "```a`\n",
-    "rising-backticks": grown(lambda number: "`" * (number + 1) + "a"),
-    "rising-and-falling-backticks": lambda size: rising_and_falling(size),
+    "rising-backticks": rising_backticks,
+    "rising-and-falling-backticks": rising_and_falling_backticks,
     "ticked-words": "`a",
     "escaped-ticks": "\\``a",
     "dollars": "$",
@@ -333,13 +331,6 @@ SPANS = {
     "braced-dollars": "{$a}",
     "open-braces-and-dollars": "{$a",
 }
-
-
-def rising_and_falling(size):
-    """Backtick runs of rising lengths, and then of falling ones."""
-    runs = ["`" * number + "a" for number in range(1, max(math.isqrt(size), 2))]
-    return "".join(runs + runs[::-1])
-
 
 # what begins with `<`: tags, autolinks, comments and the like
 ANGLES = {
@@ -419,7 +410,7 @@ GROUPS = [
 ]
 FAMILIES = {kind: family for group in GROUPS for kind, family in group.items()}
 
-# The extensions that a kind needs, as both programs and the C library name them; the others need none.
+# The extensions that a kind needs, as both programs name them; the others need none. Most go by what a kind's name says.
 NEEDS = {
     **{kind: ["tables"] for kind in TABLES},
     **{kind: ["old-footnotes"] for kind in FAMILIES if "old-footnotes" in kind},
@@ -441,7 +432,8 @@ OF_PULLDOWN = {"tables": "-T", "footnotes": "-F", "old-footnotes": "-F"}
 
 
 def text(kind, size):
-    return family_text(FAMILIES[kind], size)
+    family = FAMILIES[kind]
+    return repeated(family, size) if isinstance(family, str) else family(size)
 
 
 def instructions(command, text):
@@ -451,7 +443,7 @@ def instructions(command, text):
     return int(re.search(rb"Collected : (\d+)", said.stderr)[1])
 
 
-SIZES = (5000, 10000, 20000)
+SIZES = (10000, 20000, 40000)
 MOST = 2.2
 
 
