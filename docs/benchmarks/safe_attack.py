@@ -48,7 +48,7 @@ class Library:
 
     def __init__(self, path):
         self.library = ctypes.CDLL(path)
-        self.library.markdown_free.argtypes = [ctypes.c_void_p]
+        self.library.markdown_free.argtypes, self.library.markdown_free.restype = [ctypes.c_void_p], None
 
     def made(self, call, text, options):
         """What a call makes of a text."""
