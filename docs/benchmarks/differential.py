@@ -59,7 +59,7 @@ def joined(make, count, seed):
 
 def texts(count, seed, rows):
     """The texts, each with its name."""
-    for kind in (*hostile.REPEATED, *hostile.OTHERS):
+    for kind in hostile.FAMILIES:
         for size in (10, 300, 3000):
             yield f"{kind} {size}", hostile.text(kind, size)
     for script in ("prose.py", "mixed.py", "documents.py"):

@@ -2,20 +2,18 @@
 
 SHARED_OBJECT is made as `.ci/callers` makes it. COUNT texts (20,000 by default) are made of shapes (links, images,
 definitions, titles, info strings, footnotes, wikilinks, math, raw HTML) with payloads (schemes in all spellings, tags,
-attributes, ends of values), from a fixed seed. Each is rendered with no extension and with all. The HTML is checked by
-Python's HTML parser, by a grammar, and by the URL standard's reading of schemes; all three are written apart from the
-definitions of the library. Where Python has `html5lib`, which builds trees as browsers do, a page with the HTML in an
-element is read too: nothing of the HTML stands outside that element. Prints how many texts come through, and how many do by
-`markdown_to_html`; exits with 1 where one comes through.
+attributes, ends of values), from a fixed seed. Each is rendered by both entries, with no extension, with all, and with all
+but old footnotes, which take the place of the others. The HTML is checked by Python's HTML parser, by a grammar, and by the
+URL standard's reading of schemes; all three are written apart from the definitions of the library. Where Python has
+`html5lib`, which builds trees as browsers do, a page with the HTML in an element is read too: nothing of the HTML stands
+outside that element. Prints each text that comes through, and how many do, also by `markdown_html_alloc`; exits with 1 where
+one comes through, or where none does by `markdown_html_alloc`, since then the texts attack nothing.
 """
+import ctypes
 import random
 import re
 import sys
 from html.parser import HTMLParser
-from pathlib import Path
-
-sys.path.insert(0, str(Path(__file__).resolve().parent.parent.parent / "examples/python"))
-from markdown import Markdown
 
 try:
     import html5lib
@@ -33,8 +31,38 @@ CLASSES = {"footnote-reference", "footnote-definition", "footnote-definition-lab
 CLASSES |= {f"markdown-alert-{kind}" for kind in ("note", "tip", "important", "warning", "caution")}
 VALUE = r'(?:[^&<>"]|&(?:amp|lt|gt|quot|#x27);)*'
 GRAMMAR = re.compile(rf'(?:[^&<>]|&(?:amp|lt|gt|quot|#x27);|<[a-z0-9]+(?: [a-z]+="{VALUE}")*(?: ?/)?>|</[a-z0-9]+>)*')
-ALL_OPTIONS = 1 << 1 | 1 << 2 | 1 << 3 | 1 << 4 | 1 << 5 | 1 << 6 | 1 << 7 | 1 << 8 | 1 << 9 | 1 << 10 | 1 << 11 | 1 << 12 | 1 << 13
-ALL_OPTIONS |= 1 << 14 | 1 << 15
+ALL_EXTENSIONS = sum(1 << bit for bit in range(1, 16))
+OLD_FOOTNOTES = 1 << 9
+EXTENDED = 1 << 30
+READINGS = {
+    f"the {entry} entry with {extensions}": bit | bits
+    for entry, bit in (("present", 0), ("extended", EXTENDED))
+    for extensions, bits in (
+        ("no extension", 0), ("all extensions", ALL_EXTENSIONS), ("all but old footnotes", ALL_EXTENSIONS & ~OLD_FOOTNOTES)
+    )
+}
+
+
+class Library:
+    """The calls of a shared object that allocate."""
+
+    def __init__(self, path):
+        self.library = ctypes.CDLL(path)
+        self.library.markdown_free.argtypes, self.library.markdown_free.restype = [ctypes.c_void_p], None
+
+    def made(self, call, text, options):
+        """What a call makes of a text."""
+        function = getattr(self.library, call)
+        function.argtypes = [ctypes.c_char_p, ctypes.c_size_t, ctypes.c_uint32, ctypes.POINTER(ctypes.c_int64)]
+        function.restype = ctypes.c_void_p
+        given, length = text.encode(), ctypes.c_int64()
+        result = function(given, len(given), options, ctypes.byref(length))
+        if result is None:
+            sys.exit(f"{call} returns the status {length.value} for {text!r}")
+        try:
+            return ctypes.string_at(result, length.value).decode()
+        finally:
+            self.library.markdown_free(result)
 
 
 def has_safe_scheme(url):
@@ -166,17 +194,18 @@ def texts(count):
 
 
 def main(path, count="20000"):
-    library, through, through_raw = Markdown(path), 0, 0
+    library = Library(path)
+    through, through_raw = dict.fromkeys(READINGS, 0), dict.fromkeys(READINGS, 0)
     for text in texts(int(count)):
-        raw = text.encode()
-        for options in (0, ALL_OPTIONS):
-            found = unsafe_parts(library.to_safe_html(raw, options).decode())
+        for reading, options in READINGS.items():
+            found = unsafe_parts(library.made("markdown_safe_html_alloc", text, options))
             if found:
-                through += 1
-                print(options, repr(text), found)
-        through_raw += any(unsafe_parts(library.to_html(raw, options).decode()) for options in (0, ALL_OPTIONS))
-    print(f"{count} texts: {through} come through; by markdown_to_html {through_raw} do")
-    sys.exit(bool(through))
+                through[reading] += 1
+                print(f"{reading}: {text!r} {found}")
+            through_raw[reading] += bool(unsafe_parts(library.made("markdown_html_alloc", text, options)))
+    for reading in READINGS:
+        print(f"{reading}: of {count} texts {through[reading]} come through, by markdown_html_alloc {through_raw[reading]}")
+    sys.exit(any(through.values()) or not all(through_raw.values()))
 
 
 if __name__ == "__main__":
