@@ -32,7 +32,7 @@ pub struct BracketReader<'r, 'a, R> {
     pub tree: &'r Tree<Item>,
     /// The node of the `]`.
     pub node: usize,
-    pub place: &'r ChainPlace<'a>,
+    pub place: &'r ChainPlace<'a, 'r>,
     /// The rule for the beginnings of lines.
     pub rule: &'r R,
 }

@@ -23,7 +23,9 @@ use Rattle.markdown_document.specs.declared.work.Work.{Work}
 use Rattle.markdown_document.specs.Places.{trees_from}
 use Rattle.markdown_document.specs.ResolverStates.{resolver_state, state_at, above_cursor}
 use Rattle.markdown_resolver.specs.ChainCounts.{chain_counts}
+use Rattle.markdown_resolver.specs.BlocksAbove.{Above, above_spine}
 use Rattle.markdown_resolver.specs.Chains.{AreAbove, ResolvesChain, CanResolve, StopsIn}
+use Rattle.markdown_resolver.proofs.ChainReadLemmas.{blocks_above}
 use Rattle.markdown_inline.specs.Elements.{Placed, Element, Passage, event, question}
 use Rattle.markdown_inline.specs.Moves.{Leads, Keeps, Gave, GaveEvent, WentOn, Ended, Failed, BeginsWithEvent, HasGone}
 use Rattle.markdown_inline.specs.Moves.{Began, RefusedAt, Took, WentPast, shape_in}
@@ -217,6 +219,16 @@ pub stands_chain : {C : Type 0} (step : C → Question → Option Answer → C �
     → TreeStands g.text (tables_of held') t
 stands_chain step g s t held held' first limit limit' c d work work' w b r =
     rw (r.tree, b.cursor) (chain_moves step g s t held held' first limit limit' c d work work' w b r).stands
+
+-- and the blocks above are the same
+pub entered_chain : {C : Type 0} {step : C → Question → Option Answer → C → Type 0} (g : Setting) {s t : Arena Item}
+    {held held' : Allocated} {first limit limit' : ℕ} {c d : Option C} {work work' : Work} {a : Above} (gfm : Bool)
+    → TreeStands g.text (tables_of held) s → IsBeforeChain s first
+    → ResolvesChain step g first s t held held' limit limit' c d work work' → a ≡ above_spine gfm s.nodes s.spine
+    → a ≡ above_spine gfm t.nodes t.spine
+entered_chain g {s} {t} {held} {held'} {first} gfm w b r is =
+    let spine : t.spine ≡ s.spine = ap (λ (tree : Arena Item). tree.spine) r.tree in
+    is ∙ sym (rw spine (blocks_above gfm s.spine r.chain.changes (above_chain g.text s held first w b)))
 
 -- the rules depend on the names of footnotes, and not on their uses
 setting_kept : {F : Type 0} (s t : Parser F) → t.resolver.text ≡ s.resolver.text → t.resolver.options

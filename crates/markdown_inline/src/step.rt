@@ -1,13 +1,15 @@
 //! One step of a walk over a tree of items.
-ghost use Rattle.std.specs.Prelude.{◌≡◌, ◌<◌, List, None, Some, MatchResult, length, ℕ};
+ghost use Rattle.std.specs.Prelude.{◌≡◌, ◌<◌, Bool, List, None, Some, MatchResult, OnOk, length, ℕ};
 ghost use Rattle.markdown_defs.specs.Allocations.{Allocated};
 ghost use Rattle.markdown_document.specs.Tables.{tables_of};
+ghost use Rattle.markdown_resolver.specs.BlocksAbove.{above_spine};
 ghost use Rattle.markdown_inline.specs.WalkSteps.{StepGives, TreeStands, IsRefused};
 
 use crate::bodies::{Visit, close_item, visit_of};
 use markdown_base::item::Item;
 use markdown_base::tag::TagEnd;
 use markdown_base::tree::Tree;
+use markdown_resolver::blocks_above::BlocksAbove;
 use std::alloc::AllocError;
 
 /// Where one step of a walk led.
@@ -27,17 +29,21 @@ pub enum Step {
     Chain(usize),
 }
 
-/// Moves out of the node that was entered last, to its next sibling.
+/// Moves out of the node that was entered last, to its next sibling. `above` are the blocks among the entered nodes.
 #[inline(always)]
-pub fn step_out(tree: &mut Tree<Item>) -> Step
+pub fn step_out(tree: &mut Tree<Item>, above: &mut BlocksAbove) -> Step
     requires { tree.old.cursor ≡ None }
-    ensures { (source : List ℕ) (held : Allocated) → TreeStands source (tables_of held) tree.old
+    ensures gives { (source : List ℕ) (held : Allocated) → TreeStands source (tables_of held) tree.old
         → StepGives source tree.old tree.new held result }
+    ensures above { (gfm : Bool) → above.old ≡ above_spine gfm tree.old.nodes tree.old.spine
+        → above.new ≡ above_spine gfm tree.new.nodes tree.new.spine }
+    ensures style { above.new.gfm_footnotes ≡ above.old.gfm_footnotes }
 {
     match tree.pop() {
         None => Step::Done,
         Some(ix) => {
             let item = *tree.item(ix);
+            above.leave(item);
             tree.next_sibling(ix);
             match close_item(item.body) {
                 None => Step::Skip,
@@ -47,14 +53,22 @@ pub fn step_out(tree: &mut Tree<Item>) -> Step
     }
 }
 
-/// Takes a step at the node at the cursor. Returns an error where memory is refused; the tree is then unchanged.
+/// Takes a step at the node at the cursor. `above` are the blocks among the entered nodes. Returns an error where memory
+/// is refused; the tree is then unchanged.
 #[inline(always)]
-pub fn step_at(tree: &mut Tree<Item>, ix: usize) -> Result<Step, AllocError>
+pub fn step_at(
+    tree: &mut Tree<Item>,
+    above: &mut BlocksAbove,
+    ix: usize,
+) -> Result<Step, AllocError>
     requires within { ix < length tree.old.nodes }
     requires at_ix { tree.old.cursor ≡ Some ix }
-    ensures { (source : List ℕ) (held : Allocated) → TreeStands source (tables_of held) tree.old
+    ensures gives { (source : List ℕ) (held : Allocated) → TreeStands source (tables_of held) tree.old
         → MatchResult result (StepGives source tree.old tree.new held) (λ _.
         IsRefused tree.old tree.new) }
+    ensures above { (gfm : Bool) → above.old ≡ above_spine gfm tree.old.nodes tree.old.spine
+        → OnOk result (above.new ≡ above_spine gfm tree.new.nodes tree.new.spine) }
+    ensures style { above.new.gfm_footnotes ≡ above.old.gfm_footnotes }
 {
     let item = *tree.item(ix);
     match visit_of(item.body) {
@@ -64,25 +78,31 @@ pub fn step_at(tree: &mut Tree<Item>, ix: usize) -> Result<Step, AllocError>
             Ok(Step::Leaf(item))
         }
         Visit::Start => {
+            above.enter(item)?;
             tree.push()?;
             Ok(Step::Start(item))
         }
         Visit::Plain => {
+            above.enter(item)?;
             tree.push()?;
             Ok(Step::Skip)
         }
     }
 }
 
-/// Takes one step of the walk over a tree. Returns an error where memory is refused; the tree is then unchanged.
+/// Takes one step of the walk over a tree. `above` are the blocks among the entered nodes. Returns an error where memory
+/// is refused; the tree is then unchanged.
 #[inline(always)]
-pub fn take_step(tree: &mut Tree<Item>) -> Result<Step, AllocError>
-    ensures { (source : List ℕ) (held : Allocated) → TreeStands source (tables_of held) tree.old
+pub fn take_step(tree: &mut Tree<Item>, above: &mut BlocksAbove) -> Result<Step, AllocError>
+    ensures gives { (source : List ℕ) (held : Allocated) → TreeStands source (tables_of held) tree.old
         → MatchResult result (StepGives source tree.old tree.new held) (λ _.
         IsRefused tree.old tree.new) }
+    ensures above { (gfm : Bool) → above.old ≡ above_spine gfm tree.old.nodes tree.old.spine
+        → OnOk result (above.new ≡ above_spine gfm tree.new.nodes tree.new.spine) }
+    ensures style { above.new.gfm_footnotes ≡ above.old.gfm_footnotes }
 {
     match tree.cur() {
-        None => Ok(step_out(tree)),
-        Some(ix) => step_at(tree, ix),
+        None => Ok(step_out(tree, above)),
+        Some(ix) => step_at(tree, above, ix),
     }
 }

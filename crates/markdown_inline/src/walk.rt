@@ -1,5 +1,7 @@
 //! The walk over a block result that gives its events, and resolves each chain when it reaches it.
 ghost use Rattle.std.specs.Prelude.{◌≡◌, ◌<◌, ◌++◌, ◌∷◌, [], IfOk, IfErr, IfSome, IsTrue, None};
+ghost use Rattle.markdown_base.specs.EnabledOptions.{gfm_footnotes_on};
+ghost use Rattle.markdown_resolver.specs.BlocksAbove.{above_spine};
 ghost use Rattle.markdown_inline.specs.Standing.{Stands, Stands-prop};
 ghost use Rattle.markdown_document.specs.Tables.{tables_of};
 
@@ -16,6 +18,7 @@ use markdown_brackets::waiting::WaitingBrackets;
 use markdown_defs::{Allocations, BrokenLinkCallback, DefaultBrokenLinkCallback, RefDefs};
 use markdown_delims::open_runs::OpenRuns;
 use markdown_document::work::Work;
+use markdown_resolver::blocks_above::BlocksAbove;
 use markdown_resolver::resolver::Resolver;
 use markdown_spans::span_closers::SpanClosers;
 use std::alloc::Global;
@@ -52,7 +55,10 @@ pub struct Parser<'input, F = DefaultBrokenLinkCallback> {
     /// The allocator for copies of heading attributes, and for the list of all events that are left.
     alloc: Global,
     tree: Tree<Item>,
+    /// The blocks among the entered nodes of the tree.
+    above: BlocksAbove,
     resolver: Resolver<'input, F>,
+    ghost entered: { above ≡ above_spine (gfm_footnotes_on resolver.options) tree.nodes tree.spine },
     ghost stands: { Stands resolver.text.now (tables_of resolver.lookup.tables)
         tree.nodes tree.cursor tree.spine } by { Stands-prop resolver.text.now (tables_of resolver.lookup.tables)
             tree.nodes tree.cursor tree.spine },
@@ -89,21 +95,25 @@ impl<'input, F: BrokenLinkCallback<'input>> Parser<'input, F> {
         ensures moves { Moved F.answers self.old self.new result }
         ensures keeps { Keeps self.old self.new }
     {
-        match take_step(&mut self.tree) {
+        match take_step(&mut self.tree, &mut self.above) {
             Ok(Step::Done) => Some(Stop::Over),
             Ok(Step::Skip) => None,
             Ok(Step::Leaf(item)) => Some(Stop::Leaf(item)),
             Ok(Step::Start(item)) => Some(Stop::Start(item)),
             Ok(Step::End(end, item)) => Some(Stop::End(end, item)),
-            Ok(Step::Chain(first)) => match self.resolver.resolve_chain(&mut self.tree, first) {
-                Ok(()) => None,
-                Err(_) => {
-                    self.tree.stop();
-                    Some(Stop::Refused)
+            Ok(Step::Chain(first)) => {
+                match self.resolver.resolve_chain(&mut self.tree, &self.above, first) {
+                    Ok(()) => None,
+                    Err(_) => {
+                        self.tree.stop();
+                        self.above.clear();
+                        Some(Stop::Refused)
+                    }
                 }
-            },
+            }
             Err(_) => {
                 self.tree.stop();
+                self.above.clear();
                 Some(Stop::Refused)
             }
         }
@@ -136,6 +146,7 @@ impl<'input, F: BrokenLinkCallback<'input>> Parser<'input, F> {
             Ok(tag) => Ok(Event::Start(tag)),
             Err(_) => {
                 self.tree.stop();
+                self.above.clear();
                 Err(Fault::Memory)
             }
         }
@@ -413,13 +424,15 @@ impl<'input, F: BrokenLinkCallback<'input>> Parser<'input, F> {
         let tables = Allocations::new(alloc, parts)?;
         let mut tree = tree;
         tree.reset();
+        let options = options.with_extended(extended);
         Ok(Parser {
             alloc,
             tree,
+            above: BlocksAbove::new(alloc, options),
             resolver: Resolver {
                 alloc,
                 text,
-                options: options.with_extended(extended),
+                options,
                 lookup: LabelLookup {
                     tables,
                     limit: text.len().max(100000),

@@ -1,31 +1,37 @@
--- What is above a chain: of the nodes that were entered, only the blocks contribute to a line's prefix, and each is a
--- node of the tree.
-use Rattle.std.proofs.Common.{◌≡◌, ℕ, zero, suc, ◌<◌, ◌≤◌, ◌+◌, Bool, true, false, List, [], ◌∷◌, ◌++◌, Option, Some}
-use Rattle.std.proofs.Common.{None, length, map, IsUtf8, drop, get_or, refl, sym, ap, ◌∙◌, arith, append_assoc}
+-- What is above a chain: of the nodes that were entered, only the blocks contribute to a line's prefix, and of these the
+-- containers.
+use Rattle.std.proofs.Common.{◌≡◌, ℕ, Bool, true, false, List, [], ◌∷◌, ◌++◌, Option, Some}
+use Rattle.std.proofs.Common.{None, length, map, IsUtf8, refl, sym, ap, ◌∙◌, append_assoc}
 use Rattle.std.proofs.Common.{append-nil}
-use Rattle.std.specs.Prelude.{if◌then◌else◌, slice_index}
+use Rattle.std.proofs.lemmas.List.{map-append}
+use Rattle.std.proofs.Common.{◌-◌, arith, subst}
+use Rattle.std.specs.Prelude.{if◌then◌else◌}
+use Rattle.std.specs.List.{slice_get}
+use Rattle.std.specs.Option.{option_map_or}
 use Rattle.std.specs.Str.{IsCharBoundary}
-use Rattle.std.proofs.lemmas.List.{drop_all, drop_more}
+use Rattle.std.proofs.lemmas.List.Elements.{filter-append}
 use Rattle.std.proofs.lemmas.Str.{IsCharBoundary-end}
 use Rattle.markdown_base.specs.Arena.{Arena}
 use Rattle.markdown_base.specs.BlockTree.{item_at}
-use Rattle.markdown_base.specs.Item.{LiesIn, is_block, range_of, is_table_cell}
+use Rattle.markdown_base.specs.Item.{is_block, range_of, is_table_cell}
 use Rattle.markdown_base.specs.declared.item.Item.{Item}
 use Rattle.markdown_base.specs.declared.item.ItemBody.{ItemBody}
 use Rattle.markdown_base.specs.declared.item.ItemBody.TheVariants as body
 use Rattle.markdown_base.specs.declared.node.Node.{Node}
 use Rattle.markdown_document.specs.EnclosingBlocks.{EnclosingBlocks, inside_block, inside_all, inside_item, no_blocks}
+use Rattle.markdown_document.specs.EnclosingBlocks.{above_at}
 use Rattle.markdown_document.specs.ResolverStates.{above_cursor}
 use Rattle.markdown_builder.specs.Shown.{unnumbered}
 use Rattle.markdown_document.specs.Document.{block_of}
 use Rattle.markdown_document.specs.Setting.{Setting}
-use Rattle.markdown_spans.specs.BlocksAbove.{HasBlocks}
-use Rattle.markdown_spans.specs.ContainerPrefix.{past_block, past_blocks, prefix_length}
+use Rattle.markdown_spans.specs.ContainerPrefix.{has_prefix, past_block, past_blocks, prefix_length}
 use Rattle.markdown_base.specs.EnabledOptions.{gfm_footnotes_on}
 use Rattle.markdown_spans.specs.Finds.{prefix_below}
-use Rattle.markdown_spans.specs.PrefixView.{length_by}
+use Rattle.markdown_spans.specs.PrefixView.{bodies_of, length_by}
 use Rattle.markdown_spans.specs.declared.prefixes.ContainerPrefix.{ContainerPrefix}
 use Rattle.markdown_spans.specs.LineStart.{LineLeft}
+use Rattle.markdown_spans.proofs.ContainerPrefixLemmas.{takes_nothing}
+use Rattle.markdown_resolver.specs.BlocksAbove.{Above, above_spine, blocks_in, containers_in, inside, place_inside}
 use Rattle.markdown_resolver.specs.ChainPlace.{IsPlaceOf}
 use Rattle.markdown_resolver.specs.Chains.{AreAbove}
 use Rattle.markdown_document.specs.declared.chain_place.ChainPlace.{ChainPlace}
@@ -35,31 +41,31 @@ pub with_block : Option ItemBody → List ItemBody → List ItemBody
 with_block None others = others
 with_block (Some block) others = block ∷ others
 
-pub blocks_in : List (Node Item) → List ℕ → List ItemBody
-blocks_in nodes [] = []
-blocks_in nodes (ix ∷ deeper) = with_block (block_of (item_at nodes ix).body) (blocks_in nodes deeper)
+pub bodies_above : List (Node Item) → List ℕ → List ItemBody
+bodies_above nodes [] = []
+bodies_above nodes (ix ∷ deeper) = with_block (block_of (item_at nodes ix).body) (bodies_above nodes deeper)
 
 -- these are what the nodes of a spine add
 bodies_inside : (nodes : List (Node Item)) (spine : List ℕ) (above : EnclosingBlocks) →
     (inside_all nodes spine above).bodies
-    ≡ above.bodies ++ blocks_in nodes spine
-unfolding blocks_in with_block
+    ≡ above.bodies ++ bodies_above nodes spine
+unfolding bodies_above with_block
 bodies_inside nodes [] above = sym (append-nil above.bodies)
 bodies_inside nodes (ix ∷ deeper) above =
     bodies_inside nodes deeper (inside_item (item_at nodes ix) above) ∙ added (block_of (item_at nodes ix).body)
   where
-    added : (block : Option ItemBody) → (inside_block block (range_of (item_at nodes ix)) above).bodies ++ blocks_in
-        nodes deeper ≡ above.bodies ++ with_block block (blocks_in nodes deeper)
+    added : (block : Option ItemBody) → (inside_block block (range_of (item_at nodes ix)) above).bodies ++ bodies_above
+        nodes deeper ≡ above.bodies ++ with_block block (bodies_above nodes deeper)
     added None = refl
-    added (Some block) = append_assoc above.bodies (block ∷ []) (blocks_in nodes deeper)
+    added (Some block) = append_assoc above.bodies (block ∷ []) (bodies_above nodes deeper)
 
--- what is not a block takes nothing of a line
-takes_nothing : (gfm : Bool) (b : ItemBody) (line : LineLeft) → is_block b ≡ false → past_block gfm b line ≡ Some line
-takes_nothing gfm (body.BlockQuote kind) line h = cc h
-takes_nothing gfm (body.ListItem indent) line h = cc h
-takes_nothing gfm (body.DefinitionListDefinition indent) line h = cc h
-takes_nothing gfm (body.FootnoteDefinition name) line h = cc h
-takes_nothing gfm other line h = refl
+-- what is not a block has no part in a line
+no_prefix : (gfm : Bool) (b : ItemBody) → is_block b ≡ false → has_prefix gfm b ≡ false
+no_prefix gfm (body.BlockQuote kind) h = cc h
+no_prefix gfm (body.ListItem indent) h = cc h
+no_prefix gfm (body.DefinitionListDefinition indent) h = cc h
+no_prefix gfm (body.FootnoteDefinition name) h = cc h
+no_prefix gfm other h = refl
 
 -- what a block takes of a line, and whether it is a cell, does not depend on the part that it refers to
 same_taken : (gfm : Bool) (b : ItemBody) (line : LineLeft) → past_block gfm (unnumbered b) line ≡ past_block gfm b line
@@ -81,147 +87,180 @@ same_cell other = refl
 
 -- so all nodes of a spine take what the blocks among them take
 same_left : (gfm : Bool) (nodes : List (Node Item)) (spine : List ℕ) (line : LineLeft)
-    → past_blocks gfm (map (λ ix. (item_at nodes ix).body) spine) line ≡ past_blocks gfm (blocks_in nodes spine) line
-unfolding blocks_in with_block
+    → past_blocks gfm (bodies_of (map (item_at nodes) spine)) line ≡ past_blocks gfm (bodies_above nodes spine) line
+unfolding bodies_above with_block
 same_left gfm nodes [] line = refl
 same_left gfm nodes (ix ∷ deeper) line = by_block (is_block (item_at nodes ix).body) refl
     (λ after. same_left gfm nodes deeper after)
   where
     read : (found : Option LineLeft)
-        → ((after : LineLeft) → past_blocks gfm (map (λ n. (item_at nodes n).body) deeper) after
-        ≡ past_blocks gfm (blocks_in nodes deeper) after) → elim found as (λ x. LineLeft)
-        [ Some after ↦ past_blocks gfm (map (λ n. (item_at nodes n).body) deeper) after | None ↦ line ]
-        ≡ elim found as (λ x. LineLeft) [ Some after ↦ past_blocks gfm (blocks_in nodes deeper) after | None ↦ line ]
+        → ((after : LineLeft) → past_blocks gfm (bodies_of (map (item_at nodes) deeper)) after
+        ≡ past_blocks gfm (bodies_above nodes deeper) after) → elim found as (λ x. LineLeft)
+        [ Some after ↦ past_blocks gfm (bodies_of (map (item_at nodes) deeper)) after | None ↦ line ]
+        ≡ elim found as (λ x. LineLeft) [ Some after ↦ past_blocks gfm (bodies_above nodes deeper) after | None ↦ line ]
     read None later = refl
     read (Some after) later = later after
 
     by_block : (is : Bool) → is_block (item_at nodes ix).body ≡ is
-        → ((after : LineLeft) → past_blocks gfm (map (λ n. (item_at nodes n).body) deeper) after
-        ≡ past_blocks gfm (blocks_in nodes deeper)
+        → ((after : LineLeft) → past_blocks gfm (bodies_of (map (item_at nodes) deeper)) after
+        ≡ past_blocks gfm (bodies_above nodes deeper)
         after) → elim (past_block gfm (item_at nodes ix).body line) as (λ x. LineLeft)
-        [ Some after ↦ past_blocks gfm (map (λ n. (item_at nodes n).body) deeper) after | None ↦ line ]
+        [ Some after ↦ past_blocks gfm (bodies_of (map (item_at nodes) deeper)) after | None ↦ line ]
         ≡ past_blocks gfm
-        (with_block (if is then Some (unnumbered (item_at nodes ix).body) else None) (blocks_in nodes deeper)) line
+        (with_block (if is then Some (unnumbered (item_at nodes ix).body) else None) (bodies_above nodes deeper)) line
     by_block true e later =
         read (past_block gfm (item_at nodes ix).body line) later
         ∙ sym (ap (λ (found : Option LineLeft). elim found as (λ x. LineLeft)
-        [ Some after ↦ past_blocks gfm (blocks_in nodes deeper) after | None ↦ line ])
+        [ Some after ↦ past_blocks gfm (bodies_above nodes deeper) after | None ↦ line ])
         (same_taken gfm (item_at nodes ix).body line))
-    by_block false e later = rw (takes_nothing gfm (item_at nodes ix).body line e) (later line)
+    by_block false e later =
+        rw (takes_nothing gfm (item_at nodes ix).body line (no_prefix gfm (item_at nodes ix).body e)) (later line)
 
--- the container prefix that is read over all nodes of the spine is that of the blocks alone
-pub prefix_is : (prefix : ContainerPrefix) (s : Setting) → prefix.gfm_footnotes ≡ gfm_footnotes_on s.rules.options
-    → (bytes : List ℕ) → length_by prefix bytes ≡ prefix_below s (above_cursor s.text prefix.tree.now) bytes
-unfolding length_by
-prefix_is prefix s e bytes =
-    let tree = prefix.tree.now in
+-- and all items take what those with a part take
+same_contained : (gfm : Bool) (items : List Item) (line : LineLeft)
+    → past_blocks gfm (bodies_of (containers_in gfm items)) line ≡ past_blocks gfm (bodies_of items) line
+same_contained gfm [] line = refl
+same_contained gfm (item ∷ items) line =
+    by_prefix (has_prefix gfm item.body) refl (λ after. same_contained gfm items after)
+  where
+    read : (found : Option LineLeft)
+        → ((after : LineLeft) → past_blocks gfm (bodies_of (containers_in gfm items)) after
+        ≡ past_blocks gfm (bodies_of items) after) → elim found as (λ x. LineLeft)
+        [ Some after ↦ past_blocks gfm (bodies_of (containers_in gfm items)) after | None ↦ line ]
+        ≡ elim found as (λ x. LineLeft) [ Some after ↦ past_blocks gfm (bodies_of items) after | None ↦ line ]
+    read None later = refl
+    read (Some after) later = later after
+
+    by_prefix : (has : Bool) → has_prefix gfm item.body ≡ has
+        → ((after : LineLeft) → past_blocks gfm (bodies_of (containers_in gfm items)) after
+        ≡ past_blocks gfm (bodies_of items) after)
+        → past_blocks gfm (bodies_of (containers_in gfm (item ∷ items))) line
+        ≡ elim (past_block gfm item.body line) as (λ x. LineLeft)
+        [ Some after ↦ past_blocks gfm (bodies_of items) after | None ↦ line ]
+    by_prefix true e later = rw e (read (past_block gfm item.body line) later)
+    by_prefix false e later = rw (e, takes_nothing gfm item.body line e) (later line)
+
+-- the prefix that the containers of a spine give is that of all blocks above
+contained_prefix : (gfm : Bool) (source : List ℕ) (nodes : List (Node Item)) (spine bytes : List ℕ)
+    → prefix_length gfm (bodies_of (containers_in gfm (map (item_at nodes) spine))) bytes
+    ≡ prefix_length gfm (above_at source nodes spine).bodies bytes
+contained_prefix gfm source nodes spine bytes =
     let line : LineLeft = record { scanned = 0; owed = 0; column = 0; bytes = bytes } in
-    ap (λ (left : LineLeft). left.scanned) (same_left prefix.gfm_footnotes tree.nodes tree.spine line)
-    ∙ ap (λ (blocks : List ItemBody). prefix_length prefix.gfm_footnotes blocks bytes)
-    (sym (bodies_inside tree.nodes tree.spine (no_blocks s.text)))
-    ∙ ap (λ (gfm : Bool). prefix_length gfm (above_cursor s.text tree).bodies bytes) e
+    ap (λ (left : LineLeft). left.scanned)
+    (same_contained gfm (map (item_at nodes) spine) line ∙ same_left gfm nodes spine line)
+    ∙ ap (λ (blocks : List ItemBody). prefix_length gfm blocks bytes)
+    (sym (bodies_inside nodes spine (no_blocks source)))
 
--- each node that was entered is a node of the tree
-within_nodes : (source : List ℕ) (nodes : List (Node Item)) (l : Option ℕ) (spine : List ℕ)
-    → AreAbove source nodes l spine → (k : ℕ) → k < length spine → slice_index spine k < length nodes
-within_nodes source nodes l [] above k h = absurd (omega (arith, h))
-within_nodes source nodes l (ix ∷ deeper) above zero h = above.0.within
-within_nodes source nodes l (ix ∷ deeper) above (suc k) h = within_nodes source nodes l deeper above.1 k
-    (omega (arith, h))
+-- the prefix that is read at a place is that of the blocks above
+pub prefix_is : (prefix : ContainerPrefix) (place : ChainPlace) (tree : Arena Item) (s : Setting)
+    → prefix.containers.now ≡ place.containers.now → prefix.gfm_footnotes ≡ gfm_footnotes_on place.options
+    → gfm_footnotes_on s.rules.options ≡ gfm_footnotes_on place.options → s.text ≡ place.text.now
+    → IsPlaceOf place tree → (bytes : List ℕ) → length_by prefix bytes ≡ prefix_below s (above_cursor s.text tree) bytes
+unfolding length_by
+prefix_is prefix place tree s containers gfm same text stands bytes =
+    rw (containers, gfm, same, text) (stands.containers bytes)
 
-pub has_blocks : (source : List ℕ) (tree : Arena Item) (l : Option ℕ) → AreAbove source tree.nodes l tree.spine
-    → HasBlocks tree
-has_blocks source tree l above = within_nodes source tree.nodes l tree.spine above
+-- the last of some blocks decides
+last_of : (a : Item) (blocks : List Item) (item : Item) (before : ℕ × Bool)
+    → slice_get (a ∷ blocks) (length blocks) ≡ Some item
+    → place_inside (a ∷ blocks) before ≡ (item.end, is_table_cell item.body)
+unfolding place_inside
+last_of a [] item before is =
+    ap (λ (found : Option Item). option_map_or (λ (i : Item). (i.end, is_table_cell i.body)) found before) is
+last_of a (b ∷ blocks) item before is = last_of b blocks item (a.end, is_table_cell a.body) is
 
--- the nodes of a spine before a number have been read: the place is that inside them, and the others are to come
-pub record IsReadUpTo (source : List ℕ) (place : ChainPlace) (nodes : List (Node Item)) (spine : List ℕ) (i : ℕ) : Type
-    0 where
-  pub bodies : List ItemBody
-  pub reads : inside_all nodes (drop i spine)
-      (record { block_end = place.block_end; in_table = place.in_table; bodies = bodies })
-      ≡ inside_all nodes spine (no_blocks source)
-  pub boundary : IsCharBoundary source place.block_end
-  pub text : place.text.now ≡ source
+one_less : (a : Item) (blocks : List Item) → length (a ∷ blocks) - 1 ≡ length blocks
+one_less a blocks = omega arith
 
--- before the first, the whole text is in reach
-pub nothing_read : (source : List ℕ) (place : ChainPlace) (nodes : List (Node Item)) (spine : List ℕ) (i : ℕ) → i ≡ 0
-    → place.text.now ≡ source → place.block_end ≡ length source → place.in_table ≡ false
-    → IsReadUpTo source place nodes spine i
-nothing_read source place nodes spine i first text ends table = record {
-  bodies = [];
-  reads = rw (first, ends, table) refl;
-  boundary = rw ends (IsCharBoundary-end source);
-  text = text;
-}
+pub last_place : (blocks : List Item) (item : Item) (before : ℕ × Bool)
+    → slice_get blocks (length blocks - 1) ≡ Some item
+    → place_inside blocks before ≡ (item.end, is_table_cell item.body)
+last_place [] item before is = cc is
+last_place (a ∷ blocks) item before is =
+    last_of a blocks item before (subst (λ n. slice_get (a ∷ blocks) n ≡ Some item) (one_less a blocks) is)
 
--- the node of a number in a spine lies in the text
-lies_above : (source : List ℕ) (nodes : List (Node Item)) (l : Option ℕ) (spine : List ℕ) (i : ℕ)
-    → AreAbove source nodes l spine → i < length spine → LiesIn source (item_at nodes (get_or spine i 0))
-lies_above source nodes l [] i above h = absurd (omega (arith, h))
-lies_above source nodes l (ix ∷ deeper) zero above h = above.0.lies
-lies_above source nodes l (ix ∷ deeper) (suc i) above h = lies_above source nodes l deeper i above.1 (omega (arith, h))
+some_last : (a : Item) (blocks : List Item) → slice_get (a ∷ blocks) (length blocks) ≡ None → ⊥
+some_last a [] none = cc none
+some_last a (b ∷ blocks) none = some_last b blocks none
 
--- what is inside one more node
-read_next : (nodes : List (Node Item)) (spine : List ℕ) (i : ℕ) (above : EnclosingBlocks) (block : Option ItemBody)
-    → i < length spine → block_of (item_at nodes (get_or spine i 0)).body ≡ block
-    → inside_all nodes (drop i spine) above ≡ inside_all nodes (drop (i + 1) spine)
-    (inside_block block (range_of (item_at nodes (get_or spine i 0))) above)
-read_next nodes spine i above block within is =
-    ap (λ (rest : List ℕ). inside_all nodes rest above) (drop_more spine i 0 within)
-    ∙ ap (λ (b : Option ItemBody). inside_all nodes (drop (i + 1) spine)
-    (inside_block b (range_of (item_at nodes (get_or spine i 0))) above)) is
+pub no_last_place : (blocks : List Item) (before : ℕ × Bool) → slice_get blocks (length blocks - 1) ≡ None
+    → place_inside blocks before ≡ before
+unfolding place_inside
+no_last_place [] before none = refl
+no_last_place (a ∷ blocks) before none =
+    absurd (some_last a blocks (subst (λ n. slice_get (a ∷ blocks) n ≡ None) (one_less a blocks) none))
 
--- one more block: the place is that of its end
-pub block_read : (source : List ℕ) (place place' : ChainPlace) (nodes : List (Node Item)) (l : Option ℕ)
-    (spine : List ℕ) (i : ℕ) (item : Item) → AreAbove source nodes l spine → i < length spine
-    → item ≡ item_at nodes (get_or spine i 0) → is_block item.body ≡ true
-    → place'.text.now ≡ place.text.now → place'.block_end ≡ item.end → place'.in_table ≡ is_table_cell item.body
-    → IsReadUpTo source place nodes spine i → IsReadUpTo source place' nodes spine (i + 1)
-block_read source place place' nodes l spine i item above within same is text ends table r =
-    let here = item_at nodes (get_or spine i 0) in
-    let block : block_of here.body ≡ Some (unnumbered here.body) =
-    ap (λ (x : Bool). if x then Some (unnumbered here.body) else None)
-    (ap (λ (t : Item). is_block t.body) (sym same) ∙ is) in
-    let below : EnclosingBlocks = record { block_end = place.block_end; in_table = place.in_table; bodies = r.bodies }
-    in
+-- the place inside one more item
+step_inside : (item : Item) (rest : List Item) (above : EnclosingBlocks) (is : Bool) → is_block item.body ≡ is
+    → place_inside rest ((inside_item item above).block_end, (inside_item item above).in_table)
+    ≡ place_inside (if is_block item.body then item ∷ rest else rest) (above.block_end, above.in_table)
+unfolding place_inside
+step_inside item rest above true e =
+    ap (λ (block : Bool). let inner = inside_block (if block then Some (unnumbered item.body) else None) (range_of item)
+    above in place_inside rest (inner.block_end, inner.in_table)) e
+    ∙ ap (λ (cell : Bool). place_inside rest (item.end, cell)) (same_cell item.body)
+    ∙ sym (ap (λ (block : Bool). place_inside (if block then item ∷ rest else rest) (above.block_end, above.in_table)) e)
+step_inside item rest above false e =
+    ap (λ (block : Bool). let inner = inside_block (if block then Some (unnumbered item.body) else None) (range_of item)
+    above in place_inside rest (inner.block_end, inner.in_table)) e
+    ∙ sym (ap (λ (block : Bool). place_inside (if block then item ∷ rest else rest) (above.block_end, above.in_table)) e)
+
+-- and inside the nodes of a spine
+ends_inside : (nodes : List (Node Item)) (spine : List ℕ) (above : EnclosingBlocks)
+    → ((inside_all nodes spine above).block_end, (inside_all nodes spine above).in_table)
+    ≡ place_inside (blocks_in (map (item_at nodes) spine)) (above.block_end, above.in_table)
+unfolding place_inside
+ends_inside nodes [] above = refl
+ends_inside nodes (ix ∷ deeper) above =
+    ends_inside nodes deeper (inside_item (item_at nodes ix) above)
+    ∙ step_inside (item_at nodes ix) (blocks_in (map (item_at nodes) deeper)) above
+    (is_block (item_at nodes ix).body) refl
+
+-- it ends between characters
+boundary_inside : (source : List ℕ) (nodes : List (Node Item)) (l : Option ℕ) (spine : List ℕ)
+    (above : EnclosingBlocks) → AreAbove source nodes l spine → IsCharBoundary source above.block_end
+    → IsCharBoundary source (inside_all nodes spine above).block_end
+boundary_inside source nodes l [] above are boundary = boundary
+boundary_inside source nodes l (ix ∷ deeper) above are boundary =
+    boundary_inside source nodes l deeper (inside_item (item_at nodes ix) above) are.1
+    (inside (block_of (item_at nodes ix).body))
+  where
+    inside : (block : Option ItemBody)
+        → IsCharBoundary source (inside_block block (range_of (item_at nodes ix)) above).block_end
+    inside None = boundary
+    inside (Some block) = are.0.lies.end
+
+-- what is made of the blocks above is the place of the chain below them
+pub place_stands : (place : ChainPlace) (tree : Arena Item) (first : Option ℕ) (above : Above)
+    → AreAbove place.text.now tree.nodes first tree.spine
+    → above ≡ above_spine (gfm_footnotes_on place.options) tree.nodes tree.spine → IsUtf8 place.text.now
+    → place.block_end ≡ (place_inside above.blocks (length place.text.now, false)).0
+    → place.in_table ≡ (place_inside above.blocks (length place.text.now, false)).1
+    → place.containers.now ≡ above.containers → IsPlaceOf place tree
+place_stands place tree first above are is utf8 end cell containers =
+    let source = place.text.now in
+    let inside = ap (λ (a : Above). place_inside a.blocks (length source, false)) is
+    ∙ sym (ends_inside tree.nodes tree.spine (no_blocks source)) in
+    let block_end : place.block_end ≡ (above_cursor source tree).block_end = end
+    ∙ ap (λ (p : ℕ × Bool). p.0) inside in
     record {
-      bodies = r.bodies ++ unnumbered here.body ∷ [];
-      reads = rw (ends, table, same, ← same_cell here.body)
-          (sym (read_next nodes spine i below (Some (unnumbered here.body)) within block) ∙ r.reads);
-      boundary = rw (ends, same) (lies_above source nodes l spine i above within).end;
-      text = text ∙ r.text;
+      block_end = block_end;
+      in_table = cell ∙ ap (λ (p : ℕ × Bool). p.1) inside;
+      containers = λ bytes.
+          ap (λ (items : List Item). prefix_length (gfm_footnotes_on place.options) (bodies_of items) bytes)
+          (containers ∙ ap (λ (a : Above). a.containers) is)
+          ∙ contained_prefix (gfm_footnotes_on place.options) source tree.nodes tree.spine bytes;
+      boundary = rw block_end (boundary_inside source tree.nodes first tree.spine (no_blocks source) are
+          (IsCharBoundary-end source));
+      utf8 = utf8;
     }
 
--- one more node that is not a block: the place is unchanged
-pub other_read : (source : List ℕ) (place : ChainPlace) (nodes : List (Node Item)) (spine : List ℕ) (i : ℕ)
-    (item : Item) → i < length spine
-    → item ≡ item_at nodes (get_or spine i 0) → is_block item.body ≡ false → IsReadUpTo source place nodes spine i
-    → IsReadUpTo source place nodes spine (i + 1)
-other_read source place nodes spine i item within same is r =
-    let here = item_at nodes (get_or spine i 0) in
-    let block : block_of here.body ≡ None = ap (λ (x : Bool). if x then Some (unnumbered here.body) else None)
-    (ap (λ (t : Item). is_block t.body) (sym same) ∙ is) in
-    let below : EnclosingBlocks = record { block_end = place.block_end; in_table = place.in_table; bodies = r.bodies }
-    in
-    record {
-      bodies = r.bodies;
-      reads = sym (read_next nodes spine i below None within block) ∙ r.reads;
-      boundary = r.boundary;
-      text = r.text;
-    }
-
--- after the last it is that of the chain
-pub all_above_read : (source : List ℕ) (place : ChainPlace) (tree : Arena Item) (i : ℕ) → length tree.spine ≤ i
-    → IsUtf8 source → IsReadUpTo source place tree.nodes tree.spine i → IsPlaceOf place tree
-all_above_read source place tree i past utf8 r =
-    let e = ap (λ (rest : List ℕ). inside_all tree.nodes rest (record {
-      block_end = place.block_end;
-      in_table = place.in_table;
-      bodies = r.bodies;
-    })) (sym (drop_all i tree.spine past)) ∙ r.reads in
-    record {
-      block_end = rw r.text (ap (λ (a : EnclosingBlocks). a.block_end) e);
-      in_table = rw r.text (ap (λ (a : EnclosingBlocks). a.in_table) e);
-      boundary = rw r.text r.boundary;
-      utf8 = rw r.text utf8;
-    }
+-- one more item, entered and left
+pub entered : (gfm : Bool) (nodes : List (Node Item)) (outer : List ℕ) (ix : ℕ)
+    → inside (above_spine gfm nodes outer) (item_at nodes ix) ≡ above_spine gfm nodes (outer ++ ix ∷ [])
+entered gfm nodes outer ix =
+    let item = item_at nodes ix in
+    let more : map (item_at nodes) (outer ++ ix ∷ []) ≡ map (item_at nodes) outer ++ item ∷ [] =
+    map-append (item_at nodes) outer (ix ∷ []) in
+    rw (more, filter-append (λ i. is_block i.body) (map (item_at nodes) outer) (item ∷ []),
+    filter-append (λ i. has_prefix gfm i.body) (map (item_at nodes) outer) (item ∷ [])) refl

@@ -1,6 +1,6 @@
 -- A chain is read in place, from its first node on: what is true of what was read and of what is left, item by item,
 -- and that the rules and the blocks above the chain stay the same.
-use Rattle.std.proofs.Common.{◌≡◌, ℕ, Bool, List, [], ◌∷◌, Option, Some, None, refl, sym, ap, ◌∙◌, subst}
+use Rattle.std.proofs.Common.{◌≡◌, ℕ, Bool, List, [], ◌∷◌, Option, Some, None, refl, sym, ap, ap₂, ◌∙◌, map, subst}
 use Rattle.std.proofs.Math.Path.{fun_ext}
 use Rattle.std.specs.Prelude.{is_some}
 use Rattle.markdown_base.specs.Arena.{Arena}
@@ -18,6 +18,9 @@ use Rattle.markdown_document.specs.Setting.{Setting, by_label, rules_from, setti
 use Rattle.markdown_document.specs.ResolverStates.{resolver_state, above_cursor}
 use Rattle.markdown_document.specs.Tables.{Tables, tables_of}
 use Rattle.markdown_document.proofs.CallbackLemmas.{Asks-some}
+use Rattle.markdown_base.specs.EnabledOptions.{gfm_footnotes_on}
+use Rattle.markdown_spans.specs.ContainerPrefix.{prefix_length}
+use Rattle.markdown_resolver.specs.BlocksAbove.{above_spine}
 use Rattle.markdown_resolver.specs.ChainPlace.{CanReadItem, CanReadOn, IsPlaceOf}
 use Rattle.markdown_resolver.specs.Chains.{AreAbove, CanResolve, ChangesChain, ResolvesFrom}
 use Rattle.markdown_resolver.specs.PassOne.{pass_one}
@@ -47,7 +50,19 @@ same_setting text text' options options' held held' asks asks' of_text of_option
       rules = record { options = options; definitions = by_label held.refdefs; is_footnote = names; asks = asks };
     } in x) names)
 
--- the blocks above a chain stay where it is changed
+-- the items of the nodes above a chain stay where it is changed, and so do the blocks among them
+items_above : {source : List ℕ} {l : Option ℕ} {old new : List (Node Item)} {tables tables' : Tables} (spine : List ℕ)
+    → ChangesChain source l old new tables tables' → AreAbove source old l spine
+    → map (item_at new) spine ≡ map (item_at old) spine
+items_above [] c above = refl
+items_above (n ∷ deeper) c above =
+    ap₂ (λ item items. item ∷ items) (c.outside n above.0.within above.0.apart).item (items_above deeper c above.1)
+
+pub blocks_above : {source : List ℕ} {l : Option ℕ} {old new : List (Node Item)} {tables tables' : Tables} (gfm : Bool)
+    (spine : List ℕ) → ChangesChain source l old new tables tables' → AreAbove source old l spine
+    → above_spine gfm new spine ≡ above_spine gfm old spine
+blocks_above gfm spine c above = rw (items_above spine c above) refl
+
 inside_changed : (source : List ℕ) (l : Option ℕ) (old new : List (Node Item)) (tables tables' : Tables)
     (spine : List ℕ) (outer : EnclosingBlocks)
     → ChangesChain source l old new tables tables' → AreAbove source old l spine → inside_all new spine outer
@@ -130,6 +145,8 @@ module _ {C : Type 0} {step : C → Question → Option Answer → C → Type 0}
         stands = record {
           block_end = stands.block_end ∙ ap (λ (a : EnclosingBlocks). a.block_end) (sym above);
           in_table = stands.in_table ∙ ap (λ (a : EnclosingBlocks). a.in_table) (sym above);
+          containers = λ bytes. stands.containers bytes ∙ ap (λ (a : EnclosingBlocks).
+              prefix_length (gfm_footnotes_on place.options) a.bodies bytes) (sym above);
           boundary = stands.boundary;
           utf8 = stands.utf8;
         };

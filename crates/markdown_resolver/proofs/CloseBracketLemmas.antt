@@ -67,23 +67,21 @@ use Rattle.markdown_brackets.specs.Reference.{could_be_reference, is_closing_bra
 use Rattle.markdown_resolver.proofs.OpenerReadLemmas.{closer_body}
 
 -- a prefix is that of the lines of a chain at a place
-pub record IsPrefixOf (place : ChainPlace) (prefix : ContainerPrefix) (tree : Arena Item) : Type 0 where
-  pub here : prefix.tree.now ≡ tree
+pub record IsPrefixOf (place : ChainPlace) (prefix : ContainerPrefix) : Type 0 where
+  pub containers : prefix.containers.now ≡ place.containers.now
   pub gfm : prefix.gfm_footnotes ≡ gfm_footnotes_on place.options
 
 -- brackets are decided by the rules of pass one
 pub context_is : (place : ChainPlace) (prefix : ContainerPrefix) (tree : Arena Item) (source : List ℕ)
     (options : Options) (held : Allocated) (asks : Bool)
-    → place.text.now ≡ source → place.options ≡ options → IsPlaceOf place tree → IsPrefixOf place prefix tree
+    → place.text.now ≡ source → place.options ≡ options → IsPlaceOf place tree → IsPrefixOf place prefix
     → bracket_context_at place (length_by prefix) (above_cursor source tree).bodies held.refdefs held.footdefs asks
     ≡ bracket_context (setting_of source (rules_from options held asks)) (above_cursor source tree)
 context_is place prefix tree source options held asks text options_are stands is =
     let s = setting_of source (rules_from options held asks) in
     let above = above_cursor source tree in
-    let by : (bytes : List ℕ) → length_by prefix bytes ≡ prefix_below s above bytes = λ bytes.
-    prefix_is prefix s (is.gfm ∙ ap gfm_footnotes_on options_are) bytes
-    ∙ ap (λ (t : Arena Item). prefix_below s (above_cursor source t) bytes) is.here in
-    let rule : length_by prefix ≡ prefix_below s above = fun_ext by in
+    let rule : length_by prefix ≡ prefix_below s above = fun_ext (prefix_is prefix place tree s is.containers is.gfm
+    (sym (ap gfm_footnotes_on options_are)) (sym text) stands) in
     let block_end : place.block_end ≡ above.block_end = stands.block_end
     ∙ ap (λ (t : List ℕ). (above_cursor t tree).block_end) text in
     let in_table : place.in_table ≡ above.in_table = stands.in_table
@@ -197,7 +195,7 @@ may_close step source rules above tables nodes first ix left could_be limit limi
 -- the decision, as the rules of pass one have it, unless memory was refused
 pub decides_here : {C E : Type 0} (step : C → Question → Option Answer → C → Type 0) (place : ChainPlace)
     (prefix : ContainerPrefix) (tree : Arena Item) (old new : Resolver C) (ix : ℕ) (r : Result ClosedBracket E)
-    → place.text.now ≡ old.text.now → place.options ≡ old.options → IsPrefixOf place prefix tree
+    → place.text.now ≡ old.text.now → place.options ≡ old.options → IsPrefixOf place prefix
     → is_closing_bracket (item_at tree.nodes ix).body ≡ true
     → IfOk r (λ found. (bodies : List ItemBody) (skipped : List ℕ → ℕ) (left : List (Entry ℕ)) (c : Closing ℕ)
     → GoesOnAfter (λ rest. Some (length_by prefix rest)) skipped → StandsBefore tree.nodes ix left c

@@ -253,14 +253,11 @@ cow_stored source start end held held' cow origin (Ok ix) is slice number put =
       slice = rw (from, stored.found) slice;
     }
 
-pub cow_text : (held held' : Allocated) (cow : CowStr) (r : Result CowIndex Fault) (P : Rules → Type 0)
-    (text : Rules → List ℕ)
-    → ((rules : Rules) → P rules → text_of cow ≡ text rules) → IfOk r (λ ix. ix.0 ≡ length held.cows)
-    → IfOk r (λ ix. held' ≡ with_cow held cow)
-    → IfOk r (λ ix. (rules : Rules) → P rules → text_at held'.cows ix.0 ≡ text rules)
-cow_text held held' cow (Err fault) P text value number put = tt
-cow_text held held' cow (Ok ix) P text value number put = λ rules p.
-    (text_put held held' cow ix (text_of cow) put number refl).found ∙ value rules p
+pub cow_text : (held held' : Allocated) (cow : CowStr) (r : Result CowIndex Fault)
+    → IfOk r (λ ix. ix.0 ≡ length held.cows) → IfOk r (λ ix. held' ≡ with_cow held cow)
+    → IfOk r (λ ix. text_at held'.cows ix.0 ≡ text_of cow)
+cow_text held held' cow (Err fault) number put = tt
+cow_text held held' cow (Ok ix) number put = (text_put held held' cow ix (text_of cow) put number refl).found
 
 -- so a body that refers only to it refers to nothing that was there
 code_names : (tables : Tables) (cow : CowIndex) (n : Named) → cow.0 ≡ length tables.cows

@@ -94,7 +94,7 @@ next_starts source tables nodes i ix ready =
 
 -- what was scanned with the prefix of all nodes that were entered is what is found below the blocks
 pub scanned_is : (place : ChainPlace) (prefix : ContainerPrefix) (tree : Arena Item) (rules : Rules) (start at : ℕ)
-    (found : Option Markup) → prefix.tree.now ≡ tree
+    (found : Option Markup) → prefix.containers.now ≡ place.containers.now
     → prefix.gfm_footnotes ≡ gfm_footnotes_on place.options → rules.options ≡ place.options → IsPlaceOf place tree
     → found ≡ markup_at (λ rest. Some (length_by prefix rest)) (is_extended place.options)
     (take place.block_end place.text.now) start at
@@ -104,9 +104,8 @@ pub scanned_is : (place : ChainPlace) (prefix : ContainerPrefix) (tree : Arena I
 scanned_is place prefix tree rules start at found here gfm same stands is =
     let s = setting_of place.text.now rules in
     let above = above_cursor place.text.now tree in
-    let by : (bytes : List ℕ) → length_by prefix bytes ≡ prefix_below s above bytes = λ bytes.
-    prefix_is prefix s (gfm ∙ sym (ap gfm_footnotes_on same)) bytes
-    ∙ ap (λ (t : Arena Item). prefix_below s (above_cursor place.text.now t) bytes) here in
+    let by : (bytes : List ℕ) → length_by prefix bytes ≡ prefix_below s above bytes =
+    prefix_is prefix place tree s here gfm (ap gfm_footnotes_on same) refl stands in
     let rule : (λ rest. Some (length_by prefix rest)) ≡ (λ rest. Some (prefix_below s above rest)) =
     fun_ext (λ bytes. ap (λ (n : ℕ). Some n) (by bytes)) in
     sym (is ∙ (ap (λ (skipped : List ℕ → Option ℕ). markup_at skipped (is_extended place.options)
@@ -125,7 +124,7 @@ pub record IsScanned (place : ChainPlace) (tree : Arena Item) (held : Allocated)
   pub inside : (item_at tree.nodes ix).end ≤ place.block_end
   pub follows : option_map_or (λ n. (item_at tree.nodes n).start == (item_at tree.nodes ix).end)
       (sibling_of tree.nodes ix) false ≡ true
-  pub here : prefix.tree.now ≡ tree
+  pub here : prefix.containers.now ≡ place.containers.now
   pub gfm : prefix.gfm_footnotes ≡ gfm_footnotes_on place.options
   pub utf8 : IsUtf8 (take place.block_end place.text.now)
   pub value : found ≡ markup_at (λ rest. Some (length_by prefix rest)) (is_extended place.options)
@@ -137,7 +136,7 @@ pub is_scanned : {place : ChainPlace} {tree : Arena Item} {held : Allocated} {ix
     → CanReadItem place tree held ix → (item_at tree.nodes ix).body ≡ body.MaybeHtml → item ≡ item_at tree.nodes ix
     → item.end ≤ place.block_end
     → next ≡ sibling_of tree.nodes ix → true ≡ option_map_or (λ n. (item_at tree.nodes n).start == item.end) next false
-    → prefix.tree.now ≡ tree → prefix.gfm_footnotes ≡ gfm_footnotes_on place.options → text
+    → prefix.containers.now ≡ place.containers.now → prefix.gfm_footnotes ≡ gfm_footnotes_on place.options → text
     ≡ slice_range place.text.now 0 place.block_end → IsUtf8 text → addresses ≡ is_extended place.options
     → found ≡ markup_at (λ rest. Some (length_by prefix rest)) addresses text item.start item.end
     → IsScanned place tree held ix prefix found

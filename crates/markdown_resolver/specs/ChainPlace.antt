@@ -2,12 +2,15 @@
 use Rattle.std.specs.Prelude.{◌≡◌, ℕ, List, Some}
 use Rattle.std.specs.Str.{IsCharBoundary, IsUtf8}
 use Rattle.markdown_base.specs.Arena.{Arena}
+use Rattle.markdown_base.specs.EnabledOptions.{gfm_footnotes_on}
 use Rattle.markdown_base.specs.declared.item.Item.{Item}
 use Rattle.markdown_brackets.specs.LeftList.{Entry}
 use Rattle.markdown_brackets.specs.Openers.{Waiting}
 use Rattle.markdown_document.specs.ResolverStates.{above_cursor}
 use Rattle.markdown_document.specs.Places.{trees_from}
 use Rattle.markdown_document.specs.Tables.{tables_of}
+use Rattle.markdown_spans.specs.ContainerPrefix.{prefix_length}
+use Rattle.markdown_spans.specs.PrefixView.{bodies_of}
 use Rattle.markdown_resolver.specs.Chains.{AreAbove, CanResolve}
 use Rattle.markdown_resolver.specs.Unread.{IsUnread}
 use Rattle.markdown_resolver.specs.ReadOn.{AreHeld, StandsTo}
@@ -18,6 +21,10 @@ use Rattle.markdown_defs.specs.Allocations.{Allocated}
 pub record IsPlaceOf (place : ChainPlace) (tree : Arena Item) : Type 0 where
   pub block_end : place.block_end ≡ (above_cursor place.text.now tree).block_end
   pub in_table : place.in_table ≡ (above_cursor place.text.now tree).in_table
+  -- its containers have the prefixes of all blocks above it
+  pub containers : (bytes : List ℕ)
+      → prefix_length (gfm_footnotes_on place.options) (bodies_of place.containers.now) bytes
+      ≡ prefix_length (gfm_footnotes_on place.options) (above_cursor place.text.now tree).bodies bytes
   pub boundary : IsCharBoundary place.text.now place.block_end
   pub utf8 : IsUtf8 place.text.now
 

@@ -13,8 +13,9 @@ pub mod Laws
 pub mod ChainQuestions
 pub mod NestedChains
 pub mod SlicesInPlace
--- what a resolver guarantees to a walk
+-- what a resolver guarantees to a walk, and requires of it
 pub mod Chains
+pub mod BlocksAbove
 -- the terms of private contracts
 pub mod LiteralText
 pub mod Rewritten

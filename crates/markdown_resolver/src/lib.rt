@@ -1,9 +1,9 @@
 //! Resolving chains: what a chain of inline items is resolved to, and the resolver that resolves it in place.
 #![tactic(auto)]
 
+pub mod blocks_above;
 mod bracket_kind;
 mod brackets;
-mod chain_place;
 pub mod continuation;
 mod found;
 pub mod laws;

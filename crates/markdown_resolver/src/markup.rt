@@ -36,7 +36,7 @@ impl<'a, F: BrokenLinkCallback<'a>> Resolver<'a, F> {
     pub(crate) fn read_markup(
         &mut self,
         tree: &mut Tree<Item>,
-        place: &ChainPlace<'a>,
+        place: &ChainPlace<'a, '_>,
         scanner: &mut RawHtmlScanner<'a>,
         ix: usize,
     ) -> Result<Continuation, Fault>
@@ -56,7 +56,7 @@ impl<'a, F: BrokenLinkCallback<'a>> Resolver<'a, F> {
         if item.end > place.block_end || !starts_at(tree, tree.next(ix), item.end) {
             return Ok(make_literal(tree, ix));
         }
-        let prefix = ContainerPrefix::new(tree, place.gfm_footnotes());
+        let prefix = ContainerPrefix::new(place);
         let text = &place.text[..place.block_end];
         let less = LessThan {
             text,

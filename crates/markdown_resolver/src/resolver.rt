@@ -1,8 +1,8 @@
 //! Resolving chains: a chain of inline items is resolved in place, in the arena, from its first open item on. Pass one
 //! reads it, and then its delimiters are paired.
+use crate::blocks_above::BlocksAbove;
 use crate::bracket_kind::{BracketKind, kind_of};
 use crate::brackets::{open_bracket, put_bracket};
-use crate::chain_place::place_of_chain;
 use crate::continuation::Continuation;
 use crate::found::make_literal;
 use markdown_base::fault::Fault;
@@ -49,6 +49,7 @@ impl<'a, F: BrokenLinkCallback<'a>> Resolver<'a, F> {
     ghost use Rattle.std.specs.Prelude.{OnErr, is_some, take, false, None, []};
     ghost use Rattle.markdown_base.specs.ArenaForest.{Spells, forest_at, links_of};
     ghost use Rattle.markdown_base.specs.BlockTree.{item_at};
+    ghost use Rattle.markdown_base.specs.EnabledOptions.{gfm_footnotes_on};
     ghost use Rattle.markdown_brackets.specs.Reference.{is_closing_bracket};
     ghost use Rattle.markdown_brackets.specs.SpentEnds.{is_spent};
     ghost use Rattle.markdown_base.specs.Item.{is_open};
@@ -56,6 +57,7 @@ impl<'a, F: BrokenLinkCallback<'a>> Resolver<'a, F> {
     ghost use Rattle.markdown_document.specs.Setting.{rules_from, setting_of};
     ghost use Rattle.markdown_document.specs.ResolverStates.{items_from, resolver_state, above_cursor};
     ghost use Rattle.markdown_document.specs.Tables.{tables_of};
+    ghost use Rattle.markdown_resolver.specs.BlocksAbove.{above_spine};
     ghost use Rattle.markdown_resolver.specs.BracketKinds.{kind_of};
     ghost use Rattle.markdown_resolver.specs.Chains.{ResolvesChain, StopsIn};
     ghost use Rattle.markdown_resolver.specs.ReadOn.{StopsInPassOne};
@@ -72,7 +74,7 @@ impl<'a, F: BrokenLinkCallback<'a>> Resolver<'a, F> {
     fn read_other(
         &mut self,
         tree: &mut Tree<Item>,
-        place: &ChainPlace<'a>,
+        place: &ChainPlace<'a, '_>,
         scanner: &mut RawHtmlScanner<'a>,
         ix: usize,
     ) -> Result<Continuation, Fault>
@@ -100,7 +102,7 @@ impl<'a, F: BrokenLinkCallback<'a>> Resolver<'a, F> {
     fn decide_closing(
         &mut self,
         tree: &Tree<Item>,
-        place: &ChainPlace<'a>,
+        place: &ChainPlace<'a, '_>,
         ix: usize,
     ) -> Result<ClosedBracket<'a>, Fault>
         requires can_ask { IfSome self.old.lookup.callback F.can_ask }
@@ -115,7 +117,7 @@ impl<'a, F: BrokenLinkCallback<'a>> Resolver<'a, F> {
         ensures refused { IfErr result (λ fault. fault ≡ Fault.Memory) }
         ensures kept { ChangesForDecision self.old self.new }
     {
-        let rule = ContainerPrefix::new(tree, place.gfm_footnotes());
+        let rule = ContainerPrefix::new(place);
         let closer = BracketReader {
             alloc: self.alloc,
             tree,
@@ -130,7 +132,7 @@ impl<'a, F: BrokenLinkCallback<'a>> Resolver<'a, F> {
     fn close_bracket(
         &mut self,
         tree: &mut Tree<Item>,
-        place: &ChainPlace<'a>,
+        place: &ChainPlace<'a, '_>,
         ix: usize,
     ) -> Result<Continuation, Fault>
         requires can_ask { IfSome self.old.lookup.callback F.can_ask }
@@ -155,7 +157,7 @@ impl<'a, F: BrokenLinkCallback<'a>> Resolver<'a, F> {
     fn read_bracket(
         &mut self,
         tree: &mut Tree<Item>,
-        place: &ChainPlace<'a>,
+        place: &ChainPlace<'a, '_>,
         ix: usize,
         bracket: BracketKind,
     ) -> Result<Continuation, Fault>
@@ -187,7 +189,7 @@ impl<'a, F: BrokenLinkCallback<'a>> Resolver<'a, F> {
     fn read_item(
         &mut self,
         tree: &mut Tree<Item>,
-        place: &ChainPlace<'a>,
+        place: &ChainPlace<'a, '_>,
         scanner: &mut RawHtmlScanner<'a>,
         ix: usize,
     ) -> Result<Continuation, Fault>
@@ -252,14 +254,21 @@ impl<'a, F: BrokenLinkCallback<'a>> Resolver<'a, F> {
         self.math_closers.clear();
     }
 
-    /// Reads the chain from the node `first` on in place, in pass one, from left to right, and counts its items. The only
-    /// error is `Fault::Memory`.
+    /// Reads the chain from the node `first` on in place, in pass one, from left to right, and counts its items. The blocks
+    /// above it are those of the tree's spine. The only error is `Fault::Memory`.
     // inlined into the one function that calls it
     #[inline(always)]
-    fn read_chain(&mut self, tree: &mut Tree<Item>, first: usize) -> Result<(), Fault>
+    fn read_chain(
+        &mut self,
+        tree: &mut Tree<Item>,
+        above: &BlocksAbove,
+        first: usize,
+    ) -> Result<(), Fault>
         requires can_ask { IfSome self.old.lookup.callback F.can_ask }
         requires ready { CanResolveBelow self.old.text.now (tables_of self.old.lookup.tables)
             tree.old first }
+        requires above { above.now ≡ above_spine (gfm_footnotes_on self.old.options)
+            tree.old.nodes tree.old.spine }
         ensures reads { IfOk result (λ _.
             ReadsChain F.answers first tree.old tree.new self.old self.new) }
 
@@ -274,7 +283,7 @@ impl<'a, F: BrokenLinkCallback<'a>> Resolver<'a, F> {
         ensures kept { ChangesForChain self.old self.new }
     {
         self.begin_chain();
-        let place = place_of_chain(tree, self.text, self.options);
+        let place = above.place(self.text, self.options);
         let mut scanner = RawHtmlScanner::new(self.text[..place.block_end].as_bytes());
         let mut at = Some(first);
         'chain: while let Some(ix) = at {
@@ -293,12 +302,19 @@ impl<'a, F: BrokenLinkCallback<'a>> Resolver<'a, F> {
         Ok(())
     }
 
-    /// Resolves the chain from the node `first` on, which is open, in place: below the nodes of the tree's spine. The
-    /// only error is `Fault::Memory`; the tree and the tables are then in an unspecified state.
-    pub fn resolve_chain(&mut self, tree: &mut Tree<Item>, first: usize) -> Result<(), Fault>
+    /// Resolves the chain from the node `first` on, which is open, in place: below the nodes of the tree's spine, and
+    /// the blocks among these. The only error is `Fault::Memory`; the tree and the tables are then in an unspecified state.
+    pub fn resolve_chain(
+        &mut self,
+        tree: &mut Tree<Item>,
+        above: &BlocksAbove,
+        first: usize,
+    ) -> Result<(), Fault>
         requires can_ask { IfSome self.old.lookup.callback F.can_ask }
         requires ready { CanResolveBelow self.old.text.now (tables_of self.old.lookup.tables)
             tree.old first }
+        requires above { above.now ≡ above_spine (gfm_footnotes_on self.old.options)
+            tree.old.nodes tree.old.spine }
         requires open { is_open (item_at tree.old.nodes first).body ≡ true }
         ensures resolves { IfOk result (λ _. ResolvesChain F.answers
             (setting_of self.old.text.now
@@ -319,7 +335,7 @@ impl<'a, F: BrokenLinkCallback<'a>> Resolver<'a, F> {
         ensures again { IfSome self.new.lookup.callback F.can_ask }
         ensures kept { KeepsInput self.old self.new }
     {
-        self.read_chain(tree, first)?;
+        self.read_chain(tree, above, first)?;
         let source = ChainText {
             text: self.text,
             options: self.options,

@@ -1,16 +1,16 @@
 //! Code spans and math spans in a chain, read in place.
 ghost use Rattle.std.specs.Prelude.{◌≡◌, ◌<◌, ℕ, Bool, true, List, Some, IfErr, IfOk, length, slice_range};
 ghost use Rattle.std.specs.Option.{option_map_or};
-ghost use Rattle.markdown_base.specs.Arena.{sibling_of};
+ghost use Rattle.markdown_base.specs.Arena.{Arena, sibling_of};
 ghost use Rattle.markdown_base.specs.BlockTree.{item_at};
 ghost use Rattle.markdown_base.specs.CowText.{text_of};
+ghost use Rattle.markdown_base.specs.declared.item.Item.{Item};
 ghost use Rattle.markdown_base.specs.declared.item.ItemBody.TheVariants as body;
 ghost use Rattle.markdown_document.specs.ResolverStates.{above_cursor};
 ghost use Rattle.markdown_document.specs.Origins.{origin_of};
 ghost use Rattle.markdown_document.specs.PlacedNodes.{IsSlicedOf};
 ghost use Rattle.markdown_document.specs.Setting.{Rules, setting_of};
 ghost use Rattle.markdown_document.specs.Tables.{Tables, tables_of, text_at};
-ghost use Rattle.markdown_spans.specs.BlocksAbove.{HasBlocks};
 ghost use Rattle.markdown_spans.specs.ChainInArena.{HasChain};
 ghost use Rattle.markdown_spans.specs.Closers.{is_dollar};
 ghost use Rattle.markdown_spans.specs.CodeText.{span_origin};
@@ -40,27 +40,25 @@ use std::ops::Range;
 /// Returns the text of a span with this content, a range of byte offsets.
 fn text_between<'a>(
     alloc: Global,
-    tree: &Tree<Item>,
-    place: &ChainPlace<'a>,
+    place: &ChainPlace<'a, '_>,
     kind: SpanKind,
     content: Range<usize>,
 ) -> Result<CowStr<'a>, Fault>
-    requires place { IsPlaceOf place.now tree.now }
-    requires above { HasBlocks tree.now }
-    requires cut { CanCut place.now.text.now content.start content.end }
-    ensures value { IfOk result (λ made. (rules : Rules)
+    requires { CanCut place.now.text.now content.start content.end }
+    ensures value { IfOk result (λ made. (tree : Arena Item) (rules : Rules)
+        → IsPlaceOf place.now tree
         → gfm_footnotes_on rules.options ≡ gfm_footnotes_on place.now.options
         → text_of made ≡ text_between (setting_of place.now.text.now rules)
-        (above_cursor place.now.text.now tree.now)
+        (above_cursor place.now.text.now tree)
         kind content.start content.end) }
     ensures origin { IfOk result (λ span. origin_of span
-        ≡ span_origin (above_cursor place.now.text.now tree.now).in_table
+        ≡ span_origin place.now.in_table
         (slice_range place.now.text.now content.start content.end)) }
     ensures slice { IfOk result (λ span. IsSlicedOf place.now.text.now content.start content.end
         (origin_of span) (text_of span)) }
     ensures refused { IfErr result (λ fault. fault ≡ Fault.Memory) }
 {
-    let prefix = ContainerPrefix::new(tree, place.gfm_footnotes());
+    let prefix = ContainerPrefix::new(place);
     Ok(span_text(
         alloc,
         &place.text[content.start..content.end],
@@ -154,24 +152,22 @@ impl<'a, F: BrokenLinkCallback<'a>> Resolver<'a, F> {
     #[inline(always)]
     fn store_text(
         &mut self,
-        tree: &Tree<Item>,
-        place: &ChainPlace<'a>,
+        place: &ChainPlace<'a, '_>,
         kind: SpanKind,
         content: Range<usize>,
     ) -> Result<CowIndex, Fault>
-        requires place { IsPlaceOf place.now tree.now }
-        requires above { HasBlocks tree.now }
-        requires cut { CanCut place.now.text.now content.start content.end }
+        requires { CanCut place.now.text.now content.start content.end }
         ensures stored { IfOk result (λ cow.
             StoresText place.now.text.now content.start content.end
             (tables_of self.old.lookup.tables) (tables_of self.new.lookup.tables) cow
-            (span_origin (above_cursor place.now.text.now tree.now).in_table
+            (span_origin place.now.in_table
             (slice_range place.now.text.now content.start content.end))) }
-        ensures text { IfOk result (λ cow. (rules : Rules)
+        ensures text { IfOk result (λ cow. (tree : Arena Item) (rules : Rules)
+            → IsPlaceOf place.now tree
             → gfm_footnotes_on rules.options ≡ gfm_footnotes_on place.now.options
             → text_at self.new.lookup.tables.cows cow.0
             ≡ text_between (setting_of place.now.text.now rules)
-            (above_cursor place.now.text.now tree.now) kind content.start content.end) }
+            (above_cursor place.now.text.now tree) kind content.start content.end) }
 
         // on success and on error
         ensures kept { self.new ≡ record self.old {
@@ -181,7 +177,7 @@ impl<'a, F: BrokenLinkCallback<'a>> Resolver<'a, F> {
         } }
         ensures refused { IfErr result (λ fault. fault ≡ Fault.Memory) }
     {
-        let text = text_between(self.alloc, tree, place, kind, content)?;
+        let text = text_between(self.alloc, place, kind, content)?;
         self.lookup.tables.allocate_cow(text)
     }
 
@@ -191,7 +187,7 @@ impl<'a, F: BrokenLinkCallback<'a>> Resolver<'a, F> {
     pub(crate) fn read_code(
         &mut self,
         tree: &mut Tree<Item>,
-        place: &ChainPlace<'a>,
+        place: &ChainPlace<'a, '_>,
         ix: usize,
     ) -> Result<Continuation, Fault>
         requires ready { CanReadOther place.now tree.old self.old ix }
@@ -210,7 +206,7 @@ impl<'a, F: BrokenLinkCallback<'a>> Resolver<'a, F> {
             return Ok(make_literal(tree, ix));
         };
         let content = tree.item(ix).end..tree.item(closer).start;
-        let cow = self.store_text(tree, place, SpanKind::Code, content)?;
+        let cow = self.store_text(place, SpanKind::Code, content)?;
         Ok(put_code(tree, ix, closer, ItemBody::Code(cow)))
     }
 
@@ -218,7 +214,7 @@ impl<'a, F: BrokenLinkCallback<'a>> Resolver<'a, F> {
     pub(crate) fn read_math(
         &mut self,
         tree: &mut Tree<Item>,
-        place: &ChainPlace<'a>,
+        place: &ChainPlace<'a, '_>,
         ix: usize,
     ) -> Result<Continuation, Fault>
         requires ready { CanReadOther place.now tree.old self.old ix }
@@ -236,7 +232,7 @@ impl<'a, F: BrokenLinkCallback<'a>> Resolver<'a, F> {
             return Ok(make_literal(tree, ix));
         };
         let content = math_text_start(tree, ix)..tree.item(math.closer).start;
-        let cow = self.store_text(tree, place, SpanKind::Math, content)?;
+        let cow = self.store_text(place, SpanKind::Math, content)?;
         let found = Item {
             start: tree.item(ix).start,
             end: tree.item(math.last).end,

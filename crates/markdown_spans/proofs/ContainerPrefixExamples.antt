@@ -4,7 +4,6 @@ use Rattle.std.specs.Prelude.{codes}
 use Rattle.markdown_base.specs.declared.item.ItemBody.{ItemBody}
 use Rattle.markdown_base.specs.declared.item.ItemBody.TheVariants as body
 use Rattle.markdown_spans.specs.ContainerPrefix.{prefix_length}
-use Rattle.markdown_spans.specs.PrefixView.{in_table}
 
 quote : ItemBody
 quote = body.BlockQuote None
@@ -72,10 +71,3 @@ row_footnote = refl
 row_footnote_in_old_style : prefix_length false (footnote ∷ []) (codes "     b") ≡ 0
 unfolding footnote
 row_footnote_in_old_style = refl
-
-row_cell : in_table (body.TableRow ∷ body.TableCell ∷ []) ≡ true
-row_cell = refl
-
--- the chain's own block is asked
-row_paragraph_in_cell : in_table (body.TableCell ∷ body.Paragraph ∷ []) ≡ false
-row_paragraph_in_cell = refl

@@ -15,9 +15,9 @@ use Rattle.markdown_base.specs.declared.item.ItemBody.TheVariants as body
 use Rattle.markdown_scan.specs.LineStart.{LineLeft, space_width, column_after, space_from, leading_space, is_line_over}
 use Rattle.markdown_scan.specs.LineStart.{begins_marker, past_one_byte}
 use Rattle.markdown_spans.specs.ContainerPrefix.{past_marker_next, past_indent, past_block, past_blocks, prefix_length}
-use Rattle.markdown_base.specs.Item.{is_table_cell}
-use Rattle.markdown_spans.specs.BlocksAbove.{blocks_above}
-use Rattle.markdown_spans.specs.PrefixView.{length_by, in_table}
+use Rattle.markdown_spans.specs.ContainerPrefix.{has_prefix}
+use Rattle.markdown_base.specs.declared.item.Item.{Item}
+use Rattle.markdown_spans.specs.PrefixView.{bodies_of, length_by}
 use Rattle.markdown_spans.specs.declared.prefixes.ContainerPrefix.{ContainerPrefix}
 
 -- a byte of a prefix: a space, a tab or a block quote's `>`
@@ -199,23 +199,105 @@ prefix_opens_none gfm blocks line =
 
 pub length_by_is_ascii : (prefix : ContainerPrefix) (line : List ℕ) → IsAsciiPrefix line (length_by prefix line)
 unfolding length_by
-length_by_is_ascii prefix line = prefix_is_ascii prefix.gfm_footnotes (blocks_above prefix.tree.now) line
+length_by_is_ascii prefix line = prefix_is_ascii prefix.gfm_footnotes (bodies_of prefix.containers.now) line
 
 -- a block that does not find its part ends the reading
-pub reading_stops : (gfm : Bool) (block : ℕ → ItemBody) (spine : List ℕ) (i : ℕ) (line : LineLeft) → i < length spine
-    → None ≡ past_block gfm (block (get_or spine i 0)) line → past_blocks gfm (map block (drop i spine)) line ≡ line
-reading_stops gfm block spine i line within none =
-    rw (drop-cons spine i 0 within) (ap (λ (found : Option LineLeft). elim found
-    [ Some after ↦ past_blocks gfm (map block (drop (suc i) spine)) after | None ↦ line ]) (sym none))
+pub reading_stops : (gfm : Bool) (containers : List Item) (i : ℕ) (line : LineLeft) (d : Item) → i < length containers
+    → None ≡ past_block gfm (get_or containers i d).body line
+    → past_blocks gfm (bodies_of (drop i containers)) line ≡ line
+reading_stops gfm containers i line d within none =
+    rw (drop-cons containers i d within) (ap (λ (found : Option LineLeft). elim found
+    [ Some after ↦ past_blocks gfm (bodies_of (drop (suc i) containers)) after | None ↦ line ]) (sym none))
 
 -- after the innermost block nothing more is read
-pub reading_ends : (gfm : Bool) (block : ℕ → ItemBody) (spine : List ℕ) (i : ℕ) (line : LineLeft) → length spine ≤ i
-    → past_blocks gfm (map block (drop i spine)) line ≡ line
-reading_ends gfm block spine i line past = rw (drop_all i spine past) refl
+pub reading_ends : (gfm : Bool) (containers : List Item) (i : ℕ) (line : LineLeft) → length containers ≤ i
+    → past_blocks gfm (bodies_of (drop i containers)) line ≡ line
+reading_ends gfm containers i line past = rw (drop_all i containers past) refl
 
--- the innermost block determines whether a chain is in a table
-pub in_table_last : (block : ℕ → ItemBody) (outer : List ℕ) (ix : ℕ) → in_table (map block (outer ++ ix ∷ []))
-    ≡ is_table_cell (block ix)
-in_table_last block [] ix = refl
-in_table_last block (a ∷ []) ix = refl
-in_table_last block (a ∷ b ∷ outer) ix = in_table_last block (b ∷ outer) ix
+-- no byte of a line was taken
+record TakesNoByte (line after : LineLeft) : Type 0 where
+  pub scanned : after.scanned ≡ line.scanned
+  pub bytes : after.bytes ≡ line.bytes
+
+-- a line ending is no space, and no marker
+ending_is_no_space : (b : ℕ) → ((b == 10) || (b == 13)) ≡ true → ((b == 32) ≡ false) × ((b == 9) ≡ false)
+ending_is_no_space b e = (grind (arith, nat_tests), grind (arith, nat_tests))
+
+ending_begins_no_marker : (bytes : List ℕ) → is_line_over bytes ≡ true → (slice_index bytes 0 == 62) ≡ false
+ending_begins_no_marker [] e = refl
+ending_begins_no_marker (b ∷ bytes) e = grind (arith, nat_tests)
+
+second_true : (a : Bool) → (a || true) ≡ true
+second_true true = refl
+second_true false = refl
+
+-- at the end of a line nothing is space
+no_space_from : (n scanned column : ℕ) (bytes : List ℕ) → is_line_over bytes ≡ true
+    → (space_from n scanned column bytes).after
+    ≡ record { scanned = scanned; owed = 0; column = column; bytes = bytes }
+no_space_from n scanned column [] e = refl
+no_space_from n scanned column (b ∷ bytes) e =
+    let other = ending_is_no_space b e in
+    rw (other.0, other.1, second_true (n == 0)) refl
+
+no_byte_is_space : (n : ℕ) (line : LineLeft) → is_line_over line.bytes ≡ true
+    → TakesNoByte line (leading_space n line).after
+no_byte_is_space n line e = cases (nat_le n line.owed) refl
+  where
+    cases : (owed : Bool) → nat_le n line.owed ≡ owed → TakesNoByte line (leading_space n line).after
+    cases true t = rw t (record { scanned = refl; bytes = refl })
+    cases false t =
+        let none = no_space_from (n - line.owed) line.scanned line.column line.bytes e in
+        rw (t, none) (record { scanned = refl; bytes = refl })
+
+no_byte_of_indent : (n : ℕ) (line : LineLeft) → is_line_over line.bytes ≡ true
+    → IfSome (past_indent n line) (TakesNoByte line)
+no_byte_of_indent n line e =
+    cases (((leading_space n line).columns == n) || is_line_over (leading_space n line).after.bytes) refl
+  where
+    cases : (found : Bool) → (((leading_space n line).columns == n) || is_line_over (leading_space n line).after.bytes)
+        ≡ found
+        → IfSome (past_indent n line) (TakesNoByte line)
+    cases true t = rw t (no_byte_is_space n line e)
+    cases false t = rw t tt
+
+second_false : (a : Bool) → (a && false) ≡ false
+second_false true = refl
+second_false false = refl
+
+-- no block takes a byte of it
+no_byte_of_block : (gfm : Bool) (block : ItemBody) (line : LineLeft) → is_line_over line.bytes ≡ true
+    → IfSome (past_block gfm block line) (TakesNoByte line)
+no_byte_of_block gfm (body.BlockQuote kind) line e =
+    let spaces = no_byte_is_space 3 line e in
+    let none = ending_begins_no_marker (leading_space 3 line).after.bytes (rw spaces.bytes e) in
+    rw (none, second_false ((leading_space 3 line).after.owed == 0)) tt
+no_byte_of_block gfm (body.ListItem indent) line e = no_byte_of_indent indent line e
+no_byte_of_block gfm (body.DefinitionListDefinition indent) line e = no_byte_of_indent indent line e
+no_byte_of_block true (body.FootnoteDefinition name) line e = no_byte_of_indent 4 line e
+no_byte_of_block gfm other line e = record { scanned = refl; bytes = refl }
+
+-- so what was read when a line has ended is all that is read
+pub reading_ends_with_line : (gfm : Bool) (blocks : List ItemBody) (line : LineLeft) → is_line_over line.bytes ≡ true
+    → (past_blocks gfm blocks line).scanned ≡ line.scanned
+reading_ends_with_line gfm [] line e = refl
+reading_ends_with_line gfm (block ∷ inner) line e =
+    cases (past_block gfm block line) (no_byte_of_block gfm block line e)
+    (λ after same. reading_ends_with_line gfm inner after same)
+  where
+    cases : (found : Option LineLeft) → IfSome found (TakesNoByte line)
+        → ((after : LineLeft) → is_line_over after.bytes ≡ true
+        → (past_blocks gfm inner after).scanned ≡ after.scanned)
+        → (elim found as (λ x. LineLeft) [ Some after ↦ past_blocks gfm inner after | None ↦ line ]).scanned
+        ≡ line.scanned
+    cases None h later = refl
+    cases (Some after) h later = later after (rw h.bytes e) ∙ h.scanned
+
+-- a block without a part takes nothing of a line
+pub takes_nothing : (gfm : Bool) (block : ItemBody) (line : LineLeft) → has_prefix gfm block ≡ false
+    → past_block gfm block line ≡ Some line
+takes_nothing gfm (body.BlockQuote kind) line none = cc none
+takes_nothing gfm (body.ListItem indent) line none = cc none
+takes_nothing gfm (body.DefinitionListDefinition indent) line none = cc none
+takes_nothing true (body.FootnoteDefinition name) line none = cc none
+takes_nothing gfm other line none = refl

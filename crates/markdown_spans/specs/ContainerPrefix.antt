@@ -1,6 +1,6 @@
 -- The container prefix of a line (CommonMark 5): the parts of the line that belong to the blocks above a chain, read
 -- from the outermost block in. A block whose part is missing reads nothing, and the prefix ends before it.
-use Rattle.std.specs.Prelude.{ℕ, Bool, true, ◌||◌, ◌==◌, List, [], ◌∷◌, Option, Some, None, if◌then◌else◌}
+use Rattle.std.specs.Prelude.{ℕ, Bool, true, false, ◌||◌, ◌==◌, List, [], ◌∷◌, Option, Some, None, if◌then◌else◌}
 use Rattle.markdown_base.specs.declared.item.ItemBody.{ItemBody}
 use Rattle.markdown_base.specs.declared.item.ItemBody.TheVariants as body
 use Rattle.markdown_scan.specs.LineStart.{LineLeft, Space, leading_space, is_line_over, begins_marker, past_marker}
@@ -25,6 +25,14 @@ past_block gfm (body.ListItem indent) line = past_indent indent line
 past_block gfm (body.DefinitionListDefinition indent) line = past_indent indent line
 past_block true (body.FootnoteDefinition name) line = past_indent 4 line
 past_block gfm other line = Some line
+
+-- a block has a part in the beginning of a line
+abbrev pub has_prefix : (gfm_footnotes : Bool) → ItemBody → Bool
+has_prefix gfm (body.BlockQuote kind) = true
+has_prefix gfm (body.ListItem indent) = true
+has_prefix gfm (body.DefinitionListDefinition indent) = true
+has_prefix true (body.FootnoteDefinition name) = true
+has_prefix gfm other = false
 
 -- the rest of a line after the parts of these blocks, the outermost first
 abbrev pub past_blocks : Bool → List ItemBody → LineLeft → LineLeft

@@ -7,7 +7,6 @@ pub mod CloserSearches
 pub mod Finds
 pub mod VisitLaws
 -- facts about the representation
-pub mod BlocksAbove
 pub mod ChainInArena
 pub mod ChainSearch
 pub mod ChainWalk

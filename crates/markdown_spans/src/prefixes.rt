@@ -2,23 +2,36 @@
 ghost use Rattle.std.specs.Prelude.{◌≡◌, ◌≤◌, None, Some, if◌then◌else◌, length, take, IfSome, IsTrue};
 ghost use Rattle.std.specs.List.{list_all};
 ghost use Rattle.std.specs.Char.{is_ascii};
-ghost use Rattle.markdown_spans.specs.BlocksAbove.{HasBlocks};
-ghost use Rattle.markdown_spans.specs.ContainerPrefix.{past_indent, past_marker_next, past_block};
+ghost use Rattle.markdown_base.specs.EnabledOptions.{gfm_footnotes_on};
+ghost use Rattle.markdown_spans.specs.ContainerPrefix.{has_prefix, past_indent, past_marker_next, past_block};
 ghost use Rattle.markdown_scan.specs.LineView.{line_left};
 ghost use Rattle.markdown_scan.specs.LineStart.{leading_space};
 
 use markdown_base::item::{Item, ItemBody};
-use markdown_base::tree::Tree;
+use markdown_document::chain_place::{ChainPlace, gfm_footnotes};
 use markdown_scan::line_rule::LineRule;
 use markdown_scan::line_start::LineStart;
 
-/// The blocks above a chain: the nodes that a traversal has entered.
+/// The containers that a chain is in.
 #[derive(Drop)]
 pub struct ContainerPrefix<'t> {
-    pub tree: &'t Tree<Item>,
+    /// The outermost first. A block that has no part in a line's beginning may be among them.
+    pub containers: &'t [Item],
     /// Whether footnotes are enabled, in GitHub's style.
     pub gfm_footnotes: bool,
-    ghost above: { HasBlocks tree.now },
+}
+
+/// Returns whether a block has a part in the beginning of each line inside it.
+pub fn has_prefix(block: ItemBody, gfm_footnotes: bool) -> bool
+    ensures { result ≡ has_prefix gfm_footnotes block }
+{
+    match block {
+        ItemBody::BlockQuote(_) => true,
+        ItemBody::ListItem(_) => true,
+        ItemBody::DefinitionListDefinition(_) => true,
+        ItemBody::FootnoteDefinition(_) => gfm_footnotes,
+        _ => false,
+    }
 }
 
 /// Reads at most 3 columns of space and a block quote marker, and returns whether there was a marker.
@@ -53,17 +66,16 @@ fn take_block(line: &mut LineStart<'_>, block: ItemBody, gfm_footnotes: bool) ->
 }
 
 impl<'t> ContainerPrefix<'t> {
-    ghost use Rattle.markdown_spans.specs.PrefixView.{length_by, stands_in_table};
+    ghost use Rattle.markdown_spans.specs.PrefixView.{length_by};
 
-    /// Returns the prefixes for the chain at the cursor of a traversal of `tree`.
-    pub fn new(tree: &'t Tree<Item>, gfm_footnotes: bool) -> ContainerPrefix<'t>
-        requires { HasBlocks tree.now }
-        ensures tree { result.tree.now ≡ tree.now }
-        ensures footnotes { result.gfm_footnotes ≡ gfm_footnotes }
+    /// Returns the prefixes of the lines of a chain at a place.
+    pub fn new(place: &ChainPlace<'_, 't>) -> ContainerPrefix<'t>
+        ensures containers { result.containers.now ≡ place.now.containers.now }
+        ensures footnotes { result.gfm_footnotes ≡ gfm_footnotes_on place.now.options }
     {
         ContainerPrefix {
-            tree,
-            gfm_footnotes,
+            containers: place.containers,
+            gfm_footnotes: gfm_footnotes(place.options),
         }
     }
 
@@ -75,23 +87,17 @@ impl<'t> ContainerPrefix<'t> {
         ensures ascii { IsTrue (list_all is_ascii (take result rest.now)) }
     {
         let mut line = LineStart::new(rest);
-        'above: for ix in self.tree.walk_spine() {
+        'containers: for container in self.containers {
             let scanned = line.bytes_scanned();
-            if !take_block(&mut line, self.tree.item(*ix).body, self.gfm_footnotes) {
+            // of the end of a line no container takes a byte, however many there are
+            if line.is_at_eol() {
+                return scanned;
+            }
+            if !take_block(&mut line, container.body, self.gfm_footnotes) {
                 return scanned;
             }
         }
         line.bytes_scanned()
-    }
-
-    /// Returns whether the chain is in a table: whether the innermost block above it is a cell.
-    pub fn is_in_table(&self) -> bool
-        ensures { result ≡ stands_in_table self.now }
-    {
-        match self.tree.peek_up() {
-            Some(ix) => self.tree.item(ix).body.is_table_cell(),
-            None => false,
-        }
     }
 }
 

@@ -1,6 +1,5 @@
 //! Texts of code and math spans, and what begins at a `<`, in a paragraph directly under the document.
 use markdown_base::cow_str::CowStr;
-use markdown_base::tree::Tree;
 use markdown_raw_html::raw_html::RawHtmlScanner;
 use markdown_spans::after_less::{Autolink, AutolinkKind, LessThan, MarkupFound, scan_after_less};
 use markdown_spans::prefixes::ContainerPrefix;
@@ -8,6 +7,12 @@ use markdown_spans::span_text::{SpanKind, span_text};
 use markdown_test_helpers::rows::gives;
 use std::alloc::{AllocError, Global};
 use std::test::Fail;
+
+/// The prefixes of lines that are in no container.
+static IN_NOTHING: ContainerPrefix<'static> = ContainerPrefix {
+    containers: &[],
+    gfm_footnotes: false,
+};
 
 fn is_slice(text: &CowStr<'_>) -> bool {
     matches!(text, CowStr::Borrowed(_))
@@ -73,9 +78,7 @@ fn all_show(alloc: Global, prefix: &ContainerPrefix<'_>) -> Result<(), Fail> {
 
 #[test]
 fn texts_of_code_and_math(rt: HostRuntime) -> Result<(), Fail> {
-    let tree = Tree::new(rt.alloc())?;
-    let prefix = ContainerPrefix::new(&tree, false);
-    all_show(rt.alloc(), &prefix)
+    all_show(rt.alloc(), &IN_NOTHING)
 }
 
 fn described(alloc: Global, found: Option<MarkupFound<'_>>) -> Result<String, AllocError> {
@@ -172,8 +175,6 @@ fn all_have_markup(
 
 #[test]
 fn markup_after_a_less_than_sign(rt: HostRuntime) -> Result<(), Fail> {
-    let tree = Tree::new(rt.alloc())?;
-    let prefix = ContainerPrefix::new(&tree, false);
-    all_have_markup(rt.alloc(), &MARKUP, false, &prefix)?;
-    all_have_markup(rt.alloc(), &WITH_ADDRESSES, true, &prefix)
+    all_have_markup(rt.alloc(), &MARKUP, false, &IN_NOTHING)?;
+    all_have_markup(rt.alloc(), &WITH_ADDRESSES, true, &IN_NOTHING)
 }

@@ -7,8 +7,8 @@ use Rattle.markdown_inline.proofs.TakingLemmas.{open-visit}
 use Rattle.markdown_inline.proofs.WalkStepsLemmas.{passed_over, passed_in, passed_plain, refused_at}
 use Rattle.markdown_inline.proofs.step.step_at.Goals as goal
 
-pub returns-in-Open : goal.returns-in-Open
-returns-in-Open c source held w = (
+pub returns-in-Open-clause-gives : goal.returns-in-Open-clause-gives
+returns-in-Open-clause-gives c source held w = (
   record {
     cursor = c.requires.at_ix;
     is_open = rw (← (c.item-item.ensures no_item)) (open-visit c.item-item.result.now.body c.in-Open.ensures);
@@ -16,15 +16,15 @@ returns-in-Open c source held w = (
   refl,
 )
 
-pub returns-in-Leaf : goal.returns-in-Leaf
-returns-in-Leaf c source held w = (
+pub returns-in-Leaf-clause-gives : goal.returns-in-Leaf-clause-gives
+returns-in-Leaf-clause-gives c source held w = (
   passed_over source c.args.tree.now c.next_sibling.new.self held c.args.ix c.item-item.result.now w c.requires.at_ix
       (c.item-item.ensures no_item) c.in-Leaf.ensures c.next_sibling.ensures.goes,
   c.in-Leaf.ensures,
 )
 
-pub returns-in_ok-push-in-Start : goal.returns-in_ok-push-in-Start
-returns-in_ok-push-in-Start c source held w =
+pub returns-in_ok-push-in-Start-clause-gives : goal.returns-in_ok-push-in-Start-clause-gives
+returns-in_ok-push-in-Start-clause-gives c source held w =
     let went = c.in_ok-push-in-Start.ensures.goes in
     let e : c.in_ok-push-in-Start.field-0 ≡ c.args.ix = cc (went.0, c.requires.at_ix) in (
       passed_in source c.args.tree.now c.push.new.self held c.args.ix c.item-item.result.now w c.requires.at_ix
@@ -32,23 +32,23 @@ returns-in_ok-push-in-Start c source held w =
       c.in-Start.ensures,
     )
 
-pub returns-in_ok-push-in-Plain : goal.returns-in_ok-push-in-Plain
-returns-in_ok-push-in-Plain c source held w =
+pub returns-in_ok-push-in-Plain-clause-gives : goal.returns-in_ok-push-in-Plain-clause-gives
+returns-in_ok-push-in-Plain-clause-gives c source held w =
     let went = c.in_ok-push-in-Plain.ensures.goes in
     let e : c.in_ok-push-in-Plain.field-0 ≡ c.args.ix = cc (went.0, c.requires.at_ix) in
     passed_plain source c.args.tree.now c.push-in-Plain.new.self held c.args.ix c.item-item.result.now w
     c.requires.at_ix
     (c.item-item.ensures no_item) c.in-Plain.ensures (rw e at went.1)
 
-pub returns-in_err-push-in-Start : goal.returns-in_err-push-in-Start
-returns-in_err-push-in-Start c source held w =
+pub returns-in_err-push-in-Start-clause-gives : goal.returns-in_err-push-in-Start-clause-gives
+returns-in_err-push-in-Start-clause-gives c source held w =
     let refused : IsRefused c.args.tree.now c.push.new.self =
     refused_at source (tables_of held) c.args.tree.now c.push.new.self c.args.ix w c.requires.at_ix
     c.in_err-push-in-Start.ensures.refused in
     search rules
 
-pub returns-in_err-push-in-Plain : goal.returns-in_err-push-in-Plain
-returns-in_err-push-in-Plain c source held w =
+pub returns-in_err-push-in-Plain-clause-gives : goal.returns-in_err-push-in-Plain-clause-gives
+returns-in_err-push-in-Plain-clause-gives c source held w =
     let refused : IsRefused c.args.tree.now c.push-in-Plain.new.self =
     refused_at source (tables_of held) c.args.tree.now c.push-in-Plain.new.self c.args.ix w c.requires.at_ix
     c.in_err-push-in-Plain.ensures.refused in

@@ -1,19 +1,19 @@
 -- The node that was entered last ends, and the walk continues after it.
 use Rattle.std.proofs.Common.{[]}
 use Rattle.markdown_base.specs.BlockTree.{no_item}
-use Rattle.markdown_inline.proofs.WalkStepsLemmas.{went_out_end, went_out_plain}
+use Rattle.markdown_inline.proofs.WalkStepsLemmas.{fewer_above, went_out_end, went_out_plain}
 use Rattle.markdown_inline.proofs.step.step_out.Goals as goal
 
-pub returns-in-None-close_item : goal.returns-in-None-close_item
-returns-in-None-close_item c source held w =
+pub returns-in-None-close_item-clause-gives : goal.returns-in-None-close_item-clause-gives
+returns-in-None-close_item-clause-gives c source held w =
     let popped = c.in-Some.ensures.goes in
     went_out_plain source c.args.tree.now c.next_sibling.new.self held c.in-Some.ix c.item-item.result.now popped.0
     w c.requires popped.1
     (rw popped.2 at (c.item-item.ensures no_item)) c.in-None-close_item.ensures
     (rw popped.2 at c.next_sibling.ensures.goes)
 
-pub returns-in-Some-close_item : goal.returns-in-Some-close_item
-returns-in-Some-close_item c source held w =
+pub returns-in-Some-close_item-clause-gives : goal.returns-in-Some-close_item-clause-gives
+returns-in-Some-close_item-clause-gives c source held w =
     let popped = c.in-Some.ensures.goes in
     record {
       origins = [];
@@ -24,3 +24,15 @@ returns-in-Some-close_item c source held w =
           (rw popped.2 at (c.item-item.ensures no_item)) c.in-Some-close_item.ensures
           (rw popped.2 at c.next_sibling.ensures.goes);
     }
+
+pub returns-in-None-close_item-clause-above : goal.returns-in-None-close_item-clause-above
+returns-in-None-close_item-clause-above c gfm is =
+    let popped = c.in-Some.ensures.goes in
+    fewer_above gfm popped.0 popped.1 popped.2 (c.item-item.ensures no_item) c.next_sibling.ensures.goes
+    c.leave.ensures.left is
+
+pub returns-in-Some-close_item-clause-above : goal.returns-in-Some-close_item-clause-above
+returns-in-Some-close_item-clause-above c gfm is =
+    let popped = c.in-Some.ensures.goes in
+    fewer_above gfm popped.0 popped.1 popped.2 (c.item-item.ensures no_item) c.next_sibling.ensures.goes
+    c.leave.ensures.left is

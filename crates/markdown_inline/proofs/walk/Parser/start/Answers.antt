@@ -1,19 +1,28 @@
 -- The Start is that of the item; where it is refused the walk is over.
 use Rattle.std.proofs.Common.{refl, ap}
+use Rattle.markdown_base.specs.Arena.{Arena}
+use Rattle.markdown_base.specs.EnabledOptions.{gfm_footnotes_on}
+use Rattle.markdown_base.specs.declared.item.Item.{Item}
 use Rattle.markdown_defs.specs.Allocations.{Allocated}
 use Rattle.markdown_document.specs.Tables.{tables_of}
 use Rattle.markdown_base.specs.Item.{range_of}
 use Rattle.markdown_inline.proofs.ParserLemmas.{over_ended}
 use Rattle.markdown_inline.proofs.TakingLemmas.{opens_start}
-use Rattle.markdown_inline.proofs.WalkStepsLemmas.{stands_ended, stopped}
+use Rattle.markdown_inline.proofs.WalkStepsLemmas.{none_above, stands_ended, stopped}
 use Rattle.markdown_inline.proofs.walk.Parser.start.Goals as goal
 use Rattle.markdown_document.specs.Places.{origin_start}
 
 pub invariant_of-self : goal.invariant_of-self
-invariant_of-self g c = record { stands = c.requires.begins.stands _ c.in-Ok.ensures.taken }
+invariant_of-self g c = record {
+  entered = c.args.self.now.entered;
+  stands = c.requires.begins.stands _ c.in-Ok.ensures.taken;
+}
 
 pub invariant_of-self-in-Err : goal.invariant_of-self-in-Err
 invariant_of-self-in-Err g c = record {
+  entered = none_above (gfm_footnotes_on c.args.self.now.resolver.options) c.args.self.now.tree.nodes
+      c.args.self.now.tree.spine (ap (λ (t : Arena Item). t.spine) c.stop.ensures) c.args.self.now.entered refl
+      c.clear.ensures;
   stands = stands_ended c.args.self.now.resolver.text.now (tables_of c.start_tag.new.tables) c.stop.new.self
       (stopped c.args.self.now.tree c.stop.new.self c.stop.ensures);
 }

@@ -1,15 +1,10 @@
 -- What a `]` becomes is decided, by the rules of pass one.
 use Rattle.std.proofs.Common.{Some, refl, ◌∙◌}
 use Rattle.markdown_base.specs.BlockTree.{item_at}
-use Rattle.markdown_resolver.proofs.ChainPlaceLemmas.{has_blocks}
 use Rattle.markdown_resolver.proofs.CloseBracketLemmas.{IsPrefixOf, decides_here, finds_each, tries_each}
 use Rattle.markdown_resolver.proofs.OpenerReadLemmas.{closer_body, ready_here}
 use Rattle.markdown_resolver.proofs.LiteralTextLemmas.{node_within}
 use Rattle.markdown_resolver.proofs.resolver.Resolver.decide_closing.Goals as goal
-
-pub new-rule-requires : goal.new-rule-requires
-new-rule-requires g c = has_blocks c.args.place.now.text.now c.args.tree.now (Some c.requires.ready.first)
-    c.requires.ready.was_read.above
 
 pub decide_bracket-requires : goal.decide_bracket-requires
 decide_bracket-requires g c κs =
@@ -28,9 +23,9 @@ decide_bracket-requires g c κs =
 
 pub returns : goal.returns
 returns g c =
-    let prefix : IsPrefixOf c.args.place.now c.new-rule.result c.args.tree.now = record {
-      here = c.new-rule.ensures.tree;
-      gfm = c.new-rule.ensures.footnotes ∙ c.gfm_footnotes.ensures;
+    let prefix : IsPrefixOf c.args.place.now c.new-rule.result = record {
+      containers = c.new-rule.ensures.containers;
+      gfm = c.new-rule.ensures.footnotes;
     } in
     record {
       decides = decides_here g.F.BrokenLinkCallback.answers c.args.place.now c.new-rule.result c.args.tree.now

@@ -1,6 +1,7 @@
 -- One item of the chain after another is read.
-use Rattle.std.proofs.Common.{◌≡◌, ℕ, suc, false, Option, Some, take, sym, ap, ◌∙◌, refl, subst, arith}
+use Rattle.std.proofs.Common.{◌≡◌, ℕ, suc, false, List, Option, Some, take, sym, ap, ◌∙◌, refl, subst, arith}
 use Rattle.std.specs.Prelude.{is_some}
+use Rattle.std.specs.Str.{IsCharBoundary}
 use Rattle.markdown_document.specs.Counts.{risen}
 use Rattle.markdown_document.specs.Setting.{rules_from, setting_of}
 use Rattle.markdown_document.specs.ResolverStates.{items_from}
@@ -15,13 +16,17 @@ use Rattle.markdown_resolver.proofs.ReadingLemmas.{looked_none}
 use Rattle.markdown_resolver.proofs.resolver.Resolver.read_chain.Goals as goal
 use Rattle.markdown_resolver.specs.ReadsBracket.{HasLearned}
 
-pub place_of_chain-place-requires : goal.place_of_chain-place-requires
-place_of_chain-place-requires g c = (Some c.args.first, rw c.begin_chain.ensures.kept c.requires.ready.above)
+pub range-requires-clause-end_boundary : goal.range-requires-clause-end_boundary
+range-requires-clause-end_boundary g c =
+    let stands = c.place-place.ensures.place c.args.tree.now (Some c.args.first)
+    (rw c.begin_chain.ensures.kept c.requires.ready.above) (rw c.begin_chain.ensures.kept c.requires.above) in
+    subst (λ (text : List ℕ). IsCharBoundary text c.place-place.result.block_end) c.place-place.ensures.text
+    stands.boundary
 
 pub chain-init : goal.chain-init
 chain-init g c =
     let s = c.args.self.now in
-    let place = c.place_of_chain-place.result in
+    let place = c.place-place.result in
     let all = items_from c.args.tree.now.nodes (Some c.args.first) in
     let b = c.begin_chain.new.self in
     rw c.begin_chain.ensures.kept (record {
@@ -34,7 +39,7 @@ chain-init g c =
       scanner =
           c.new-scanner.ensures ∙ c.as_bytes.ensures.value ∙ c.range.ensures.value
           ∙ whole_range c.begin_chain.new.self.text.now place.block_end
-          ∙ ap (take place.block_end) (sym c.place_of_chain-place.ensures.text);
+          ∙ ap (take place.block_end) (sym c.place-place.ensures.text);
       learned = record { code = λ low chain leads. tt; math = λ low chain leads. tt };
       code_looks = looked_none false s.work.code_visits all;
       math_looks = looked_none false s.work.math_visits all;
@@ -46,10 +51,11 @@ chain-init g c =
 pub read_item-requires : goal.read_item-requires
 read_item-requires g c κs =
     let i = c.chain.invariant in
-    let text : c.place_of_chain-place.result.text.now ≡ c.args.self.now.text.now = c.place_of_chain-place.ensures.text
+    let text : c.place-place.result.text.now ≡ c.args.self.now.text.now = c.place-place.ensures.text
     ∙ ap (λ (r : Resolver g.row.F.Denot). r.text.now) c.begin_chain.ensures.kept in
-    let can = can_read_on i.reads c.requires.ready.above c.place_of_chain-place.result c.in-Some.ix c.in-Some.is text
-    c.place_of_chain-place.ensures.place in
+    let can = can_read_on i.reads c.requires.ready.above c.place-place.result c.in-Some.ix c.in-Some.is text
+    (c.place-place.ensures.place c.args.tree.now (Some c.args.first)
+    (rw c.begin_chain.ensures.kept c.requires.ready.above) (rw c.begin_chain.ensures.kept c.requires.above)) in
     let options : c.begin_chain.new.self.options ≡ c.chain.self.options = ap (λ (r : Resolver g.row.F.Denot). r.options)
     c.begin_chain.ensures.kept ∙ sym (ap (λ (r : Resolver g.row.F.Denot). r.options) i.kept) in (
       (refl, tt),
@@ -61,7 +67,7 @@ read_item-requires g c κs =
             left = i.reads.reads.left_then;
             was_read = can;
             text = text ∙ sym (ap (λ (r : Resolver g.row.F.Denot). r.text.now) i.kept);
-            options = c.place_of_chain-place.ensures.options ∙ options;
+            options = c.place-place.ensures.options ∙ options;
             learned = subst (λ (l : Option ℕ). HasLearned c.chain.self c.chain.tree.nodes l) c.in-Some.is i.learned;
           },
           i.scanner,
@@ -74,10 +80,11 @@ returns-in-Err-clause-stops g c =
     let s = c.args.self.now in
     let i = c.chain.invariant in
     let at = c.chain.self in
-    let text : c.place_of_chain-place.result.text.now ≡ s.text.now = c.place_of_chain-place.ensures.text
+    let text : c.place-place.result.text.now ≡ s.text.now = c.place-place.ensures.text
     ∙ ap (λ (r : Resolver g.row.F.Denot). r.text.now) c.begin_chain.ensures.kept in
-    let can = can_read_on i.reads c.requires.ready.above c.place_of_chain-place.result c.in-Some.ix c.in-Some.is text
-    c.place_of_chain-place.ensures.place in
+    let can = can_read_on i.reads c.requires.ready.above c.place-place.result c.in-Some.ix c.in-Some.is text
+    (c.place-place.ensures.place c.args.tree.now (Some c.args.first)
+    (rw c.begin_chain.ensures.kept c.requires.ready.above) (rw c.begin_chain.ensures.kept c.requires.above)) in
     let same = same_setting s.text.now at.text.now s.options at.options s.lookup.tables at.lookup.tables
     (is_some s.lookup.callback) (is_some at.lookup.callback)
     (ap (λ (r : Resolver g.row.F.Denot). r.text.now) i.kept) (ap (λ (r : Resolver g.row.F.Denot). r.options) i.kept)
@@ -100,10 +107,11 @@ chain-preserved g c =
     let kept = c.read_item.ensures.kept.kept in
     let items = risen (suc rest.passed) new.self.work.items in
     let left = reads.goes_on.passes in
-    let text : c.place_of_chain-place.result.text.now ≡ s.text.now = c.place_of_chain-place.ensures.text
+    let text : c.place-place.result.text.now ≡ s.text.now = c.place-place.ensures.text
     ∙ ap (λ (r : Resolver g.row.F.Denot). r.text.now) c.begin_chain.ensures.kept in
-    let can = can_read_on i.reads c.requires.ready.above c.place_of_chain-place.result ix c.in-Some.is text
-    c.place_of_chain-place.ensures.place in
+    let can = can_read_on i.reads c.requires.ready.above c.place-place.result ix c.in-Some.is text
+    (c.place-place.ensures.place c.args.tree.now (Some c.args.first)
+    (rw c.begin_chain.ensures.kept c.requires.ready.above) (rw c.begin_chain.ensures.kept c.requires.above)) in
     let same = same_setting s.text.now at.text.now s.options at.options s.lookup.tables at.lookup.tables
     (is_some s.lookup.callback) (is_some at.lookup.callback)
     (ap (λ (r : Resolver g.row.F.Denot). r.text.now) i.kept) (ap (λ (r : Resolver g.row.F.Denot). r.options) i.kept)
@@ -154,10 +162,11 @@ chain-smaller g c = let left = c.in-Ok.ensures.reads.goes_on.passes in rw c.in-S
 -- memory was refused: the items from there on are counted
 pub count_items-requires : goal.count_items-requires
 count_items-requires g c κs =
-    let text : c.place_of_chain-place.result.text.now ≡ c.args.self.now.text.now = c.place_of_chain-place.ensures.text
+    let text : c.place-place.result.text.now ≡ c.args.self.now.text.now = c.place-place.ensures.text
     ∙ ap (λ (r : Resolver g.row.F.Denot). r.text.now) c.begin_chain.ensures.kept in
-    let can = can_read_on c.chain.invariant.reads c.requires.ready.above c.place_of_chain-place.result c.in-Some.ix
-    c.in-Some.is text c.place_of_chain-place.ensures.place in
+    let can = can_read_on c.chain.invariant.reads c.requires.ready.above c.place-place.result c.in-Some.ix
+    c.in-Some.is text (c.place-place.ensures.place c.args.tree.now (Some c.args.first)
+    (rw c.begin_chain.ensures.kept c.requires.ready.above) (rw c.begin_chain.ensures.kept c.requires.above)) in
     ((refl, tt), rw c.in-Err.ensures.stops.refused.1 (ready_here can).reaches.spelled)
 
 pub returns-in-Err-clause-counts : goal.returns-in-Err-clause-counts

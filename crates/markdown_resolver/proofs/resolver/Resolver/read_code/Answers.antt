@@ -8,7 +8,6 @@ use Rattle.markdown_resolver.specs.declared.continuation.Continuation.{Continuat
 use Rattle.markdown_spans.specs.SpanClosers.{ClosesCode, has_failed}
 use Rattle.markdown_spans.specs.declared.span_text.SpanKind.TheVariants.{Code}
 use Rattle.markdown_resolver.proofs.ChainLeadsLemmas.{chain_leads}
-use Rattle.markdown_resolver.proofs.ChainPlaceLemmas.{has_blocks}
 use Rattle.markdown_resolver.proofs.CodeSpanLemmas.{code_cut, code_reads, found_code, nothing_reads}
 use Rattle.markdown_resolver.proofs.OpenerReadLemmas.{if_err}
 use Rattle.markdown_resolver.proofs.ReadsItemLemmas.{holds_put, reads_item}
@@ -36,6 +35,7 @@ returns-in_default-clause-reads g c =
     let ix = c.args.ix in
     let tables = tables_of s.lookup.tables in
     let ready = c.requires.ready.chain.ready in
+    let stands = c.requires.ready.chain.stands in
     let o = c.requires.opener in
     let found = c.in_ok-closer.ensures in
     let closes : ClosesCode nodes ix None = subst (ClosesCode nodes ix) c.in_default.is found.found in
@@ -65,11 +65,10 @@ returns-in_default-clause-reads g c =
 -- an item closes it: the text between them is taken
 pub store_text-requires : goal.store_text-requires
 store_text-requires g c κs =
-    let above = has_blocks c.args.place.now.text.now c.args.tree.now (Some c.args.ix) c.requires.ready.chain.above in
     let cut =
     code_cut c.requires.ready.chain.ready c.requires.opener.2
     c.in_ok-closer.ensures.found c.in-Some.is (c.item.ensures no_item) (c.item-2.ensures no_item) in
-    ((refl, tt), (c.requires.ready.chain.stands, (above, cut)))
+    ((refl, tt), cut)
 
 -- and the span is put
 pub put_code-requires : goal.put_code-requires
@@ -96,6 +95,7 @@ returns-clause-reads g c =
     let tables = tables_of s.lookup.tables in
     let tables' = tables_of c.store_text.new.self.lookup.tables in
     let ready = c.requires.ready.chain.ready in
+    let stands = c.requires.ready.chain.stands in
     let o = c.requires.opener in
     let found = c.in_ok-closer.ensures in
     let result : Result Continuation Fault = Ok c.put_code.result in
@@ -103,13 +103,13 @@ returns-clause-reads g c =
     (c.item-2.ensures no_item) c.in_ok-cow.ensures.stored in
     let was_put = c.put_code.ensures.puts place.text.now tables tables' here.can in
     let text = rw (c.item.ensures no_item, c.item-2.ensures no_item) at c.in_ok-cow.ensures.text in
-    let origin = rw (c.item.ensures no_item, c.item-2.ensures no_item) at c.in_ok-cow.ensures.stored.origin_is in
+    let origin = rw (c.item.ensures no_item, c.item-2.ensures no_item, stands.in_table) at c.in_ok-cow.ensures.stored.origin_is in
     let read = reads_by_rules result place s.text.now (rules_from s.options s.lookup.tables (is_some s.lookup.callback))
     tree ix
     c.put_code.new.tree.nodes tables tables' ready c.requires.ready.text c.requires.ready.options
     (λ rules same. let set : Setting = setting_of place.text.now rules in
     reads_item ready (code_reads set (above_cursor set.text tree) tables tables' nodes ix x o.0 o.1 c.in_ok-cow.cow
-    ready o.2 here.closes (text rules (ap gfm_footnotes_on same)) origin) was_put) in
+    ready o.2 here.closes (text tree rules stands (ap gfm_footnotes_on same)) origin) was_put) in
     record {
       item = read.reads;
       learned = rw c.store_text.ensures.kept (record {

@@ -8,7 +8,6 @@ use Rattle.markdown_document.specs.Tables.{tables_of}
 use Rattle.markdown_spans.specs.MarkupView.{markup_of}
 use Rattle.markdown_brackets.proofs.WrittenLemmas.{whole_range}
 use Rattle.markdown_resolver.specs.declared.continuation.Continuation.{Continuation}
-use Rattle.markdown_resolver.proofs.ChainPlaceLemmas.{has_blocks}
 use Rattle.markdown_resolver.proofs.MarkupItemLemmas.{boundary_before, lies_at}
 use Rattle.markdown_resolver.proofs.MarkupLemmas.{if_ok, is_scanned, markup_stands, none_follows, none_past_block}
 use Rattle.markdown_resolver.proofs.MarkupLemmas.{reads_found, reads_text, scan_finds}
@@ -52,9 +51,6 @@ returns-then-item-place-clause-reads g c =
     reads refl refl
     refl
 
-pub new-prefix-requires : goal.new-prefix-requires
-new-prefix-requires g c = has_blocks c.args.place.now.text.now c.args.tree.now _ c.requires.ready.chain.above
-
 pub scan_after_less-requires-clause-start : goal.scan_after_less-requires-clause-start
 scan_after_less-requires-clause-start g c =
     let source = c.args.place.now.text.now in
@@ -87,8 +83,7 @@ put_markup-requires g c =
     let value = sym (ap (option_map markup_of) c.in-Some.is) ∙ c.in_ok-scan_after_less.ensures.value in
     let scanned = is_scanned prefix c.requires.ready.chain c.requires.opener
     (c.item-item.ensures no_item) c.if-item-place.false c.next.ensures.value c.if-not-starts_at.ensures
-    c.new-prefix.ensures.tree
-    (c.new-prefix.ensures.footnotes ∙ c.gfm_footnotes.ensures) c.range-text.ensures.value c.range-text.utf8
+    c.new-prefix.ensures.containers c.new-prefix.ensures.footnotes c.range-text.ensures.value c.range-text.utf8
     c.is_extended.ensures value in
     (place.text.now, markup_stands scanned)
 
@@ -102,8 +97,7 @@ returns-in-None-clause-reads g c =
     let value = sym (ap (option_map markup_of) c.in-None.is) ∙ c.in_ok-scan_after_less.ensures.value in
     let scanned = is_scanned prefix c.requires.ready.chain c.requires.opener
     (c.item-item.ensures no_item) c.if-item-place.false c.next.ensures.value c.if-not-starts_at.ensures
-    c.new-prefix.ensures.tree
-    (c.new-prefix.ensures.footnotes ∙ c.gfm_footnotes.ensures) c.range-text.ensures.value c.range-text.utf8
+    c.new-prefix.ensures.containers c.new-prefix.ensures.footnotes c.range-text.ensures.value c.range-text.utf8
     c.is_extended.ensures value in
     let result : Result Continuation Fault = Ok c.make_literal-in-None.result in
     only_reads result place tree s s c.args.ix c.make_literal-in-None.new.tree c.requires.ready
@@ -123,8 +117,7 @@ returns-in-Some-clause-reads g c =
     let value = sym (ap (option_map markup_of) c.in-Some.is) ∙ c.in_ok-scan_after_less.ensures.value in
     let scanned = is_scanned prefix c.requires.ready.chain c.requires.opener
     (c.item-item.ensures no_item) c.if-item-place.false c.next.ensures.value c.if-not-starts_at.ensures
-    c.new-prefix.ensures.tree
-    (c.new-prefix.ensures.footnotes ∙ c.gfm_footnotes.ensures) c.range-text.ensures.value c.range-text.utf8
+    c.new-prefix.ensures.containers c.new-prefix.ensures.footnotes c.range-text.ensures.value c.range-text.utf8
     c.is_extended.ensures value in
     let new : Resolver g.row.F.Denot = record s { lookup = record s.lookup { tables = c.put_markup.new.tables } } in
     only_reads c.put_markup.result place tree s new c.args.ix c.put_markup.new.tree c.requires.ready

@@ -10,7 +10,6 @@ use Rattle.markdown_spans.specs.SpanClosers.{ClosesMath, has_failed}
 use Rattle.markdown_spans.specs.declared.span_text.SpanKind.TheVariants.{Math}
 use Rattle.markdown_resolver.specs.Rewritten.{Puts, one_item}
 use Rattle.markdown_resolver.proofs.ChainLeadsLemmas.{chain_leads}
-use Rattle.markdown_resolver.proofs.ChainPlaceLemmas.{has_blocks}
 use Rattle.markdown_resolver.proofs.MathSpanLemmas.{PutsMath, dollar_body, math_cut, math_item, math_reads}
 use Rattle.markdown_resolver.proofs.MathSpanLemmas.{no_math_reads, puts_math, span_of, start_is}
 use Rattle.markdown_resolver.proofs.OpenerReadLemmas.{if_err}
@@ -39,6 +38,7 @@ returns-in_default-clause-reads g c =
     let ix = c.args.ix in
     let tables = tables_of s.lookup.tables in
     let ready = c.requires.ready.chain.ready in
+    let stands = c.requires.ready.chain.stands in
     let d = dollar_body (item_at nodes ix).body c.requires.opener in
     let found = c.in_ok-math.ensures in
     let closes : ClosesMath nodes ix None = subst (ClosesMath nodes ix) c.in_default.is found.found in
@@ -72,11 +72,10 @@ math_text_start-requires g c = chain_leads c.requires.ready.chain.ready
 
 pub store_text-requires : goal.store_text-requires
 store_text-requires g c κs =
-    let above = has_blocks c.args.place.now.text.now c.args.tree.now (Some c.args.ix) c.requires.ready.chain.above in
     let cut =
     math_cut c.requires.ready.chain.ready c.in_ok-math.ensures.found c.in-Some.is c.math_text_start.ensures
     (c.item.ensures no_item) in
-    ((refl, tt), (c.requires.ready.chain.stands, (above, cut)))
+    ((refl, tt), cut)
 
 -- and the span is put
 pub put_found-requires : goal.put_found-requires
@@ -102,6 +101,7 @@ returns-clause-reads g c =
     let tables = tables_of s.lookup.tables in
     let tables' = tables_of c.store_text.new.self.lookup.tables in
     let ready = c.requires.ready.chain.ready in
+    let stands = c.requires.ready.chain.stands in
     let d = dollar_body (item_at nodes ix).body c.requires.opener in
     let found = c.in_ok-math.ensures in
     let start = start_is place.text.now tables nodes ix c.math_text_start.result ready c.math_text_start.ensures in
@@ -118,13 +118,13 @@ returns-clause-reads g c =
     (c.put_found.ensures.puts place.text.now tables tables' c.in_ok-cow.ensures.stored.grown here.found here.can
     (ap (λ (i : Item). i.start) (c.item-2.ensures no_item))) in
     let text = rw (start, c.item.ensures no_item) at c.in_ok-cow.ensures.text in
-    let origin = rw (start, c.item.ensures no_item) at c.in_ok-cow.ensures.stored.origin_is in
+    let origin = rw (start, c.item.ensures no_item, stands.in_table) at c.in_ok-cow.ensures.stored.origin_is in
     let read = reads_by_rules result place s.text.now (rules_from s.options s.lookup.tables (is_some s.lookup.callback))
     tree ix
     c.put_found.new.tree.nodes tables tables' ready c.requires.ready.text c.requires.ready.options
     (λ rules same. let set : Setting = setting_of place.text.now rules in
     reads_item ready (math_reads set (above_cursor set.text tree) tables tables' nodes ix m d.opens d.closes d.context
-    c.in_ok-cow.cow ready d.is here.closes (text rules (ap gfm_footnotes_on same)) origin) was_put) in
+    c.in_ok-cow.cow ready d.is here.closes (text tree rules stands (ap gfm_footnotes_on same)) origin) was_put) in
     record {
       item = read.reads;
       learned = rw c.store_text.ensures.kept (record {

@@ -1,9 +1,6 @@
 -- A text that is put in is found there, as it was made.
-use Rattle.std.proofs.Common.{◌≡◌}
-use Rattle.markdown_document.specs.ResolverStates.{above_cursor}
-use Rattle.markdown_document.specs.Setting.{Rules, setting_of}
-use Rattle.markdown_base.specs.EnabledOptions.{gfm_footnotes_on}
-use Rattle.markdown_resolver.specs.StoredText.{text_between}
+use Rattle.std.proofs.Common.{◌∙◌}
+use Rattle.markdown_resolver.proofs.MarkupLemmas.{if_ok}
 use Rattle.markdown_resolver.proofs.CodeSpanLemmas.{cow_stored, cow_text}
 use Rattle.markdown_resolver.proofs.resolver.Resolver.store_text.Goals as goal
 
@@ -16,9 +13,7 @@ returns-clause-stored g c =
 
 pub returns-clause-text : goal.returns-clause-text
 returns-clause-text g c =
-    let place = c.args.place.now in
-    cow_text c.args.self.now.lookup.tables c.allocate_cow.new.self c.in_ok-text.text c.allocate_cow.result
-    (λ (rules : Rules). gfm_footnotes_on rules.options ≡ gfm_footnotes_on place.options)
-    (λ (rules : Rules). text_between (setting_of place.text.now rules) (above_cursor place.text.now c.args.tree.now)
-    c.args.kind c.args.content.start c.args.content.end)
-    c.in_ok-text.ensures.value c.allocate_cow.ensures.number c.allocate_cow.ensures.put
+    if_ok c.allocate_cow.result _ _ (λ cow same. λ tree rules stands gfm. same
+    ∙ c.in_ok-text.ensures.value tree rules stands gfm)
+    (cow_text c.args.self.now.lookup.tables c.allocate_cow.new.self c.in_ok-text.text c.allocate_cow.result
+    c.allocate_cow.ensures.number c.allocate_cow.ensures.put)
