@@ -147,7 +147,7 @@ pub fn rows_are_even()
     ensures { RowsAreEven }
 {}
 
-/// States that the cells that are added to the rows of a text's tables are no more than its bytes, or than 100,000 where
+/// States that the cells that are added to the rows of a text's tables are no more than its bytes, or than 1,000 where
 /// it has fewer bytes.
 pub fn few_cells_are_added()
     ensures { FewCellsAreAdded }
