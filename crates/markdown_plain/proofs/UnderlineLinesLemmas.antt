@@ -1,5 +1,5 @@
--- A line that looks like an underline is a row of one character. It begins with that, and where it underlines nothing, it
--- is a thematic break or text.
+-- A line that looks like an underline is a row of one character. It begins with that, and where it underlines nothing,
+-- it is a thematic break or text.
 use Rattle.std.proofs.Common.{◌≡◌, ◌⊎◌, inl, inr, ⊎_elim, ℕ, ◌+◌, Bool, true, false, ◌==◌, ◌∷◌, [], List, Option, Some}
 use Rattle.std.proofs.Common.{None, codes, drop, length, refl, sym, ap, ◌∙◌, subst, arith}
 use Rattle.std.proofs.Math.Bool.{and-false}

@@ -1,5 +1,5 @@
--- A line that underlines the paragraph that it reaches: this becomes a heading. Where it holds definitions alone, the line
--- is text of it, or a thematic break, for which it ends, and which is read once more.
+-- A line that underlines the paragraph that it reaches: this becomes a heading. Where it holds definitions alone, the
+-- line is text of it, or a thematic break, before which it ends, and which is read once more.
 use Rattle.std.proofs.Common.{◌≡◌, ℕ, ◌<◌, ◌==◌, ◌&&◌, Bool, true, false, not, List, [], ◌∷◌, ◌++◌, Option, Some, None}
 use Rattle.std.proofs.Common.{map, length}
 use Rattle.std.proofs.Common.{refl, sym, ap, ◌∙◌, subst, arith}
@@ -446,8 +446,8 @@ paragraph_reached P s old rest frames inside (Some b) l source blocks here has a
     by_held (Some sources) may other = follows b sources here may all
 
 -- so it is where the line begins an underline
-underline_reached : (P : Type 0) (s : Source) (old : Pass) (rest : LineRest) (turn : Turn) (source : SourceLine) (at : ℕ)
-    (blocks : Forest Block) (level : HeadingLevel) → IsHere s old rest turn source blocks
+underline_reached : (P : Type 0) (s : Source) (old : Pass) (rest : LineRest) (turn : Turn) (source : SourceLine)
+    (at : ℕ) (blocks : Forest Block) (level : HeadingLevel) → IsHere s old rest turn source blocks
     → IsFound s rest source at (start.Underline level)
     → ((frames : List Frame) (inside : Forest Block) (b : Block) (sources : List SourceLine) (l : SourceLine)
     → IsFirst s old rest (record { frames = frames; inside = inside; last = Some b }) l source blocks
@@ -512,8 +512,8 @@ pub underline_begun : (s : Source) (old new : Pass) (rest : LineRest) (turn : Tu
     → EndsUnderlined old new level rest.line some
     → HasBegun s new rest (record rest { before = paragraph.NoParagraph }) blocks (not some)
 underline_begun s old new rest turn source at blocks level some here found tells ends =
-    underline_reached (HasBegun s new rest (record rest { before = paragraph.NoParagraph }) blocks (not some)) s old rest
-    turn source at blocks level here found (λ frames inside b sources l first may all.
+    underline_reached (HasBegun s new rest (record rest { before = paragraph.NoParagraph }) blocks (not some)) s old
+    rest turn source at blocks level here found (λ frames inside b sources l first may all.
     begun_with s old new rest level l source blocks frames inside b sources first may
     (underlines_it s old rest source at level frames inside b sources l blocks found first may)
     (breaks_there s old rest source at level frames inside b sources l blocks found first may tells) all some

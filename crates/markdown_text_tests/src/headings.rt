@@ -216,10 +216,7 @@ const UNDERLINES_OF_NOTHING: Rows = &[
     ("[a]:u\n-\n", "<p>-</p>\n"),
     ("- [a]:u\n  -\n", "<ul>\n<li>-</li>\n</ul>\n"),
     ("[a]:u\n--\n", "<p>--</p>\n"),
-    (
-        "[a]: u\n=\n[a]\n",
-        "<p>=\n<a href=\"u\">a</a></p>\n",
-    ),
+    ("[a]: u\n=\n[a]\n", "<p>=\n<a href=\"u\">a</a></p>\n"),
     // a thematic break does
     ("[a]:u\n---\n", "<hr />\n"),
     // the text that the line is may be underlined
