@@ -111,7 +111,8 @@ KNOWN = {
     "a tag that continues on a line with leading spaces": lambda text, ours, theirs: re.search(r"<[^>\n]*\n[ \t]", text)
         and re.sub(r"\s", "", ours) == re.sub(r"\s", "", theirs),
     "a line `</script>`": lambda text, ours, theirs: re.search(r"</(script|style|pre|textarea)", text, re.I),
-    "`[a]: /u`, `---`": lambda text, ours, theirs: re.search(DEFINES + r"[^\n]*(\n[^\n]*)*\n[ >\t]*(-[ \t-]*|=+[ \t]*)(\n|$)", text),
+    "`[a]: /u`, `---`": lambda text, ours, theirs: "<hr />" in ours
+        and re.search(DEFINES + r"[^\n]*(\n[^\n]*)*\n[ >\t]*-{3,}[ \t]*(\n|$)", text),
     "`[a]: /u`, `'t' b`": lambda text, ours, theirs: "title=" in theirs and "title=" not in ours,
     "`- ***`, a blank line, `  a`": lambda text, ours, theirs: only_loose(ours, theirs) and re.search(BREAK, text)
         and re.search(BLANK, text) and len(re.findall("<p>", ours)) > len(re.findall("<p>", theirs)),

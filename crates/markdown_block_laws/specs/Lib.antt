@@ -18,3 +18,5 @@ pub mod ExamplesOfContainers
 pub mod ExamplesOfSpans
 pub mod ExamplesOfEmphasis
 pub mod ExamplesOfLinks
+-- and of what it has none
+pub mod ExamplesOfUnderlines

@@ -57,6 +57,6 @@ lacking_in_rows other = 0
 abbrev pub lacking_in : Forest Block → ℕ
 lacking_in blocks = sum_by (λ b. lacking_in_rows b.kind) (preorder blocks)
 
--- the cells that are added to the rows of a text are no more than its bytes, or than 100,000 where it has fewer bytes
+-- the cells that are added to the rows of a text are no more than its bytes, or than 1,000 where it has fewer bytes
 abbrev pub FewCellsAreAdded : Type 0
-FewCellsAreAdded = (s : Source) → lacking_in (blocks_of s) ≤ max (length s.text) 100000
+FewCellsAreAdded = (s : Source) → lacking_in (blocks_of s) ≤ max (length s.text) 1000

@@ -5,7 +5,8 @@ ghost use Rattle.markdown_block_laws.specs.BlockLaws.{ItemMayBeginWithBlankLine,
 ghost use Rattle.markdown_block_laws.specs.BlockLaws.{MarkedLineGoesIntoQuote};
 ghost use Rattle.markdown_block_laws.specs.BlockLaws.{MarkerBeforeTextMayBeLeftOut, OnlyParagraphsGoOnLazily};
 ghost use Rattle.markdown_block_laws.specs.BlockLaws.{QuotedLinesMakeQuote};
-ghost use Rattle.markdown_block_laws.specs.ExampleTrees.{ResultsAreWritten};
+ghost use Rattle.markdown_block_laws.specs.ExampleTrees.{HaveTrees, ResultsAreWritten};
+ghost use Rattle.markdown_block_laws.specs.ExamplesOfUnderlines.{examples_of_underlines};
 ghost use Rattle.markdown_block_laws.specs.LeafLaws.{HeadingsAndBreaksEnd, IndentedCodeEndsBeforeText, FencedCodeGoesOn};
 ghost use Rattle.markdown_block_laws.specs.LeafLaws.{ClosedCodeEnds, ClosingFenceClosesCode, HtmlGoesOn, EndConditionEndsHtml};
 ghost use Rattle.markdown_block_laws.specs.LeafLaws.{BlankLineEndsHtml, BlankLineEndsParagraph};
@@ -147,7 +148,7 @@ pub fn rows_are_even()
     ensures { RowsAreEven }
 {}
 
-/// States that the cells that are added to the rows of a text's tables are no more than its bytes, or than 100,000 where
+/// States that the cells that are added to the rows of a text's tables are no more than its bytes, or than 1,000 where
 /// it has fewer bytes.
 pub fn few_cells_are_added()
     ensures { FewCellsAreAdded }
@@ -162,6 +163,12 @@ pub fn task_markers_come_first()
 /// States that metadata is directly under the root, and that what it contains are texts with nothing below them.
 pub fn metadata_is_outermost()
     ensures { MetadataIsOutermost }
+{}
+
+/// States which blocks these examples have, by computation: definitions, and then a line that would underline a paragraph.
+/// There is nothing that it could underline, so that it is read as other lines that reach a paragraph are.
+pub fn lines_that_underline_nothing_have_their_blocks()
+    ensures { HaveTrees examples_of_underlines }
 {}
 
 /// States that a block result of an example's text, whatever it is, is the blocks that are written with the example.

@@ -27,7 +27,8 @@ use Rattle.markdown_block_rules.specs.BlockGrowth.{Block, Kind, another_item, be
 use Rattle.markdown_block_rules.specs.BlockGrowth.{closes, container_with, cut_paragraph, ends_html}
 use Rattle.markdown_block_rules.specs.BlockGrowth.{goes_on, inside_of}
 use Rattle.markdown_block_rules.specs.BlockGrowth.{is_nil, is_text, leaf_with, line_block, new_blocks, next_item}
-use Rattle.markdown_block_rules.specs.BlockGrowth.{paragraph_with, past_footnote, past_indentation, past_quote}
+use Rattle.markdown_block_rules.specs.BlockGrowth.{begins_but_underline, paragraph_with, paragraph_with_text}
+use Rattle.markdown_block_rules.specs.BlockGrowth.{past_footnote, past_indentation, past_quote}
 use Rattle.markdown_block_rules.specs.BlockGrowth.{table_after, table_of_lines, table_with, with_lazy, with_lazy_text}
 use Rattle.markdown_block_rules.specs.BlockGrowth.{with_line, with_rest}
 use Rattle.markdown_block_rules.specs.TableLines.{alignments_for, fitting, further_line, is_row, may_be_head}
@@ -179,9 +180,9 @@ moved : (l m : SourceLine) (new : Forest Block) → m.next ≡ l.next → Held (
 moved l m new next fresh = subst (λ (n : ℕ). Held (Fresh n) false new) next fresh
 
 -- what a leaf becomes
-text_grows : (s : Source) (l m : SourceLine) (top : Bool) (lines : List SourceLine) → m.next ≡ l.next → (b : Beginning)
-    → IfSome (paragraph_with s m lines b) (KindGrows l top (was.paragraph_leaf lines))
-text_grows s l m top lines next line.begins_text =
+further_grows : (s : Source) (l m : SourceLine) (top : Bool) (lines : List SourceLine) → m.next ≡ l.next
+    → (b : Beginning) → IfSome (paragraph_with_text s m lines b) (KindGrows l top (was.paragraph_leaf lines))
+further_grows s l m top lines next line.begins_text =
     text_more lines (further_line s m) (further_next (reads_tables s))
   where
     further_next : (test : Bool)
@@ -189,11 +190,16 @@ text_grows s l m top lines next line.begins_text =
         ≡ l.next
     further_next true = next
     further_next false = next
+further_grows s l m top lines next other = tt
+
+text_grows : (s : Source) (l m : SourceLine) (top : Bool) (lines : List SourceLine) → m.next ≡ l.next → (b : Beginning)
+    → IfSome (paragraph_with s m lines b) (KindGrows l top (was.paragraph_leaf lines))
 text_grows s l m top lines next (line.begins_underline level) =
     let rest = (divided (entity_names s.options) s.text lines).lines in
-    chosen (KindGrows l top (was.paragraph_leaf lines)) (length rest == 0) None (Some (was.underlined_leaf level lines))
-    tt (underlined level lines)
-text_grows s l m top lines next other = tt
+    chosen (KindGrows l top (was.paragraph_leaf lines)) (length rest == 0)
+    (paragraph_with_text s m lines (begins_but_underline s m)) (Some (was.underlined_leaf level lines))
+    (further_grows s l m top lines next (begins_but_underline s m)) (underlined level lines)
+text_grows s l m top lines next other = further_grows s l m top lines next other
 
 leaf_grows : (s : Source) (l m : SourceLine) (top : Bool) → m.next ≡ l.next → (top ≡ true → m ≡ l) → (kind : Kind)
     → IfSome (leaf_with s m kind) (KindGrows l top kind)

@@ -19,7 +19,7 @@ use Rattle.markdown_base.specs.declared.tag.MetadataBlockKind.{MetadataBlockKind
 use Rattle.markdown_scan.specs.Beginnings.{begins_with}
 use Rattle.markdown_lines.specs.declared.block_start.Before.TheVariants as paragraph
 use Rattle.markdown_lines.specs.BlockBeginnings as line
-use Rattle.markdown_lines.specs.BlockBeginnings.{Source, Beginning, begins}
+use Rattle.markdown_lines.specs.BlockBeginnings.{Source, Beginning, begins, break_in_line, first_found, item_in_line}
 use Rattle.markdown_lines.specs.CodeFences.{closes_fence}
 use Rattle.markdown_lines.specs.DefinitionRules.{divided}
 use Rattle.markdown_scan.specs.Entity.{entity_names}
@@ -126,14 +126,25 @@ closes s l opening =
     let space = leading_space 4 l.left in
     nat_lt space.columns 4 && closes_fence s.text space.after.scanned (stop_of l) opening
 
+-- a paragraph with one more line, where that is text
+abbrev pub paragraph_with_text : Source → SourceLine → List SourceLine → Beginning → Option Kind
+paragraph_with_text s l lines line.begins_text = Some (paragraph_leaf (lines ++ further_line s l ∷ []))
+paragraph_with_text s l lines other = None
+
+-- what a line that reaches a paragraph begins where it is no underline: a thematic break, an item that may interrupt a
+-- paragraph, or text
+abbrev pub begins_but_underline : Source → SourceLine → Beginning
+begins_but_underline s l =
+    let space = leading_space 4 l.left in
+    first_found (break_in_line space.after ∷ item_in_line s paragraph.Reached space.columns space.after ∷ [])
+
 -- a paragraph with one more line, where that begins nothing else: as text, or as the heading that its underline makes
--- of it, unless it holds definitions only
+-- of it. Where the paragraph holds definitions only, there is nothing that a line could underline.
 abbrev pub paragraph_with : Source → SourceLine → List SourceLine → Beginning → Option Kind
-paragraph_with s l lines line.begins_text = Some (paragraph_leaf (lines ++ further_line s l ∷ []))
 paragraph_with s l lines (line.begins_underline level) =
     if length (divided (entity_names s.options) s.text lines).lines == 0
-    then None else Some (underlined_leaf level lines)
-paragraph_with s l lines other = None
+    then paragraph_with_text s l lines (begins_but_underline s l) else Some (underlined_leaf level lines)
+paragraph_with s l lines other = paragraph_with_text s l lines other
 
 -- a leaf with one more line, where it goes on in it
 abbrev pub leaf_with : Source → SourceLine → Kind → Option Kind

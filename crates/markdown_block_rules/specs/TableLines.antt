@@ -101,4 +101,4 @@ all_added columns (row ∷ rows) = cells_added columns row + all_added columns r
 
 -- the most cells that are added to the rows of a text
 abbrev pub most_added : List ℕ → ℕ
-most_added text = max (length text) 100000
+most_added text = max (length text) 1000

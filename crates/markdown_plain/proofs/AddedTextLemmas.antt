@@ -1,5 +1,5 @@
 -- A paragraph with one more line of text, which it reaches or continues lazily, as the definition of blocks says.
-use Rattle.std.proofs.Common.{◌≡◌, ℕ, Bool, false, List, [], ◌∷◌, Option, Some, None, map, refl, sym, ap, ◌∙◌}
+use Rattle.std.proofs.Common.{◌≡◌, ℕ, Bool, false, List, [], ◌∷◌, ◌++◌, Option, Some, None, map, refl, sym, ap, ◌∙◌}
 use Rattle.std.specs.Prelude.{unwrap_or, if◌then◌else◌}
 use Rattle.std.specs.Option.{option_map, option_or}
 use Rattle.markdown_base.specs.Forest.{Forest, nil, node}
@@ -10,7 +10,7 @@ use Rattle.markdown_lines.specs.BlockBeginnings.{Source, begins}
 use Rattle.markdown_lines.specs.SourceLines.{SourceLine, is_blank_rest, text_line}
 use Rattle.markdown_block_rules.specs.BlockGrowth as was
 use Rattle.markdown_block_rules.specs.BlockGrowth.{Block, Kind, goes_on, is_nil, is_text, table_with, with_lazy}
-use Rattle.markdown_block_rules.specs.BlockGrowth.{with_line}
+use Rattle.markdown_block_rules.specs.BlockGrowth.{paragraph_with, with_line}
 use Rattle.markdown_block_rules.specs.BlockRules.{are_separated, is_blank_block, is_loose}
 use Rattle.markdown_block_rules.specs.TableLines.{further_line}
 use Rattle.markdown_plain.specs.declared.looseness.Looseness.{Looseness}
@@ -32,10 +32,16 @@ use Rattle.markdown_plain.proofs.RememberedTextLemmas.{MakesNoTable}
 
 -- ---- the definition
 
+-- a line that reaches a paragraph of these lines is text of it
+abbrev pub IsFurtherText : Source → SourceLine → List SourceLine → Type 0
+IsFurtherText s l lines =
+    paragraph_with s l lines (begins s paragraph.Reached l)
+    ≡ Some (was.paragraph_leaf (lines ++ further_line s l ∷ []))
+
 paragraph_grows : (s : Source) (l : SourceLine) (start first last : ℕ) (lines : List SourceLine)
     → table_with s l (record { start = start; first = first; last = last; kind = was.paragraph_leaf lines })
     (was.paragraph_leaf lines) ≡ None
-    → is_blank_rest l ≡ false → begins s paragraph.Reached l ≡ line.begins_text
+    → is_blank_rest l ≡ false → IsFurtherText s l lines
     → goes_on s (leaf_block (record { start = start; first = first; last = last; kind = was.paragraph_leaf lines })) l
     ≡ Some (leaf_block (with_text l (further_line s l) (record {
       start = start;
@@ -64,7 +70,7 @@ paragraph_grows_lazily l start first last lines = refl
 -- a line is the next one of the last paragraph, which it reaches
 text_reaches : (s : Source) (l : SourceLine) (before : Forest Block) (b : Block) (lines : List SourceLine)
     → ((b : Block) → table_with s l b (was.paragraph_leaf lines) ≡ None) → b.kind ≡ was.paragraph_leaf lines
-    → is_blank_rest l ≡ false → begins s paragraph.Reached l ≡ line.begins_text
+    → is_blank_rest l ≡ false → IsFurtherText s l lines
     → with_line s (followed_by before (leaf_block b)) l
     ≡ followed_by before (leaf_block (with_text l (further_line s l) b lines))
 text_reaches s l before b lines untabled is filled text =
@@ -170,11 +176,11 @@ loose_with_leaf now frames inside b filled loose = record {
 
 -- ---- the containers around a paragraph
 
--- the line of a paragraph, which it reaches with all open containers, or continues lazily
-pub data GoesAs (s : Source) (r : Reached) : Type 0 where
-  reaches : r.inner ≡ [] → begins s paragraph.Reached r.rest ≡ line.begins_text → GoesAs s r
+-- the next line of a paragraph of these lines, which it reaches with all open containers, or continues lazily
+pub data GoesAs (s : Source) (r : Reached) (lines : List SourceLine) : Type 0 where
+  reaches : r.inner ≡ [] → IsFurtherText s r.rest lines → GoesAs s r lines
   continues : (f : Frame) (others : List Frame) → r.inner ≡ f ∷ others
-      → begins s paragraph.Lazy r.rest ≡ line.begins_text → GoesAs s r
+      → begins s paragraph.Lazy r.rest ≡ line.begins_text → GoesAs s r lines
 
 pub paragraph_line : (s : Source) (frames : List Frame) (inside : Forest Block) (b : Block) (lines : List SourceLine)
     (l : SourceLine) → MakesNoTable s (reached s frames (followed_by inside (leaf_block b)) l) lines
@@ -182,7 +188,7 @@ pub paragraph_line : (s : Source) (frames : List Frame) (inside : Forest Block) 
     → AreItemsInLists false (rebuilt frames (followed_by inside (leaf_block b)))
     → b.kind ≡ was.paragraph_leaf lines
     → is_blank_rest (reached s frames (followed_by inside (leaf_block b)) l).rest ≡ false
-    → GoesAs s (reached s frames (followed_by inside (leaf_block b)) l)
+    → GoesAs s (reached s frames (followed_by inside (leaf_block b)) l) lines
     → with_line s (rebuilt frames (followed_by inside (leaf_block b))) l
     ≡ rebuilt (map (touched l) frames) (followed_by inside (leaf_block
     (with_text (reached s frames (followed_by inside (leaf_block b)) l).rest

@@ -21,7 +21,8 @@ use Rattle.markdown_block_rules.specs.BlockGrowth as was
 use Rattle.markdown_block_rules.specs.BlockGrowth.{Block, Kind, another_item, begun_by, begun_in, block_with, closes}
 use Rattle.markdown_block_rules.specs.BlockGrowth.{container_with, cut_paragraph, ends_html, goes_on, inside_of}
 use Rattle.markdown_block_rules.specs.BlockGrowth.{is_nil, is_text, leaf_with, line_block, new_blocks, next_item}
-use Rattle.markdown_block_rules.specs.BlockGrowth.{paragraph_with, past_footnote, past_indentation, past_quote}
+use Rattle.markdown_block_rules.specs.BlockGrowth.{begins_but_underline, paragraph_with, paragraph_with_text}
+use Rattle.markdown_block_rules.specs.BlockGrowth.{past_footnote, past_indentation, past_quote}
 use Rattle.markdown_block_rules.specs.BlockGrowth.{table_after, table_of_lines, table_with, with_lazy, with_lazy_text}
 use Rattle.markdown_block_rules.specs.BlockGrowth.{with_line, with_rest}
 use Rattle.markdown_block_rules.specs.BlockRules.{is_blank_block}
@@ -113,14 +114,19 @@ abbrev IsPlacedAs : Kind → Kind → Type 0
 IsPlacedAs kind grown = (is_blank_block grown ≡ is_blank_block kind) × (is_item grown ≡ is_item kind)
     × (is_list grown ≡ is_list kind)
 
+further_same : (s : Source) (m : SourceLine) (lines : List SourceLine) (b : Beginning)
+    → IfSome (paragraph_with_text s m lines b) (IsPlacedAs (was.paragraph_leaf lines))
+further_same s m lines line.begins_text = (refl, refl, refl)
+further_same s m lines other = tt
+
 text_same : (s : Source) (m : SourceLine) (lines : List SourceLine) (b : Beginning)
     → IfSome (paragraph_with s m lines b) (IsPlacedAs (was.paragraph_leaf lines))
-text_same s m lines line.begins_text = (refl, refl, refl)
 text_same s m lines (line.begins_underline level) =
     chosen (IsPlacedAs (was.paragraph_leaf lines))
-    (length (divided (entity_names s.options) s.text lines).lines == 0) None (Some (was.underlined_leaf level lines))
-    tt (refl, refl, refl)
-text_same s m lines other = tt
+    (length (divided (entity_names s.options) s.text lines).lines == 0)
+    (paragraph_with_text s m lines (begins_but_underline s m)) (Some (was.underlined_leaf level lines))
+    (further_same s m lines (begins_but_underline s m)) (refl, refl, refl)
+text_same s m lines other = further_same s m lines other
 
 leaf_same : (s : Source) (m : SourceLine) (kind : Kind) → IfSome (leaf_with s m kind) (IsPlacedAs kind)
 leaf_same s m (was.paragraph_leaf lines) =

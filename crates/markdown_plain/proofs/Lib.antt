@@ -87,6 +87,7 @@ pub mod FoundPlacesLemmas
 pub mod InnerBeginningsLemmas
 pub mod FirstTurnsLemmas
 pub mod RoomForBlocksLemmas
+pub mod UnderlineLinesLemmas
 pub mod UnderlinesLemmas
 pub mod TextHereLemmas
 pub mod HasRoomLemmas

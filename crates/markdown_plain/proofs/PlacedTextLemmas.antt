@@ -106,7 +106,7 @@ pub text_added : (s : Source) (old new : Pass) (line : Line) (start : ℕ) (fram
     → IsSource old line source → AddsLine old new line start
     → IsContentAt old.placing.builder.text line
     (reached s frames (followed_by inside (leaf_block b)) source).rest start
-    → GoesAs s (reached s frames (followed_by inside (leaf_block b)) source)
+    → GoesAs s (reached s frames (followed_by inside (leaf_block b)) source) sources
     → PlacesFor s new line.next (with_line s (rebuilt frames (followed_by inside (leaf_block b))) source)
 text_added s old new line start frames inside b sources source untabled stands may is adds at goes =
     let text = old.placing.builder.text in

@@ -11,7 +11,7 @@ use Rattle.markdown_lines.specs.BlockBeginnings as beginning
 use Rattle.markdown_lines.specs.BlockBeginnings.{Source, begins}
 use Rattle.markdown_lines.specs.SourceLines.{SourceLine}
 use Rattle.markdown_block_rules.specs.BlockGrowth as was
-use Rattle.markdown_block_rules.specs.BlockGrowth.{Block, goes_on, is_nil, with_line}
+use Rattle.markdown_block_rules.specs.BlockGrowth.{Block, goes_on, is_nil, paragraph_with, with_line}
 use Rattle.markdown_plain.specs.declared.pass.Pass.{Pass}
 use Rattle.markdown_plain.specs.Beginning.{Holds, HoldsLast, HoldsNone}
 use Rattle.markdown_plain.specs.Closable.{AreClosable, IsClosable}
@@ -108,9 +108,9 @@ stands_holds s pass frames inside last from stands = record {
 -- ---- the line
 
 -- how the line goes on with a paragraph, by what it reaches
-goes_as : (s : Source) (pass : Pass) (r : Reached) → has_paragraph pass ≡ true
-    → begins s (paragraph_before pass (are_none r.inner)) r.rest ≡ beginning.begins_text → GoesAs s r
-goes_as s pass r some text = by_inner r.inner refl
+goes_as : (s : Source) (pass : Pass) (r : Reached) (lines : List SourceLine) → has_paragraph pass ≡ true
+    → begins s (paragraph_before pass (are_none r.inner)) r.rest ≡ beginning.begins_text → GoesAs s r lines
+goes_as s pass r lines some text = by_inner r.inner refl
   where
     same : begins s (if are_none r.inner then paragraph.Reached else paragraph.Lazy) r.rest ≡ beginning.begins_text
     same =
@@ -118,10 +118,10 @@ goes_as s pass r some text = by_inner r.inner refl
         then (if are_none r.inner then paragraph.Reached else paragraph.Lazy) else paragraph.NoParagraph) r.rest)
         (sym some) ∙ text
 
-    by_inner : (inner : List Frame) → r.inner ≡ inner → GoesAs s r
+    by_inner : (inner : List Frame) → r.inner ≡ inner → GoesAs s r lines
     by_inner [] is =
-        reaches is (ap (λ (fs : List Frame).
-        begins s (if are_none fs then paragraph.Reached else paragraph.Lazy) r.rest) (sym is) ∙ same)
+        reaches is (ap (paragraph_with s r.rest lines) (ap (λ (fs : List Frame).
+        begins s (if are_none fs then paragraph.Reached else paragraph.Lazy) r.rest) (sym is) ∙ same))
     by_inner (f ∷ others) is =
         continues f others is (ap (λ (fs : List Frame).
         begins s (if are_none fs then paragraph.Reached else paragraph.Lazy) r.rest) (sym is) ∙ same)
@@ -215,4 +215,4 @@ module _ (s : Source) (old new : Pass) (line : Line) (start depth : ℕ) (source
           (reached s frames (followed_by inside (leaf_block b)) source)) b.kind sources may.unended.kind untabled)
           stands may is
           (record { same = same; lines = held_then true some; further = adds.further }) here.content
-          (goes_as s old (reached s frames (followed_by inside (leaf_block b)) source) some here.text)
+          (goes_as s old (reached s frames (followed_by inside (leaf_block b)) source) sources some here.text)

@@ -1,10 +1,11 @@
--- A line that underlines the paragraph that it reaches: this becomes a heading, or, where it holds definitions alone,
--- ends, and the line is read once more.
-use Rattle.std.proofs.Common.{◌≡◌, ℕ, ◌<◌, ◌==◌, Bool, true, false, not, List, [], Option, Some, None, map, length}
+-- A line that underlines the paragraph that it reaches: this becomes a heading. Where it holds definitions alone, the
+-- line is text of it, or a thematic break, before which it ends, and which is read once more.
+use Rattle.std.proofs.Common.{◌≡◌, ℕ, ◌<◌, ◌==◌, ◌&&◌, Bool, true, false, not, List, [], ◌∷◌, ◌++◌, Option, Some, None}
+use Rattle.std.proofs.Common.{map, length}
 use Rattle.std.proofs.Common.{refl, sym, ap, ◌∙◌, subst, arith}
 use Rattle.std.proofs.lemmas.Bool.{true≢false}
 use Rattle.std.proofs.lemmas.Option.{none-some}
-use Rattle.std.specs.Prelude.{if◌then◌else◌, unwrap_or}
+use Rattle.std.specs.Prelude.{slice_range, if◌then◌else◌, unwrap_or}
 use Rattle.std.specs.Option.{option_map, option_or}
 use Rattle.std.specs.Str.{IsCharBoundary, IsUtf8}
 use Rattle.markdown_base.specs.Forest.{Forest, nil, node}
@@ -18,12 +19,13 @@ use Rattle.markdown_lines.specs.BlockBeginnings.{Beginning, Source, begins, begi
 use Rattle.markdown_lines.specs.DefinitionRules.{divided}
 use Rattle.markdown_lines.specs.Lines.{IsLineFrom}
 use Rattle.markdown_lines.specs.SourceLines.{SourceLine, is_blank_rest}
+use Rattle.markdown_lines.specs.ThematicBreaks.{is_thematic_break}
 use Rattle.markdown_lines.specs.declared.block_start.Before as block_start
 use Rattle.markdown_lines.specs.declared.block_start.Before.TheVariants as paragraph
 use Rattle.markdown_lines.specs.declared.block_start.BlockStart.TheVariants as start
 use Rattle.markdown_lines.specs.declared.line.Line.{Line}
 use Rattle.markdown_block_rules.specs.BlockGrowth as was
-use Rattle.markdown_block_rules.specs.BlockGrowth.{Block, goes_on, table_with, with_line}
+use Rattle.markdown_block_rules.specs.BlockGrowth.{Block, begins_but_underline, goes_on, table_with, with_line}
 use Rattle.markdown_block_rules.specs.BlockRules.{is_blank_block}
 use Rattle.markdown_plain.specs.declared.beginnings.LineRest.{LineRest}
 use Rattle.markdown_plain.specs.declared.looseness.Looseness.{Looseness}
@@ -36,13 +38,15 @@ use Rattle.markdown_plain.specs.Fitting.{defining as with_definitions}
 use Rattle.markdown_plain.specs.Frames.{Frame, is_item, reached, rebuilt, touched}
 use Rattle.markdown_plain.specs.HeldSources.{IsParagraph}
 use Rattle.markdown_plain.specs.OpenLeaves.{HoldsParagraph, IsPlaced, ended_block, leaf_block}
-use Rattle.markdown_plain.specs.Paragraphs.{IsPlacedTo, divided_of, has_paragraph, lines_end}
+use Rattle.markdown_plain.specs.Paragraphs.{IsPlacedTo, UnderlinesNothing, divided_of, has_paragraph, lines_end}
 use Rattle.markdown_plain.specs.ReachedFrames.{are_none}
 use Rattle.markdown_plain.specs.ReachedLines.{reached_of}
 use Rattle.markdown_plain.specs.Settled.{BlanksKnown, IsLooseAs, QuotesEnd}
 use Rattle.markdown_plain.specs.Standing.{PlacesFor, with_last}
+use Rattle.markdown_plain.specs.TextLines.{IsContentAt, held_line}
 use Rattle.markdown_plain.proofs.AddedLinesLemmas.{has_held, no_leaf_open}
-use Rattle.markdown_plain.proofs.AddedTextLemmas.{around_text, loose_as_leaf}
+use Rattle.markdown_plain.proofs.AddedTextLemmas as added
+use Rattle.markdown_plain.proofs.AddedTextLemmas.{IsFurtherText, around_text, loose_as_leaf}
 use Rattle.markdown_plain.proofs.BegunBlocksLemmas.{source_kept}
 use Rattle.markdown_plain.proofs.BegunLeavesLemmas.{no_paragraph}
 use Rattle.markdown_plain.proofs.BlankStandingLemmas.{next_after, none_inside}
@@ -50,6 +54,7 @@ use Rattle.markdown_plain.proofs.BlanksKnownLemmas.{same_touched}
 use Rattle.markdown_plain.proofs.ClosableLemmas as held
 use Rattle.markdown_plain.proofs.RememberedTextLemmas.{makes_no_table, remembered_kind}
 use Rattle.markdown_plain.specs.TableHeads.{IsUntabled}
+use Rattle.markdown_plain.proofs.FoundPlacesLemmas.{left_content}
 use Rattle.markdown_plain.proofs.FramesLemmas.{goes_on_last}
 use Rattle.markdown_plain.proofs.GrownLeavesLemmas.{placed_touched}
 use Rattle.markdown_plain.proofs.InnerBeginningsLemmas.{BeginsInside, after_inside}
@@ -57,10 +62,13 @@ use Rattle.markdown_plain.proofs.ItemsInListsLemmas.{line_keeps}
 use Rattle.markdown_plain.proofs.LastBlocksLemmas.{leaf_is_over, open_are_containers}
 use Rattle.markdown_plain.proofs.LineBeginningsLemmas.{begins_holds}
 use Rattle.markdown_plain.proofs.LooseFramesLemmas.{ends_more}
+use Rattle.markdown_plain.proofs.PlacedTextLemmas.{text_added}
 use Rattle.markdown_plain.proofs.ReachedLemmas.{all_go_on, reached_next}
 use Rattle.markdown_plain.proofs.ReadyPlacesLemmas.{next_between, ready_last}
 use Rattle.markdown_plain.proofs.ReadyTextsLemmas.{again_ready}
+use Rattle.markdown_plain.proofs.TextStepsLemmas.{AddsText}
 use Rattle.markdown_plain.proofs.TouchedFramesLemmas.{earlier_touched, quotes_touched}
+use Rattle.markdown_plain.proofs.UnderlineLinesLemmas.{row_begins, row_bytes, row_is_left}
 
 -- ---- the line begins an underline
 
@@ -141,14 +149,21 @@ paragraph_ends : (s : Source) (l : SourceLine) (begin top last : ℕ) (lines : L
     (was.paragraph_leaf lines) ≡ None
     → is_blank_rest l ≡ false
     → begins s paragraph.Reached l ≡ line.begins_underline level → is_defining s lines ≡ true
+    → begins_but_underline s l ≡ line.begins_break
     → goes_on s (leaf_block (record { start = begin; first = top; last = last; kind = was.paragraph_leaf lines })) l
     ≡ None
 unfolding goes_on
-paragraph_ends s l begin top last lines level untabled filled underlines none =
+paragraph_ends s l begin top last lines level untabled filled underlines none breaks =
     ap (λ (made : Option (Forest Block)). option_or made (option_or
     (option_map (λ kind. node (record { start = begin; first = top; last = l.next; kind = kind }) nil nil)
     (was.leaf_with s l (was.paragraph_leaf lines))) None)) untabled
-    ∙ rw (filled, underlines, none) refl
+    ∙ rw (filled, underlines, none, breaks) refl
+
+-- where there is nothing else that it begins, the line is text of it
+further_text : (s : Source) (l : SourceLine) (lines : List SourceLine) (level : HeadingLevel)
+    → begins s paragraph.Reached l ≡ line.begins_underline level → is_defining s lines ≡ true
+    → begins_but_underline s l ≡ line.begins_text → IsFurtherText s l lines
+further_text s l lines level underlines none text = rw (underlines, none, text) refl
 
 -- the heading that a line makes of a paragraph
 abbrev pub headed : Block → HeadingLevel → List SourceLine → ℕ → Block
@@ -170,12 +185,12 @@ last_ends : (s : Source) (l : SourceLine) (before : Forest Block) (b : Block) (l
     (level : HeadingLevel) → ((b : Block) → table_with s l b (was.paragraph_leaf lines) ≡ None)
     → b.kind ≡ was.paragraph_leaf lines → is_blank_rest l ≡ false
     → begins s paragraph.Reached l ≡ line.begins_underline level → is_defining s lines ≡ true
-    → goes_on s (followed_by before (leaf_block b)) l ≡ None
-last_ends s l before b lines level untabled is filled underlines none =
+    → begins_but_underline s l ≡ line.begins_break → goes_on s (followed_by before (leaf_block b)) l ≡ None
+last_ends s l before b lines level untabled is filled underlines none breaks =
     goes_on_last s before b nil l
     ∙ ap (option_map (followed_by before)) (ap (λ kind. goes_on s (leaf_block (record b { kind = kind })) l) is
     ∙ paragraph_ends s l b.start b.first b.last lines level
-    (untabled (record b { kind = was.paragraph_leaf lines })) filled underlines none)
+    (untabled (record b { kind = was.paragraph_leaf lines })) filled underlines none breaks)
 
 -- ---- what the pass makes of it
 
@@ -195,6 +210,17 @@ pub record EndsUnderlined (old new : Pass) (level : HeadingLevel) (line : Line) 
       new.placing.builder.definitions new.placing.builder.at
   pub after : some ≡ false → 0 < length old.lines.items → new.placing.builder.at ≡ lines_end old.lines.items
 
+-- where the pass finds that the line underlines nothing, it is text that follows definitions alone
+nothing_is : (break defining : Bool) → true ≡ (not break && defining) → (break ≡ false) × (defining ≡ true)
+nothing_is true defining is = absurd (true≢false is)
+nothing_is false true is = (refl, refl)
+nothing_is false false is = absurd (true≢false is)
+
+-- and otherwise it is a thematic break where it follows definitions alone
+break_is : (break defining : Bool) → false ≡ (not break && defining) → defining ≡ true → break ≡ true
+break_is true defining is alone = refl
+break_is false defining is alone = absurd (true≢false (sym alone ∙ sym is))
+
 heads_not : (test : Bool) → true ≡ not test → test ≡ false
 heads_not true is = absurd (true≢false is)
 heads_not false is = refl
@@ -209,6 +235,7 @@ module _ (s : Source) (old new : Pass) (rest : LineRest) (level : HeadingLevel) 
     (here : IsFirst s old rest (record { frames = frames; inside = inside; last = Some b }) l source blocks)
     (may : MayEnd s old frames inside b (Some sources))
     (underlines : begins s paragraph.Reached source ≡ line.begins_underline level)
+    (breaks : is_defining s sources ≡ true → begins_but_underline s source ≡ line.begins_break)
     (all : (reached s frames (followed_by inside (leaf_block b)) l).inner ≡ []) where
   abbrev now : Forest Block
   now = followed_by inside (leaf_block b)
@@ -314,7 +341,7 @@ module _ (s : Source) (old new : Pass) (rest : LineRest) (level : HeadingLevel) 
       → goes_on s (rebuilt (reached s frames now l).inner now) source ≡ None
   over_again none =
       ap (λ (fs : List Frame). goes_on s (rebuilt fs now) source) all
-      ∙ last_ends s source inside b sources level untabled holds.kind here.filled underlines none
+      ∙ last_ends s source inside b sources level untabled holds.kind here.filled underlines none (breaks none)
 
   here_again : EndsUnderlined old new level rest.line false
       → IsFirst s new rest_again (record { frames = frames; inside = now; last = None }) l source blocks
@@ -394,45 +421,128 @@ module _ (s : Source) (old new : Pass) (rest : LineRest) (level : HeadingLevel) 
 
 -- ---- where that is
 
+-- the line begins an underline
+underline_is : (s : Source) (rest : LineRest) (source : SourceLine) (at : ℕ) (level : HeadingLevel)
+    → IsFound s rest source at (start.Underline level) → begins s rest.before source ≡ line.begins_underline level
+underline_is s rest source at level found =
+    found_begins (line.begins_underline level) (begins s rest.before source) (is_blank_rest source) found.is
+
 -- the last block is the paragraph whose lines are held back
-paragraph_underlined : (s : Source) (old new : Pass) (rest : LineRest) (level : HeadingLevel) (some : Bool)
-    (frames : List Frame) (inside : Forest Block) (last : Option Block) (l source : SourceLine) (blocks : Forest Block)
+paragraph_reached : (P : Type 0) (s : Source) (old : Pass) (rest : LineRest) (frames : List Frame)
+    (inside : Forest Block) (last : Option Block) (l source : SourceLine) (blocks : Forest Block)
     → IsFirst s old rest (record { frames = frames; inside = inside; last = last }) l source blocks
-    → begins s paragraph.Reached source ≡ line.begins_underline level → rest.before ≡ paragraph.Reached
     → has_paragraph old ≡ true → (reached s frames (with_last inside last) l).inner ≡ []
-    → EndsUnderlined old new level rest.line some
-    → HasBegun s new rest (record rest { before = paragraph.NoParagraph }) blocks (not some)
-paragraph_underlined s old new rest level some frames inside None l source blocks here underlines reaches has all ends =
+    → ((b : Block) (sources : List SourceLine)
+    → IsFirst s old rest (record { frames = frames; inside = inside; last = Some b }) l source blocks
+    → MayEnd s old frames inside b (Some sources)
+    → (reached s frames (followed_by inside (leaf_block b)) l).inner ≡ [] → P) → P
+paragraph_reached P s old rest frames inside None l source blocks here has all follows =
     absurd (true≢false (sym has ∙ held.no_paragraph old here.holds.unended.1))
-paragraph_underlined s old new rest level some frames inside (Some b) l source blocks here underlines reaches has all
-    ends =
+paragraph_reached P s old rest frames inside (Some b) l source blocks here has all follows =
     by_held here.holds.unended.0 here.holds.unended.1 here.holds.unended.2
   where
-    by_held : (held : Option (List SourceLine)) → MayEnd s old frames inside b held → HoldsNone old held
-        → HasBegun s new rest (record rest { before = paragraph.NoParagraph }) blocks (not some)
+    by_held : (held : Option (List SourceLine)) → MayEnd s old frames inside b held → HoldsNone old held → P
     by_held None may empty = absurd (true≢false (sym has ∙ held.no_paragraph old empty))
-    by_held (Some sources) may other =
-        begun_with s old new rest level l source blocks frames inside b sources here may underlines all some reaches
-        ends
+    by_held (Some sources) may other = follows b sources here may all
 
--- the line begins an underline
-pub underline_begun : (s : Source) (old new : Pass) (rest : LineRest) (turn : Turn) (source : SourceLine) (at : ℕ)
-    (blocks : Forest Block) (level : HeadingLevel) (some : Bool) → IsHere s old rest turn source blocks
-    → IsFound s rest source at (start.Underline level) → EndsUnderlined old new level rest.line some
-    → HasBegun s new rest (record rest { before = paragraph.NoParagraph }) blocks (not some)
-underline_begun s old new rest (first before l) source at blocks level some here found ends =
-    let begun = found_begins (line.begins_underline level) (begins s rest.before source) (is_blank_rest source)
-    found.is in
-    let reaches = underline_reaches s rest.before source level begun in
-    let is = is_reached_one rest.before reaches in
+-- so it is where the line begins an underline
+underline_reached : (P : Type 0) (s : Source) (old : Pass) (rest : LineRest) (turn : Turn) (source : SourceLine)
+    (at : ℕ) (blocks : Forest Block) (level : HeadingLevel) → IsHere s old rest turn source blocks
+    → IsFound s rest source at (start.Underline level)
+    → ((frames : List Frame) (inside : Forest Block) (b : Block) (sources : List SourceLine) (l : SourceLine)
+    → IsFirst s old rest (record { frames = frames; inside = inside; last = Some b }) l source blocks
+    → MayEnd s old frames inside b (Some sources)
+    → (reached s frames (followed_by inside (leaf_block b)) l).inner ≡ [] → P) → P
+underline_reached P s old rest (first before l) source at blocks level here found follows =
+    let reaches = underline_reaches s rest.before source level (underline_is s rest source at level found) in
     let inner = (reached_of s before l).inner in
     let held = reached_all (has_paragraph old) (are_none inner) (sym (ap is_reached here.paragraph) ∙ reaches) in
-    paragraph_underlined s old new rest level some before.frames before.inside before.last l source blocks here
-    (ap (λ now. begins s now source) (sym is) ∙ begun) is held.0 (none_inside inner held.1) ends
-underline_begun s old new rest (later frames) source at blocks level some here found ends =
-    let begun = found_begins (line.begins_underline level) (begins s rest.before source) (is_blank_rest source)
-    found.is in
-    absurd (true≢false (sym (underline_reaches s rest.before source level begun) ∙ ap is_reached here.before))
+    paragraph_reached P s old rest before.frames before.inside before.last l source blocks here held.0
+    (none_inside inner held.1) (λ b sources. follows before.frames before.inside b sources l)
+underline_reached P s old rest (later frames) source at blocks level here found follows =
+    absurd (true≢false (sym (underline_reaches s rest.before source level (underline_is s rest source at level found))
+    ∙ ap is_reached here.before))
+
+-- what the line begins where it underlines nothing, by what the pass finds of that
+module _ (s : Source) (old : Pass) (rest : LineRest) (source : SourceLine) (at : ℕ) (level : HeadingLevel)
+    (frames : List Frame) (inside : Forest Block) (b : Block) (sources : List SourceLine) (l : SourceLine)
+    (blocks : Forest Block) (found : IsFound s rest source at (start.Underline level))
+    (here : IsFirst s old rest (record { frames = frames; inside = inside; last = Some b }) l source blocks)
+    (may : MayEnd s old frames inside b (Some sources)) where
+  begins_it : begins s rest.before source ≡ line.begins_underline level
+  begins_it = underline_is s rest source at level found
+
+  reaches_it : rest.before ≡ paragraph.Reached
+  reaches_it = is_reached_one rest.before (underline_reaches s rest.before source level begins_it)
+
+  underlines_it : begins s paragraph.Reached source ≡ line.begins_underline level
+  underlines_it = ap (λ now. begins s now source) (sym reaches_it) ∙ begins_it
+
+  told : (nothing : Bool) → UnderlinesNothing old rest.line at nothing
+      → nothing ≡ (not (is_thematic_break (slice_range s.text at rest.line.stop)) && is_defining s sources)
+  told nothing tells =
+      subst (λ (r : Source). nothing
+      ≡ (not (is_thematic_break (slice_range r.text at rest.line.stop)) && is_defining r sources)) here.holds.source
+      (tells sources may.unended.lines)
+
+  begins_else : (break : Bool) → is_thematic_break (slice_range s.text at rest.line.stop) ≡ break
+      → begins_but_underline s source ≡ (if break then line.begins_break else line.begins_text)
+  begins_else break is =
+      row_begins s rest.before source level (row_is_left s rest source here.left) begins_it
+      ∙ ap (λ test. if test then line.begins_break else line.begins_text)
+      (ap is_thematic_break (sym (row_bytes s rest source at level here.left found.begins begins_it)) ∙ is)
+
+  breaks_there : UnderlinesNothing old rest.line at false → is_defining s sources ≡ true
+      → begins_but_underline s source ≡ line.begins_break
+  breaks_there tells alone =
+      begins_else true
+      (break_is (is_thematic_break (slice_range s.text at rest.line.stop)) (is_defining s sources) (told false tells)
+      alone)
+
+  text_there : UnderlinesNothing old rest.line at true → IsFurtherText s source sources
+  text_there tells =
+      let is = nothing_is (is_thematic_break (slice_range s.text at rest.line.stop)) (is_defining s sources)
+      (told true tells) in
+      further_text s source sources level underlines_it is.1 (begins_else false is.0)
+
+-- the line underlines the paragraph, or is read once more
+pub underline_begun : (s : Source) (old new : Pass) (rest : LineRest) (turn : Turn) (source : SourceLine) (at : ℕ)
+    (blocks : Forest Block) (level : HeadingLevel) (some : Bool) → IsHere s old rest turn source blocks
+    → IsFound s rest source at (start.Underline level) → UnderlinesNothing old rest.line at false
+    → EndsUnderlined old new level rest.line some
+    → HasBegun s new rest (record rest { before = paragraph.NoParagraph }) blocks (not some)
+underline_begun s old new rest turn source at blocks level some here found tells ends =
+    underline_reached (HasBegun s new rest (record rest { before = paragraph.NoParagraph }) blocks (not some)) s old
+    rest turn source at blocks level here found (λ frames inside b sources l first may all.
+    begun_with s old new rest level l source blocks frames inside b sources first may
+    (underlines_it s old rest source at level frames inside b sources l blocks found first may)
+    (breaks_there s old rest source at level frames inside b sources l blocks found first may tells) all some
+    (reaches_it s old rest source at level frames inside b sources l blocks found first may) ends)
+
+-- or it is text of the paragraph
+pub underline_added : (s : Source) (old new : Pass) (rest : LineRest) (turn : Turn) (source : SourceLine) (at : ℕ)
+    (blocks : Forest Block) (level : HeadingLevel) → IsHere s old rest turn source blocks
+    → IsFound s rest source at (start.Underline level) → UnderlinesNothing old rest.line at true
+    → AddsText old new rest.line at rest.depth → PlacesFor s new rest.line.next blocks
+underline_added s old new rest turn source at blocks level here found tells adds =
+    underline_reached (PlacesFor s new rest.line.next blocks) s old rest turn source at blocks level here found
+    (λ frames inside b sources l first may all.
+    let r = reached s frames (followed_by inside (leaf_block b)) l in
+    let some = has_held s old frames inside b sources may.unended in
+    let same : s.text ≡ old.placing.builder.text = sym (ap (λ (s : Source). s.text) first.holds.source) in
+    let content = left_content s rest source at first.left first.filled found.begins in
+    let further = text_there s old rest source at level frames inside b sources l blocks found first may tells in
+    subst (PlacesFor s new rest.line.next) (sym first.whole)
+    (text_added s old new rest.line at frames inside b sources l
+    (remembered_kind s (IsUntabled s old rest.line.start r) b.kind sources may.unended.kind first.untabled) first.holds
+    may first.is (record {
+      same = adds.goes_on some;
+      lines = adds.lines
+          ∙ ap (λ (has : Bool). (if has then old.lines.items else []) ++ held_line rest.line at ∷ []) some;
+      further = adds.further;
+    }) (subst (λ text. IsContentAt text rest.line r.rest at) same
+    (subst (λ (m : SourceLine). IsContentAt s.text rest.line m at) first.reached content))
+    (added.reaches all (subst (λ (m : SourceLine). IsFurtherText s m sources) first.reached further))))
 
 -- ---- the calls fit
 

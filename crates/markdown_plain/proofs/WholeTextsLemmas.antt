@@ -192,7 +192,7 @@ pub record HasNothing (s : Source) (pass : Pass) : Type 0 where
   pub lists : pass.looseness.lists.items ≡ []
   pub placed : pass.placed ≡ 0
   pub added : pass.tables.added ≡ 0
-  pub most : pass.tables.most ≡ max (length s.text) 100000
+  pub most : pass.tables.most ≡ max (length s.text) 1000
   pub utf8 : IsUtf8 s.text
 
 -- and every call fits that the pass may make

@@ -16,8 +16,10 @@ use Rattle.markdown_scan.specs.declared.entity.EntityNames.{EntityNames}
 use Rattle.markdown_lines.specs.BlockBeginnings.{Source}
 use Rattle.markdown_lines.specs.DefinitionRules.{Divided, divided}
 use Rattle.markdown_lines.specs.SourceLines.{SourceLine}
+use Rattle.markdown_lines.specs.ThematicBreaks.{is_thematic_break}
 use Rattle.markdown_block_rules.specs.BlockGrowth.{Block}
 use Rattle.markdown_block_rules.specs.BlockRules.{shown_setext, shown_text}
+use Rattle.markdown_plain.specs.HeldSources.{IsParagraph}
 use Rattle.markdown_plain.specs.ListLooseness.{is_item}
 use Rattle.markdown_plain.specs.declared.pass.Pass.{Pass}
 
@@ -68,6 +70,13 @@ source_of pass = record { text = pass.placing.builder.text; options = pass.optio
 -- the definitions at the beginning of these lines, and the lines after them, as the pass reads them
 abbrev pub divided_of : Pass → List SourceLine → Divided
 divided_of pass sources = divided (entity_names pass.options) pass.placing.builder.text sources
+
+-- whether a line that would underline the open paragraph, from its first content byte on, is text of that
+abbrev pub UnderlinesNothing : Pass → Line → (start : ℕ) → Bool → Type 0
+UnderlinesNothing pass line start nothing =
+    (sources : List SourceLine) → IsParagraph pass.placing.builder.text pass.lines.items sources
+    → nothing ≡ (not (is_thematic_break (slice_range pass.placing.builder.text start line.stop))
+    && (length (divided_of pass sources).lines == 0))
 
 -- the definitions at the beginning of a paragraph were taken, which are in this number of lines
 pub record IsDivided (names : EntityNames) (old new : BuilderView) (sources : List SourceLine) (taken : ℕ)

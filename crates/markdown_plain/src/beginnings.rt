@@ -87,7 +87,7 @@ impl<'a> Pass<'a> {
             BlockStart::Fence(opening) => self.read_fence(rest, at, opening),
             BlockStart::Html(kind) => self.read_html(rest, kind),
             BlockStart::Footnote(label, inside) => self.read_footnote(rest, at, label, inside),
-            BlockStart::Underline(level) => self.read_underline(rest, level),
+            BlockStart::Underline(level) => self.read_underline(rest, at, level),
             BlockStart::ThematicBreak => self.read_break(rest, at),
             BlockStart::Item(item) => self.read_item(rest, at, item),
             BlockStart::Metadata(kind) => self.read_metadata(rest, kind),
@@ -328,22 +328,28 @@ impl<'a> Pass<'a> {
         Ok(self.go_inside(rest, inside))
     }
 
-    /// Reads the underline of the open paragraph, and returns false. Where the paragraph holds definitions alone, it
-    /// ends, and the line, which underlines nothing, is still to be read: then it returns true.
+    /// Reads the underline of the open paragraph, and returns false. Where the paragraph holds definitions alone, the
+    /// line underlines nothing: it is text of the paragraph, unless it is a thematic break. Then the paragraph ends, the
+    /// line is still to be read, and it returns true.
     fn read_underline(
         &mut self,
         rest: &mut LineRest<'a>,
+        at: usize,
         level: HeadingLevel,
     ) -> Result<bool, AllocError>
-        requires { (at : ℕ) × MayBeginBlock self.old rest.old at (start.Underline level) }
+        requires { MayBeginBlock self.old rest.old at (start.Underline level) }
         ensures text { IfOk result (λ _. self.new.placing.builder.text
             ≡ self.old.placing.builder.text) }
         ensures tables { IfOk result (λ _. self.new.tables ≡ self.old.tables) }
         ensures begins { IfOk result (λ more. (s : Source) (turn : Turn) (source : SourceLine)
-            (at : ℕ) (blocks : Forest Block) → IsHere s self.old rest.old turn source blocks
+            (blocks : Forest Block) → IsHere s self.old rest.old turn source blocks
             → IsFound s rest.old source at (start.Underline level)
             → HasBegun s self.new rest.old rest.new blocks more) }
     {
+        if self.underlines_nothing(rest.line, at)? {
+            self.add_text(rest.line, at, rest.depth)?;
+            return Ok(false);
+        }
         rest.before = Before::NoParagraph;
         let is_heading = self.end_paragraph(Some((level, rest.line)))?;
         Ok(!is_heading)

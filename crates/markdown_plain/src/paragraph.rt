@@ -14,6 +14,7 @@ ghost use Rattle.markdown_plain.specs.OpenBlocks.{room_in, without_leaf};
 ghost use Rattle.markdown_plain.specs.Paragraphs.{end_of, has_paragraph, is_item_in, lines_end};
 ghost use Rattle.markdown_plain.specs.Paragraphs.{paragraph_end, divided_of, first_task, shown_ended};
 ghost use Rattle.markdown_plain.specs.Paragraphs.{source_of, task_at, EndsFrom, IsDivided, IsPlacedTo};
+ghost use Rattle.markdown_plain.specs.Paragraphs.{UnderlinesNothing};
 ghost use Rattle.markdown_plain.specs.HeldSources.{IsParagraph, AreTextLines, IsTextLine};
 ghost use Rattle.markdown_plain.specs.LeafTrees.{HasItems, HasMoreTexts, HasTrees};
 ghost use Rattle.markdown_plain.specs.ParagraphItems.{after_task, heading_braces, line_or_nothing};
@@ -54,6 +55,7 @@ use markdown_lines::held_line::HeldLine;
 use markdown_lines::line::Line;
 use markdown_lines::line_break::line_break;
 use markdown_lines::task_marker::{task_length, task_read};
+use markdown_lines::thematic_break::thematic_break;
 use markdown_scan::entity::{EntityNames, entity_names};
 use std::alloc::{AllocError, Global};
 
@@ -133,6 +135,37 @@ fn take_definitions<'a>(
         taken = more.saturating_add(taken);
     }
     Ok(taken)
+}
+
+/// Returns whether lines are definitions alone.
+pub fn are_definitions(
+    alloc: Global,
+    text: &str,
+    lines: &[HeldLine],
+    names: EntityNames,
+) -> Result<bool, AllocError>
+    ensures { IfOk result (λ are. (sources : List SourceLine)
+        → IsParagraph text.now lines.now sources
+        → are ≡ (length (divided names text.now sources).lines == 0)) }
+{
+    let mut taken: usize = 0;
+    'definitions: for _ in 0..lines.len() {
+        let Some(first) = lines.get(taken) else {
+            break;
+        };
+        if first.start >= first.stop {
+            taken += 1;
+            continue;
+        }
+        if byte_at(text, first.start) != Some(b'[') {
+            return Ok(false);
+        }
+        match read_definition(alloc, text, &lines[taken..], first.start, names)? {
+            Some(found) => taken = found.lines.max(1).saturating_add(taken),
+            None => return Ok(false),
+        }
+    }
+    Ok(true)
 }
 
 /// Appends a line that is not the paragraph's last, and the break after it. There is none where the line holds nothing
@@ -462,6 +495,19 @@ impl<'a> Pass<'a> {
         }
         let last = self.lines.last()?;
         braces_at(self.placing.text(), last.start, last.stop)
+    }
+
+    /// Returns whether a line that would underline the open paragraph, from its first content byte at byte offset `start`
+    /// on, is text of that: the paragraph holds definitions alone, and the line is no thematic break.
+    pub fn underlines_nothing(&self, line: Line, start: usize) -> Result<bool, AllocError>
+        ensures { IfOk result (λ nothing. UnderlinesNothing self.now line start nothing) }
+    {
+        let text = self.placing.text();
+        if thematic_break(bytes_of(text, start, line.stop)).is_ok() {
+            return Ok(false);
+        }
+        let names = entity_names(self.options);
+        are_definitions(self.alloc, text, &self.lines, names)
     }
 
     /// Places the lines from the number `from` on as a paragraph, or as a heading that ends with the line of its

@@ -80,7 +80,7 @@ impl<'a> Pass<'a> {
         ensures lists { IfOk result (λ made. made.looseness.lists.items ≡ []) }
         ensures placed { IfOk result (λ made. made.placed ≡ 0) }
         ensures added { IfOk result (λ made. made.tables.added ≡ 0) }
-        ensures most { IfOk result (λ made. made.tables.most ≡ max (length text.now) 100000) }
+        ensures most { IfOk result (λ made. made.tables.most ≡ max (length text.now) 1000) }
     {
         let old = options.contains(Options::ENABLE_OLD_FOOTNOTES);
         Ok(Pass {

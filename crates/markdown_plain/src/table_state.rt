@@ -13,14 +13,14 @@ impl Tables {
     ghost use Rattle.std.specs.Prelude.{◌≡◌, ◌+◌, max, nat_le, if◌then◌else◌};
 
     /// Returns the state before any table, for a text of a number of bytes. As many cells may be added as it has bytes,
-    /// or 100,000.
+    /// or 1,000.
     pub fn new(bytes: usize) -> Tables
         ensures added { result.added ≡ 0 }
-        ensures most { result.most ≡ max bytes 100000 }
+        ensures most { result.most ≡ max bytes 1000 }
     {
         Tables {
             added: 0,
-            most: bytes.max(100_000),
+            most: bytes.max(1000),
         }
     }
 

@@ -39,6 +39,7 @@ ghost use Rattle.markdown_plain.specs.Standing.{PlacesFor};
 ghost use Rattle.std.specs.Str.{IsCharBoundary};
 
 use crate::containers::{Reached, reach};
+use crate::paragraph::are_definitions;
 use crate::pass::{Pass, innermost};
 use crate::placing::Placing;
 use markdown_base::byte_tests::holds;
@@ -47,7 +48,6 @@ use markdown_base::options::Options;
 use markdown_base::tag::Alignment;
 use markdown_lines::block_start::{Before, BlockStart};
 use markdown_lines::bytes::{byte_at, bytes_of};
-use markdown_lines::definition::read_definition;
 use markdown_lines::held_line::HeldLine;
 use markdown_lines::line::{Line, is_space_or_tab};
 use markdown_lines::line_reader::LineReader;
@@ -57,7 +57,7 @@ use markdown_lines::space::read_space;
 use markdown_lines::table_row::{
     Cell, cells_start, count_cells, delimiter_row, has_cell, has_cut, next_cell, piece_length,
 };
-use markdown_scan::entity::{EntityNames, entity_names};
+use markdown_scan::entity::entity_names;
 use std::alloc::{AllocError, Global};
 
 /// Appends the items of a cell's content. Two backslashes that a `|` directly follows are in no item; they are looked for
@@ -191,37 +191,6 @@ fn place_row(
     placing.step_to(line.next);
     placing.close_row();
     Ok(found)
-}
-
-/// Returns whether lines are definitions alone.
-fn are_definitions(
-    alloc: Global,
-    text: &str,
-    lines: &[HeldLine],
-    names: EntityNames,
-) -> Result<bool, AllocError>
-    ensures { IfOk result (λ are. (sources : List SourceLine)
-        → IsParagraph text.now lines.now sources
-        → are ≡ (length (divided names text.now sources).lines == 0)) }
-{
-    let mut taken: usize = 0;
-    'definitions: for _ in 0..lines.len() {
-        let Some(first) = lines.get(taken) else {
-            break;
-        };
-        if first.start >= first.stop {
-            taken += 1;
-            continue;
-        }
-        if byte_at(text, first.start) != Some(b'[') {
-            return Ok(false);
-        }
-        match read_definition(alloc, text, &lines[taken..], first.start, names)? {
-            Some(found) => taken = found.lines.max(1).saturating_add(taken),
-            None => return Ok(false),
-        }
-    }
-    Ok(true)
 }
 
 /// Returns the alignments of the delimiter row from byte offset `at` on, in a line whose content ends before `stop`, for

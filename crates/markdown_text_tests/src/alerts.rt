@@ -95,10 +95,9 @@ const MORE_QUOTES: Rows = &[
         "> [!tip]\n> *\n",
         "<blockquote class=\"markdown-alert-tip\">\n<p>*</p>\n</blockquote>\n",
     ),
-    // an underline of nothing is what it is after a block that ended
     (
         "> [!tip]\n> -\n",
-        "<blockquote class=\"markdown-alert-tip\">\n<ul>\n<li></li>\n</ul>\n</blockquote>\n",
+        "<blockquote class=\"markdown-alert-tip\">\n<p>-</p>\n</blockquote>\n",
     ),
     // after a blank line there is none
     (

@@ -209,6 +209,25 @@ const OTHER_SETEXT_HEADINGS: Rows = &[
     ("a\n  --  \nb\n", "<h2>a</h2>\n<p>b</p>\n"),
 ];
 
+/// Lines that underline nothing, since there are only definitions before them: they are read as others are that reach a
+/// paragraph.
+const UNDERLINES_OF_NOTHING: Rows = &[
+    // an empty item interrupts no paragraph
+    ("[a]:u\n-\n", "<p>-</p>\n"),
+    ("- [a]:u\n  -\n", "<ul>\n<li>-</li>\n</ul>\n"),
+    ("[a]:u\n--\n", "<p>--</p>\n"),
+    ("[a]: u\n=\n[a]\n", "<p>=\n<a href=\"u\">a</a></p>\n"),
+    // a thematic break does
+    ("[a]:u\n---\n", "<hr />\n"),
+    // the text that the line is may be underlined
+    ("[a]:u\n-\n-\n", "<h2>-</h2>\n"),
+    // and ends where a line that is no text does not reach it
+    (
+        "> [a]:u\n> -\n-\n",
+        "<blockquote>\n<p>-</p>\n</blockquote>\n<ul>\n<li></li>\n</ul>\n",
+    ),
+];
+
 #[test]
 fn texts(rt: HostRuntime) -> Result<(), Fail> {
     check_whole_texts(
@@ -221,6 +240,7 @@ fn texts(rt: HostRuntime) -> Result<(), Fail> {
             SETEXT_HEADINGS,
             MORE_SETEXT_HEADINGS,
             OTHER_SETEXT_HEADINGS,
+            UNDERLINES_OF_NOTHING,
         ],
     )
 }

@@ -173,7 +173,7 @@ returns-in-Underline-clause-begins c =
     let at = c.in_ok-begun.begun.at in
     let met = met_with (goal.at.returns-in-Underline-clause-begins c).In_ok-begun
     s turn source blocks (start.Underline c.in-Underline.level) c.in-Underline.is state in
-    let done = told s turn source at blocks met.here met.found in
+    let done = told s turn source blocks met.here met.found in
     begun_old s _ rest c.read_underline.new.rest reader blocks more done) c.read_underline.ensures.begins
 
 -- ---- the calls
@@ -246,10 +246,8 @@ read_footnote-requires c =
     (start.Footnote c.in-Footnote.label c.in-Footnote.inside) c.in-Footnote.is)
 
 pub read_underline-requires : goal.read_underline-requires
-read_underline-requires c = (
-  c.in_ok-begun.begun.at,
-  may_begin (goal.at.read_underline-requires c).In_ok-begun (start.Underline c.in-Underline.level) c.in-Underline.is,
-)
+read_underline-requires c =
+    may_begin (goal.at.read_underline-requires c).In_ok-begun (start.Underline c.in-Underline.level) c.in-Underline.is
 
 pub read_break-requires : goal.read_break-requires
 read_break-requires c =

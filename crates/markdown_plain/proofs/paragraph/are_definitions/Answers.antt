@@ -9,7 +9,7 @@ use Rattle.markdown_plain.specs.HeldSources.{IsParagraph}
 use Rattle.markdown_plain.proofs.DefinitionLinesLemmas.{IsLeftOf, left_after, left_all, left_empty, left_none}
 use Rattle.markdown_plain.proofs.DefinitionLinesLemmas.{left_other}
 use Rattle.markdown_plain.proofs.DefinitionLinesLemmas.{read_next}
-use Rattle.markdown_plain.proofs.tables.are_definitions.Goals as goal
+use Rattle.markdown_plain.proofs.paragraph.are_definitions.Goals as goal
 
 pub definitions-preserved-then-first : goal.definitions-preserved-then-first
 definitions-preserved-then-first c =
