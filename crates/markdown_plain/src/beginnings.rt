@@ -4,6 +4,7 @@
 ghost use Rattle.std.specs.Prelude.{◌≡◌, ℕ, true, false, Some, None, IfOk, length};
 ghost use Rattle.std.specs.Str.{IsCharBoundary};
 ghost use Rattle.markdown_base.specs.Forest.{Forest};
+ghost use Rattle.markdown_base.specs.declared.tag.HeadingLevel.{HeadingLevel};
 ghost use Rattle.markdown_block_rules.specs.BlockGrowth.{Block};
 ghost use Rattle.markdown_lines.specs.BlockBeginnings.{Beginning, Source};
 ghost use Rattle.markdown_lines.specs.BlockStarts.{beginning_found};
@@ -19,6 +20,7 @@ ghost use Rattle.markdown_plain.specs.Closable.{MayMakeRoom};
 ghost use Rattle.markdown_plain.specs.Fits.{MayStep};
 ghost use Rattle.markdown_plain.specs.Fitting.{BracesStand};
 ghost use Rattle.markdown_plain.specs.OpenLeaves.{InfoStands};
+ghost use Rattle.markdown_plain.specs.Paragraphs.{UnderlinesNothing};
 ghost use Rattle.markdown_plain.specs.Standing.{PlacesFor};
 ghost use Rattle.markdown_plain.specs.TextLines.{paragraph_before};
 ghost use Rattle.markdown_plain.specs.declared.beginnings.LineRest.{LineRest};
@@ -148,7 +150,7 @@ impl<'a> Pass<'a> {
         Ok(false)
     }
 
-    /// Reads text, from its first byte on. Returns false.
+    /// Reads text, from its first byte on, as what would underline definitions alone may be. Returns false.
     fn read_text(&mut self, rest: &LineRest<'a>, at: usize) -> Result<bool, AllocError>
         requires { MayMakeRoom self.old rest.now.depth }
         ensures text { IfOk result (λ _. self.new.placing.builder.text
@@ -164,6 +166,12 @@ impl<'a> Pass<'a> {
               next = rest.now.line.next;
               owed = 0;
             })
+            → PlacesFor s self.new rest.now.line.next blocks) }
+        ensures further { IfOk result (λ _. (s : Source) (turn : Turn) (source : SourceLine)
+            (level : HeadingLevel) (blocks : Forest Block)
+            → IsHere s self.old rest.now turn source blocks
+            → IsFound s rest.now source at (start.Underline level)
+            → UnderlinesNothing self.old rest.now.line at true
             → PlacesFor s self.new rest.now.line.next blocks) }
     {
         self.add_text(rest.line, at, rest.depth)?;
@@ -347,8 +355,7 @@ impl<'a> Pass<'a> {
             → HasBegun s self.new rest.old rest.new blocks more) }
     {
         if self.underlines_nothing(rest.line, at)? {
-            self.add_text(rest.line, at, rest.depth)?;
-            return Ok(false);
+            return self.read_text(rest, at);
         }
         rest.before = Before::NoParagraph;
         let is_heading = self.end_paragraph(Some((level, rest.line)))?;

@@ -1,6 +1,7 @@
 -- The line is placed as the definition says.
 use Rattle.markdown_plain.proofs.TextHereLemmas.{found_text, text_here}
 use Rattle.markdown_plain.proofs.TextStepsLemmas.{AddsText}
+use Rattle.markdown_plain.proofs.UnderlinesLemmas.{underline_added}
 use Rattle.markdown_plain.proofs.pass.Pass.read_text.Goals as goal
 use Rattle.markdown_plain.proofs.pass.Pass.read_text.Goals.{In_ok-add_text}
 
@@ -31,3 +32,8 @@ pub returns-clause-places : goal.returns-clause-places
 returns-clause-places c = λ s turn source blocks state found held.
     text_here s c.args.self.now c.add_text.new.self c.args.rest.now c.args.at turn source blocks (adds c) state
     (found_text s c.args.rest.now source c.args.at found)
+
+pub returns-clause-further : goal.returns-clause-further
+returns-clause-further c = λ s turn source level blocks state found tells.
+    underline_added s c.args.self.now c.add_text.new.self c.args.rest.now turn source c.args.at blocks level state found
+    tells (adds c)

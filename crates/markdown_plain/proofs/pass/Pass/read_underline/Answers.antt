@@ -1,11 +1,13 @@
 -- The underlined paragraph is a heading, or the line is text of it, or is read once more.
 use Rattle.std.proofs.Common.{◌≡◌, Bool, false, subst, true}
+use Rattle.std.proofs.lemmas.Result.{IfOk-weaker}
 use Rattle.markdown_plain.specs.Paragraphs.{UnderlinesNothing}
+use Rattle.markdown_plain.proofs.FoundPlacesLemmas.{begun_places}
 use Rattle.markdown_plain.proofs.HasRoomLemmas.{here_room}
-use Rattle.markdown_plain.proofs.TextStepsLemmas.{AddsText}
-use Rattle.markdown_plain.proofs.UnderlinesLemmas.{underline_added, underline_begun, underline_fits}
+use Rattle.markdown_plain.proofs.OpenedFramesLemmas.{both_ok}
+use Rattle.markdown_plain.proofs.UnderlinesLemmas.{underline_begun, underline_fits}
 use Rattle.markdown_plain.proofs.pass.Pass.read_underline.Goals as goal
-use Rattle.markdown_plain.proofs.pass.Pass.read_underline.Goals.{In_ok-add_text, In_ok-underlines_nothing}
+use Rattle.markdown_plain.proofs.pass.Pass.read_underline.Goals.{In_ok-underlines_nothing}
 
 -- what was found of the line
 finds : (c : In_ok-underlines_nothing) (nothing : Bool) → c.in_ok-underlines_nothing.field-0 ≡ nothing
@@ -13,38 +15,18 @@ finds : (c : In_ok-underlines_nothing) (nothing : Bool) → c.in_ok-underlines_n
 finds c nothing is =
     subst (UnderlinesNothing c.args.self.now c.args.rest.now.line c.args.at) is c.in_ok-underlines_nothing.ensures
 
--- the line is added
-adds : (c : In_ok-add_text)
-    → AddsText c.args.self.now c.add_text.new.self c.args.rest.now.line c.args.at c.args.rest.now.depth
-adds c =
-    let done = c.in_ok-add_text.ensures in
-    record {
-      text = done.text;
-      options = done.options;
-      goes_on = done.goes_on;
-      unheld = done.unheld;
-      dropped = done.dropped;
-      forgets = done.forgets;
-      finishes = done.finishes;
-      loose = done.loose;
-      first = done.first;
-      further = done.further;
-      task = done.task;
-      untried = done.untried;
-      here = done.here;
-      lines = done.line;
-      inside = done.inside;
-    }
-
-pub add_text-requires : goal.add_text-requires
-add_text-requires c =
+pub read_text-requires : goal.read_text-requires
+read_text-requires c =
     let may = c.requires in
     here_room may.s c.args.self.now c.args.rest.now may.turn may.source may.blocks may.here
 
 pub returns-then-branch-clause-begins : goal.returns-then-branch-clause-begins
-returns-then-branch-clause-begins c = λ s turn source blocks here found.
-    underline_added s c.args.self.now c.add_text.new.self c.args.rest.now turn source c.args.at blocks c.args.level here
-    found (finds (goal.at.returns-then-branch-clause-begins c).In_ok-underlines_nothing true c.if-branch.true) (adds c)
+returns-then-branch-clause-begins c =
+    IfOk-weaker c.read_text.result _ _ (λ more told s turn source blocks here found.
+    begun_places s c.read_text.new.self c.args.rest.now c.args.rest.now blocks more told.1
+    (told.0 s turn source c.args.level blocks here found
+    (finds (goal.at.returns-then-branch-clause-begins c).In_ok-underlines_nothing true c.if-branch.true)))
+    (both_ok c.read_text.result _ _ c.read_text.ensures.further c.read_text.ensures.more)
 
 pub returns-clause-begins : goal.returns-clause-begins
 returns-clause-begins c = λ s turn source blocks here found.
