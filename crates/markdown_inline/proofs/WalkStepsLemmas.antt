@@ -1,8 +1,8 @@
 -- The moves of a walk, over the tree and the tables of a program.
 use Rattle.std.proofs.Common.{◌≡◌, ℕ, ◌+◌, ◌<◌, ◌≤◌, false, List, [], ◌∷◌, ◌++◌, Option, Some, None, length, refl}
-use Rattle.std.proofs.Common.{arith}
+use Rattle.std.proofs.Common.{arith, Bool}
 use Rattle.std.specs.Prelude.{slice_range}
-use Rattle.std.proofs.Common.{sym, subst, ◌∙◌}
+use Rattle.std.proofs.Common.{sym, subst, ap, ap₂, ◌∙◌}
 use Rattle.markdown_inline.specs.declared.bodies.Visit.TheVariants as visit
 use Rattle.markdown_base.specs.Arena.{Arena, child_of, sibling_of}
 use Rattle.markdown_base.specs.ArenaForest.{links_of}
@@ -27,7 +27,7 @@ use Rattle.markdown_document.specs.Document.{shape_of}
 use Rattle.markdown_document.specs.Tables.{Tables, tables_of}
 use Rattle.markdown_inline.specs.WalkSteps.{TreeStands, HasEnded, Went, PassedBeginning, CanBegin, IsRefused, TakesOnly}
 use Rattle.markdown_inline.specs.WalkSteps.{beginning, visit_at, visit_at_shape, events_first, event_of_shape}
-use Rattle.markdown_resolver.specs.BlocksAbove.{Above, above_spine, inside}
+use Rattle.markdown_resolver.specs.BlocksAbove.{Above, above_spine, with_item}
 use Rattle.markdown_resolver.proofs.ChainPlaceLemmas.{entered}
 use Rattle.markdown_inline.proofs.TakingLemmas.{leaf_shape, some_leaf, some_tag, plain_shape, visit-shape}
 use Rattle.markdown_inline.proofs.TakingLemmas.{takes_nothing}
@@ -282,25 +282,26 @@ pub stopped : (s t : Arena Item) → t ≡ record s { spine = []; cursor = None 
 stopped s t e = rw e (record { cursor = refl; spine = refl })
 
 -- the blocks above when a node is entered
-pub more_above : {s t : Arena Item} {ix : ℕ} {item : Item} {a a' : Above} (gfm : Bool) → a' ≡ inside a item
+pub more_above : (s : Arena Item) (ix : ℕ) {t : Arena Item} {item : Item} {a a' : Above} (gfm : Bool)
+    → a' ≡ with_item a item
     → item ≡ item_at s.nodes ix → t ≡ record s { spine = s.spine ++ ix ∷ []; cursor = child_of s.nodes ix }
     → a ≡ above_spine gfm s.nodes s.spine → a' ≡ above_spine gfm t.nodes t.spine
-more_above {s} {t} {ix} {item} gfm more same goes is =
-    rw goes (more ∙ ap₂ inside is same ∙ entered gfm s.nodes s.spine ix)
+more_above s ix gfm more is_item goes is =
+    rw goes (more ∙ ap₂ with_item is is_item ∙ entered gfm s.nodes s.spine ix)
 
 -- and when one is left
-pub fewer_above : {s p t : Arena Item} {ix : ℕ} {item : Item} {a a' : Above} (gfm : Bool) (outer : List ℕ)
+pub fewer_above : (s : Arena Item) {p t : Arena Item} {ix : ℕ} {item : Item} {a a' : Above} (gfm : Bool)
+    (outer : List ℕ)
     → s.spine ≡ outer ++ ix ∷ [] → p ≡ record s { spine = outer; cursor = Some ix } → item ≡ item_at p.nodes ix
-    → t ≡ record p { cursor = sibling_of p.nodes ix } → ((a'' : Above) → a ≡ inside a'' item → a' ≡ a'')
+    → t ≡ record p { cursor = sibling_of p.nodes ix } → ((a'' : Above) → a ≡ with_item a'' item → a' ≡ a'')
     → a ≡ above_spine gfm s.nodes s.spine → a' ≡ above_spine gfm t.nodes t.spine
-fewer_above {s} {p} {t} {ix} {item} gfm outer split popped same goes left is =
-    let here : item ≡ item_at s.nodes ix = rw popped at same in
+fewer_above s {p} {t} {ix} {item} gfm outer split popped is_item goes left is =
+    let here : item ≡ item_at s.nodes ix = rw popped at is_item in
     rw (goes, popped) (left (above_spine gfm s.nodes outer) (is ∙ ap (above_spine gfm s.nodes) split
-    ∙ sym (entered gfm s.nodes outer ix) ∙ ap (inside (above_spine gfm s.nodes outer)) (sym here)))
+    ∙ sym (entered gfm s.nodes outer ix) ∙ ap (with_item (above_spine gfm s.nodes outer)) (sym here)))
 
 -- and after an end of the walk, where none is entered
-pub none_above : {s : Arena Item} {a a' : Above} {b : Above} (gfm : Bool) (nodes : List (Node Item)) (spine : List ℕ)
+pub none_above : (s : Arena Item) (b : Above) {a a' : Above} (gfm : Bool) (nodes : List (Node Item)) (spine : List ℕ)
     → s.spine ≡ [] → a ≡ above_spine gfm nodes spine → b.gfm_footnotes ≡ a.gfm_footnotes
     → a' ≡ record b { blocks = []; containers = [] } → a' ≡ above_spine gfm s.nodes s.spine
-none_above {s} {a} {a'} {b} gfm nodes spine none is same cleared =
-    rw (none, cleared, same, is) refl
+none_above s b gfm nodes spine none is style cleared = rw (none, cleared, style, is) refl

@@ -29,11 +29,13 @@ pub enum Step {
     Chain(usize),
 }
 
-/// Moves out of the node that was entered last, to its next sibling. `above` are the blocks among the entered nodes.
+/// Moves out of the node that was entered last, to its next sibling. `above` are the blocks among
+/// the entered nodes.
 #[inline(always)]
 pub fn step_out(tree: &mut Tree<Item>, above: &mut BlocksAbove) -> Step
     requires { tree.old.cursor ≡ None }
-    ensures gives { (source : List ℕ) (held : Allocated) → TreeStands source (tables_of held) tree.old
+    ensures gives { (source : List ℕ) (held : Allocated)
+        → TreeStands source (tables_of held) tree.old
         → StepGives source tree.old tree.new held result }
     ensures above { (gfm : Bool) → above.old ≡ above_spine gfm tree.old.nodes tree.old.spine
         → above.new ≡ above_spine gfm tree.new.nodes tree.new.spine }
@@ -53,8 +55,8 @@ pub fn step_out(tree: &mut Tree<Item>, above: &mut BlocksAbove) -> Step
     }
 }
 
-/// Takes a step at the node at the cursor. `above` are the blocks among the entered nodes. Returns an error where memory
-/// is refused; the tree is then unchanged.
+/// Takes a step at the node at the cursor. `above` are the blocks among the entered nodes. Returns
+/// an error where memory is refused; the tree is then unchanged.
 #[inline(always)]
 pub fn step_at(
     tree: &mut Tree<Item>,
@@ -63,7 +65,8 @@ pub fn step_at(
 ) -> Result<Step, AllocError>
     requires within { ix < length tree.old.nodes }
     requires at_ix { tree.old.cursor ≡ Some ix }
-    ensures gives { (source : List ℕ) (held : Allocated) → TreeStands source (tables_of held) tree.old
+    ensures gives { (source : List ℕ) (held : Allocated)
+        → TreeStands source (tables_of held) tree.old
         → MatchResult result (StepGives source tree.old tree.new held) (λ _.
         IsRefused tree.old tree.new) }
     ensures above { (gfm : Bool) → above.old ≡ above_spine gfm tree.old.nodes tree.old.spine
@@ -90,11 +93,12 @@ pub fn step_at(
     }
 }
 
-/// Takes one step of the walk over a tree. `above` are the blocks among the entered nodes. Returns an error where memory
-/// is refused; the tree is then unchanged.
+/// Takes one step of the walk over a tree. `above` are the blocks among the entered nodes. Returns
+/// an error where memory is refused; the tree is then unchanged.
 #[inline(always)]
 pub fn take_step(tree: &mut Tree<Item>, above: &mut BlocksAbove) -> Result<Step, AllocError>
-    ensures gives { (source : List ℕ) (held : Allocated) → TreeStands source (tables_of held) tree.old
+    ensures gives { (source : List ℕ) (held : Allocated)
+        → TreeStands source (tables_of held) tree.old
         → MatchResult result (StepGives source tree.old tree.new held) (λ _.
         IsRefused tree.old tree.new) }
     ensures above { (gfm : Bool) → above.old ≡ above_spine gfm tree.old.nodes tree.old.spine

@@ -102,7 +102,10 @@ impl<'input, F: BrokenLinkCallback<'input>> Parser<'input, F> {
             Ok(Step::Start(item)) => Some(Stop::Start(item)),
             Ok(Step::End(end, item)) => Some(Stop::End(end, item)),
             Ok(Step::Chain(first)) => {
-                match self.resolver.resolve_chain(&mut self.tree, &self.above, first) {
+                match self
+                    .resolver
+                    .resolve_chain(&mut self.tree, &self.above, first)
+                {
                     Ok(()) => None,
                     Err(_) => {
                         self.tree.stop();
@@ -425,10 +428,11 @@ impl<'input, F: BrokenLinkCallback<'input>> Parser<'input, F> {
         let mut tree = tree;
         tree.reset();
         let options = options.with_extended(extended);
+        let above = BlocksAbove::new(alloc, options);
         Ok(Parser {
             alloc,
             tree,
-            above: BlocksAbove::new(alloc, options),
+            above,
             resolver: Resolver {
                 alloc,
                 text,

@@ -1,5 +1,5 @@
--- What is above a chain: of the nodes that were entered, only the blocks contribute to a line's prefix, and of these the
--- containers.
+-- What is above a chain: of the nodes that were entered, only the blocks contribute to a line's prefix, and of these
+-- the containers.
 use Rattle.std.proofs.Common.{◌≡◌, ℕ, Bool, true, false, List, [], ◌∷◌, ◌++◌, Option, Some}
 use Rattle.std.proofs.Common.{None, length, map, IsUtf8, refl, sym, ap, ◌∙◌, append_assoc}
 use Rattle.std.proofs.Common.{append-nil}
@@ -31,7 +31,7 @@ use Rattle.markdown_spans.specs.PrefixView.{bodies_of, length_by}
 use Rattle.markdown_spans.specs.declared.prefixes.ContainerPrefix.{ContainerPrefix}
 use Rattle.markdown_spans.specs.LineStart.{LineLeft}
 use Rattle.markdown_spans.proofs.ContainerPrefixLemmas.{takes_nothing}
-use Rattle.markdown_resolver.specs.BlocksAbove.{Above, above_spine, blocks_in, containers_in, inside, place_inside}
+use Rattle.markdown_resolver.specs.BlocksAbove.{Above, above_spine, blocks_in, containers_in, place_inside, with_item}
 use Rattle.markdown_resolver.specs.ChainPlace.{IsPlaceOf}
 use Rattle.markdown_resolver.specs.Chains.{AreAbove}
 use Rattle.markdown_document.specs.declared.chain_place.ChainPlace.{ChainPlace}
@@ -199,11 +199,13 @@ step_inside item rest above true e =
     ap (λ (block : Bool). let inner = inside_block (if block then Some (unnumbered item.body) else None) (range_of item)
     above in place_inside rest (inner.block_end, inner.in_table)) e
     ∙ ap (λ (cell : Bool). place_inside rest (item.end, cell)) (same_cell item.body)
-    ∙ sym (ap (λ (block : Bool). place_inside (if block then item ∷ rest else rest) (above.block_end, above.in_table)) e)
+    ∙ sym (ap (λ (block : Bool). place_inside (if block then item ∷ rest else rest)
+    (above.block_end, above.in_table)) e)
 step_inside item rest above false e =
     ap (λ (block : Bool). let inner = inside_block (if block then Some (unnumbered item.body) else None) (range_of item)
     above in place_inside rest (inner.block_end, inner.in_table)) e
-    ∙ sym (ap (λ (block : Bool). place_inside (if block then item ∷ rest else rest) (above.block_end, above.in_table)) e)
+    ∙ sym (ap (λ (block : Bool). place_inside (if block then item ∷ rest else rest)
+    (above.block_end, above.in_table)) e)
 
 -- and inside the nodes of a spine
 ends_inside : (nodes : List (Node Item)) (spine : List ℕ) (above : EnclosingBlocks)
@@ -257,10 +259,13 @@ place_stands place tree first above are is utf8 end cell containers =
 
 -- one more item, entered and left
 pub entered : (gfm : Bool) (nodes : List (Node Item)) (outer : List ℕ) (ix : ℕ)
-    → inside (above_spine gfm nodes outer) (item_at nodes ix) ≡ above_spine gfm nodes (outer ++ ix ∷ [])
+    → with_item (above_spine gfm nodes outer) (item_at nodes ix) ≡ above_spine gfm nodes (outer ++ ix ∷ [])
 entered gfm nodes outer ix =
     let item = item_at nodes ix in
     let more : map (item_at nodes) (outer ++ ix ∷ []) ≡ map (item_at nodes) outer ++ item ∷ [] =
     map-append (item_at nodes) outer (ix ∷ []) in
-    rw (more, filter-append (λ i. is_block i.body) (map (item_at nodes) outer) (item ∷ []),
-    filter-append (λ i. has_prefix gfm i.body) (map (item_at nodes) outer) (item ∷ [])) refl
+    rw (
+      more,
+      filter-append (λ i. is_block i.body) (map (item_at nodes) outer) (item ∷ []),
+      filter-append (λ i. has_prefix gfm i.body) (map (item_at nodes) outer) (item ∷ []),
+    ) refl

@@ -21,8 +21,8 @@ abbrev pub containers_in : Bool → List Item → List Item
 containers_in gfm items = filter (λ item. has_prefix gfm item.body) items
 
 -- one more item is entered
-abbrev pub inside : Above → Item → Above
-inside above item = record above {
+abbrev pub with_item : Above → Item → Above
+with_item above item = record above {
   blocks = above.blocks ++ blocks_in (item ∷ []);
   containers = above.containers ++ containers_in above.gfm_footnotes (item ∷ []);
 }

@@ -3,7 +3,7 @@ ghost use Rattle.std.specs.Prelude.{◌≡◌, Option, false};
 ghost use Rattle.markdown_base.specs.Arena.{Arena};
 ghost use Rattle.markdown_base.specs.EnabledOptions.{gfm_footnotes_on};
 ghost use Rattle.markdown_base.specs.declared.item.Item.{Item};
-ghost use Rattle.markdown_resolver.specs.BlocksAbove.{above_spine, inside, place_inside};
+ghost use Rattle.markdown_resolver.specs.BlocksAbove.{above_spine, place_inside, with_item};
 ghost use Rattle.markdown_resolver.specs.ChainPlace.{IsPlaceOf};
 ghost use Rattle.markdown_resolver.specs.Chains.{AreAbove};
 
@@ -66,7 +66,7 @@ impl BlocksAbove {
     /// Notes that an item was entered. After an error only `clear` may be called.
     #[inline(always)]
     pub fn enter(&mut self, item: Item) -> Result<(), AllocError>
-        ensures entered { OnOk result (self.new ≡ inside self.old item) }
+        ensures entered { OnOk result (self.new ≡ with_item self.old item) }
         ensures style { self.new.gfm_footnotes ≡ self.old.gfm_footnotes }
     {
         if has_prefix(item.body, self.gfm_footnotes) {
@@ -81,7 +81,7 @@ impl BlocksAbove {
     /// Notes that the item that was entered last was left.
     #[inline(always)]
     pub fn leave(&mut self, item: Item)
-        ensures left { (outer : Above) → self.old ≡ inside outer item → self.new ≡ outer }
+        ensures left { (outer : Above) → self.old ≡ with_item outer item → self.new ≡ outer }
         ensures style { self.new.gfm_footnotes ≡ self.old.gfm_footnotes }
     {
         if has_prefix(item.body, self.gfm_footnotes) {

@@ -53,3 +53,15 @@ returns-in_err-push-in-Plain-clause-gives c source held w =
     refused_at source (tables_of held) c.args.tree.now c.push-in-Plain.new.self c.args.ix w c.requires.at_ix
     c.in_err-push-in-Plain.ensures.refused in
     search rules
+
+pub returns-in_err-enter-in-Start-clause-gives : goal.returns-in_err-enter-in-Start-clause-gives
+returns-in_err-enter-in-Start-clause-gives c source held w =
+    let refused : IsRefused c.args.tree.now c.args.tree.now =
+    refused_at source (tables_of held) c.args.tree.now c.args.tree.now c.args.ix w c.requires.at_ix refl in
+    search rules
+
+pub returns-in_err-enter-in-Plain-clause-gives : goal.returns-in_err-enter-in-Plain-clause-gives
+returns-in_err-enter-in-Plain-clause-gives c source held w =
+    let refused : IsRefused c.args.tree.now c.args.tree.now =
+    refused_at source (tables_of held) c.args.tree.now c.args.tree.now c.args.ix w c.requires.at_ix refl in
+    search rules

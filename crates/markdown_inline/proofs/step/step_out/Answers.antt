@@ -28,11 +28,11 @@ returns-in-Some-close_item-clause-gives c source held w =
 pub returns-in-None-close_item-clause-above : goal.returns-in-None-close_item-clause-above
 returns-in-None-close_item-clause-above c gfm is =
     let popped = c.in-Some.ensures.goes in
-    fewer_above gfm popped.0 popped.1 popped.2 (c.item-item.ensures no_item) c.next_sibling.ensures.goes
+    fewer_above c.args.tree.now gfm popped.0 popped.1 popped.2 (c.item-item.ensures no_item) c.next_sibling.ensures.goes
     c.leave.ensures.left is
 
 pub returns-in-Some-close_item-clause-above : goal.returns-in-Some-close_item-clause-above
 returns-in-Some-close_item-clause-above c gfm is =
     let popped = c.in-Some.ensures.goes in
-    fewer_above gfm popped.0 popped.1 popped.2 (c.item-item.ensures no_item) c.next_sibling.ensures.goes
+    fewer_above c.args.tree.now gfm popped.0 popped.1 popped.2 (c.item-item.ensures no_item) c.next_sibling.ensures.goes
     c.leave.ensures.left is

@@ -15,7 +15,8 @@ use Rattle.markdown_inline.proofs.walk.Parser.advance_once.Goals as goal
 pub resolve_chain-requires : goal.resolve_chain-requires
 resolve_chain-requires g c κs =
     let s = c.args.self.now in
-    let h = rw c.in-Ok-Chain.field-0-is at (c.in-Ok-Chain.ensures.gives s.resolver.text.now s.resolver.lookup.tables s.stands)
+    let h = rw c.in-Ok-Chain.field-0-is at
+    (c.in-Ok-Chain.ensures.gives s.resolver.text.now s.resolver.lookup.tables s.stands)
     in (
       (refl, tt),
       (
@@ -40,7 +41,8 @@ resolve_chain-requires g c κs =
 pub invariant_of-self-in-Ok : goal.invariant_of-self-in-Ok
 invariant_of-self-in-Ok g c =
     let s = c.args.self.now in
-    let h = rw c.in-Ok-Chain.field-0-is at (c.in-Ok-Chain.ensures.gives s.resolver.text.now s.resolver.lookup.tables s.stands)
+    let h = rw c.in-Ok-Chain.field-0-is at
+    (c.in-Ok-Chain.ensures.gives s.resolver.text.now s.resolver.lookup.tables s.stands)
     in
     let before = rw h.1 at (c.in-Ok-Chain.ensures.above (gfm_footnotes_on s.resolver.options) s.entered) in
     record {
@@ -58,7 +60,8 @@ invariant_of-self-in-Ok g c =
 pub invariant_of-self-in-Ok-Skip : goal.invariant_of-self-in-Ok-Skip
 invariant_of-self-in-Ok-Skip g c =
     let s = c.args.self.now in
-    let h = rw c.in-Ok-Skip.field-0-is at (c.in-Ok-Skip.ensures.gives s.resolver.text.now s.resolver.lookup.tables s.stands)
+    let h = rw c.in-Ok-Skip.field-0-is at
+    (c.in-Ok-Skip.ensures.gives s.resolver.text.now s.resolver.lookup.tables s.stands)
     in
     record { entered = c.in-Ok-Skip.ensures.above _ s.entered; stands = h.stands }
 
@@ -66,7 +69,8 @@ pub invariant_of-self-in-Err-resolve_chain : goal.invariant_of-self-in-Err-resol
 invariant_of-self-in-Err-resolve_chain g c =
     let s = c.args.self.now in
     record {
-      entered = rw c.resolve_chain.ensures.kept.options (none_above (gfm_footnotes_on s.resolver.options) s.tree.nodes
+      entered = rw c.resolve_chain.ensures.kept.options (none_above c.stop.new.self c.take_step.new.above
+          (gfm_footnotes_on s.resolver.options) s.tree.nodes
           s.tree.spine (ap (λ (t : Arena Item). t.spine) c.stop.ensures) s.entered c.take_step.ensures.style
           c.clear.ensures);
       stands = stands_ended c.resolve_chain.new.self.text.now (tables_of c.resolve_chain.new.self.lookup.tables)
@@ -78,7 +82,7 @@ pub invariant_of-self-in-Err : goal.invariant_of-self-in-Err
 invariant_of-self-in-Err g c =
     let s = c.args.self.now in
     record {
-      entered = none_above (gfm_footnotes_on s.resolver.options) s.tree.nodes s.tree.spine
+      entered = none_above c.stop-in-Err.new.self c.take_step.new.above (gfm_footnotes_on s.resolver.options) s.tree.nodes s.tree.spine
           (ap (λ (t : Arena Item). t.spine) c.stop-in-Err.ensures) s.entered c.take_step.ensures.style
           c.clear-in-Err.ensures;
       stands = stands_ended c.args.self.now.resolver.text.now (tables_of c.args.self.now.resolver.lookup.tables)
@@ -89,14 +93,16 @@ invariant_of-self-in-Err g c =
 pub returns-in-Ok-Done-clause-moves : goal.returns-in-Ok-Done-clause-moves
 returns-in-Ok-Done-clause-moves g c =
     let s = c.args.self.now in
-    let h = rw c.in-Ok-Done.field-0-is at (c.in-Ok-Done.ensures.gives s.resolver.text.now s.resolver.lookup.tables s.stands)
+    let h = rw c.in-Ok-Done.field-0-is at
+    (c.in-Ok-Done.ensures.gives s.resolver.text.now s.resolver.lookup.tables s.stands)
     in
     moved_done s _ h.0 h.1 refl refl
 
 pub returns-in-Ok-Skip-clause-moves : goal.returns-in-Ok-Skip-clause-moves
 returns-in-Ok-Skip-clause-moves g c =
     let s = c.args.self.now in
-    let h = rw c.in-Ok-Skip.field-0-is at (c.in-Ok-Skip.ensures.gives s.resolver.text.now s.resolver.lookup.tables s.stands)
+    let h = rw c.in-Ok-Skip.field-0-is at
+    (c.in-Ok-Skip.ensures.gives s.resolver.text.now s.resolver.lookup.tables s.stands)
     in
     moved_skip g.F.BrokenLinkCallback.answers s _
     (record { text = refl; options = refl; callback = refl; limit = refl; work = refl }) h
@@ -104,7 +110,8 @@ returns-in-Ok-Skip-clause-moves g c =
 pub returns-in-Ok-Leaf-clause-moves : goal.returns-in-Ok-Leaf-clause-moves
 returns-in-Ok-Leaf-clause-moves g c =
     let s = c.args.self.now in
-    let h = rw c.in-Ok-Leaf.field-0-is at (c.in-Ok-Leaf.ensures.gives s.resolver.text.now s.resolver.lookup.tables s.stands)
+    let h = rw c.in-Ok-Leaf.field-0-is at
+    (c.in-Ok-Leaf.ensures.gives s.resolver.text.now s.resolver.lookup.tables s.stands)
     in
     moved_past s _ c.in-Ok-Leaf.item _
     (record { text = refl; options = refl; callback = refl; limit = refl; work = refl }) refl h
@@ -112,7 +119,8 @@ returns-in-Ok-Leaf-clause-moves g c =
 pub returns-in-Ok-Start-clause-moves : goal.returns-in-Ok-Start-clause-moves
 returns-in-Ok-Start-clause-moves g c =
     let s = c.args.self.now in
-    let h = rw c.in-Ok-Start.field-0-is at (c.in-Ok-Start.ensures.gives s.resolver.text.now s.resolver.lookup.tables s.stands)
+    let h = rw c.in-Ok-Start.field-0-is at
+    (c.in-Ok-Start.ensures.gives s.resolver.text.now s.resolver.lookup.tables s.stands)
     in
     moved_past s _ c.in-Ok-Start.item _
     (record { text = refl; options = refl; callback = refl; limit = refl; work = refl }) refl h
@@ -120,14 +128,16 @@ returns-in-Ok-Start-clause-moves g c =
 pub returns-in-Ok-End-clause-moves : goal.returns-in-Ok-End-clause-moves
 returns-in-Ok-End-clause-moves g c =
     let s = c.args.self.now in
-    let h = rw c.in-Ok-End.field-0-is at (c.in-Ok-End.ensures.gives s.resolver.text.now s.resolver.lookup.tables s.stands) in
+    let h = rw c.in-Ok-End.field-0-is at
+    (c.in-Ok-End.ensures.gives s.resolver.text.now s.resolver.lookup.tables s.stands) in
     moved_give s _ _ (range_of c.in-Ok-End.item)
     (record { text = refl; options = refl; callback = refl; limit = refl; work = refl }) h
 
 pub returns-in-Ok-clause-moves : goal.returns-in-Ok-clause-moves
 returns-in-Ok-clause-moves g c =
     let s = c.args.self.now in
-    let h = rw c.in-Ok-Chain.field-0-is at (c.in-Ok-Chain.ensures.gives s.resolver.text.now s.resolver.lookup.tables s.stands)
+    let h = rw c.in-Ok-Chain.field-0-is at
+    (c.in-Ok-Chain.ensures.gives s.resolver.text.now s.resolver.lookup.tables s.stands)
     in
     moved_chain g.F.BrokenLinkCallback.answers c.args.self.now _ c.in-Ok-Chain.first c.in-Ok.ensures.kept.text
     c.in-Ok.ensures.kept.options
@@ -136,7 +146,8 @@ returns-in-Ok-clause-moves g c =
 pub returns-in-Err-resolve_chain-clause-moves : goal.returns-in-Err-resolve_chain-clause-moves
 returns-in-Err-resolve_chain-clause-moves g c =
     let s = c.args.self.now in
-    let h = rw c.in-Ok-Chain.field-0-is at (c.in-Ok-Chain.ensures.gives s.resolver.text.now s.resolver.lookup.tables s.stands)
+    let h = rw c.in-Ok-Chain.field-0-is at
+    (c.in-Ok-Chain.ensures.gives s.resolver.text.now s.resolver.lookup.tables s.stands)
     in
     moved_stopped g.F.BrokenLinkCallback.answers c.args.self.now _ c.in-Ok-Chain.first c.args.self.now.stands h.0
     (rw h.1 at c.in-Err-resolve_chain.ensures.stops)

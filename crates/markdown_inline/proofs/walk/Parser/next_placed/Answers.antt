@@ -9,6 +9,7 @@ use Rattle.markdown_inline.proofs.walk.Parser.next_placed.Goals as goal
 
 pub invariant_of-self : goal.invariant_of-self
 invariant_of-self g c = record {
+  entered = c.advance.new.self.entered;
   stands = c.in-Leaf.ensures.stops.moved.ready.stands _ c.leaf_event-event.ensures.taken;
 }
 

@@ -103,7 +103,8 @@ returns-clause-reads g c =
     (c.item-2.ensures no_item) c.in_ok-cow.ensures.stored in
     let was_put = c.put_code.ensures.puts place.text.now tables tables' here.can in
     let text = rw (c.item.ensures no_item, c.item-2.ensures no_item) at c.in_ok-cow.ensures.text in
-    let origin = rw (c.item.ensures no_item, c.item-2.ensures no_item, stands.in_table) at c.in_ok-cow.ensures.stored.origin_is in
+    let origin = rw (c.item.ensures no_item, c.item-2.ensures no_item, stands.in_table)
+    at c.in_ok-cow.ensures.stored.origin_is in
     let read = reads_by_rules result place s.text.now (rules_from s.options s.lookup.tables (is_some s.lookup.callback))
     tree ix
     c.put_code.new.tree.nodes tables tables' ready c.requires.ready.text c.requires.ready.options
