@@ -3,7 +3,7 @@ use Rattle.std.proofs.Common.{◌≡◌, ℕ, zero, suc, ◌+◌, ◌*◌, ◌^�
 use Rattle.std.proofs.Common.{Some, None, length, refl, subst, arith, ⊎_elim}
 use Rattle.std.proofs.lemmas.Bool.{cases_lt}
 use Rattle.markdown_base.specs.Arena.{Arena}
-use Rattle.markdown_base.specs.ArenaForest.{Links, Spells, forest_at, links_of}
+use Rattle.markdown_base.specs.ArenaForest.{Spells, forest_at, links_of}
 use Rattle.markdown_base.specs.ArenaWalk.{AllReach}
 use Rattle.markdown_base.specs.BlockTree.{item_at}
 use Rattle.markdown_base.specs.Forest.{Forest, nil, node}

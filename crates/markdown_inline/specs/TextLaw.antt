@@ -1,5 +1,5 @@
 -- What is read of a text is a function of the text, its options and the callback's answers.
-use Rattle.std.specs.Prelude.{◌≡◌, ℕ, Bool, false, List}
+use Rattle.std.specs.Prelude.{◌≡◌, ℕ, Bool, List}
 use Rattle.markdown_base.specs.Questions.{Answers}
 use Rattle.markdown_base.specs.declared.options.Options.{Options}
 use Rattle.markdown_blocks.specs.Blocks.{IsOfEntry, source_for}

@@ -25,7 +25,7 @@ use Rattle.markdown_document.specs.PlacedNodes.{IsSlicedOf, IsPlaced}
 use Rattle.markdown_document.specs.EnclosingBlocks.{EnclosingBlocks}
 use Rattle.markdown_document.specs.ChainRest.{as_item}
 use Rattle.markdown_document.specs.Places.{tree_node_at, trees_from}
-use Rattle.markdown_document.specs.Setting.{Rules, Setting}
+use Rattle.markdown_document.specs.Setting.{Setting}
 use Rattle.markdown_document.specs.Tables.{Tables, text_at, tables_of}
 use Rattle.markdown_document.specs.NamedEntries.{Named, some_text, HasGrown, number_of, size_for, times_named}
 use Rattle.markdown_document.specs.Totals.{same}

@@ -21,7 +21,7 @@ use Rattle.markdown_scan.proofs.BoundaryLemmas.{before_ascii_of_rest, after_asci
 use Rattle.markdown_scan.proofs.BeginsWithLemmas.{begins_with-split}
 use Rattle.markdown_spans.specs.CodeText.{Piece, piece_at, begins_escaped_pipe, replaced_past, shown_ending, is_sliced}
 use Rattle.markdown_spans.specs.CodeText.{has_outer_spaces}
-use Rattle.markdown_spans.specs.CodeText.{is_space, without_outer_spaces}
+use Rattle.markdown_spans.specs.CodeText.{is_space}
 use Rattle.markdown_spans.specs.PrefixView.{length_by}
 use Rattle.markdown_spans.specs.declared.span_text.SpanKind.{SpanKind}
 use Rattle.markdown_spans.specs.declared.prefixes.ContainerPrefix.{ContainerPrefix}

@@ -1,7 +1,7 @@
 -- What is taken of a line is spaces, tabs and `>` of its beginning.
 use Rattle.std.proofs.Common.{◌≡◌, ℕ, suc, ◌+◌, ◌-◌, ◌≤◌, ◌<◌, List, [], ◌∷◌, ◌++◌, Option, Some, None, Bool, true}
 use Rattle.std.proofs.Common.{false, ◌==◌, ◌||◌, ◌&&◌}
-use Rattle.std.proofs.Common.{length, take, drop, get_or, refl, sym, ◌∙◌, ap, arith, append_assoc, length-append, map}
+use Rattle.std.proofs.Common.{length, take, drop, get_or, refl, sym, ◌∙◌, ap, arith, append_assoc, length-append}
 use Rattle.std.proofs.Common.{drop-cons}
 use Rattle.std.specs.Prelude.{nat_lt, nat_le, IfSome, nat_eq, slice_index}
 use Rattle.std.specs.List.{list_all, list_any}

@@ -1,5 +1,5 @@
 -- What a search for the end of a code span finds, whether it walks or reads what was learned.
-use Rattle.std.proofs.Common.{◌≡◌, ℕ, suc, ◌<◌, ◌-◌, ◌^◌, ◌≤◌, Bool, List, [], ◌∷◌, Option, Some, None, true, false}
+use Rattle.std.proofs.Common.{◌≡◌, ℕ, suc, ◌<◌, Bool, List, [], ◌∷◌, Option, Some, None, true, false}
 use Rattle.std.proofs.Common.{not, length, refl}
 use Rattle.std.proofs.Common.{arith, subst, sym, ◌∙◌, ap}
 use Rattle.std.specs.Prelude.{if◌then◌else◌, ◌==◌, is_some, IfSome}

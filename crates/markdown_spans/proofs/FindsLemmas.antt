@@ -1,6 +1,6 @@
 -- What resolving a chain needs to know about code spans, math spans, autolinks and raw HTML: nothing that replaces a
 -- find is open, no chain's weight or number of delimiter characters rises, and tags have no effect.
-use Rattle.std.proofs.Common.{◌≡◌, ℕ, ◌+◌, ◌-◌, ◌≤◌, Bool, true, false, List, Option, Some, None, refl, arith, nat_le}
+use Rattle.std.proofs.Common.{◌≡◌, ℕ, ◌+◌, ◌-◌, ◌≤◌, Bool, true, false, Option, Some, None, refl, arith, nat_le}
 use Rattle.std.specs.Prelude.{if◌then◌else◌, is_some}
 use Rattle.markdown_base.specs.Forest.{Forest, nil, node, Each}
 use Rattle.markdown_document.specs.EnclosingBlocks.{EnclosingBlocks}

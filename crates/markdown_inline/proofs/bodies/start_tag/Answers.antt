@@ -1,6 +1,5 @@
 -- A text, a link or alignments that a Start refers to are read and taken at once.
-use Rattle.std.proofs.Common.{refl, sym, ap}
-use Rattle.markdown_document.specs.Document.{enclosed}
+use Rattle.std.proofs.Common.{refl}
 use Rattle.markdown_document.specs.Tables.{tables_of}
 use Rattle.markdown_inline.proofs.TakingLemmas.{text_at-read, alignments_at-read, heading_named, some_container}
 use Rattle.markdown_inline.proofs.TakingLemmas.{container_shape}

@@ -1,8 +1,6 @@
 -- The text of a span is that over the bytes between its delimiters, by the prefix of the blocks above.
 use Rattle.std.proofs.Common.{ℕ, List, length, ap, refl, ◌∙◌, subst}
 use Rattle.std.proofs.Math.Path.{fun_ext}
-use Rattle.markdown_base.specs.Arena.{Arena}
-use Rattle.markdown_base.specs.declared.item.Item.{Item}
 use Rattle.markdown_base.specs.CowText.{text_of}
 use Rattle.markdown_spans.proofs.SliceLemmas.{sliced_inside}
 use Rattle.markdown_document.specs.Origins.{origin_of}

@@ -82,7 +82,8 @@ pub invariant_of-self-in-Err : goal.invariant_of-self-in-Err
 invariant_of-self-in-Err g c =
     let s = c.args.self.now in
     record {
-      entered = none_above c.stop-in-Err.new.self c.take_step.new.above (gfm_footnotes_on s.resolver.options) s.tree.nodes s.tree.spine
+      entered = none_above c.stop-in-Err.new.self c.take_step.new.above (gfm_footnotes_on s.resolver.options)
+          s.tree.nodes s.tree.spine
           (ap (λ (t : Arena Item). t.spine) c.stop-in-Err.ensures) s.entered c.take_step.ensures.style
           c.clear-in-Err.ensures;
       stands = stands_ended c.args.self.now.resolver.text.now (tables_of c.args.self.now.resolver.lookup.tables)

@@ -1,5 +1,5 @@
 -- By the lemmas: few steps are to come.
-use Rattle.std.proofs.Common.{◌≡◌, ◌<◌, ◌^◌, length, subst}
+use Rattle.std.proofs.Common.{◌<◌, ◌^◌, length, subst}
 use Rattle.markdown_document.specs.Tables.{tables_of}
 use Rattle.markdown_inline.proofs.CountsLawLemmas.{counts-law, rises-plainly}
 use Rattle.markdown_inline.proofs.StepsLemmas.{few-steps}

@@ -1,5 +1,5 @@
 -- What a `]` becomes is decided, by the rules of pass one.
-use Rattle.std.proofs.Common.{Some, refl, ◌∙◌}
+use Rattle.std.proofs.Common.{refl}
 use Rattle.markdown_base.specs.BlockTree.{item_at}
 use Rattle.markdown_resolver.proofs.CloseBracketLemmas.{IsPrefixOf, decides_here, finds_each, tries_each}
 use Rattle.markdown_resolver.proofs.OpenerReadLemmas.{closer_body, ready_here}

@@ -1,5 +1,5 @@
 -- Reading a backtick run: the contracts of the searches and the writes give what the lemmas on code spans require.
-use Rattle.std.proofs.Common.{Some, None, ap, subst, refl}
+use Rattle.std.proofs.Common.{None, ap, subst, refl}
 use Rattle.markdown_base.specs.BlockTree.{item_at, no_item}
 use Rattle.markdown_document.specs.ResolverStates.{above_cursor}
 use Rattle.markdown_document.specs.Setting.{Setting, setting_of, rules_from}

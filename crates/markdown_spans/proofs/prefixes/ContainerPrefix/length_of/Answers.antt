@@ -1,5 +1,5 @@
 -- What was taken is the prefix, which is ASCII bytes of the line's beginning.
-use Rattle.std.proofs.Common.{◌≡◌, ℕ, arith, drop, sym, ◌∙◌, ap}
+use Rattle.std.proofs.Common.{arith, drop, sym, ◌∙◌, ap}
 use Rattle.markdown_scan.specs.LineStart.{LineLeft}
 use Rattle.markdown_scan.specs.LineView.{line_left}
 use Rattle.markdown_spans.specs.PrefixView.{bodies_of, length_by}
