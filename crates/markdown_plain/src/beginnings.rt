@@ -27,11 +27,9 @@ ghost use Rattle.markdown_plain.specs.declared.beginnings.LineRest.{LineRest};
 
 use crate::pass::Pass;
 use markdown_base::cow_str::CowStr;
-use markdown_base::options::Options;
 use markdown_base::tag::{BlockQuoteKind, HeadingLevel, MetadataBlockKind};
 use markdown_lines::atx_heading::AtxHeading;
 use markdown_lines::block_start::{Before, BlockStart, ItemStart};
-use markdown_lines::extended_only::is_read;
 use markdown_lines::fence::OpeningFence;
 use markdown_lines::html_kind::HtmlKind;
 use markdown_lines::line::Line;
@@ -151,6 +149,8 @@ impl<'a> Pass<'a> {
     }
 
     /// Reads text, from its first byte on, as what would underline definitions alone may be. Returns false.
+    // called at two places, one of them rare: inlined, so that the rest of a line is not copied for the call
+    #[inline(always)]
     fn read_text(&mut self, rest: &LineRest<'a>, at: usize) -> Result<bool, AllocError>
         requires { MayMakeRoom self.old rest.now.depth }
         ensures text { IfOk result (λ _. self.new.placing.builder.text

@@ -10,7 +10,6 @@ ghost use Rattle.markdown_plain.specs.Fitting.{GoesOn};
 ghost use Rattle.markdown_items.specs.ContentItems.{AddsItems};
 ghost use Rattle.markdown_items.specs.LineItems.{item_extensions};
 ghost use Rattle.markdown_lines.specs.BlockBeginnings.{Source};
-ghost use Rattle.markdown_lines.specs.DefinitionRules.{divided};
 ghost use Rattle.markdown_lines.specs.SourceLines.{SourceLine};
 ghost use Rattle.markdown_lines.specs.TableRows.{delimiter_row_at, row_cells_at};
 ghost use Rattle.markdown_block_rules.specs.BlockRules.{empty_cells, shown_cells, shown_row};
