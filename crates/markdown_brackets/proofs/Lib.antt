@@ -38,6 +38,7 @@ pub mod DecidesLemmas
 pub mod FinishLemmas
 pub mod FootnoteUseLemmas
 pub mod ComesToLemmas
+pub mod SpentEndsLemmas
 -- small examples
 pub mod TailExamples
 pub mod ReferenceExamples
