@@ -23,9 +23,9 @@ use Rattle.markdown_document.specs.declared.work.Work.{Work}
 use Rattle.markdown_document.specs.Places.{trees_from}
 use Rattle.markdown_document.specs.ResolverStates.{resolver_state, state_at, above_cursor}
 use Rattle.markdown_resolver.specs.ChainCounts.{chain_counts}
-use Rattle.markdown_resolver.specs.BlocksAbove.{Above, above_spine}
+use Rattle.markdown_resolver.specs.BlocksAbove.{Above, IsKnownAt}
 use Rattle.markdown_resolver.specs.Chains.{AreAbove, ResolvesChain, CanResolve, StopsIn}
-use Rattle.markdown_resolver.proofs.ChainReadLemmas.{blocks_above}
+use Rattle.markdown_resolver.proofs.ChainReadLemmas.{items_above}
 use Rattle.markdown_inline.specs.Elements.{Placed, Element, Passage, event, question}
 use Rattle.markdown_inline.specs.Moves.{Leads, Keeps, Gave, GaveEvent, WentOn, Ended, Failed, BeginsWithEvent, HasGone}
 use Rattle.markdown_inline.specs.Moves.{Began, RefusedAt, Took, WentPast, shape_in}
@@ -224,11 +224,11 @@ stands_chain step g s t held held' first limit limit' c d work work' w b r =
 pub entered_chain : {C : Type 0} {step : C → Question → Option Answer → C → Type 0} (g : Setting) {s t : Arena Item}
     {held held' : Allocated} {first limit limit' : ℕ} {c d : Option C} {work work' : Work} {a : Above} (gfm : Bool)
     → TreeStands g.text (tables_of held) s → IsBeforeChain s first
-    → ResolvesChain step g first s t held held' limit limit' c d work work' → a ≡ above_spine gfm s.nodes s.spine
-    → a ≡ above_spine gfm t.nodes t.spine
-entered_chain g {s} {t} {held} {held'} {first} gfm w b r is =
+    → ResolvesChain step g first s t held held' limit limit' c d work work' → IsKnownAt gfm s.nodes s.spine a
+    → IsKnownAt gfm t.nodes t.spine a
+entered_chain g {s} {t} {held} {held'} {first} gfm w b r known =
     let spine : t.spine ≡ s.spine = ap (λ (tree : Arena Item). tree.spine) r.tree in
-    is ∙ sym (rw spine (blocks_above gfm s.spine r.chain.changes (above_chain g.text s held first w b)))
+    rw (spine, items_above s.spine r.chain.changes (above_chain g.text s held first w b)) known
 
 -- the rules depend on the names of footnotes, and not on their uses
 setting_kept : {F : Type 0} (s t : Parser F) → t.resolver.text ≡ s.resolver.text → t.resolver.options

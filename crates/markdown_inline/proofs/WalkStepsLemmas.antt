@@ -2,7 +2,8 @@
 use Rattle.std.proofs.Common.{◌≡◌, ℕ, ◌+◌, ◌<◌, ◌≤◌, false, List, [], ◌∷◌, ◌++◌, Option, Some, None, length, refl}
 use Rattle.std.proofs.Common.{arith, Bool}
 use Rattle.std.specs.Prelude.{slice_range}
-use Rattle.std.proofs.Common.{sym, subst, ap, ap₂, ◌∙◌}
+use Rattle.std.proofs.Common.{sym, subst, ap, ap₂, ◌∙◌, map}
+use Rattle.std.proofs.lemmas.List.{length-map, map-append}
 use Rattle.markdown_inline.specs.declared.bodies.Visit.TheVariants as visit
 use Rattle.markdown_base.specs.Arena.{Arena, child_of, sibling_of}
 use Rattle.markdown_base.specs.ArenaForest.{links_of}
@@ -27,8 +28,8 @@ use Rattle.markdown_document.specs.Document.{shape_of}
 use Rattle.markdown_document.specs.Tables.{Tables, tables_of}
 use Rattle.markdown_inline.specs.WalkSteps.{TreeStands, HasEnded, Went, PassedBeginning, CanBegin, IsRefused, TakesOnly}
 use Rattle.markdown_inline.specs.WalkSteps.{beginning, visit_at, visit_at_shape, events_first, event_of_shape}
-use Rattle.markdown_resolver.specs.BlocksAbove.{Above, above_spine, with_item}
-use Rattle.markdown_resolver.proofs.ChainPlaceLemmas.{entered}
+use Rattle.markdown_resolver.specs.BlocksAbove.{Above, IsKnownAt, IsKnownOf}
+use Rattle.markdown_resolver.proofs.BlocksAboveLemmas.{known_none}
 use Rattle.markdown_inline.proofs.TakingLemmas.{leaf_shape, some_leaf, some_tag, plain_shape, visit-shape}
 use Rattle.markdown_inline.proofs.TakingLemmas.{takes_nothing}
 use Rattle.markdown_inline.proofs.LeftFrameLemmas.{left_framed}
@@ -281,27 +282,30 @@ refused_at source tables s t ix w e same = record { same = same; steps = steps_a
 pub stopped : (s t : Arena Item) → t ≡ record s { spine = []; cursor = None } → HasEnded t
 stopped s t e = rw e (record { cursor = refl; spine = refl })
 
--- the blocks above when a node is entered
+-- what is known above when a node is entered
 pub more_above : (s : Arena Item) (ix : ℕ) {t : Arena Item} {item : Item} {a a' : Above} (gfm : Bool)
-    → a' ≡ with_item a item
+    → ((style : Bool) (items : List Item) → IsKnownOf style items a → IsKnownOf style (items ++ item ∷ []) a')
     → item ≡ item_at s.nodes ix → t ≡ record s { spine = s.spine ++ ix ∷ []; cursor = child_of s.nodes ix }
-    → a ≡ above_spine gfm s.nodes s.spine → a' ≡ above_spine gfm t.nodes t.spine
-more_above s ix gfm more is_item goes is =
-    rw goes (more ∙ ap₂ with_item is is_item ∙ entered gfm s.nodes s.spine ix)
+    → IsKnownAt gfm s.nodes s.spine a → IsKnownAt gfm t.nodes t.spine a'
+more_above s ix gfm more is_item goes known =
+    rw (goes, map-append (item_at s.nodes) s.spine (ix ∷ []), ← is_item)
+    (more gfm (map (item_at s.nodes) s.spine) known)
 
 -- and when one is left
-pub fewer_above : (s : Arena Item) {p t : Arena Item} {ix : ℕ} {item : Item} {a a' : Above} (gfm : Bool)
+pub fewer_above : (s : Arena Item) {p t : Arena Item} {ix : ℕ} {item : Item} {a a' : Above} {count : ℕ} (gfm : Bool)
     (outer : List ℕ)
     → s.spine ≡ outer ++ ix ∷ [] → p ≡ record s { spine = outer; cursor = Some ix } → item ≡ item_at p.nodes ix
-    → t ≡ record p { cursor = sibling_of p.nodes ix } → ((a'' : Above) → a ≡ with_item a'' item → a' ≡ a'')
-    → a ≡ above_spine gfm s.nodes s.spine → a' ≡ above_spine gfm t.nodes t.spine
-fewer_above s {p} {t} {ix} {item} gfm outer split popped is_item goes left is =
+    → t ≡ record p { cursor = sibling_of p.nodes ix } → count ≡ length p.spine
+    → ((style : Bool) (items : List Item) → length items ≡ count → IsKnownOf style (items ++ item ∷ []) a
+    → IsKnownOf style items a')
+    → IsKnownAt gfm s.nodes s.spine a → IsKnownAt gfm t.nodes t.spine a'
+fewer_above s {p} {t} {ix} {item} gfm outer split popped is_item goes count left known =
     let here : item ≡ item_at s.nodes ix = rw popped at is_item in
-    rw (goes, popped) (left (above_spine gfm s.nodes outer) (is ∙ ap (above_spine gfm s.nodes) split
-    ∙ sym (entered gfm s.nodes outer ix) ∙ ap (with_item (above_spine gfm s.nodes outer)) (sym here)))
+    rw (goes, popped) (left gfm (map (item_at s.nodes) outer)
+    (length-map outer (item_at s.nodes) ∙ sym (count ∙ ap (λ (t : Arena Item). length t.spine) popped))
+    (rw (split, map-append (item_at s.nodes) outer (ix ∷ []), ← here) at known))
 
 -- and after an end of the walk, where none is entered
-pub none_above : (s : Arena Item) (b : Above) {a a' : Above} (gfm : Bool) (nodes : List (Node Item)) (spine : List ℕ)
-    → s.spine ≡ [] → a ≡ above_spine gfm nodes spine → b.gfm_footnotes ≡ a.gfm_footnotes
-    → a' ≡ record b { blocks = []; containers = [] } → a' ≡ above_spine gfm s.nodes s.spine
-none_above s b gfm nodes spine none is style cleared = rw (none, cleared, style, is) refl
+pub none_above : (s : Arena Item) (b : Above) {a' : Above} (gfm : Bool) → s.spine ≡ [] → b.gfm_footnotes ≡ gfm
+    → a' ≡ record b { containers = []; searched = 0; block = 0 } → IsKnownAt gfm s.nodes s.spine a'
+none_above s b gfm none style cleared = rw (none, cleared) (known_none gfm b style)

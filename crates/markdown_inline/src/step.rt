@@ -2,7 +2,7 @@
 ghost use Rattle.std.specs.Prelude.{◌≡◌, ◌<◌, Bool, List, None, Some, MatchResult, OnOk, length, ℕ};
 ghost use Rattle.markdown_defs.specs.Allocations.{Allocated};
 ghost use Rattle.markdown_document.specs.Tables.{tables_of};
-ghost use Rattle.markdown_resolver.specs.BlocksAbove.{above_spine};
+ghost use Rattle.markdown_resolver.specs.BlocksAbove.{IsKnownAt};
 ghost use Rattle.markdown_inline.specs.WalkSteps.{StepGives, TreeStands, IsRefused};
 
 use crate::bodies::{Visit, close_item, visit_of};
@@ -37,19 +37,26 @@ pub fn step_out(tree: &mut Tree<Item>, above: &mut BlocksAbove) -> Step
     ensures gives { (source : List ℕ) (held : Allocated)
         → TreeStands source (tables_of held) tree.old
         → StepGives source tree.old tree.new held result }
-    ensures above { (gfm : Bool) → above.old ≡ above_spine gfm tree.old.nodes tree.old.spine
-        → above.new ≡ above_spine gfm tree.new.nodes tree.new.spine }
+    ensures above { (gfm : Bool) → IsKnownAt gfm tree.old.nodes tree.old.spine above.old
+        → IsKnownAt gfm tree.new.nodes tree.new.spine above.new }
     ensures style { above.new.gfm_footnotes ≡ above.old.gfm_footnotes }
 {
     match tree.pop() {
         None => Step::Done,
         Some(ix) => {
             let item = *tree.item(ix);
-            above.leave(item);
+            let outer = tree.walk_spine().len();
             tree.next_sibling(ix);
+            // told apart first: what is left is then known at each end, and costs no test there
             match close_item(item.body) {
-                None => Step::Skip,
-                Some(end) => Step::End(end, item),
+                None => {
+                    above.leave(item, outer);
+                    Step::Skip
+                }
+                Some(end) => {
+                    above.leave(item, outer);
+                    Step::End(end, item)
+                }
             }
         }
     }
@@ -69,8 +76,8 @@ pub fn step_at(
         → TreeStands source (tables_of held) tree.old
         → MatchResult result (StepGives source tree.old tree.new held) (λ _.
         IsRefused tree.old tree.new) }
-    ensures above { (gfm : Bool) → above.old ≡ above_spine gfm tree.old.nodes tree.old.spine
-        → OnOk result (above.new ≡ above_spine gfm tree.new.nodes tree.new.spine) }
+    ensures above { (gfm : Bool) → IsKnownAt gfm tree.old.nodes tree.old.spine above.old
+        → OnOk result (IsKnownAt gfm tree.new.nodes tree.new.spine above.new) }
     ensures style { above.new.gfm_footnotes ≡ above.old.gfm_footnotes }
 {
     let item = *tree.item(ix);
@@ -101,8 +108,8 @@ pub fn take_step(tree: &mut Tree<Item>, above: &mut BlocksAbove) -> Result<Step,
         → TreeStands source (tables_of held) tree.old
         → MatchResult result (StepGives source tree.old tree.new held) (λ _.
         IsRefused tree.old tree.new) }
-    ensures above { (gfm : Bool) → above.old ≡ above_spine gfm tree.old.nodes tree.old.spine
-        → OnOk result (above.new ≡ above_spine gfm tree.new.nodes tree.new.spine) }
+    ensures above { (gfm : Bool) → IsKnownAt gfm tree.old.nodes tree.old.spine above.old
+        → OnOk result (IsKnownAt gfm tree.new.nodes tree.new.spine above.new) }
     ensures style { above.new.gfm_footnotes ≡ above.old.gfm_footnotes }
 {
     match tree.cur() {

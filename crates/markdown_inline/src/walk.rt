@@ -1,7 +1,7 @@
 //! The walk over a block result that gives its events, and resolves each chain when it reaches it.
 ghost use Rattle.std.specs.Prelude.{◌≡◌, ◌<◌, ◌++◌, ◌∷◌, [], IfOk, IfErr, IfSome, IsTrue, None};
 ghost use Rattle.markdown_base.specs.EnabledOptions.{gfm_footnotes_on};
-ghost use Rattle.markdown_resolver.specs.BlocksAbove.{above_spine};
+ghost use Rattle.markdown_resolver.specs.BlocksAbove.{IsKnownAt};
 ghost use Rattle.markdown_inline.specs.Standing.{Stands, Stands-prop};
 ghost use Rattle.markdown_document.specs.Tables.{tables_of};
 
@@ -58,7 +58,7 @@ pub struct Parser<'input, F = DefaultBrokenLinkCallback> {
     /// The blocks among the entered nodes of the tree.
     above: BlocksAbove,
     resolver: Resolver<'input, F>,
-    ghost entered: { above ≡ above_spine (gfm_footnotes_on resolver.options) tree.nodes tree.spine },
+    ghost entered: { IsKnownAt (gfm_footnotes_on resolver.options) tree.nodes tree.spine above },
     ghost stands: { Stands resolver.text.now (tables_of resolver.lookup.tables)
         tree.nodes tree.cursor tree.spine } by { Stands-prop resolver.text.now (tables_of resolver.lookup.tables)
             tree.nodes tree.cursor tree.spine },
@@ -104,7 +104,7 @@ impl<'input, F: BrokenLinkCallback<'input>> Parser<'input, F> {
             Ok(Step::Chain(first)) => {
                 match self
                     .resolver
-                    .resolve_chain(&mut self.tree, &self.above, first)
+                    .resolve_chain(&mut self.tree, &mut self.above, first)
                 {
                     Ok(()) => None,
                     Err(_) => {

@@ -31,7 +31,7 @@ use Rattle.markdown_spans.specs.PrefixView.{bodies_of, length_by}
 use Rattle.markdown_spans.specs.declared.prefixes.ContainerPrefix.{ContainerPrefix}
 use Rattle.markdown_spans.specs.LineStart.{LineLeft}
 use Rattle.markdown_spans.proofs.ContainerPrefixLemmas.{takes_nothing}
-use Rattle.markdown_resolver.specs.BlocksAbove.{Above, above_spine, blocks_in, containers_in, place_inside, with_item}
+use Rattle.markdown_resolver.specs.BlocksAbove.{Above, IsKnownAt, blocks_in, containers_in, place_inside}
 use Rattle.markdown_resolver.specs.ChainPlace.{IsPlaceOf}
 use Rattle.markdown_resolver.specs.Chains.{AreAbove}
 use Rattle.markdown_document.specs.declared.chain_place.ChainPlace.{ChainPlace}
@@ -60,7 +60,7 @@ bodies_inside nodes (ix ∷ deeper) above =
     added (Some block) = append_assoc above.bodies (block ∷ []) (bodies_above nodes deeper)
 
 -- what is not a block has no part in a line
-no_prefix : (gfm : Bool) (b : ItemBody) → is_block b ≡ false → has_prefix gfm b ≡ false
+pub no_prefix : (gfm : Bool) (b : ItemBody) → is_block b ≡ false → has_prefix gfm b ≡ false
 no_prefix gfm (body.BlockQuote kind) h = cc h
 no_prefix gfm (body.ListItem indent) h = cc h
 no_prefix gfm (body.DefinitionListDefinition indent) h = cc h
@@ -160,36 +160,6 @@ unfolding length_by
 prefix_is prefix place tree s containers gfm same text stands bytes =
     rw (containers, gfm, same, text) (stands.containers bytes)
 
--- the last of some blocks decides
-last_of : (a : Item) (blocks : List Item) (item : Item) (before : ℕ × Bool)
-    → slice_get (a ∷ blocks) (length blocks) ≡ Some item
-    → place_inside (a ∷ blocks) before ≡ (item.end, is_table_cell item.body)
-unfolding place_inside
-last_of a [] item before is =
-    ap (λ (found : Option Item). option_map_or (λ (i : Item). (i.end, is_table_cell i.body)) found before) is
-last_of a (b ∷ blocks) item before is = last_of b blocks item (a.end, is_table_cell a.body) is
-
-one_less : (a : Item) (blocks : List Item) → length (a ∷ blocks) - 1 ≡ length blocks
-one_less a blocks = omega arith
-
-pub last_place : (blocks : List Item) (item : Item) (before : ℕ × Bool)
-    → slice_get blocks (length blocks - 1) ≡ Some item
-    → place_inside blocks before ≡ (item.end, is_table_cell item.body)
-last_place [] item before is = cc is
-last_place (a ∷ blocks) item before is =
-    last_of a blocks item before (subst (λ n. slice_get (a ∷ blocks) n ≡ Some item) (one_less a blocks) is)
-
-some_last : (a : Item) (blocks : List Item) → slice_get (a ∷ blocks) (length blocks) ≡ None → ⊥
-some_last a [] none = cc none
-some_last a (b ∷ blocks) none = some_last b blocks none
-
-pub no_last_place : (blocks : List Item) (before : ℕ × Bool) → slice_get blocks (length blocks - 1) ≡ None
-    → place_inside blocks before ≡ before
-unfolding place_inside
-no_last_place [] before none = refl
-no_last_place (a ∷ blocks) before none =
-    absurd (some_last a blocks (subst (λ n. slice_get (a ∷ blocks) n ≡ None) (one_less a blocks) none))
-
 -- the place inside one more item
 step_inside : (item : Item) (rest : List Item) (above : EnclosingBlocks) (is : Bool) → is_block item.body ≡ is
     → place_inside rest ((inside_item item above).block_end, (inside_item item above).in_table)
@@ -232,40 +202,25 @@ boundary_inside source nodes l (ix ∷ deeper) above are boundary =
     inside None = boundary
     inside (Some block) = are.0.lies.end
 
--- what is made of the blocks above is the place of the chain below them
+-- what is known of the nodes above is the place of the chain below them
 pub place_stands : (place : ChainPlace) (tree : Arena Item) (first : Option ℕ) (above : Above)
     → AreAbove place.text.now tree.nodes first tree.spine
-    → above ≡ above_spine (gfm_footnotes_on place.options) tree.nodes tree.spine → IsUtf8 place.text.now
-    → place.block_end ≡ (place_inside above.blocks (length place.text.now, false)).0
-    → place.in_table ≡ (place_inside above.blocks (length place.text.now, false)).1
+    → IsKnownAt (gfm_footnotes_on place.options) tree.nodes tree.spine above → IsUtf8 place.text.now
+    → (place.block_end, place.in_table)
+    ≡ place_inside (blocks_in (map (item_at tree.nodes) tree.spine)) (length place.text.now, false)
     → place.containers.now ≡ above.containers → IsPlaceOf place tree
-place_stands place tree first above are is utf8 end cell containers =
+place_stands place tree first above are known utf8 end containers =
     let source = place.text.now in
-    let inside = ap (λ (a : Above). place_inside a.blocks (length source, false)) is
-    ∙ sym (ends_inside tree.nodes tree.spine (no_blocks source)) in
-    let block_end : place.block_end ≡ (above_cursor source tree).block_end = end
-    ∙ ap (λ (p : ℕ × Bool). p.0) inside in
+    let inside = end ∙ sym (ends_inside tree.nodes tree.spine (no_blocks source)) in
+    let block_end : place.block_end ≡ (above_cursor source tree).block_end = ap (λ (p : ℕ × Bool). p.0) inside in
     record {
       block_end = block_end;
-      in_table = cell ∙ ap (λ (p : ℕ × Bool). p.1) inside;
+      in_table = ap (λ (p : ℕ × Bool). p.1) inside;
       containers = λ bytes.
           ap (λ (items : List Item). prefix_length (gfm_footnotes_on place.options) (bodies_of items) bytes)
-          (containers ∙ ap (λ (a : Above). a.containers) is)
+          (containers ∙ known.containers)
           ∙ contained_prefix (gfm_footnotes_on place.options) source tree.nodes tree.spine bytes;
       boundary = rw block_end (boundary_inside source tree.nodes first tree.spine (no_blocks source) are
           (IsCharBoundary-end source));
       utf8 = utf8;
     }
-
--- one more item, entered and left
-pub entered : (gfm : Bool) (nodes : List (Node Item)) (outer : List ℕ) (ix : ℕ)
-    → with_item (above_spine gfm nodes outer) (item_at nodes ix) ≡ above_spine gfm nodes (outer ++ ix ∷ [])
-entered gfm nodes outer ix =
-    let item = item_at nodes ix in
-    let more : map (item_at nodes) (outer ++ ix ∷ []) ≡ map (item_at nodes) outer ++ item ∷ [] =
-    map-append (item_at nodes) outer (ix ∷ []) in
-    rw (
-      more,
-      filter-append (λ i. is_block i.body) (map (item_at nodes) outer) (item ∷ []),
-      filter-append (λ i. has_prefix gfm i.body) (map (item_at nodes) outer) (item ∷ []),
-    ) refl

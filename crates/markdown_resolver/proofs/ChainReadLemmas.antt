@@ -20,7 +20,6 @@ use Rattle.markdown_document.specs.Tables.{Tables, tables_of}
 use Rattle.markdown_document.proofs.CallbackLemmas.{Asks-some}
 use Rattle.markdown_base.specs.EnabledOptions.{gfm_footnotes_on}
 use Rattle.markdown_spans.specs.ContainerPrefix.{prefix_length}
-use Rattle.markdown_resolver.specs.BlocksAbove.{above_spine}
 use Rattle.markdown_resolver.specs.ChainPlace.{CanReadItem, CanReadOn, IsPlaceOf}
 use Rattle.markdown_resolver.specs.Chains.{AreAbove, CanResolve, ChangesChain, ResolvesFrom}
 use Rattle.markdown_resolver.specs.PassOne.{pass_one}
@@ -50,18 +49,13 @@ same_setting text text' options options' held held' asks asks' of_text of_option
       rules = record { options = options; definitions = by_label held.refdefs; is_footnote = names; asks = asks };
     } in x) names)
 
--- the items of the nodes above a chain stay where it is changed, and so do the blocks among them
-items_above : {source : List ℕ} {l : Option ℕ} {old new : List (Node Item)} {tables tables' : Tables} (spine : List ℕ)
+-- the items of the nodes above a chain stay where it is changed
+pub items_above : {source : List ℕ} {l : Option ℕ} {old new : List (Node Item)} {tables tables' : Tables} (spine : List ℕ)
     → ChangesChain source l old new tables tables' → AreAbove source old l spine
     → map (item_at new) spine ≡ map (item_at old) spine
 items_above [] c above = refl
 items_above (n ∷ deeper) c above =
     ap₂ (λ item items. item ∷ items) (c.outside n above.0.within above.0.apart).item (items_above deeper c above.1)
-
-pub blocks_above : {source : List ℕ} {l : Option ℕ} {old new : List (Node Item)} {tables tables' : Tables} (gfm : Bool)
-    (spine : List ℕ) → ChangesChain source l old new tables tables' → AreAbove source old l spine
-    → above_spine gfm new spine ≡ above_spine gfm old spine
-blocks_above gfm spine c above = rw (items_above spine c above) refl
 
 inside_changed : (source : List ℕ) (l : Option ℕ) (old new : List (Node Item)) (tables tables' : Tables)
     (spine : List ℕ) (outer : EnclosingBlocks)

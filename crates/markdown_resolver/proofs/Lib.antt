@@ -44,6 +44,7 @@ pub mod LiteralTextLemmas
 pub mod PairedLemmas
 pub mod WorkLemmas
 pub mod ChainPlaceLemmas
+pub mod BlocksAboveLemmas
 pub mod ChainLeadsLemmas
 pub mod SpanFindLemmas
 pub mod FollowersLemmas

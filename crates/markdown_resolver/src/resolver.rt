@@ -57,7 +57,7 @@ impl<'a, F: BrokenLinkCallback<'a>> Resolver<'a, F> {
     ghost use Rattle.markdown_document.specs.Setting.{rules_from, setting_of};
     ghost use Rattle.markdown_document.specs.ResolverStates.{items_from, resolver_state, above_cursor};
     ghost use Rattle.markdown_document.specs.Tables.{tables_of};
-    ghost use Rattle.markdown_resolver.specs.BlocksAbove.{above_spine};
+    ghost use Rattle.markdown_resolver.specs.BlocksAbove.{IsKnownAt};
     ghost use Rattle.markdown_resolver.specs.BracketKinds.{kind_of};
     ghost use Rattle.markdown_resolver.specs.Chains.{ResolvesChain, StopsIn};
     ghost use Rattle.markdown_resolver.specs.ReadOn.{StopsInPassOne};
@@ -261,14 +261,14 @@ impl<'a, F: BrokenLinkCallback<'a>> Resolver<'a, F> {
     fn read_chain(
         &mut self,
         tree: &mut Tree<Item>,
-        above: &BlocksAbove,
+        above: &mut BlocksAbove,
         first: usize,
     ) -> Result<(), Fault>
         requires can_ask { IfSome self.old.lookup.callback F.can_ask }
         requires ready { CanResolveBelow self.old.text.now (tables_of self.old.lookup.tables)
             tree.old first }
-        requires above { above.now ≡ above_spine (gfm_footnotes_on self.old.options)
-            tree.old.nodes tree.old.spine }
+        requires above { IsKnownAt (gfm_footnotes_on self.old.options) tree.old.nodes
+            tree.old.spine above.old }
         ensures reads { IfOk result (λ _.
             ReadsChain F.answers first tree.old tree.new self.old self.new) }
 
@@ -281,9 +281,12 @@ impl<'a, F: BrokenLinkCallback<'a>> Resolver<'a, F> {
         ensures counts { ReadCounts (items_from tree.old.nodes (Some first)) self.old.work
             self.new.work }
         ensures kept { ChangesForChain self.old self.new }
+        ensures above { IsKnownAt (gfm_footnotes_on self.old.options) tree.old.nodes tree.old.spine
+            above.new }
     {
         self.begin_chain();
-        let place = above.place(self.text, self.options);
+        let end = above.end_of_block(tree, self.text.as_bytes().len());
+        let place = above.place(self.text, self.options, end);
         let mut scanner = RawHtmlScanner::new(self.text[..place.block_end].as_bytes());
         let mut at = Some(first);
         'chain: while let Some(ix) = at {
@@ -307,14 +310,14 @@ impl<'a, F: BrokenLinkCallback<'a>> Resolver<'a, F> {
     pub fn resolve_chain(
         &mut self,
         tree: &mut Tree<Item>,
-        above: &BlocksAbove,
+        above: &mut BlocksAbove,
         first: usize,
     ) -> Result<(), Fault>
         requires can_ask { IfSome self.old.lookup.callback F.can_ask }
         requires ready { CanResolveBelow self.old.text.now (tables_of self.old.lookup.tables)
             tree.old first }
-        requires above { above.now ≡ above_spine (gfm_footnotes_on self.old.options)
-            tree.old.nodes tree.old.spine }
+        requires above { IsKnownAt (gfm_footnotes_on self.old.options) tree.old.nodes
+            tree.old.spine above.old }
         requires open { is_open (item_at tree.old.nodes first).body ≡ true }
         ensures resolves { IfOk result (λ _. ResolvesChain F.answers
             (setting_of self.old.text.now
@@ -334,6 +337,8 @@ impl<'a, F: BrokenLinkCallback<'a>> Resolver<'a, F> {
             self.old.work self.new.work) }
         ensures again { IfSome self.new.lookup.callback F.can_ask }
         ensures kept { KeepsInput self.old self.new }
+        ensures above { IsKnownAt (gfm_footnotes_on self.old.options) tree.old.nodes tree.old.spine
+            above.new }
     {
         self.read_chain(tree, above, first)?;
         let source = ChainText {

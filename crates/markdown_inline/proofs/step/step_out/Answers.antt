@@ -1,5 +1,5 @@
 -- The node that was entered last ends, and the walk continues after it.
-use Rattle.std.proofs.Common.{[]}
+use Rattle.std.proofs.Common.{[], ap, length}
 use Rattle.markdown_base.specs.BlockTree.{no_item}
 use Rattle.markdown_inline.proofs.WalkStepsLemmas.{fewer_above, went_out_end, went_out_plain}
 use Rattle.markdown_inline.proofs.step.step_out.Goals as goal
@@ -26,13 +26,13 @@ returns-in-Some-close_item-clause-gives c source held w =
     }
 
 pub returns-in-None-close_item-clause-above : goal.returns-in-None-close_item-clause-above
-returns-in-None-close_item-clause-above c gfm is =
+returns-in-None-close_item-clause-above c gfm known =
     let popped = c.in-Some.ensures.goes in
     fewer_above c.args.tree.now gfm popped.0 popped.1 popped.2 (c.item-item.ensures no_item) c.next_sibling.ensures.goes
-    c.leave.ensures.left is
+    (ap length c.walk_spine.ensures) c.leave.ensures.left known
 
 pub returns-in-Some-close_item-clause-above : goal.returns-in-Some-close_item-clause-above
-returns-in-Some-close_item-clause-above c gfm is =
+returns-in-Some-close_item-clause-above c gfm known =
     let popped = c.in-Some.ensures.goes in
     fewer_above c.args.tree.now gfm popped.0 popped.1 popped.2 (c.item-item.ensures no_item) c.next_sibling.ensures.goes
-    c.leave.ensures.left is
+    (ap length c.walk_spine.ensures) c.leave.ensures.left known

@@ -1,6 +1,6 @@
 -- Each step of the tree is one of the parser; before a chain the resolver is called.
 use Rattle.markdown_document.specs.Tables.{tables_of}
-use Rattle.std.proofs.Common.{ap, refl}
+use Rattle.std.proofs.Common.{ap, refl, ◌∙◌}
 use Rattle.markdown_base.specs.Arena.{Arena}
 use Rattle.markdown_base.specs.EnabledOptions.{gfm_footnotes_on}
 use Rattle.markdown_base.specs.declared.item.Item.{Item}
@@ -44,7 +44,7 @@ invariant_of-self-in-Ok g c =
     let h = rw c.in-Ok-Chain.field-0-is at
     (c.in-Ok-Chain.ensures.gives s.resolver.text.now s.resolver.lookup.tables s.stands)
     in
-    let before = rw h.1 at (c.in-Ok-Chain.ensures.above (gfm_footnotes_on s.resolver.options) s.entered) in
+    let before = rw h.1 at c.resolve_chain.ensures.above in
     record {
       entered = rw c.in-Ok.ensures.kept.options (entered_chain (parser_setting s)
           (gfm_footnotes_on s.resolver.options) s.stands h.0 (rw h.1 at c.in-Ok.ensures.resolves) before);
@@ -69,10 +69,9 @@ pub invariant_of-self-in-Err-resolve_chain : goal.invariant_of-self-in-Err-resol
 invariant_of-self-in-Err-resolve_chain g c =
     let s = c.args.self.now in
     record {
-      entered = rw c.resolve_chain.ensures.kept.options (none_above c.stop.new.self c.take_step.new.above
-          (gfm_footnotes_on s.resolver.options) s.tree.nodes
-          s.tree.spine (ap (λ (t : Arena Item). t.spine) c.stop.ensures) s.entered c.take_step.ensures.style
-          c.clear.ensures);
+      entered = rw c.resolve_chain.ensures.kept.options (none_above c.stop.new.self c.resolve_chain.new.above
+          (gfm_footnotes_on s.resolver.options) (ap (λ (t : Arena Item). t.spine) c.stop.ensures)
+          c.resolve_chain.ensures.above.style c.clear.ensures);
       stands = stands_ended c.resolve_chain.new.self.text.now (tables_of c.resolve_chain.new.self.lookup.tables)
           c.stop.new.self
           (stopped c.resolve_chain.new.tree c.stop.new.self c.stop.ensures);
@@ -83,8 +82,7 @@ invariant_of-self-in-Err g c =
     let s = c.args.self.now in
     record {
       entered = none_above c.stop-in-Err.new.self c.take_step.new.above (gfm_footnotes_on s.resolver.options)
-          s.tree.nodes s.tree.spine
-          (ap (λ (t : Arena Item). t.spine) c.stop-in-Err.ensures) s.entered c.take_step.ensures.style
+          (ap (λ (t : Arena Item). t.spine) c.stop-in-Err.ensures) (c.take_step.ensures.style ∙ s.entered.style)
           c.clear-in-Err.ensures;
       stands = stands_ended c.args.self.now.resolver.text.now (tables_of c.args.self.now.resolver.lookup.tables)
           c.stop-in-Err.new.self

@@ -9,7 +9,7 @@ invariant_of-result g c =
     let parts = c.into_parts-tree.result in
     let rules = c.into_parts-tree.ensures.rules in
     record {
-      entered = rw (c.new-above.ensures, c.reset.ensures) refl;
+      entered = rw c.reset.ensures c.new-above.ensures;
       stands = rw (c.reset.ensures, tables_held parts.3 c.in_ok-tables.tables c.in_ok-tables.ensures.holds)
           (starts_stands parts.0.now parts.2.nodes parts.3 rules);
     }

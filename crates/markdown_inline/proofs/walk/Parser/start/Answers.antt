@@ -21,9 +21,7 @@ invariant_of-self g c = record {
 pub invariant_of-self-in-Err : goal.invariant_of-self-in-Err
 invariant_of-self-in-Err g c = record {
   entered = none_above c.stop.new.self c.args.self.now.above (gfm_footnotes_on c.args.self.now.resolver.options)
-      c.args.self.now.tree.nodes
-      c.args.self.now.tree.spine (ap (λ (t : Arena Item). t.spine) c.stop.ensures) c.args.self.now.entered refl
-      c.clear.ensures;
+      (ap (λ (t : Arena Item). t.spine) c.stop.ensures) c.args.self.now.entered.style c.clear.ensures;
   stands = stands_ended c.args.self.now.resolver.text.now (tables_of c.start_tag.new.tables) c.stop.new.self
       (stopped c.args.self.now.tree c.stop.new.self c.stop.ensures);
 }
