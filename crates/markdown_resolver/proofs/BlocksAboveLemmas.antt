@@ -158,6 +158,15 @@ block_searched gfm items item a k is =
         let inside = k.inside (omega (arith, low)) in
         omega (arith, all, block, inside)
 
+-- so the last of those searched is none
+last_searched : (gfm : Bool) (items : List Item) (item : Item) (a : Above) → IsKnownOf gfm (items ++ item ∷ []) a
+    → length items < a.searched → is_block item.body ≡ false
+last_searched gfm items item a k low = by (is_block item.body) refl
+  where
+    by : (is : Bool) → is_block item.body ≡ is → is_block item.body ≡ false
+    by true e = absurd (omega (arith, low, block_searched gfm items item a k e))
+    by false e = e
+
 pub container_searched : (gfm : Bool) (items : List Item) (item : Item) (a : Above)
     → IsKnownOf gfm (items ++ item ∷ []) a → has_prefix gfm item.body ≡ true → a.searched ≤ length items
 container_searched gfm items item a k has = by (is_block item.body) refl
@@ -190,9 +199,10 @@ module _ (gfm : Bool) (items : List Item) (item : Item) (a : Above) (k : IsKnown
     inside = λ low. omega (arith, low);
   }
 
-  pub known_cut : is_block item.body ≡ false → length items < a.searched → a.block < length items
+  pub known_cut : length items < a.searched → a.block < length items
       → IsKnownOf gfm items (record a { searched = length items })
-  known_cut no_block low inside =
+  known_cut low inside =
+      let no_block = last_searched gfm items item a k low in
       let all : a.searched ≡ suc (length items) = omega (arith, low, k.within, length-append items (item ∷ [])) in
       record {
         style = k.style;

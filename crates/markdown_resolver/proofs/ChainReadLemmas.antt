@@ -50,8 +50,8 @@ same_setting text text' options options' held held' asks asks' of_text of_option
     } in x) names)
 
 -- the items of the nodes above a chain stay where it is changed
-pub items_above : {source : List ℕ} {l : Option ℕ} {old new : List (Node Item)} {tables tables' : Tables} (spine : List ℕ)
-    → ChangesChain source l old new tables tables' → AreAbove source old l spine
+pub items_above : {source : List ℕ} {l : Option ℕ} {old new : List (Node Item)} {tables tables' : Tables}
+    (spine : List ℕ) → ChangesChain source l old new tables tables' → AreAbove source old l spine
     → map (item_at new) spine ≡ map (item_at old) spine
 items_above [] c above = refl
 items_above (n ∷ deeper) c above =

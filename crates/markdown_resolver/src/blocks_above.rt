@@ -122,7 +122,7 @@ impl BlocksAbove {
     {
         if has_prefix(item.body, self.gfm_footnotes) {
             self.containers.pop();
-        } else if !item.body.is_block() && outer < self.searched {
+        } else if outer < self.searched {
             if outer > self.block {
                 self.searched = outer;
             } else {
@@ -143,7 +143,7 @@ impl BlocksAbove {
 
     /// Returns how many of the entered nodes of a tree there are up to the innermost block, that included: 0 where none is
     /// a block.
-    fn up_to_innermost(&mut self, tree: &Tree<Item>) -> usize
+    pub fn up_to_innermost(&mut self, tree: &Tree<Item>) -> usize
         requires above { (source : List ℕ) × (first : Option ℕ)
             × AreAbove source tree.now.nodes first tree.now.spine }
         requires known { (gfm : Bool) × IsKnownAt gfm tree.now.nodes tree.now.spine self.old }
@@ -165,42 +165,29 @@ impl BlocksAbove {
         block
     }
 
-    /// Returns where the innermost block among the entered nodes of a tree ends, and whether that is a cell of a table: the
-    /// text's end where there is none.
-    pub fn end_of_block(&mut self, tree: &Tree<Item>, text_end: usize) -> (usize, bool)
-        requires above { (source : List ℕ) × (first : Option ℕ)
-            × AreAbove source tree.now.nodes first tree.now.spine }
-        requires known { (gfm : Bool) × IsKnownAt gfm tree.now.nodes tree.now.spine self.old }
-        ensures end { result ≡ place_inside
-            (blocks_in (map (item_at tree.now.nodes) tree.now.spine)) (text_end, false) }
-        ensures known { (gfm : Bool) → IsKnownAt gfm tree.now.nodes tree.now.spine self.old
-            → IsKnownAt gfm tree.now.nodes tree.now.spine self.new }
-    {
-        let block = self.up_to_innermost(tree);
-        end_at(tree, block, text_end)
-    }
-
-    /// Returns the place of the chain that the walk has reached, in a block with this end: that, and the containers that
-    /// its lines begin with.
+    /// Returns the place of a chain below the entered nodes of a tree, of which `block` are up to the innermost block: where
+    /// that ends, whether it is a cell of a table, and the containers that its lines begin with.
     pub fn place<'a>(
         &self,
+        tree: &Tree<Item>,
         text: &'a str,
         options: Options,
-        end: (usize, bool),
+        block: usize,
     ) -> ChainPlace<'a, '_>
-        ensures place { (tree : Arena Item) (first : Option _) →
-            AreAbove text.now tree.nodes first tree.spine
-            → IsKnownAt (gfm_footnotes_on options) tree.nodes tree.spine self.now
-            → end ≡ place_inside (blocks_in (map (item_at tree.nodes) tree.spine))
-            (length text.now, false)
-            → IsPlaceOf result tree }
+        requires above { (first : Option ℕ)
+            × AreAbove text.now tree.now.nodes first tree.now.spine }
+        requires known { IsKnownAt (gfm_footnotes_on options) tree.now.nodes tree.now.spine
+            self.now }
+        requires block { block ≡ up_to_block (map (item_at tree.now.nodes) tree.now.spine) }
+        ensures place { IsPlaceOf result tree.now }
         ensures text { result.text.now ≡ text.now }
         ensures options { result.options ≡ options }
     {
+        let (block_end, in_table) = end_at(tree, block, text.as_bytes().len());
         ChainPlace {
             text,
-            block_end: end.0,
-            in_table: end.1,
+            block_end,
+            in_table,
             containers: &self.containers,
             options,
         }

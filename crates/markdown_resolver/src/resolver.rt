@@ -285,8 +285,8 @@ impl<'a, F: BrokenLinkCallback<'a>> Resolver<'a, F> {
             above.new }
     {
         self.begin_chain();
-        let end = above.end_of_block(tree, self.text.as_bytes().len());
-        let place = above.place(self.text, self.options, end);
+        let block = above.up_to_innermost(tree);
+        let place = above.place(tree, self.text, self.options, block);
         let mut scanner = RawHtmlScanner::new(self.text[..place.block_end].as_bytes());
         let mut at = Some(first);
         'chain: while let Some(ix) = at {

@@ -1,9 +1,6 @@
 -- The nodes are asked from the innermost on, as long as none is a block.
-use Rattle.std.proofs.Common.{◌≡◌, ◌-◌, ◌∙◌, ◌<◌, get_or, length, sym, ap, refl, arith}
-use Rattle.std.specs.Prelude.{if◌then◌else◌}
+use Rattle.std.proofs.Common.{◌≡◌, ◌-◌, ◌∙◌, get_or, sym, refl, arith}
 use Rattle.markdown_base.specs.BlockTree.{item_at, no_item}
-use Rattle.markdown_base.specs.Item.{is_block}
-use Rattle.markdown_base.specs.declared.item.Item.{Item}
 use Rattle.markdown_resolver.proofs.BlocksAboveLemmas.{above_within, up_to_last}
 use Rattle.markdown_resolver.proofs.blocks_above.up_to_block.Goals as goal
 

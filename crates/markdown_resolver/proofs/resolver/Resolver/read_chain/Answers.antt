@@ -16,11 +16,16 @@ use Rattle.markdown_resolver.proofs.ReadingLemmas.{looked_none}
 use Rattle.markdown_resolver.proofs.resolver.Resolver.read_chain.Goals as goal
 use Rattle.markdown_resolver.specs.ReadsBracket.{HasLearned}
 
+pub place-place-requires : goal.place-place-requires
+place-place-requires g c = record {
+  above = rw c.begin_chain.ensures.kept (Some c.args.first, c.requires.ready.above);
+  known = rw c.begin_chain.ensures.kept (c.up_to_innermost-block.ensures.known _ c.requires.above);
+  block = c.up_to_innermost-block.ensures.value;
+}
+
 pub range-requires-clause-end_boundary : goal.range-requires-clause-end_boundary
 range-requires-clause-end_boundary g c =
-    let stands = c.place-place.ensures.place c.args.tree.now (Some c.args.first)
-    (rw c.begin_chain.ensures.kept c.requires.ready.above) (rw c.begin_chain.ensures.kept (c.end_of_block-end.ensures.known _ c.requires.above))
-    (rw (c.end_of_block-end.ensures.end, c.as_bytes.ensures.value) refl) in
+    let stands = c.place-place.ensures.place in
     subst (λ (text : List ℕ). IsCharBoundary text c.place-place.result.block_end) c.place-place.ensures.text
     stands.boundary
 
@@ -38,7 +43,7 @@ chain-init g c =
           c.begin_chain.ensures.spent c.begin_chain.ensures.brackets c.begin_chain.ensures.wikilinks;
       can_ask = c.requires.can_ask;
       scanner =
-          c.new-scanner.ensures ∙ c.as_bytes-2.ensures.value ∙ c.range.ensures.value
+          c.new-scanner.ensures ∙ c.as_bytes.ensures.value ∙ c.range.ensures.value
           ∙ whole_range c.begin_chain.new.self.text.now place.block_end
           ∙ ap (take place.block_end) (sym c.place-place.ensures.text);
       learned = record { code = λ low chain leads. tt; math = λ low chain leads. tt };
@@ -55,9 +60,7 @@ read_item-requires g c κs =
     let text : c.place-place.result.text.now ≡ c.args.self.now.text.now = c.place-place.ensures.text
     ∙ ap (λ (r : Resolver g.row.F.Denot). r.text.now) c.begin_chain.ensures.kept in
     let can = can_read_on i.reads c.requires.ready.above c.place-place.result c.in-Some.ix c.in-Some.is text
-    (c.place-place.ensures.place c.args.tree.now (Some c.args.first)
-    (rw c.begin_chain.ensures.kept c.requires.ready.above) (rw c.begin_chain.ensures.kept (c.end_of_block-end.ensures.known _ c.requires.above))
-    (rw (c.end_of_block-end.ensures.end, c.as_bytes.ensures.value) refl)) in
+    c.place-place.ensures.place in
     let options : c.begin_chain.new.self.options ≡ c.chain.self.options = ap (λ (r : Resolver g.row.F.Denot). r.options)
     c.begin_chain.ensures.kept ∙ sym (ap (λ (r : Resolver g.row.F.Denot). r.options) i.kept) in (
       (refl, tt),
@@ -85,9 +88,7 @@ returns-in-Err-clause-stops g c =
     let text : c.place-place.result.text.now ≡ s.text.now = c.place-place.ensures.text
     ∙ ap (λ (r : Resolver g.row.F.Denot). r.text.now) c.begin_chain.ensures.kept in
     let can = can_read_on i.reads c.requires.ready.above c.place-place.result c.in-Some.ix c.in-Some.is text
-    (c.place-place.ensures.place c.args.tree.now (Some c.args.first)
-    (rw c.begin_chain.ensures.kept c.requires.ready.above) (rw c.begin_chain.ensures.kept (c.end_of_block-end.ensures.known _ c.requires.above))
-    (rw (c.end_of_block-end.ensures.end, c.as_bytes.ensures.value) refl)) in
+    c.place-place.ensures.place in
     let same = same_setting s.text.now at.text.now s.options at.options s.lookup.tables at.lookup.tables
     (is_some s.lookup.callback) (is_some at.lookup.callback)
     (ap (λ (r : Resolver g.row.F.Denot). r.text.now) i.kept) (ap (λ (r : Resolver g.row.F.Denot). r.options) i.kept)
@@ -113,9 +114,7 @@ chain-preserved g c =
     let text : c.place-place.result.text.now ≡ s.text.now = c.place-place.ensures.text
     ∙ ap (λ (r : Resolver g.row.F.Denot). r.text.now) c.begin_chain.ensures.kept in
     let can = can_read_on i.reads c.requires.ready.above c.place-place.result ix c.in-Some.is text
-    (c.place-place.ensures.place c.args.tree.now (Some c.args.first)
-    (rw c.begin_chain.ensures.kept c.requires.ready.above) (rw c.begin_chain.ensures.kept (c.end_of_block-end.ensures.known _ c.requires.above))
-    (rw (c.end_of_block-end.ensures.end, c.as_bytes.ensures.value) refl)) in
+    c.place-place.ensures.place in
     let same = same_setting s.text.now at.text.now s.options at.options s.lookup.tables at.lookup.tables
     (is_some s.lookup.callback) (is_some at.lookup.callback)
     (ap (λ (r : Resolver g.row.F.Denot). r.text.now) i.kept) (ap (λ (r : Resolver g.row.F.Denot). r.options) i.kept)
@@ -169,9 +168,7 @@ count_items-requires g c κs =
     let text : c.place-place.result.text.now ≡ c.args.self.now.text.now = c.place-place.ensures.text
     ∙ ap (λ (r : Resolver g.row.F.Denot). r.text.now) c.begin_chain.ensures.kept in
     let can = can_read_on c.chain.invariant.reads c.requires.ready.above c.place-place.result c.in-Some.ix
-    c.in-Some.is text (c.place-place.ensures.place c.args.tree.now (Some c.args.first)
-    (rw c.begin_chain.ensures.kept c.requires.ready.above) (rw c.begin_chain.ensures.kept (c.end_of_block-end.ensures.known _ c.requires.above))
-    (rw (c.end_of_block-end.ensures.end, c.as_bytes.ensures.value) refl)) in
+    c.in-Some.is text c.place-place.ensures.place in
     ((refl, tt), rw c.in-Err.ensures.stops.refused.1 (ready_here can).reaches.spelled)
 
 pub returns-in-Err-clause-counts : goal.returns-in-Err-clause-counts
@@ -225,5 +222,5 @@ returns g c =
         math = record { more = math.more; within = math.within; counted = math.counted };
       };
       kept = record { kept = rw i.kept refl; footnotes = i.footnotes };
-      above = c.end_of_block-end.ensures.known _ c.requires.above;
+      above = c.up_to_innermost-block.ensures.known _ c.requires.above;
     }
