@@ -12,9 +12,9 @@
  * buffer, or with none to learn the length, and if the number is greater than the length of the buffer, once more with a
  * buffer of that length. Those whose names end in `_alloc` return the result in memory that the caller frees.
  *
- * ## Whose texts
+ * ## Trusted texts and untrusted input
  *
- * `markdown_to_safe_html` and `markdown_safe_html_alloc` are for texts that strangers wrote: their authors have no
+ * `markdown_to_safe_html` and `markdown_safe_html_alloc` are for untrusted input, whose authors have no
  * markup of their own in the page. The HTML of the other calls is not sanitised: they are for trusted texts, whose
  * raw HTML and destinations, `javascript:` among them, come through as the text's author wrote them. The JSON has
  * them too.
@@ -74,7 +74,7 @@ extern "C" {
 /** The text is not UTF-8. */
 #define MARKDOWN_NOT_UTF8 (-1)
 
-/** An allocation was refused. The call may be tried again. */
+/** An allocation failed. The call may be tried again. */
 #define MARKDOWN_NO_MEMORY (-2)
 
 /** More than 2^64 - 1 Starts are open in one image, which is more than can be counted. */
@@ -154,7 +154,7 @@ extern "C" {
 int64_t markdown_to_html(const uint8_t *text, size_t text_length, uint32_t options, uint8_t *out,
                          size_t out_length);
 
-/** Renders a `text` that a stranger wrote as safe HTML.
+/** Renders an untrusted `text` as safe HTML.
  *
  * Raw HTML is shown as text, a link or an image has an empty destination unless its scheme is `http`, `https`, `mailto`
  * or `tel`, or it has none, and the ids of footnotes begin with `user-content-`. Put the HTML into a `div` of a page that is

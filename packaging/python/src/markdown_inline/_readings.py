@@ -34,7 +34,7 @@ class Heading(NamedTuple):
 def html(text: str, extensions: Iterable[str] = (), *, safe: bool = True) -> str:
     """Returns the HTML of a text.
 
-    Safe HTML is for texts that strangers wrote: raw HTML is shown as text, and destinations have one of the schemes http,
+    Safe HTML is for untrusted input: raw HTML is shown as text, and destinations have one of the schemes http,
     https, mailto and tel, or none. With `safe=False` raw HTML and all destinations come through as the text's author
     wrote them.
     """
