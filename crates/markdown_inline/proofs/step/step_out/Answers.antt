@@ -35,4 +35,4 @@ pub returns-in-Some-close_item-clause-above : goal.returns-in-Some-close_item-cl
 returns-in-Some-close_item-clause-above c gfm known =
     let popped = c.in-Some.ensures.goes in
     fewer_above c.args.tree.now gfm popped.0 popped.1 popped.2 (c.item-item.ensures no_item) c.next_sibling.ensures.goes
-    (ap length c.walk_spine-outer.ensures) c.leave.ensures.left known
+    (ap length c.walk_spine-outer.ensures) c.leave-in-Some-close_item.ensures.left known
