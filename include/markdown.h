@@ -83,7 +83,7 @@ extern "C" {
 /**
  * ## Options
  *
- * Bits that enable extensions. `MARKDOWN_DEFAULT` enables none, and leaves out what it says. The bits of the extended entry
+ * Bits that enable extensions. `MARKDOWN_DEFAULT` enables none, and leaves out what it says. The bits of the full reading
  * change nothing unless `MARKDOWN_EXTENDED` is set, and bits that are not listed here change nothing at all.
  */
 
@@ -92,7 +92,7 @@ extern "C" {
  */
 #define MARKDOWN_DEFAULT 0
 
-/** Tables, of the extended entry. */
+/** Tables, of the full reading. */
 #define MARKDOWN_TABLES (1 << 1)
 
 /** Footnotes in GitHub's style: `[^a]` and its definition `[^a]: text`. */
@@ -101,21 +101,21 @@ extern "C" {
 /** `~~a~~`, and `~a~` unless `MARKDOWN_SUBSCRIPT` is set. */
 #define MARKDOWN_STRIKETHROUGH (1 << 3)
 
-/** Task lists, of the extended entry: `- [ ] a`, and `- [x] a` for a task that is done. */
+/** Task lists, of the full reading: `- [ ] a`, and `- [x] a` for a task that is done. */
 #define MARKDOWN_TASKLISTS (1 << 4)
 
 /** Curly quotes; with `MARKDOWN_EXTENDED` also dashes for `--` and `---`, and an ellipsis for `...`. */
 #define MARKDOWN_SMART (1 << 5)
 
-/** Attributes of headings, of the extended entry: `# a {#id .class name=value}`. Names are the author's, `onclick` too,
+/** Attributes of headings, of the full reading: `# a {#id .class name=value}`. Names are the author's, `onclick` too,
  * but in safe HTML, which has none of them.
  */
 #define MARKDOWN_HEADING_ATTRIBUTES (1 << 6)
 
-/** Metadata between `---` lines, of the extended entry; HTML shows none of it. */
+/** Metadata between `---` lines, of the full reading; HTML shows none of it. */
 #define MARKDOWN_YAML (1 << 7)
 
-/** Metadata between `+++` lines, of the extended entry; HTML shows none of it. */
+/** Metadata between `+++` lines, of the full reading; HTML shows none of it. */
 #define MARKDOWN_PLUSES (1 << 8)
 
 /** Footnotes whose references need no definition. */
@@ -124,7 +124,7 @@ extern "C" {
 /** `$a$` and `$$a$$`. */
 #define MARKDOWN_MATH (1 << 10)
 
-/** Alerts, of the extended entry: block quotes that begin with `[!NOTE]`, or another of five kinds. */
+/** Alerts, of the full reading: block quotes that begin with `[!NOTE]`, or another of five kinds. */
 #define MARKDOWN_GFM (1 << 11)
 
 /** `^a^`. */
@@ -136,7 +136,7 @@ extern "C" {
 /** `[[page]]` and `[[page|text]]`. */
 #define MARKDOWN_WIKILINKS (1 << 15)
 
-/** The extended entry, which reads e-mail addresses in angle brackets and all named entities of HTML too, and has more
+/** The full reading, which reads e-mail addresses in angle brackets and all named entities of HTML too, and has more
  * extensions. It is none itself. Libraries up to 0.8.0 take it for a bit that changes nothing.
  */
 #define MARKDOWN_EXTENDED (1 << 30)

@@ -7,7 +7,7 @@
 
 #include "markdown.h"
 
-/* All options, and the extended entry. */
+/* All options, and the full reading. */
 #define ALL_OPTIONS ((uint32_t)0x7fffffff)
 
 /* The stack that is enough, as the header says. */

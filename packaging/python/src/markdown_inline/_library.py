@@ -23,7 +23,7 @@ EXTENSIONS: Dict[str, int] = {
     "yaml": 1 << 7,
 }
 
-# The bit that asks for the extended entry.
+# The bit that asks for the full reading.
 _EXTENDED = 1 << 30
 _NO_MEMORY = -2
 _TOO_DEEP = -3
