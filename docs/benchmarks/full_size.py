@@ -33,6 +33,7 @@ TEXTS = {
     "100,000 images in images": (nested("![", "](b)"), NESTED, ()),
     "10 MB of `[`": (repeated("["), LONG, ()),
     "10 MB of `*a_ `": (repeated("*a_ "), LONG, ()),
+    "10 MB of `_a ` and then `a* `": (lambda size: "_a " * (size // 6) + "a* " * (size // 6), LONG, ()),
     "10 MB of `![`": (repeated("!["), LONG, ()),
     "10 MB of backticks": (repeated("`"), LONG, ()),
     "10 MB of `<`": (repeated("<"), LONG, ()),

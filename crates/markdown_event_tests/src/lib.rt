@@ -19,24 +19,18 @@ mod merges;
 #[cfg(test)]
 mod messages;
 #[cfg(test)]
-mod odd_texts;
-#[cfg(test)]
-mod outline_notes;
-#[cfg(test)]
 mod outlines;
-#[cfg(test)]
-mod outlines_of_texts;
 #[cfg(test)]
 mod parser;
 #[cfg(test)]
 mod program;
+#[cfg(test)]
+mod random_texts;
 #[cfg(test)]
 mod runs;
 #[cfg(test)]
 mod safe;
 #[cfg(test)]
 mod signs;
-#[cfg(test)]
-mod tasks_and_alerts;
 #[cfg(test)]
 mod whole_runs;

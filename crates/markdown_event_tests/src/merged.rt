@@ -52,24 +52,3 @@ fn ranges_of_a_merged_map(rt: HostRuntime) -> Result<(), Fail> {
     let notes = notes_of(alloc, TextMergeWithOffset::new(alloc, mapped))?;
     gives("a\nb", notes.as_str(), "<p>0..3 +[a b]0..3 </p>0..3 ")
 }
-
-/// Checks the merge of the events of a text, each with its range.
-fn merge_gives(alloc: Global, source: &str, wanted: &str) -> Result<(), Fail> {
-    let iter = plain_parser(alloc, source)?.into_offset_iter();
-    let notes = notes_of(alloc, TextMergeWithOffset::new(alloc, iter))?;
-    gives(source, notes.as_str(), wanted)
-}
-
-#[test]
-fn ranges_of_merged_parsers(rt: HostRuntime) -> Result<(), Fail> {
-    for &(source, wanted) in &[
-        ("a\nb", "<p>0..3 [a]0..1 /1..2 [b]2..3 </p>0..3 "),
-        (
-            "\n    first line\n    second line\n",
-            "<code>5..32 +[first line\nsecond line\n]5..32 </code>5..32 ",
-        ),
-    ] {
-        merge_gives(rt.alloc(), source, wanted)?;
-    }
-    Ok(())
-}

@@ -1,5 +1,5 @@
 //! The outlines of events made by hand, where no allocation is refused.
-use crate::outline_notes::said_of;
+
 use crate::signs::{Sign, item_of};
 use markdown_base::event::Event;
 use markdown_base::fault::Fault;
@@ -7,6 +7,7 @@ use markdown_base::tag::{HeadingLevel, TagEnd};
 use markdown_outline::outline;
 use markdown_test_helpers::lists::{Items, Listed};
 use markdown_test_helpers::rows::gives;
+use markdown_test_parsers::outlines::said_of;
 use std::alloc::Global;
 use std::ops::Range;
 use std::test::Fail;

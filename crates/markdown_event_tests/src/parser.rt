@@ -13,46 +13,11 @@ use markdown_test_parsers::faults::or_fail;
 use markdown_test_parsers::html::parser_shows;
 use markdown_test_parsers::made::{Placed, TEXT, tree_of_placed};
 use markdown_test_parsers::parsers::{
-    all_noted, ask_for, parser_asking, parser_gives, parser_of, plain_parser, text_parser,
+    all_noted, ask_for, parser_asking, parser_gives, parser_of, plain_parser,
 };
 use std::alloc::{AllocError, Global};
 use std::ops::Range;
 use std::test::Fail;
-
-/// Checks the events of a text, each with its range.
-fn text_gives(alloc: Global, source: &str, events: &str) -> Result<(), Fail> {
-    let parser = text_parser(alloc, source, Options::empty())?;
-    parser_gives(alloc, source, parser, events)
-}
-
-#[test]
-fn texts(rt: HostRuntime) -> Result<(), Fail> {
-    let rows = &[
-        ("", ""),
-        ("hello world", "<p>0..11 [hello world]0..11 </p>0..11 "),
-        ("a\nb", "<p>0..3 [a]0..1 /1..2 [b]2..3 </p>0..3 "),
-        ("<", "<p>0..1 [<]0..1 </p>0..1 "),
-        ("#", "<h1>0..1 </h1>0..1 "),
-        ("###\n", "<h3>0..4 </h3>0..4 "),
-        (
-            "hello\n```test\ntadam\n```",
-            "<p>0..6 [hello]0..5 </p>0..6 <code (test)>6..23 [tadam\n]14..20 </code>6..23 ",
-        ),
-        (
-            "hello\n\n    ```test\n    tadam\nhello",
-            "<p>0..6 [hello]0..5 </p>0..6 <code>11..29 [```test\n]11..19 [tadam\n]23..29 </code>11..29 \
-            <p>29..34 [hello]29..34 </p>29..34 ",
-        ),
-        (
-            "3. a\n4. b",
-            "<ol 3>0..9 <li>0..5 [a]3..4 </li>0..5 <li>5..9 [b]8..9 </li>5..9 </ol>0..9 ",
-        ),
-    ];
-    for &(source, events) in rows {
-        text_gives(rt.alloc(), source, events)?;
-    }
-    Ok(())
-}
 
 /// Checks the events of a tree over a text, each with its range.
 fn tree_gives(alloc: Global, source: &str, placed: &[Placed], events: &str) -> Result<(), Fail> {
@@ -100,8 +65,8 @@ fn events_of_nested(alloc: Global, count: usize) -> Result<String, AllocError> {
 #[test]
 fn a_deep_tree(rt: HostRuntime) -> Result<(), Fail> {
     let alloc = rt.alloc();
-    let wanted = events_of_nested(alloc, 100_000)?;
-    let tree = nested(alloc, item(0, 1, ItemBody::Paragraph), 100_000)?;
+    let wanted = events_of_nested(alloc, 10_000)?;
+    let tree = nested(alloc, item(0, 1, ItemBody::Paragraph), 10_000)?;
     let parser = parser_of(alloc, "a", Options::empty(), tree, no_parts(alloc))?;
     parser_gives(alloc, "nested paragraphs", parser, wanted.as_str())
 }

@@ -37,65 +37,15 @@ fn prints(alloc: Global, program: Program, rows: &[Row]) -> Result<(), Fail> {
     Ok(())
 }
 
-const WITHOUT_WORDS: &[Row] = &[
+const HTML: &[Row] = &[
     (&[], "", ""),
-    (&[], "hello world", "<p>hello world</p>\n"),
-    (&[], "a\nb", "<p>a\nb</p>\n"),
-    (&[], "a  \nb", "<p>a<br />\nb</p>\n"),
-    (&[], "a\\\nb\n\nc", "<p>a<br />\nb</p>\n<p>c</p>\n"),
-    (&[], "a<b>&\"", "<p>a<b>&amp;\"</p>\n"),
+    (&[], "~~a~~\nb", "<p>~~a~~\nb</p>\n"),
+    (&["strikethrough"], "~~a~~\nb", "<p><del>a</del>\nb</p>\n"),
     (
-        &[],
-        "hello\n=====\n\n* alpha\n* beta\n",
-        "<h1>hello</h1>\n<ul>\n<li>alpha</li>\n<li>beta</li>\n</ul>\n",
+        &["smart", "strikethrough", "smart"],
+        "~~'a'~~",
+        "<p><del>‘a’</del></p>\n",
     ),
-    (&[], "[test]:\\", ""),
-    (&[], "[a]:", "<p>[a]:</p>\n"),
-];
-
-/// Words that turn an option on.
-const WITH_A_WORD: &[Row] = &[
-    (
-        &["strikethrough"],
-        "Hello world, this is a ~~complicated~~ *very simple* example.",
-        "<p>Hello world, this is a <del>complicated</del> <em>very simple</em> example.</p>\n",
-    ),
-    (&["smart"], "'a' ...", "<p>‘a’ ...</p>\n"),
-    (
-        &["math"],
-        "$a$",
-        "<p><span class=\"math math-inline\">a</span></p>\n",
-    ),
-    (&["superscript"], "a^b^", "<p>a<sup>b</sup></p>\n"),
-    (&["subscript"], "a~b~", "<p>a<sub>b</sub></p>\n"),
-    (&["wikilinks"], "[[a]]", "<p><a href=\"a\">a</a></p>\n"),
-    (
-        &["footnotes"],
-        "a[^b]\n\n[^b]: c",
-        "<p>a<sup class=\"footnote-reference\"><a href=\"#b\">1</a></sup></p>\n\
-        <div class=\"footnote-definition\" id=\"b\"><sup class=\"footnote-definition-label\">1</sup>\n\
-        <p>c</p>\n</div>\n",
-    ),
-    (
-        &["old-footnotes"],
-        "a[^b]",
-        "<p>a<sup class=\"footnote-reference\"><a href=\"#b\">1</a></sup></p>\n",
-    ),
-];
-
-/// These options are accepted, and no item depends on them.
-const WORDS_THAT_CHANGE_NO_TEXT: &[Row] = &[
-    (&["tables"], "| a |\n| - |", "<p>| a |\n| - |</p>\n"),
-    (&["tasklists"], "- [x] a", "<ul>\n<li>[x] a</li>\n</ul>\n"),
-    (&["heading-attributes"], "# a {#b}", "<h1>a {#b}</h1>\n"),
-    (&["yaml"], "---\na: b\n---", "<hr />\n<h2>a: b</h2>\n"),
-    (&["pluses"], "+++\na = 1\n+++", "<p>+++\na = 1\n+++</p>\n"),
-    (
-        &["gfm"],
-        "> [!NOTE]\n> a",
-        "<blockquote>\n<p>[!NOTE]\na</p>\n</blockquote>\n",
-    ),
-    (&["definitions"], "a\n: b", "<p>a\n: b</p>\n"),
 ];
 
 const EVENTS: &[Row] = &[
@@ -129,22 +79,6 @@ const EVENTS: &[Row] = &[
 
 #[test]
 fn texts(rt: HostRuntime) -> Result<(), Fail> {
-    prints(rt.alloc(), Program::Html, WITHOUT_WORDS)?;
-    prints(rt.alloc(), Program::Html, WITH_A_WORD)?;
-    prints(rt.alloc(), Program::Html, WORDS_THAT_CHANGE_NO_TEXT)?;
+    prints(rt.alloc(), Program::Html, HTML)?;
     prints(rt.alloc(), Program::Events, EVENTS)
-}
-
-/// Checks that something else is printed for a text without arguments.
-fn needs_a_word(alloc: Global, input: &str, wanted: &str) -> Result<(), Fail> {
-    let plain = printed(alloc, Program::Html, &[], input)?;
-    gives((input, "alone"), plain.text.as_str() == wanted, false)
-}
-
-#[test]
-fn words_turn_options_on(rt: HostRuntime) -> Result<(), Fail> {
-    for &(_, input, wanted) in WITH_A_WORD {
-        needs_a_word(rt.alloc(), input, wanted)?;
-    }
-    Ok(())
 }

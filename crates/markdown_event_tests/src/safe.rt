@@ -1,11 +1,9 @@
-//! Safe HTML: of events that no text is read as, and of texts.
+//! Safe HTML of events that no text is read as.
 use crate::signs::{Sign, items_of};
 use markdown_base::fault::Fault;
-use markdown_base::options::Options;
 use markdown_base::tag::{Alignment, BlockQuoteKind, LinkType, MetadataBlockKind, TagEnd};
-use markdown_defs::DefaultBrokenLinkCallback;
 use markdown_out::html::push_html;
-use markdown_safe::{Safe, safe_html};
+use markdown_safe::Safe;
 use markdown_test_helpers::rows::gives;
 use std::alloc::Global;
 use std::test::Fail;
@@ -69,43 +67,6 @@ fn events_made_by_hand(rt: HostRuntime) -> Result<(), Fail> {
             (
                 UNBALANCED,
                 "</th>\n<pre><code class=\"language-a\"><img src=\"\" alt=\"&quot;&gt;&lt;script&gt;&lt;b&gt;\" title=\"&quot; onload=&quot;\" />",
-            ),
-        ],
-    )
-}
-
-/// Checks the safe HTML of each text, with footnotes.
-fn check_texts(alloc: Global, rows: &[(&'static str, &'static str)]) -> Result<(), Fail> {
-    for row in rows {
-        let nobody = None::<DefaultBrokenLinkCallback>;
-        let html = safe_html(alloc, row.0, Options::ENABLE_FOOTNOTES, nobody).ok();
-        gives(row.0, html.as_deref(), Some(row.1))?;
-    }
-    Ok(())
-}
-
-#[test]
-fn texts_of_strangers(rt: HostRuntime) -> Result<(), Fail> {
-    check_texts(
-        rt.alloc(),
-        &[
-            ("[a](JaVa&#10;Script:x)", "<p><a href=\"\">a</a></p>\n"),
-            (
-                "[a](HTTPS://b \"c\")",
-                "<p><a href=\"HTTPS://b\" title=\"c\">a</a></p>\n",
-            ),
-            (
-                "[a](b?javascript:c)",
-                "<p><a href=\"b?javascript:c\">a</a></p>\n",
-            ),
-            (
-                "<tel:1> <data:2>",
-                "<p><a href=\"tel:1\">tel:1</a> <a href=\"\">data:2</a></p>\n",
-            ),
-            ("<b>*c*</b>", "<p>&lt;b&gt;<em>c</em>&lt;/b&gt;</p>\n"),
-            (
-                "[^a]\n\n[^a]: b",
-                "<p><sup class=\"footnote-reference\"><a href=\"#user-content-a\">1</a></sup></p>\n<div class=\"footnote-definition\" id=\"user-content-a\"><sup class=\"footnote-definition-label\">1</sup>\n<p>b</p>\n</div>\n",
             ),
         ],
     )

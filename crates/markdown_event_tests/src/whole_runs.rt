@@ -1,6 +1,6 @@
 //! Whole runs with a callback: the HTML of a text, all events in a list, and the callback that is returned.
 use markdown_base::options::Options;
-use markdown_defs::{BrokenLinkCallback, DefaultBrokenLinkCallback};
+use markdown_defs::BrokenLinkCallback;
 use markdown_render::{merged_html, render};
 use markdown_test_helpers::rows::gives;
 use markdown_test_parsers::callbacks::{Recording, Reply};
@@ -8,26 +8,6 @@ use markdown_test_parsers::faults::or_fail;
 use markdown_test_parsers::parsers::{all_noted, parser_asking};
 use std::alloc::Global;
 use std::test::Fail;
-
-/// Checks the rendering of a text, without a callback.
-fn is_rendered(alloc: Global, source: &str, wanted: &str) -> Result<(), Fail> {
-    let options = Options::ENABLE_SUBSCRIPT;
-    let html = or_fail(render(alloc, source, options, None::<DefaultBrokenLinkCallback>))?;
-    gives(source, html.as_str(), wanted)
-}
-
-#[test]
-fn html_of_texts(rt: HostRuntime) -> Result<(), Fail> {
-    let rows = &[
-        ("", ""),
-        ("hello world", "<p>hello world</p>\n"),
-        ("a~b~ [c]", "<p>a<sub>b</sub> [c]</p>\n"),
-    ];
-    for &(source, html) in rows {
-        is_rendered(rt.alloc(), source, html)?;
-    }
-    Ok(())
-}
 
 /// A text with a link label without a definition, and its HTML where a callback answers.
 const ASKING: (&str, &str) = (

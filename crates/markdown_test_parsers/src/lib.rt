@@ -5,5 +5,6 @@ pub mod callbacks;
 pub mod faults;
 pub mod html;
 pub mod made;
+pub mod outlines;
 pub mod parsers;
 pub mod sound;

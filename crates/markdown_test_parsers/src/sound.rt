@@ -58,3 +58,35 @@ pub fn is_sound(alloc: Global, source: &str, options: Options) -> Result<bool, F
     drop(events);
     Ok(balanced? && placed)
 }
+
+/// Returns the options of many extensions.
+fn extensions() -> Options {
+    Options::ENABLE_TABLES
+        .union(Options::ENABLE_FOOTNOTES)
+        .union(Options::ENABLE_STRIKETHROUGH)
+        .union(Options::ENABLE_SUPERSCRIPT)
+        .union(Options::ENABLE_SUBSCRIPT)
+        .union(Options::ENABLE_TASKLISTS)
+}
+
+/// Returns each option that changes how a text is read, and those of the extensions.
+fn all_options() -> Options {
+    extensions()
+        .union(Options::ENABLE_SMART_PUNCTUATION)
+        .union(Options::ENABLE_OLD_FOOTNOTES)
+        .union(Options::ENABLE_MATH)
+        .union(Options::ENABLE_GFM)
+        .union(Options::ENABLE_DEFINITION_LIST)
+        .union(Options::ENABLE_WIKILINKS)
+}
+
+/// Returns whether the same holds with no option, with some and with all.
+pub fn is_sound_with_any(alloc: Global, source: &str) -> Result<bool, Fail> {
+    let tasks = Options::ENABLE_TASKLISTS.union(Options::ENABLE_STRIKETHROUGH);
+    for options in [Options::empty(), tasks, extensions(), all_options()] {
+        if !is_sound(alloc, source, options)? {
+            return Ok(false);
+        }
+    }
+    Ok(true)
+}

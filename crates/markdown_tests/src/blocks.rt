@@ -26,9 +26,9 @@ fn wide(alloc: Global, count: u32) -> Result<Tree<Item>, AllocError> {
 fn empty_large_and_deep(rt: HostRuntime) -> Result<(), Fail> {
     let alloc = rt.alloc();
     let empty = is_well_formed(alloc, "", Tree::new(alloc)?)?;
-    let large = is_well_formed(alloc, "a", wide(alloc, 1_000_000)?)?;
+    let large = is_well_formed(alloc, "a", wide(alloc, 100_000)?)?;
     let quote = item(0, 1, ItemBody::BlockQuote(None));
-    let deep = is_well_formed(alloc, "a", nested(alloc, quote, 100_000)?)?;
+    let deep = is_well_formed(alloc, "a", nested(alloc, quote, 10_000)?)?;
     gives("empty, large and deep", [empty, large, deep], [true; 3])
 }
 

@@ -92,12 +92,12 @@ fn named_texts(rt: HostRuntime) -> Result<(), Fail> {
     )
 }
 
-/// Returns a tree with a paragraph of two hundred thousand open brackets.
+/// Returns a tree with a paragraph of twenty thousand open brackets.
 fn brackets(alloc: Global) -> Result<Tree<Item>, AllocError> {
     let mut tree = Tree::new(alloc)?;
-    tree.append(item(0, 200_000, ItemBody::Paragraph))?;
+    tree.append(item(0, 20_000, ItemBody::Paragraph))?;
     tree.push()?;
-    for start in 0..200_000 {
+    for start in 0..20_000 {
         tree.append(item(start, start + 1, ItemBody::MaybeLinkOpen))?;
     }
     Ok(tree)
@@ -105,19 +105,19 @@ fn brackets(alloc: Global) -> Result<Tree<Item>, AllocError> {
 
 /// Returns the events of the brackets, each with its range: each bracket is a text.
 fn events_of_brackets(alloc: Global) -> Result<String, AllocError> {
-    let mut events = String::from_str(alloc, "<p>0..200000 ")?;
-    for start in 0..200_000usize {
+    let mut events = String::from_str(alloc, "<p>0..20000 ")?;
+    for start in 0..20_000usize {
         let event = format!(in alloc; "[[]{}..{} ", start, start + 1)?;
         events.push_str(event.as_str())?;
     }
-    events.push_str("</p>0..200000 ")?;
+    events.push_str("</p>0..20000 ")?;
     Ok(events)
 }
 
 #[test]
 fn a_long_chain(rt: HostRuntime) -> Result<(), Fail> {
     let alloc = rt.alloc();
-    let source = "[".repeat(alloc, 200_000)?;
+    let source = "[".repeat(alloc, 20_000)?;
     let wanted = events_of_brackets(alloc)?;
     tree_gives(
         alloc,

@@ -1,4 +1,4 @@
-//! Checks for tests of texts: their HTML or their events, trees made by hand, counts of work.
+//! Checks for tests of texts and of trees made by hand: their HTML or their events, and counts of work.
 use crate::walks::count_left;
 use markdown_base::item::{Item, ItemBody};
 use markdown_base::options::Options;
@@ -11,9 +11,7 @@ use markdown_test_helpers::rows::gives;
 use markdown_test_parsers::faults::or_fail;
 use markdown_test_parsers::html::parser_shows;
 use markdown_test_parsers::made::{Placed, tree_of_placed};
-use markdown_test_parsers::parsers::{
-    extended_parser, parser_gives, parser_of, plain_parser, text_parser,
-};
+use markdown_test_parsers::parsers::{parser_gives, parser_of, plain_parser, text_parser};
 use std::alloc::Global;
 use std::test::Fail;
 
@@ -21,77 +19,6 @@ use std::test::Fail;
 fn merge_shows(alloc: Global, row: &str, parser: Parser<'_>, wanted: &str) -> Result<(), Fail> {
     let html = or_fail(merged_html(alloc, parser))?;
     gives((row, "merged"), html.as_str(), wanted)
-}
-
-/// Checks the HTML of a text, merged and not.
-pub fn assert_html(
-    alloc: Global,
-    options: Options,
-    source: &str,
-    wanted: &str,
-) -> Result<(), Fail> {
-    parser_shows(alloc, source, text_parser(alloc, source, options)?, wanted)?;
-    merge_shows(alloc, source, text_parser(alloc, source, options)?, wanted)
-}
-
-/// Checks the HTML of a text that is read by the extended entry, merged and not.
-fn assert_extended_html(
-    alloc: Global,
-    options: Options,
-    source: &str,
-    wanted: &str,
-) -> Result<(), Fail> {
-    parser_shows(
-        alloc,
-        source,
-        extended_parser(alloc, source, options)?,
-        wanted,
-    )?;
-    merge_shows(
-        alloc,
-        source,
-        extended_parser(alloc, source, options)?,
-        wanted,
-    )
-}
-
-/// Checks the HTML of each text, read by the extended entry with these options.
-pub fn check_extended(alloc: Global, options: Options, rows: Rows) -> Result<(), Fail> {
-    for (source, wanted) in rows {
-        assert_extended_html(alloc, options, source, wanted)?;
-    }
-    Ok(())
-}
-
-/// Checks the events of each text with their ranges, read by the extended entry with these options.
-pub fn check_extended_events(alloc: Global, options: Options, rows: Rows) -> Result<(), Fail> {
-    for (source, wanted) in rows {
-        parser_gives(
-            alloc,
-            source,
-            extended_parser(alloc, source, options)?,
-            wanted,
-        )?;
-    }
-    Ok(())
-}
-
-/// Texts, each with what it gives.
-pub type Rows = &'static [(&'static str, &'static str)];
-
-/// Texts that are read with the same options, and what their rows say of them. A table is written in
-/// the call that checks it, and its rows are constants of about twenty: a check takes the square of
-/// the size of each constant.
-#[derive(Clone, Copy, Drop)]
-pub enum Table {
-    /// Each text is one paragraph with this HTML inside.
-    Inside(&'static [Options], Rows),
-    /// Each text is one paragraph that shows the text unchanged, with no options.
-    Unchanged(&'static [&'static str]),
-    /// Each text has this HTML.
-    Whole(&'static [Options], Rows),
-    /// Each text has these events, each with its range.
-    Events(&'static [Options], Rows),
 }
 
 /// Returns the options that any of these has.
@@ -103,60 +30,7 @@ fn union_of(list: &[Options]) -> Options {
     all
 }
 
-/// Checks each row of the tables.
-pub fn check(alloc: Global, tables: &[Table]) -> Result<(), Fail> {
-    for table in tables {
-        check_table(alloc, *table)?;
-    }
-    Ok(())
-}
-
-fn check_table(alloc: Global, table: Table) -> Result<(), Fail> {
-    match table {
-        Table::Inside(options, rows) => check_inside(alloc, union_of(options), rows),
-        Table::Unchanged(rows) => check_unchanged(alloc, rows),
-        Table::Whole(options, rows) => check_whole(alloc, union_of(options), rows),
-        Table::Events(options, rows) => check_events(alloc, union_of(options), rows),
-    }
-}
-
-fn check_inside(alloc: Global, options: Options, rows: Rows) -> Result<(), Fail> {
-    for (source, inside) in rows {
-        assert_inside(alloc, options, source, inside)?;
-    }
-    Ok(())
-}
-
-fn check_unchanged(alloc: Global, rows: &[&str]) -> Result<(), Fail> {
-    for source in rows {
-        assert_inside(alloc, Options::empty(), source, source)?;
-    }
-    Ok(())
-}
-
-fn check_whole(alloc: Global, options: Options, rows: Rows) -> Result<(), Fail> {
-    for (source, wanted) in rows {
-        assert_html(alloc, options, source, wanted)?;
-    }
-    Ok(())
-}
-
-/// Checks the HTML of each text of each table, read with no options.
-pub fn check_whole_texts(alloc: Global, tables: &[Rows]) -> Result<(), Fail> {
-    for rows in tables {
-        check_whole(alloc, Options::empty(), rows)?;
-    }
-    Ok(())
-}
-
-fn check_events(alloc: Global, options: Options, rows: Rows) -> Result<(), Fail> {
-    for (source, wanted) in rows {
-        assert_events(alloc, options, source, wanted)?;
-    }
-    Ok(())
-}
-
-/// Checks that a text is one paragraph with this inside.
+/// Checks that a text is one paragraph with this HTML inside, merged and not.
 pub fn assert_inside(
     alloc: Global,
     options: Options,
@@ -164,13 +38,9 @@ pub fn assert_inside(
     inside: &str,
 ) -> Result<(), Fail> {
     let wanted = format!(in alloc; "<p>{inside}</p>\n")?;
-    assert_html(alloc, options, source, wanted.as_str())
-}
-
-/// Checks the events of a text, each with its range.
-fn assert_events(alloc: Global, options: Options, source: &str, wanted: &str) -> Result<(), Fail> {
-    let parser = text_parser(alloc, source, options)?;
-    parser_gives(alloc, source, parser, wanted)
+    let wanted = wanted.as_str();
+    parser_shows(alloc, source, text_parser(alloc, source, options)?, wanted)?;
+    merge_shows(alloc, source, text_parser(alloc, source, options)?, wanted)
 }
 
 /// Returns the counts of the work for all events of a text.

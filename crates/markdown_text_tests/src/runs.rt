@@ -182,7 +182,7 @@ fn stay_apart(
 fn runs_that_never_pair(rt: HostRuntime) -> Result<(), Fail> {
     for &(runs, bytes, delimiters, examined) in &[
         (500, 2_000, 1_000, 10_000),
-        (50_000, 200_000, 100_000, 1_100_000),
+        (5_000, 20_000, 10_000, 110_000),
     ] {
         stay_apart(rt.alloc(), runs, bytes, delimiters, examined)?;
     }

@@ -1,5 +1,5 @@
-//! Wikilinks, with a pipe and without, and rules that they share with links.
-use crate::rows::{Given, Rows, Table, assert_inside, check, check_made};
+//! Wikilinks: where their pipe ends, through parsers of trees made by hand, and texts with many brackets.
+use crate::rows::{Given, assert_inside, check_made};
 use crate::walks::count_left;
 use markdown_base::item::ItemBody;
 use markdown_base::options::Options;
@@ -8,54 +8,6 @@ use markdown_test_parsers::made::{Placed, TEXT};
 use markdown_test_parsers::parsers::text_parser;
 use std::alloc::Global;
 use std::test::Fail;
-
-const NAMES_AND_TEXTS: Rows = &[
-    ("[[foo]]", "<a href=\"foo\">foo</a>"),
-    ("[[bar|baz]]", "<a href=\"bar\">baz</a>"),
-    ("![[a]] b](c)", "<img src=\"a\" alt=\"a\" /> b](c)"),
-    (
-        "[[ ![p ![q ]] r](z) tail",
-        "<a href=\"%20!%5Bp%20!%5Bq%20\"> ![p ![q </a> r](z) tail",
-    ),
-    ("[[a|\\*b]]", "<a href=\"a\">*b</a>"),
-    ("![[a](b) c]]", "![<a href=\"b\">a</a> c]]"),
-    ("[[a|]]", "<a href=\"a\"></a>"),
-    ("[[|b]]", "[[|b]]"),
-    ("[[a|*b*]]", "<a href=\"a\"><em>b</em></a>"),
-];
-
-const RANGES: Rows = &[
-    (
-        "[[foo]] [[bar|baz]]",
-        "<p>0..19 <a WikiLink { has_pothole: false } (foo) () ()>0..7 [foo]2..5 </a>0..7 [ ]7..8 \
-        <a WikiLink { has_pothole: true } (bar) () ()>8..19 [baz]14..17 </a>8..19 </p>0..19 ",
-    ),
-    (
-        "For a new ferrari, [[Wikientry|click here]]!",
-        "<p>0..44 [For a new ferrari, ]0..19 <a WikiLink { has_pothole: true } (Wikientry) () ()>19..43 \
-        [click here]31..41 </a>19..43 [!]43..44 </p>0..44 ",
-    ),
-    (
-        "[[a|]]",
-        "<p>0..6 <a WikiLink { has_pothole: true } (a) () ()>0..6 []4..4 </a>0..6 </p>0..6 ",
-    ),
-    (
-        "[foo](bar)",
-        "<p>0..10 <a Inline (bar) () ()>0..10 [foo]1..4 </a>0..10 </p>0..10 ",
-    ),
-];
-
-#[test]
-fn texts(rt: HostRuntime) -> Result<(), Fail> {
-    check(
-        rt.alloc(),
-        &[
-            Table::Inside(&[Options::ENABLE_WIKILINKS], NAMES_AND_TEXTS),
-            Table::Unchanged(&["[[foo]]"]),
-            Table::Events(&[Options::ENABLE_WIKILINKS], RANGES),
-        ],
-    )
-}
 
 /// The items of `[[a|b]]` in a paragraph over all of it.
 const WHOLE: &[Placed] = &[
