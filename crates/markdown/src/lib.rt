@@ -45,8 +45,8 @@ pub mod safe {
     pub use markdown_safe::{Safe, SafeWithOffset, safe_event, safe_html};
 }
 
-/// The extended entry, which reads CommonMark but for what DIFFERENCES names: `Parser::new_extended` and
-/// `Blocks::of_extended`, and these calls of a text.
+/// The full reading: CommonMark but for what DIFFERENCES names, and the extensions. `Parser::new_extended` and
+/// `Blocks::of_extended` read so, and these calls of a text.
 pub mod extended {
     pub use markdown_render::render_extended;
     pub use markdown_safe::safe_html_extended;

@@ -19,6 +19,6 @@ abbrev pub TheLastEntryCounts : Type 0
 TheLastEntryCounts = (last first : Bool) (options : Options) → options.0 < 2 ^ 32
     → with_extended last (with_extended first options) ≡ with_extended last options
 
--- a set without the bit is for the present entry as it is
+-- a set without the bit is for the port's profile as it is
 abbrev pub ThePresentEntryKeepsOptions : Type 0
 ThePresentEntryKeepsOptions = (options : Options) → options.0 < extended_bit → with_extended false options ≡ options

@@ -56,7 +56,7 @@ impl<'a> CowStr<'a> {
     }
 
     /// Returns a copy. A slice of the source is copied as a slice, and only boxed texts of more than 22 bytes allocate
-    /// memory. The error is a refused allocation.
+    /// memory. Fails only if an allocation fails.
     pub fn try_clone(&self, alloc: Global) -> Result<CowStr<'a>, AllocError>
         ensures text { IfOk result (λ copy. text_of copy ≡ text_of self.now) }
         ensures borrowed { IsBorrowed self.now → IsOkAnd result IsBorrowed }
@@ -70,7 +70,7 @@ impl<'a> CowStr<'a> {
     }
 
     /// Returns the same text without borrowing from the source. A boxed text keeps its allocation, and only slices of
-    /// more than 22 bytes allocate memory. The error is a refused allocation.
+    /// more than 22 bytes allocate memory. Fails only if an allocation fails.
     pub fn into_static(self, alloc: Global) -> Result<CowStr<'static>, AllocError>
         ensures text { IfOk result (λ made. text_of made ≡ text_of self.entry) }
         ensures owned { IfOk result (λ made. IsBorrowed made → ⊥) }
@@ -84,8 +84,8 @@ impl<'a> CowStr<'a> {
         }
     }
 
-    /// Returns the text as a `String`. A boxed text keeps its allocation; other texts are copied. The error is a
-    /// refused allocation.
+    /// Returns the text as a `String`. A boxed text keeps its allocation; other texts are copied. Fails only if
+    /// an allocation fails.
     pub fn into_string(self, alloc: Global) -> Result<String, AllocError>
         ensures text { IfOk result (λ made. string_bytes made ≡ text_of self.entry) }
         ensures boxed { IsBoxed self.entry → IsOk result }

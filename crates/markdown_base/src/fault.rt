@@ -8,7 +8,7 @@ use std::fmt;
 /// Why a call failed.
 #[derive(Debug, Clone, Copy, PartialEq, Eq, Drop)]
 pub enum Fault {
-    /// An allocation was refused.
+    /// An allocation failed.
     Memory,
     /// The given block result is not well formed. It breaks one of nine rules: each node is reached once, ranges lie in
     /// the text, inline items are in order, chains are kept, nothing is resolved, markup is there, delimiter runs are

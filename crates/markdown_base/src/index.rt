@@ -20,7 +20,7 @@ pub struct AlignmentIndex(pub usize);
 pub struct HeadingIndex(pub u32);
 
 impl CowIndex {
-    /// Returns the index with this number. A number of 2^32 or more is refused, as an allocation is.
+    /// Returns the index with this number. Fails for a number of 2^32 or more, as an allocation does.
     pub fn of(number: usize) -> Result<CowIndex, AllocError>
         ensures value { IfOk result (λ ix. ix.0 ≡ number) }
         ensures fits { number < 2 ^ 32 → IsOk result }
@@ -30,7 +30,7 @@ impl CowIndex {
 }
 
 impl HeadingIndex {
-    /// Returns the index with this number. A number of 2^32 or more is refused, as an allocation is.
+    /// Returns the index with this number. Fails for a number of 2^32 or more, as an allocation does.
     pub fn of(number: usize) -> Result<HeadingIndex, AllocError>
         ensures value { IfOk result (λ ix. ix.0 ≡ number) }
         ensures fits { number < 2 ^ 32 → IsOk result }
@@ -39,7 +39,7 @@ impl HeadingIndex {
     }
 }
 
-/// Returns a number in the width in which items hold it. A number of 2^32 or more is refused, as an allocation is.
+/// Returns a number in the width in which items hold it. Fails for a number of 2^32 or more, as an allocation does.
 pub fn in_32_bits(number: usize) -> Result<u32, AllocError>
     ensures value { IfOk result (λ held. held ≡ number) }
     ensures fits { number < 2 ^ 32 → IsOk result }

@@ -9,30 +9,30 @@ pub struct Options(u32);
 
 bitflag_items! {
     impl Options: u32 {
-        /// Tables, by the extended entry.
+        /// Tables, by the full reading.
         const ENABLE_TABLES = 1 << 1;
         /// Footnotes: definitions `[^name]: ..` and references `[^name]`. A reference to an undefined name remains
         /// text.
         const ENABLE_FOOTNOTES = 1 << 2;
         /// Strikethrough, `~text~` or `~~text~~`.
         const ENABLE_STRIKETHROUGH = 1 << 3;
-        /// List items that begin with `[ ]` or `[x]`, by the extended entry.
+        /// List items that begin with `[ ]` or `[x]`, by the full reading.
         const ENABLE_TASKLISTS = 1 << 4;
-        /// Curly quotation marks, and by the extended entry dashes for `--` and `---`, and an ellipsis for `...`.
+        /// Curly quotation marks, and by the full reading dashes for `--` and `---`, and an ellipsis for `...`.
         const ENABLE_SMART_PUNCTUATION = 1 << 5;
-        /// An id, classes and attributes in braces after a heading, by the extended entry. Their names are the author's:
+        /// An id, classes and attributes in braces after a heading, by the full reading. Their names are the author's:
         /// `onclick` is one.
         const ENABLE_HEADING_ATTRIBUTES = 1 << 6;
-        /// Metadata between lines of `---`, by the extended entry.
+        /// Metadata between lines of `---`, by the full reading.
         const ENABLE_YAML_STYLE_METADATA_BLOCKS = 1 << 7;
-        /// Metadata between lines of `+++`, by the extended entry.
+        /// Metadata between lines of `+++`, by the full reading.
         const ENABLE_PLUSES_DELIMITED_METADATA_BLOCKS = 1 << 8;
         /// Footnotes of the old style, in which a reference needs no definition. Includes the bit of
         /// `ENABLE_FOOTNOTES`.
         const ENABLE_OLD_FOOTNOTES = (1 << 9) | (1 << 2);
         /// Math, `$text$`, and display math, `$$text$$`.
         const ENABLE_MATH = 1 << 10;
-        /// GitHub's kinds of block quotes, such as `[!NOTE]`, by the extended entry.
+        /// GitHub's kinds of block quotes, such as `[!NOTE]`, by the full reading.
         const ENABLE_GFM = 1 << 11;
         /// Definition lists. Neither entry makes any yet, so this has no effect.
         const ENABLE_DEFINITION_LIST = 1 << 12;
@@ -85,7 +85,7 @@ impl Options {
         }
     }
 
-    /// Returns whether these are options of the extended entry.
+    /// Returns whether these are options of the full reading.
     pub fn is_extended(self) -> bool
         ensures { result ≡ is_extended self }
     {

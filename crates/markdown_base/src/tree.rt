@@ -18,7 +18,7 @@ use std::mem;
 const NODE_LIMIT: usize = u32::MAX as usize;
 
 /// An arena of nodes, numbered from the root, which is node 0. Nodes are appended at the cursor. There are at most
-/// 2^32 - 1 of them: one more is refused, as an allocation is.
+/// 2^32 - 1 of them: one more fails, as an allocation does.
 #[derive(Drop)]
 pub struct Tree<T> {
     nodes: Vec<StoredNode<T>>,

@@ -13,7 +13,7 @@ pub fn task_and_size(line: &str) -> Option<(&str, usize)> {
     }
 }
 
-/// Returns the result of a task of this size, or None where there is no such task, or an allocation was refused.
+/// Returns the result of a task of this size, or None where there is no such task, or an allocation failed.
 pub fn run(alloc: Global, task: &str, size: usize) -> Option<usize> {
     match task {
         "render" => events::rendered_bytes(alloc, size),

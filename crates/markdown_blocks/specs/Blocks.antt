@@ -23,7 +23,7 @@ text_of_blocks b = b.text.now
 abbrev pub block_options : Blocks → Options
 block_options b = b.options
 
--- whether it is the block result of the extended entry, or of the present one
+-- whether it is the block result of the full reading, or of the present one
 abbrev pub block_extended : Blocks → Bool
 block_extended b = b.extended
 
@@ -39,7 +39,7 @@ block_parts b = b.parts
 abbrev pub source_for : (extended : Bool) → (text : List ℕ) → Options → Source
 source_for extended text options = record { text = text; options = with_extended extended options }
 
--- b has this text and these options, is of the extended entry or of the present one, and is a well-formed block result
+-- b has this text and these options, is of the full reading or of the present one, and is a well-formed block result
 -- that covers the text, whose headings hold inline items alone, and whose tables have rows with as many cells as the
 -- table has alignments; and it is the one that the rules of blocks make of the text
 pub record IsOfEntry (extended : Bool) (text : List ℕ) (options : Options) (b : Blocks) : Type 0 where
@@ -52,7 +52,7 @@ pub record IsOfEntry (extended : Bool) (text : List ℕ) (options : Options) (b 
   pub has_even_rows : HasEvenRows (shown_result (block_arena b).nodes (block_parts b))
   pub by_rules : IsBlockResult (source_for extended text options) (block_arena b).nodes (block_parts b)
 
--- the same of the present entry, and of the extended one
+-- the same of the port's profile, and of the extended one
 abbrev pub IsOfText : (text : List ℕ) → Options → Blocks → Type 0
 IsOfText text options b = IsOfEntry false text options b
 

@@ -21,7 +21,7 @@ pub struct Blocks<'a> {
     text: &'a str,
     /// As the caller gave them.
     options: Options,
-    /// Whether this is of the extended entry.
+    /// Whether this is of the full reading.
     extended: bool,
     tree: Tree<Item>,
     parts: BlockParts<'a>,
@@ -33,7 +33,7 @@ impl<'a> Blocks<'a> {
     ghost use Rattle.markdown_blocks.specs.Blocks.{text_of_blocks, block_options, block_extended, block_arena, block_parts};
     ghost use Rattle.markdown_blocks.specs.Blocks.{IsOfEntry, IsOfText, IsOfExtended};
 
-    /// Returns the block result that is passed in, for the present entry, if it is well formed: if it keeps nine rules.
+    /// Returns the block result that is passed in, for the port's profile, if it is well formed: if it keeps nine rules.
     ///
     /// 1. Reached once: the tree below the root is finite, and no node is reached twice.
     /// 2. Ranges lie in: each range lies in the text, and its ends are character boundaries.
@@ -54,7 +54,7 @@ impl<'a> Blocks<'a> {
     ///
     /// # Errors
     ///
-    /// `Fault::Blocks` where it is not well formed, and `Fault::Memory` where an allocation is refused; the tree and
+    /// `Fault::Blocks` where it is not well formed, and `Fault::Memory` if an allocation fails; the tree and
     /// the parts are then dropped.
     pub fn checked(
         alloc: Global,
@@ -92,7 +92,7 @@ impl<'a> Blocks<'a> {
         }
     }
 
-    /// Returns the block result that is passed in, for the extended entry, if it is well formed, as `checked` tests it.
+    /// Returns the block result that is passed in, for the full reading, if it is well formed, as `checked` tests it.
     ///
     /// # Errors
     ///
@@ -126,7 +126,7 @@ impl<'a> Blocks<'a> {
         })
     }
 
-    /// Returns whether this is a block result of the extended entry.
+    /// Returns whether this is a block result of the full reading.
     pub fn is_extended(&self) -> bool
         ensures { result ≡ block_extended self.now }
     {
@@ -148,19 +148,19 @@ impl<'a> Blocks<'a> {
     ///
     /// # Errors
     ///
-    /// `Fault::Memory` where an allocation is refused.
+    /// `Fault::Memory` if an allocation fails.
     pub fn of_text(alloc: Global, text: &'a str, options: Options) -> Result<Blocks<'a>, Fault>
         ensures { MatchResult result (IsOfText text.now options) (λ fault. fault ≡ Fault.Memory) }
     {
         Blocks::of_entry(alloc, text, options, false)
     }
 
-    /// Returns the block result of a text that is read by the extended entry: the same is true of it. The rows of a table
+    /// Returns the block result of a text, by the full reading: the same is true of it. The rows of a table
     /// have as many cells as the table has alignments.
     ///
     /// # Errors
     ///
-    /// `Fault::Memory` where an allocation is refused.
+    /// `Fault::Memory` if an allocation fails.
     pub fn of_extended(alloc: Global, text: &'a str, options: Options) -> Result<Blocks<'a>, Fault>
         ensures { MatchResult result (IsOfExtended text.now options) (λ fault. fault
             ≡ Fault.Memory) }

@@ -35,7 +35,7 @@ impl NamedPart {
     }
 
     /// Returns whether the nodes of an order keep rule 8, parts are named, for parts of this kind, of which there are
-    /// `size`: the parts that they refer to exist, and none is referred to twice. Fails where memory is refused.
+    /// `size`: the parts that they refer to exist, and none is referred to twice. Fails if an allocation fails.
     pub fn named_once(
         self,
         alloc: Global,

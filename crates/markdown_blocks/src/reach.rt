@@ -10,7 +10,7 @@ use markdown_base::tree::Tree;
 use std::alloc::{AllocError, Global};
 
 /// Returns the numbers of the nodes below the root in preorder, where the tree keeps rule 1, reached once; `None` where
-/// it is not finite, or a node is reached twice. Fails where memory is refused.
+/// it is not finite, or a node is reached twice. Fails if an allocation fails.
 pub fn reached_once(alloc: Global, tree: &Tree<Item>) -> Result<Option<Vec<usize>>, AllocError>
     ensures rooted { IfOk result (λ _. 0 < length tree.now.nodes) }
     ensures found { IfOk result (λ found. MatchOption found

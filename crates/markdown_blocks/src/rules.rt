@@ -176,7 +176,7 @@ fn all_keep_rules(text: &str, tree: &Tree<Item>, parts: &BlockParts, order: &[us
 }
 
 /// Returns whether a tree that keeps rule 1, with its nodes below the root in preorder in `order`, is well formed.
-/// Fails where memory is refused.
+/// Fails if an allocation fails.
 pub fn is_well_formed(
     alloc: Global,
     text: &str,

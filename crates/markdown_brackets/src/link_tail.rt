@@ -87,7 +87,7 @@ fn scan_title_part<'t, R: LineRule, I: ItemsAfter>(
 /// Returns the tail of an inline link at the byte offset `at` of the text, directly after a `]`: `(`, a separator, the
 /// destination, a separator, perhaps a title and a separator, and `)`. Escapes and entities in the destination and the
 /// title are replaced; either is a slice of the source if it does not change. Returns `None` if there is no tail at
-/// `at`. The error is a refused allocation. Upstream: `scan_inline_link`.
+/// `at`. Fails only if an allocation fails. Upstream: `scan_inline_link`.
 pub fn scan_link_tail<'t, R: LineRule, I: ItemsAfter>(
     rules: &BlockRules<'_, R>,
     text: &'t str,

@@ -126,8 +126,8 @@ fn scan_title_text<'t, I: ItemsAfter>(
 /// Reads the link title at the byte offset `at` of the text. Returns the byte offset after it, and its text with
 /// escapes and entities replaced; `None` if there is no title. A title is enclosed in `'`, in `"`, or in `(` and `)`,
 /// in which case it contains no other unescaped `(`. If a line of it ends and the next item starts later, a line feed
-/// replaces everything up to that item. A text that does not change is a slice of the source. The error is a refused
-/// allocation. Upstream: `scan_link_title`.
+/// replaces everything up to that item. A text that does not change is a slice of the source. Fails only if an
+/// allocation fails. Upstream: `scan_link_title`.
 pub fn scan_link_title<'t, I: ItemsAfter>(
     alloc: Global,
     text: &'t str,

@@ -119,8 +119,8 @@ fn scan_footnote_label<'t, R: LineRule>(
 }
 
 /// Returns the label that the text begins with, from its `[` on: a footnote label `[^name]` in the style of the rules, or
-/// otherwise a link label; `None` if there is neither. In GitHub's style, a footnote label is on one line. The error is
-/// a refused allocation.
+/// otherwise a link label; `None` if there is neither. In GitHub's style, a footnote label is on one line. Fails only
+/// if an allocation fails.
 pub fn scan_label<'t, R: LineRule>(
     rules: &BlockRules<'_, R>,
     text: &'t str,
@@ -155,7 +155,7 @@ fn of_length(label: FoundLabel<'_>, length: usize) -> Option<FoundLabel<'_>>
 }
 
 /// Returns the bytes from an opener's `[` at `start` through its `]`, which ends at `end`, as a label; `None` if they
-/// are not exactly one label. The error is a refused allocation.
+/// are not exactly one label. Fails only if an allocation fails.
 pub fn scan_own_label<'t, R: LineRule>(
     rules: &BlockRules<'_, R>,
     text: &'t str,
@@ -243,7 +243,7 @@ fn form_of(at: usize, label: FoundLabel<'_>) -> Form<'_>
 
 /// Returns the form of a reference whose `]` ends at the byte offset `at` of the text, from the two items after that:
 /// `Collapsed` if these are a `[` and a `]` directly after it, `Reference` if an item and a link label start there, and
-/// otherwise `Shortcut`. The error is a refused allocation. Upstream: `scan_reference`.
+/// otherwise `Shortcut`. Fails only if an allocation fails. Upstream: `scan_reference`.
 pub fn scan_form<'t, R: LineRule>(
     rules: &BlockRules<'_, R>,
     text: &'t str,

@@ -1,5 +1,5 @@
 //! The builder: the state of a block result in progress, and the calls that continue it. Calls that return a `Result`
-//! fail only where memory is refused; how much of the call was done by then is unspecified.
+//! fail only if an allocation fails; how much of the call was done by then is unspecified.
 ghost use Rattle.std.specs.Prelude.{◌≡◌, length, map};
 ghost use Rattle.markdown_builder.specs.Bodies.{is_leaf};
 ghost use Rattle.markdown_builder.specs.EvenRows.{is_table_row};

@@ -24,7 +24,7 @@ fn empty_paragraph(at: usize) -> Item
     }
 }
 
-/// Appends an item at its start and enters it. Fails where memory is refused; an empty paragraph may then have been
+/// Appends an item at its start and enters it. Fails if an allocation fails; an empty paragraph may then have been
 /// appended in its place.
 fn go_into(tree: &mut Tree<Item>, item: Item) -> Result<(), AllocError>
     ensures entered { IfOk result (λ _. tree.new ≡ entered tree.old item) }
@@ -45,7 +45,7 @@ fn go_into(tree: &mut Tree<Item>, item: Item) -> Result<(), AllocError>
     }
 }
 
-/// Appends a block and enters it. Fails where memory is refused; an empty paragraph may then have been appended in its
+/// Appends a block and enters it. Fails if an allocation fails; an empty paragraph may then have been appended in its
 /// place.
 pub fn enter(
     tree: &mut Tree<Item>,
@@ -119,7 +119,7 @@ pub fn replace_last(blocks: &mut Vec<OpenBlock>, block: OpenBlock)
     blocks[last] = block;
 }
 
-/// Appends a text, and returns its number. Fails where memory is refused; the texts are then unchanged.
+/// Appends a text, and returns its number. Fails if an allocation fails; the texts are then unchanged.
 pub fn push_text<'a>(texts: &mut Vec<CowStr<'a>>, text: CowStr<'a>) -> Result<CowIndex, AllocError>
     ensures number { IfOk result (λ ix. ix.0 ≡ length texts.old.items) }
     ensures more { IfOk result (λ _. length texts.new.items ≡ length texts.old.items + 1) }
@@ -131,7 +131,7 @@ pub fn push_text<'a>(texts: &mut Vec<CowStr<'a>>, text: CowStr<'a>) -> Result<Co
     Ok(ix)
 }
 
-/// Appends a Text for each byte of a range. Fails where memory is refused; some of them may then have been appended.
+/// Appends a Text for each byte of a range. Fails if an allocation fails; some of them may then have been appended.
 pub fn append_texts(tree: &mut Tree<Item>, start: usize, end: usize) -> Result<(), AllocError>
     requires { start ≤ end }
     ensures appended { IfOk result (λ _. tree.new ≡ texts_appended tree.old start (end - start)) }

@@ -24,7 +24,7 @@ abbrev pub bytes_of : {A : Type 0} → Result (String A) Refusal → Result (Lis
 bytes_of (Ok whole) = Ok (string_bytes whole)
 bytes_of (Err refusal) = Err refusal
 
--- the bit by which a caller asks for the extended entry; no option has it
+-- the bit by which a caller asks for the full reading; no option has it
 abbrev pub extended_flag : ℕ
 extended_flag = 0x4000_0000
 

@@ -11,11 +11,11 @@ use std::alloc::Global;
 
 /// Renders a trusted text as HTML, which is not sanitised. Returns the length of the HTML in bytes, and writes the HTML to
 /// the front of `out`, if it fits; otherwise `out` is unchanged. Each bit of `options` enables an extension, as in
-/// `Options`, but one, which no option has: with it the extended entry reads the text.
+/// `Options`, but one, which no option has: it asks for the full reading.
 ///
 /// # Errors
 ///
-/// Returns -1 if `text` is not UTF-8, -2 if an allocation is refused, and -3 if more than 2^64 - 1 Starts are open in
+/// Returns -1 if `text` is not UTF-8, -2 if an allocation fails, and -3 if more than 2^64 - 1 Starts are open in
 /// one image. `out` is then unchanged.
 #[unsafe(no_mangle)]
 pub extern "C" fn markdown_to_html(alloc: Global, text: &[u8], options: u32, out: &mut [u8]) -> i64
@@ -53,7 +53,7 @@ pub extern "C" fn markdown_to_safe_html(
 ///
 /// # Errors
 ///
-/// Returns -1 if `text` is not UTF-8, and -2 if an allocation is refused. `out` is then unchanged.
+/// Returns -1 if `text` is not UTF-8, and -2 if an allocation fails. `out` is then unchanged.
 #[unsafe(no_mangle)]
 pub extern "C" fn markdown_to_json(alloc: Global, text: &[u8], options: u32, out: &mut [u8]) -> i64
     ensures { (outcome : Result (List ℕ) Refusal)
@@ -69,7 +69,7 @@ pub extern "C" fn markdown_to_json(alloc: Global, text: &[u8], options: u32, out
 ///
 /// # Errors
 ///
-/// Returns -1 if `text` is not UTF-8, and -2 if an allocation is refused. `out` is then unchanged.
+/// Returns -1 if `text` is not UTF-8, and -2 if an allocation fails. `out` is then unchanged.
 #[unsafe(no_mangle)]
 pub extern "C" fn markdown_to_outline(
     alloc: Global,

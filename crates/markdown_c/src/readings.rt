@@ -21,7 +21,7 @@ use std::str;
 pub enum Refusal {
     /// The bytes are not UTF-8.
     NotUtf8,
-    /// An allocation was refused.
+    /// An allocation failed.
     Memory,
     /// More than 2^64 - 1 Starts are open in one image.
     Depth,
@@ -61,10 +61,10 @@ fn options_of(bits: u32) -> Options
     Options::from_bits_retain(bits)
 }
 
-/// The bit that asks for the extended entry.
+/// The bit that asks for the full reading.
 const EXTENDED: u32 = 1 << 30;
 
-/// Returns whether these bits ask for the extended entry.
+/// Returns whether these bits ask for the full reading.
 fn asks_extended(bits: u32) -> bool
     ensures { result ≡ asks_extended bits }
 {

@@ -1,4 +1,4 @@
-//! The extensions that the command line offers: those that have an effect by the extended entry.
+//! The extensions that the command line offers: those that have an effect by the full reading.
 ghost use Rattle.std.specs.Prelude.{◌≡◌, IfOk, map};
 ghost use Rattle.markdown_command.specs.Extensions.{enabled_by, extensions, offered_names};
 ghost use Rattle.markdown_command.specs.Extensions.{option_named, options_together};

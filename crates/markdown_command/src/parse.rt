@@ -181,7 +181,7 @@ fn request_with<'a>(
 ///
 /// # Errors
 ///
-/// What is wrong with the words, or that help or the version is asked for, or that an allocation was refused.
+/// What is wrong with the words, or that help or the version is asked for, or that an allocation failed.
 pub fn request_of(alloc: Global, words: &[String]) -> Result<Request, Error>
     ensures request { IfOk result (IsRequestFor (map string_bytes words.now)) }
     ensures refused { IfErr result (IsRefusedFor (map string_bytes words.now)) }

@@ -40,7 +40,7 @@ pub const STANDARD: &str = "-";
 /// Why words that clap takes give no request.
 #[derive(Debug, Drop)]
 pub enum Refusal {
-    /// An allocation was refused.
+    /// An allocation failed.
     Memory,
     /// Choices that do not go together.
     Misuse(Misuse),
@@ -176,7 +176,7 @@ fn inputs_asked(alloc: Global, matches: &ArgMatches<'_>) -> Result<Vec<String>, 
 ///
 /// # Errors
 ///
-/// `Memory` where an allocation is refused, and `Misuse` where choices do not go together.
+/// `Memory` if an allocation fails, and `Misuse` where choices do not go together.
 pub(crate) fn request_asked(alloc: Global, matches: &ArgMatches<'_>) -> Result<Request, Refusal>
     ensures request { IfOk result (IsRequestOf (rows_of (found_of matches.now))) }
     ensures refused { IfErr result (IsRefusal (rows_of (found_of matches.now))) }

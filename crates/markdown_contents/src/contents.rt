@@ -175,7 +175,7 @@ fn push_line(list: &mut String, depth: usize, text: &str, anchor: &str) -> Resul
 ///
 /// # Errors
 ///
-/// `Memory` where an allocation is refused; there is no other error.
+/// `Memory` if an allocation fails; there is no other error.
 pub fn list_of(alloc: Global, headings: &[Entry]) -> Result<String, Fault>
     ensures list { IfOk result (λ list.
         string_bytes list ≡ contents_of (map entry_view headings.now)) }

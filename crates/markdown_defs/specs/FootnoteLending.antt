@@ -43,7 +43,7 @@ abbrev pub OnLent : Result (Option (MutBor FootnoteDef)) Fault → Type 0 → Ty
 OnLent (Ok found) P = OnSome found P
 OnLent (Err fault) P = ⊤
 
--- P, if no reference was lent, or an allocation was refused
+-- P, if no reference was lent, or an allocation failed
 abbrev pub OnNoneLent : Result (Option (MutBor FootnoteDef)) Fault → Type 0 → Type 0
 OnNoneLent (Ok found) P = IfNone found P
 OnNoneLent (Err fault) P = P

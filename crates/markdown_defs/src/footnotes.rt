@@ -32,7 +32,7 @@ pub struct FootnoteDef {
 pub enum Absence {
     /// No footnote of this name is defined.
     Undefined,
-    /// An allocation was refused.
+    /// An allocation failed.
     Refused,
 }
 

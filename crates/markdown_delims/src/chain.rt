@@ -69,7 +69,7 @@ pub struct ChainText<'t> {
 ///
 /// `open_runs` is emptied first; its allocation is kept from chain to chain. `work` counts the delimiter characters and
 /// the comparisons of open runs with closers: at most `comparisons_per_delimiter` for each character, and at least one
-/// for each search by a closer that finds an opener. The error is a refused allocation, after which the nodes of the
+/// for each search by a closer that finds an opener. Fails only if an allocation fails, after which the nodes of the
 /// chain may be in any state. Upstream: `handle_emphasis_and_hard_break`.
 pub fn pair_chain(
     tree: &mut Tree<Item>,

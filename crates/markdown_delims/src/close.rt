@@ -38,7 +38,7 @@ fn keep(
 
 /// Reads a delimiter run. If it can close, it pairs as long as it has characters left and finds an opener; what is left
 /// of the run opens if it can. `last` is the node before the run. Returns the last node that was read, and the link to
-/// what follows that. The error is a refused allocation.
+/// what follows that. Fails only if an allocation fails.
 pub fn read_run(
     tree: &mut Tree<Item>,
     openers: &mut OpenRuns,

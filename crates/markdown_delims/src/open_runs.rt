@@ -81,7 +81,7 @@ impl OpenRuns {
         self.bounds = LowerBounds::zero();
     }
 
-    /// Adds a run to the open ones. The error is a refused allocation, after which the open runs are unchanged.
+    /// Adds a run to the open ones. Fails only if an allocation fails, after which the open runs are unchanged.
     pub fn push(&mut self, opener: Characters) -> Result<(), AllocError>
         requires some { 0 < opener.count }
         requires room { self.old.potential + comparisons_per_delimiter < 2 ^ 128 }

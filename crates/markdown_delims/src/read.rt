@@ -29,7 +29,7 @@ fn make_run_literal(tree: &mut Tree<Item>, met: Characters)
 }
 
 /// Reads a tree of a chain, or all of a delimiter run if the tree is its first character. Returns the last node that
-/// was read, and the link to what follows that. The error is a refused allocation.
+/// was read, and the link to what follows that. Fails only if an allocation fails.
 pub fn read_tree(
     tree: &mut Tree<Item>,
     openers: &mut OpenRuns,

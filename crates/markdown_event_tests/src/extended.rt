@@ -1,4 +1,4 @@
-//! The calls of the extended entry, each once.
+//! The calls of the full reading, each once.
 use markdown_base::options::Options;
 use markdown_defs::DefaultBrokenLinkCallback;
 use markdown_render::render_extended;

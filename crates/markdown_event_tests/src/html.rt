@@ -1,4 +1,4 @@
-//! What `push_html` writes, where no allocation is refused.
+//! What `push_html` writes, where no allocation fails.
 ghost use Rattle.std.specs.Iterator.{IsFinite};
 
 use crate::events::{Item, html_of_hardened};

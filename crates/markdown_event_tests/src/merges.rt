@@ -1,4 +1,4 @@
-//! The results of both merges, where no allocation is refused.
+//! The results of both merges, where no allocation fails.
 use crate::events::{Item, RangedItem};
 use crate::signs::{Sign, items_of, ranged_items_of};
 use markdown_base::fault::Fault;

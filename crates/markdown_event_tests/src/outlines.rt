@@ -1,4 +1,4 @@
-//! The outlines of events made by hand, where no allocation is refused.
+//! The outlines of events made by hand, where no allocation fails.
 
 use crate::signs::{Sign, item_of};
 use markdown_base::event::Event;

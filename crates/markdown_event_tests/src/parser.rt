@@ -1,4 +1,4 @@
-//! The events of parsers, where no allocation is refused.
+//! The events of parsers, where no allocation fails.
 use crate::events::RangedItem;
 use markdown_base::item::ItemBody;
 use markdown_base::options::Options;

@@ -1,4 +1,4 @@
-//! Renders texts by the extended entry: standard input has texts with U+001E between them, and standard output then has
+//! Renders texts by the full reading: standard input has texts with U+001E between them, and standard output then has
 //! the HTML of each, followed by U+001E.
 #![tactic(auto)]
 

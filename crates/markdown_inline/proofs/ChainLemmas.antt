@@ -280,7 +280,7 @@ more_questions s r after questions others e = (
       (simp (map-append, append_assoc)),
 )
 
--- where memory is refused on the way, what was left begins with the questions asked
+-- if an allocation fails on the way, what was left begins with the questions asked
 pub stops_chain : {C : Type 0} (step : C → Question → Option Answer → C → Type 0) (s : Setting) (first : ℕ)
     (spine : List ℕ) (old : ResolverState C) (d : Option C) (work work' : Work)
     → Stands s.text old.tables old.nodes (Some first) spine → is_open (item_at old.nodes first).body ≡ true

@@ -329,7 +329,7 @@ module _ (addresses : Bool) where
         }
 
 module _ {A : Type 0} where
-  -- the extended entry has addresses
+  -- the full reading has addresses
   abbrev FreeBy : Setting → Forest (TreeNode A) → Type 0
   FreeBy s f = IsFreeOfLinks (is_extended s.rules.options) f
 

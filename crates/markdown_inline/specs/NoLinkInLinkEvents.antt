@@ -36,7 +36,7 @@ NoLinkInLinkFrom addresses within (e ∷ events) =
 abbrev pub NoLinkInLink : (addresses : Bool) → List Ranged → Type 0
 NoLinkInLink addresses events = NoLinkInLinkFrom addresses 0 events
 
--- this is true of the reading of each block result, for all answers of the callback; the extended entry has addresses
+-- this is true of the reading of each block result, for all answers of the callback; the full reading has addresses
 abbrev pub NoLinkInLinkLaw : Type 0
 NoLinkInLinkLaw = (blocks : Blocks) (asks : Bool) (answers : Answers)
     → NoLinkInLink (is_extended (rules_of blocks asks).options) (ranged (events_of (reading_of blocks asks answers)))

@@ -119,7 +119,7 @@ pub record ReadsEntry {F : Type 0} (extended : Bool) (text : List ℕ) (options 
       → elements p answers
       ≡ reading_of_text (source_for extended text options) (is_some (parser_callback p)) answers
 
--- the same of the present entry, and of the extended one
+-- the same of the port's profile, and of the extended one
 abbrev pub ReadsText : {F : Type 0} → (text : List ℕ) → Options → Parser F → Type 0
 ReadsText text options p = ReadsEntry false text options p
 

@@ -119,7 +119,7 @@ pub fn leaf_event<'a>(text: &'a str, tables: &mut Allocations<'a>, item: Item) -
 }
 
 /// Returns the tag of an item's Start. A text, a link or alignments that the item refers to are taken out of their
-/// tables, and heading attributes are copied. On an error, where memory for the copies is refused, the tables are
+/// tables, and heading attributes are copied. If an allocation for the copies fails, the tables are
 /// unchanged.
 pub fn start_tag<'a>(
     alloc: Global,

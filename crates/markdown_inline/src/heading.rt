@@ -15,8 +15,8 @@ use markdown_base::tag::{HeadingLevel, Tag};
 use markdown_defs::Allocations;
 use std::alloc::{AllocError, Global};
 
-/// Returns the tag of a heading, with copies of the attributes that it refers to, or with none. Returns an error where
-/// memory for the copies is refused.
+/// Returns the tag of a heading, with copies of the attributes that it refers to, or with none. Fails if an
+/// allocation for the copies fails.
 pub fn heading_start<'a>(
     alloc: Global,
     tables: &Allocations<'a>,
@@ -40,7 +40,7 @@ pub fn heading_start<'a>(
     }
 }
 
-/// Returns the tag of a heading with a copy of the attributes. Returns an error where memory is refused.
+/// Returns the tag of a heading with a copy of the attributes. Returns an error if an allocation fails.
 fn heading_copy<'a>(
     alloc: Global,
     level: HeadingLevel,
@@ -62,7 +62,7 @@ fn heading_copy<'a>(
     })
 }
 
-/// Returns a copy of a text, where there is one. Returns an error where memory is refused.
+/// Returns a copy of a text, where there is one. Returns an error if an allocation fails.
 fn copy_of<'a>(alloc: Global, text: &Option<CowStr<'a>>) -> Result<Option<CowStr<'a>>, AllocError>
     ensures { IfOk result (λ copy. option_map text_of copy ≡ option_map text_of text.now) }
 {
@@ -72,7 +72,7 @@ fn copy_of<'a>(alloc: Global, text: &Option<CowStr<'a>>) -> Result<Option<CowStr
     }
 }
 
-/// Returns copies of classes. Returns an error where memory is refused.
+/// Returns copies of classes. Returns an error if an allocation fails.
 fn class_copies<'a>(alloc: Global, classes: &[CowStr<'a>]) -> Result<Vec<CowStr<'a>>, AllocError>
     ensures { IfOk result (λ copies. map text_of copies.items ≡ map text_of classes.now) }
 {
@@ -83,7 +83,7 @@ fn class_copies<'a>(alloc: Global, classes: &[CowStr<'a>]) -> Result<Vec<CowStr<
     Ok(copies)
 }
 
-/// Returns a copy of an attribute's name and value. Returns an error where memory is refused.
+/// Returns a copy of an attribute's name and value. Returns an error if an allocation fails.
 fn attribute_copy<'a>(
     alloc: Global,
     attribute: &(CowStr<'a>, Option<CowStr<'a>>),
@@ -95,7 +95,7 @@ fn attribute_copy<'a>(
     Ok((name, value))
 }
 
-/// Returns copies of attributes, each a name with its value. Returns an error where memory is refused.
+/// Returns copies of attributes, each a name with its value. Returns an error if an allocation fails.
 fn attribute_copies<'a>(
     alloc: Global,
     attributes: &[(CowStr<'a>, Option<CowStr<'a>>)],

@@ -12,8 +12,8 @@ use markdown_defs::BrokenLinkCallback;
 use std::alloc::{AllocError, Global};
 use std::ops::Range;
 
-/// Returns all events that are left, in a list. If the parser is refused memory, its error is the last item of the
-/// list. Returns an error where memory for the list is refused.
+/// Returns all events that are left, in a list. If an allocation of the parser fails, its error is the last item
+/// of the list. Fails if an allocation for the list fails.
 pub fn gather<'input, F: BrokenLinkCallback<'input>>(
     parser: Parser<'input, F>,
     alloc: Global,

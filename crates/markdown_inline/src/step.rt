@@ -63,7 +63,7 @@ pub fn step_out(tree: &mut Tree<Item>, above: &mut BlocksAbove) -> Step
 }
 
 /// Takes a step at the node at the cursor. `above` are the blocks among the entered nodes. Returns
-/// an error where memory is refused; the tree is then unchanged.
+/// an error if an allocation fails; the tree is then unchanged.
 #[inline(always)]
 pub fn step_at(
     tree: &mut Tree<Item>,
@@ -101,7 +101,7 @@ pub fn step_at(
 }
 
 /// Takes one step of the walk over a tree. `above` are the blocks among the entered nodes. Returns
-/// an error where memory is refused; the tree is then unchanged.
+/// an error if an allocation fails; the tree is then unchanged.
 #[inline(always)]
 pub fn take_step(tree: &mut Tree<Item>, above: &mut BlocksAbove) -> Result<Step, AllocError>
     ensures gives { (source : List ℕ) (held : Allocated)

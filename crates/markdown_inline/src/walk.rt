@@ -37,11 +37,11 @@ pub enum Stop {
     Start(Item),
     /// After an item, which ends with this End.
     End(TagEnd, Item),
-    /// Memory was refused, and the walk is over.
+    /// An allocation failed, and the walk is over.
     Refused,
 }
 
-/// The events of a text, as an iterator. An item is an error where memory is refused; no item follows it.
+/// The events of a text, as an iterator. An item is an error if an allocation fails; no item follows it.
 ///
 /// ```
 /// let mut parser = Parser::new(alloc, "*a*")?;
@@ -136,7 +136,7 @@ impl<'input, F: BrokenLinkCallback<'input>> Parser<'input, F> {
         }
     }
 
-    /// Returns the Start of an item that the walk has entered. Returns an error where memory is refused; the walk is
+    /// Returns the Start of an item that the walk has entered. Returns an error if an allocation fails; the walk is
     /// then over.
     #[inline(always)]
     fn start(&mut self, item: Item) -> Result<Event<'input>, Fault>
@@ -155,8 +155,8 @@ impl<'input, F: BrokenLinkCallback<'input>> Parser<'input, F> {
         }
     }
 
-    /// Returns the next event with its range in the source, or None at the end. Returns an error where memory is
-    /// refused; the walk is then over.
+    /// Returns the next event with its range in the source, or None at the end. Returns an error if an
+    /// allocation fails; the walk is then over.
     fn next_placed(&mut self) -> Option<Result<(Event<'input>, Range<usize>), Fault>>
         requires { IfSome (parser_callback self.old) F.can_ask }
         ensures gives { NextGives F.answers IsPlacedOf self.old result self.new }
@@ -251,7 +251,7 @@ impl<'input, F: BrokenLinkCallback<'input>> Iterator for Parser<'input, F> {
         (0, self.most_left())
     }
 
-    /// Returns the next event, or None at the end. Returns an error where memory is refused, and from then on None.
+    /// Returns the next event, or None at the end. Returns an error if an allocation fails, and from then on None.
     // inlined, with what it calls, into each place that takes an event: else events are stored to be taken apart again
     #[inline(always)]
     fn next(&mut self) -> Option<Result<Event<'input>, Fault>> {
@@ -291,8 +291,8 @@ impl<'input, F: BrokenLinkCallback<'input>> Iterator for OffsetIter<'input, F> {
         (0, self.inner.most_left())
     }
 
-    /// Returns the next event with its range in the source, or None at the end. Returns an error where memory is
-    /// refused, and from then on None.
+    /// Returns the next event with its range in the source, or None at the end. Returns an error if an
+    /// allocation fails, and from then on None.
     fn next(&mut self) -> Option<Result<(Event<'input>, Range<usize>), Fault>> {
         self.inner.next_placed()
     }
@@ -389,7 +389,7 @@ impl<'input, F: BrokenLinkCallback<'input>> Parser<'input, F> {
         Parser::from_blocks(alloc, blocks, callback)
     }
 
-    /// Returns a parser of a text that is read by the extended entry. It calls `callback`, where there is one, for each
+    /// Returns a parser of a text, by the full reading. It calls `callback`, where there is one, for each
     /// link label without a reference definition. The only error is `Fault::Memory`.
     pub fn new_extended(
         alloc: Global,
@@ -505,7 +505,7 @@ impl<'input, F: BrokenLinkCallback<'input>> OffsetIter<'input, F> {
     }
 
     /// Returns all events that are left, with their ranges, and the callback, which was asked all questions that were
-    /// left. Returns an error where memory is refused; the events and the callback are then lost.
+    /// left. Returns an error if an allocation fails; the events and the callback are then lost.
     pub fn into_events(self) -> Result<(Vec<(Event<'input>, Range<usize>)>, Option<F>), Fault>
         requires { IfSome (parser_callback (offset_parser self)) F.can_ask }
         ensures all { IfOk result (λ given.

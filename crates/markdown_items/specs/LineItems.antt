@@ -16,7 +16,7 @@ use Rattle.markdown_items.specs.declared.flanking.Flags.{Flags}
 use Rattle.markdown_items.specs.Flanking.{is_white, flags_of}
 
 -- what the options enable: `~` with strikethrough or subscript, `^` with superscript, quotation marks with smart
--- punctuation, and dashes with it in the extended entry, `$` with math; and the names of entities that count
+-- punctuation, and dashes with it in the full reading, `$` with math; and the names of entities that count
 abbrev pub item_extensions : Options → Extensions
 item_extensions options = record {
   tildes = strikethrough_on options || subscript_on options;

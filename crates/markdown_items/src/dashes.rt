@@ -41,7 +41,7 @@ impl Dashes {
     ghost use Rattle.markdown_items.specs.Dashes.{dashes_in_utf8};
 
     /// Returns the dashes as a text, stored inline if it has at most 22 bytes. Memory is allocated unless there is one
-    /// dash. The error is a refused allocation.
+    /// dash. Fails only if an allocation fails.
     pub fn text<'a>(self, alloc: Global) -> Result<CowStr<'a>, AllocError>
         ensures { IfOk result (λ made. text_of made ≡ dashes_in_utf8 self) }
     {
@@ -52,7 +52,7 @@ impl Dashes {
         }
     }
 
-    /// Returns the dashes as a string. The error is a refused allocation.
+    /// Returns the dashes as a string. Fails only if an allocation fails.
     fn joined(self, alloc: Global) -> Result<String, AllocError>
         ensures { IfOk result (λ made. string_bytes made ≡ dashes_in_utf8 self) }
     {

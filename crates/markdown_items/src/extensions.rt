@@ -24,7 +24,7 @@ pub struct Extensions {
 
 impl Extensions {
     /// Returns what a set of options enables: `~` with strikethrough or subscript, `^` with superscript, quotation
-    /// marks with smart punctuation, and dashes with it in the extended entry, `$` with math; and the names of entities
+    /// marks with smart punctuation, and dashes with it in the full reading, `$` with math; and the names of entities
     /// that count.
     pub fn of(options: Options) -> Extensions
         ensures { result ≡ item_extensions options }

@@ -36,7 +36,7 @@ fn is_after_backslash(bytes: &[u8], start: usize, at: usize) -> bool
     start < at && bytes[at - 1] == b'\\'
 }
 
-/// Appends the text up to `to`, if there is any. The error is a refused allocation.
+/// Appends the text up to `to`, if there is any. Fails only if an allocation fails.
 // inlined: it is called before each item, and most items are Texts
 #[inline(always)]
 #[tactic(auto, using(crate::proofs::RestOfLineLemmas::no_items))]
@@ -84,7 +84,7 @@ fn append_run(
     Ok(())
 }
 
-/// Appends the characters of the entity up to `stop`. The error is a refused allocation.
+/// Appends the characters of the entity up to `stop`. Fails only if an allocation fails.
 // not inlined, nor are the two that follow: they are rare, and room for their texts would be cleared for each item
 #[inline(never)]
 fn append_entity(
@@ -107,7 +107,7 @@ fn append_entity(
     builder.synthesize(characters.inlined(), stop)
 }
 
-/// Appends the dashes for the hyphens up to `stop`. The error is a refused allocation.
+/// Appends the dashes for the hyphens up to `stop`. Fails only if an allocation fails.
 #[inline(never)]
 fn append_dashes(builder: &mut Builder<'_>, alloc: Global, stop: usize) -> Result<(), AllocError>
     requires inside { builder.old.leaf ≡ true }
@@ -126,7 +126,7 @@ fn append_dashes(builder: &mut Builder<'_>, alloc: Global, stop: usize) -> Resul
     builder.synthesize(dashes, stop)
 }
 
-/// Appends an ellipsis for the dots up to `stop`. The error is a refused allocation.
+/// Appends an ellipsis for the dots up to `stop`. Fails only if an allocation fails.
 #[inline(never)]
 fn append_ellipsis(builder: &mut Builder<'_>, stop: usize) -> Result<(), AllocError>
     requires inside { builder.old.leaf ≡ true }
@@ -249,12 +249,12 @@ fn append_special(
 ///
 /// Items are delimiter runs with their flags (CommonMark 6.2), quotation marks with smart punctuation enabled, `$` with
 /// math enabled, backticks, `<`, `[`, `![` and `]`, the characters of entities (2.5), and with smart punctuation enabled
-/// in the extended entry the dashes in place of two or more hyphens, and the ellipsis in place of three dots. A backslash
+/// in the full reading the dashes in place of two or more hyphens, and the ellipsis in place of three dots. A backslash
 /// before ASCII punctuation is in no item (2.4). Everything else is text, one `Text` between two of these. For the flags,
 /// the content is preceded by a line ending, and followed by what follows it in the text, such as the backslash of a hard
 /// line break.
 ///
-/// The error is a refused allocation, after which some of the items may have been appended.
+/// Fails only if an allocation fails, after which some of the items may have been appended.
 #[tactic(auto, using(crate::proofs::ItemLemmas::goes_on))]
 pub fn items(
     builder: &mut Builder<'_>,

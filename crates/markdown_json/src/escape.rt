@@ -7,7 +7,7 @@ ghost use Rattle.markdown_json.specs.Json.{control_bytes, string_byte};
 
 use std::alloc::AllocError;
 
-/// Appends a text unchanged. Where an allocation is refused, nothing is appended.
+/// Appends a text unchanged. If an allocation fails, nothing is appended.
 pub(crate) fn push_any(out: &mut String, text: &str) -> Result<(), AllocError>
     ensures ok { OnOk result (Appends out.old out.new text.now) }
     ensures err { OnErr result (string_bytes out.new ≡ string_bytes out.old) }
@@ -73,7 +73,7 @@ fn escape_of(byte: u8) -> Option<&'static str>
     }
 }
 
-/// Appends a text, escaped. Where an allocation is refused, a prefix of it has been appended.
+/// Appends a text, escaped. If an allocation fails, a prefix of it has been appended.
 pub(crate) fn push_escaped(out: &mut String, text: &str) -> Result<(), AllocError>
     ensures ok { OnOk result (Appends out.old out.new (flat_map string_byte text.now)) }
     ensures err { OnErr result (AppendsPart out.old out.new (flat_map string_byte text.now)) }

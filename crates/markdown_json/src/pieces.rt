@@ -45,7 +45,7 @@ fn push_piece(s: &mut String, piece: Piece<'_>) -> Result<(), AllocError>
     }
 }
 
-/// Appends pieces, one after another. Where an allocation is refused, a prefix of their bytes has been appended.
+/// Appends pieces, one after another. If an allocation fails, a prefix of their bytes has been appended.
 pub fn push_pieces(s: &mut String, pieces: &[Piece<'_>]) -> Result<(), AllocError>
     ensures ok { OnOk result (Appends s.old s.new (spelled pieces.now)) }
     ensures err { OnErr result (AppendsPart s.old s.new (spelled pieces.now)) }

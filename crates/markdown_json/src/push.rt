@@ -70,7 +70,7 @@ fn push_placed<'a>(s: &mut String, placed: (Event<'a>, Range<usize>)) -> Result<
 /// # Errors
 ///
 /// - The error of the first item that is one: the lines of the events before it have been appended.
-/// - `Memory`, where an allocation is refused: the lines of the events before the one that was being written have been
+/// - `Memory`, if an allocation fails: the lines of the events before the one that was being written have been
 ///   appended, and a prefix of its line.
 pub fn push_json<'a, I>(alloc: Global, s: &mut String, iter: I) -> Result<(), Fault>
 where

@@ -14,7 +14,7 @@ pub(crate) trait Value {
     /// The bytes of its JSON.
     ghost json: { Self → List ℕ };
 
-    /// Appends its JSON. Where an allocation is refused, a prefix of it has been appended.
+    /// Appends its JSON. If an allocation fails, a prefix of it has been appended.
     fn push(&self, s: &mut String) -> Result<(), AllocError>
         ensures ok { OnOk result (Appends s.old s.new (json self.now)) }
         ensures err { OnErr result (AppendsPart s.old s.new (json self.now)) };

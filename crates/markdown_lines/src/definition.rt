@@ -1,5 +1,5 @@
 //! Link reference definitions (CommonMark 4.7), read from the lines of a paragraph. The functions that return a
-//! `Result` fail only where memory is refused.
+//! `Result` fail only if an allocation fails.
 ghost use Rattle.std.specs.Prelude.{◌≡◌, ◌==◌, ◌≤◌, ◌+◌, ℕ, MatchOption, IfSome, None, List, [], ◌∷◌, drop, length};
 ghost use Rattle.std.specs.Prelude.{IfOk, true, false, string_bytes, codes, ◌<◌, ◌^◌, ◌++◌};
 ghost use Rattle.markdown_scan.specs.Backslash.{is_bare};

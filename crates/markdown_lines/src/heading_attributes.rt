@@ -1,5 +1,5 @@
 //! Attributes in braces at the end of a heading's content: an id, classes, and names with or without values. Functions
-//! that return a `Result` fail only where memory is refused.
+//! that return a `Result` fail only if an allocation fails.
 ghost use Rattle.std.specs.Prelude.{◌≡◌, ◌+◌, ◌-◌, ◌≤◌, ◌<◌, ◌++◌, ◌∷◌, [], true, false, not, length, map, drop};
 ghost use Rattle.std.specs.Prelude.{slice_range, IfOk, IfSome, MatchOption};
 ghost use Rattle.std.specs.List.{filter, position_or_len, slice_split, suffix_len};

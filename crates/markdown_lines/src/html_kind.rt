@@ -287,7 +287,7 @@ fn known_kind(rest: &[u8]) -> Option<HtmlKind>
 }
 
 /// Returns whether a line's content is a tag and white space after it, and the tag's name is not one of the first kind.
-/// Fails where memory is refused.
+/// Fails if an allocation fails.
 fn is_lone_tag(alloc: Global, line: &str) -> Result<bool, AllocError>
     ensures { IfOk result (λ lone. lone ≡ spec.is_lone_tag line.now) }
 {
@@ -300,7 +300,7 @@ fn is_lone_tag(alloc: Global, line: &str) -> Result<bool, AllocError>
 }
 
 /// Returns the kind of the HTML block that begins with a line's content, whose first byte is a `<`. A block of the
-/// seventh kind cannot interrupt a paragraph. Fails where memory is refused.
+/// seventh kind cannot interrupt a paragraph. Fails if an allocation fails.
 pub fn html_kind(
     alloc: Global,
     line: &str,

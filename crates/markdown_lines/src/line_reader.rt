@@ -106,7 +106,7 @@ fn is_mark(byte: u8) -> bool
 }
 
 /// Returns the label of the footnote definition that a line's content begins, and the length of its marker in bytes;
-/// `None` where it begins none. Fails where memory is refused.
+/// `None` where it begins none. Fails if an allocation fails.
 fn footnote_marker<'a>(
     alloc: Global,
     content: &'a str,
@@ -183,7 +183,7 @@ impl<'a> LineReader<'a> {
     }
 
     /// Returns what the rest of the line from a place on begins, where `before` is the paragraph that it may go on with.
-    /// Fails where memory is refused.
+    /// Fails if an allocation fails.
     // inlined: it is called for most lines
     #[inline(always)]
     pub fn beginning(&mut self, position: Position, before: Before) -> Result<Begun<'a>, AllocError>

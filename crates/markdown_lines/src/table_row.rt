@@ -227,7 +227,7 @@ fn cell_alignment(content: &[u8]) -> Option<Alignment>
 
 /// Returns the alignments of the delimiter row from byte offset `at` on, in a line whose content ends before `stop`: a
 /// row of one or more cells, each of hyphens and at most one colon on each side, with a `|` or a colon somewhere. `None`
-/// where it is none. Fails where memory is refused.
+/// where it is none. Fails if an allocation fails.
 pub fn delimiter_row(
     alloc: Global,
     text: &str,

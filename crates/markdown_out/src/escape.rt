@@ -21,7 +21,7 @@ pub(crate) enum Escape {
     Attribute,
 }
 
-/// Appends a text, and allocates nothing where it is empty. Where memory is refused, nothing has been appended.
+/// Appends a text, and allocates nothing where it is empty. If an allocation fails, nothing has been appended.
 pub(crate) fn push_any(out: &mut String, text: &str) -> Result<(), AllocError>
     ensures ok { OnOk result (Appends out.old out.new text.now) }
     ensures err { OnErr result (string_bytes out.new ≡ string_bytes out.old) }
@@ -108,7 +108,7 @@ fn first_replaced(bytes: &[u8], from: usize) -> usize
     end
 }
 
-/// Appends a text, escaped. Where memory is refused, a prefix of the escaped text has been appended.
+/// Appends a text, escaped. If an allocation fails, a prefix of the escaped text has been appended.
 pub(crate) fn push_escaped(out: &mut String, escape: Escape, text: &str) -> Result<(), AllocError>
     ensures ok { OnOk result (Appends out.old out.new (flat_map (escaped_byte escape) text.now)) }
     ensures err { OnErr result (AppendsPart out.old out.new (flat_map (escaped_byte escape)
@@ -199,7 +199,7 @@ fn between(text: &str, from: usize, to: usize) -> &str
     if from < to { &text[from..to] } else { "" }
 }
 
-/// Appends a link's destination, escaped. Where memory is refused, a prefix of the escaped text has been appended.
+/// Appends a link's destination, escaped. If an allocation fails, a prefix of the escaped text has been appended.
 pub(crate) fn push_destination(out: &mut String, destination: &str) -> Result<(), AllocError>
     ensures ok { OnOk result (Appends out.old out.new (destination_escaped destination.now)) }
     ensures err { OnErr result (AppendsPart out.old out.new (destination_escaped destination.now)) }

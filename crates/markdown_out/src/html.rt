@@ -1,6 +1,6 @@
 //! The writer of HTML, which keeps what the HTML of later events depends on, and its parts.
 //!
-//! A function that appends returns an error where an allocation is refused; it has then appended a prefix of its bytes.
+//! A function that appends returns an error if an allocation fails; it has then appended a prefix of its bytes.
 use markdown_base::cow_str::CowStr;
 use markdown_base::tag::Alignment;
 

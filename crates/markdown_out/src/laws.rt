@@ -49,8 +49,8 @@ pub fn merging_keeps_the_html()
     ensures { MergingKeepsHtml }
 {}
 
-/// States that a new merge over an iterator that stays ended returns the merge of the items, where no allocation is
-/// refused.
+/// States that a new merge over an iterator that stays ended returns the merge of the items, where no allocation
+/// fails.
 pub fn a_stream_gives_the_merge<'a, I: Iterator<Item = Result<Event<'a>, Fault>>>(
     merge: &TextMergeStream<'a, I>,
 )
@@ -123,8 +123,8 @@ pub fn a_mapped_iterator_stays_ended<I: Iterator, B, F: FnMut(I::Item) -> B>(map
 {}
 
 /// States what `push_html` writes for a new merge of events over an iterator that stays ended: the HTML of the merge of
-/// the events; at an error, the open HTML of the merge of the events before it; and where the merge itself is refused
-/// memory, or too many Starts are open in an image, the open HTML of a prefix of the merge of the events read.
+/// the events; at an error, the open HTML of the merge of the events before it; and where an allocation of the merge
+/// fails, or too many Starts are open in an image, the open HTML of a prefix of the merge of the events read.
 pub fn html_of_a_merge_is_that_of_the_merged_events<
     'a,
     I: Iterator<Item = Result<Event<'a>, Fault>>,

@@ -77,7 +77,7 @@ impl<'a, I: Iterator<Item = Result<Event<'a>, Fault>>> Iterator for TextMergeStr
     ///
     /// # Errors
     ///
-    /// The item is an error where the iterator returns one, and `Fault::Memory` where an allocation is refused: then
+    /// The item is an error where the iterator returns one, and `Fault::Memory` if an allocation fails: then
     /// every later call returns `None`.
     fn next(&mut self) -> Option<Result<Event<'a>, Fault>> {
         next_item(&mut self.merging)
@@ -129,7 +129,7 @@ impl<'a, I: Iterator<Item = Result<(Event<'a>, Range<usize>), Fault>>> Iterator
     ///
     /// # Errors
     ///
-    /// The item is an error where the iterator returns one, and `Fault::Memory` where an allocation is refused: then
+    /// The item is an error where the iterator returns one, and `Fault::Memory` if an allocation fails: then
     /// every later call returns `None`.
     fn next(&mut self) -> Option<Result<(Event<'a>, Range<usize>), Fault>> {
         next_item(&mut self.merging)

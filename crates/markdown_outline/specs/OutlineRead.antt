@@ -1,4 +1,4 @@
--- What `outline` has read of an iterator: at the end, at an error among the items, and where an allocation is refused.
+-- What `outline` has read of an iterator: at the end, at an error among the items, and if an allocation fails.
 use Rattle.std.specs.Prelude.{◌≡◌, ◌<◌, ℕ, List, [], ◌∷◌, ◌++◌, length, map, Ok, Err, Result, Option}
 use Rattle.std.specs.Iterator.{Yields, Drains}
 use Rattle.std.specs.declared.ops.Range.{Range}

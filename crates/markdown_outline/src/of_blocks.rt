@@ -25,7 +25,7 @@ use std::alloc::Global;
 ///
 /// # Errors
 ///
-/// `Memory` where an allocation is refused; there is no other error.
+/// `Memory` if an allocation fails; there is no other error.
 pub fn outline_of(alloc: Global, blocks: Blocks<'_>) -> Result<Vec<Entry>, Fault>
     ensures entries { IfOk result (λ entries.
         HeadingsApart blocks.entry → AreEntriesOf blocks.entry (map entry_view entries.items)) }

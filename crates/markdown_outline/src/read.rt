@@ -24,7 +24,7 @@ use std::ops::Range;
 ///
 /// # Errors
 ///
-/// The error of the first item that is one, and `Memory` where an allocation is refused.
+/// The error of the first item that is one, and `Memory` if an allocation fails.
 pub fn outline<'a, I>(alloc: Global, iter: I) -> Result<Vec<Entry>, Fault>
 where
     I: Iterator<Item = Result<(Event<'a>, Range<usize>), Fault>>,

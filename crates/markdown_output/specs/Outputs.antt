@@ -19,7 +19,7 @@ use Rattle.markdown_text_json.specs.TextJson.{IsExtendedJsonOf}
 use Rattle.markdown_output.specs.FileText.{without_mark}
 use Rattle.markdown_output.specs.PageHtml.{page_html}
 
--- this is the table of contents of the headings of a block result of the text, of the extended entry
+-- this is the table of contents of the headings of a block result of the text, of the full reading
 pub record IsExtendedContentsOf (text : List ℕ) (options : Options) (list : List ℕ) : Type 0 where
   pub blocks : Blocks
   pub of_text : IsOfEntry true text options blocks

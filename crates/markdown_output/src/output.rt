@@ -16,11 +16,11 @@ use markdown_contents::list_of;
 use markdown_text_json::{outline_json_extended, text_json_extended};
 use std::alloc::Global;
 
-/// Returns the table of contents of a text that is read by the extended entry.
+/// Returns the table of contents of a text, by the full reading.
 ///
 /// # Errors
 ///
-/// `Memory` where an allocation is refused; there is no other error.
+/// `Memory` if an allocation fails; there is no other error.
 pub fn contents_extended(alloc: Global, text: &str, options: Options) -> Result<String, Fault>
     ensures list { IfOk result (λ list. IsExtendedContentsOf text.now options (string_bytes list)) }
     ensures refused { IfErr result (λ fault. fault ≡ Fault.Memory) }
@@ -31,7 +31,7 @@ pub fn contents_extended(alloc: Global, text: &str, options: Options) -> Result<
     list_of(alloc, headings.as_slice())
 }
 
-/// Returns the HTML of a text that is read by the extended entry.
+/// Returns the HTML of a text, by the full reading.
 fn html_of(alloc: Global, options: Options, text: &str) -> Result<String, Fault>
     ensures html { IfOk result (λ html.
         IsOutputOfText Format.Html options text.now (string_bytes html)) }
@@ -40,7 +40,7 @@ fn html_of(alloc: Global, options: Options, text: &str) -> Result<String, Fault>
     render_extended(alloc, text, options, None::<DefaultBrokenLinkCallback>)
 }
 
-/// Returns the safe HTML of a text that is read by the extended entry.
+/// Returns the safe HTML of a text, by the full reading.
 fn safe_html_of(alloc: Global, options: Options, text: &str) -> Result<String, Fault>
     ensures html { IfOk result (λ html.
         IsOutputOfText Format.SafeHtml options text.now (string_bytes html)) }
@@ -49,11 +49,11 @@ fn safe_html_of(alloc: Global, options: Options, text: &str) -> Result<String, F
     safe_html_extended(alloc, text, options, None::<DefaultBrokenLinkCallback>)
 }
 
-/// Returns what is written in a format for one text, which is read by the extended entry.
+/// Returns what is written in a format for one text, by the full reading.
 ///
 /// # Errors
 ///
-/// `Memory` where an allocation is refused, and `Depth` where more than 2^64 - 1 Starts are open in one image.
+/// `Memory` if an allocation fails, and `Depth` where more than 2^64 - 1 Starts are open in one image.
 pub fn output_of_text(
     alloc: Global,
     format: Format,

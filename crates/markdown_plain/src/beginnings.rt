@@ -1,6 +1,6 @@
 //! What begins in a line: the rest of a line, which block its first bytes begin, and how each of these is opened, until
 //! the line is placed or the rest of it is inside a new container. `block_pass` goes on with that, turn by turn.
-//! Functions that return a `Result` fail only where memory is refused.
+//! Functions that return a `Result` fail only if an allocation fails.
 ghost use Rattle.std.specs.Prelude.{◌≡◌, ℕ, true, false, Some, None, IfOk, length};
 ghost use Rattle.std.specs.Str.{IsCharBoundary};
 ghost use Rattle.markdown_base.specs.Forest.{Forest};

@@ -477,7 +477,7 @@ fn place_all<'a>(alloc: Global, text: &'a str, options: Options) -> Result<Placi
 }
 
 /// Returns the tree of a text's blocks, and the parts that its items refer to: exactly those that the rules of blocks
-/// give (`markdown_block_rules`). Fails where memory is refused.
+/// give (`markdown_block_rules`). Fails if an allocation fails.
 ///
 /// The blocks are those of CommonMark 0.31.2, chapters 4 and 5, and, with footnotes enabled, footnote definitions. In a
 /// tight list paragraphs are tight. A block's range extends from its marker or first content byte to the end of its
@@ -492,7 +492,7 @@ fn place_all<'a>(alloc: Global, text: &'a str, options: Options) -> Result<Placi
 /// paragraph. In GitHub's style it continues in lines that begin with 4 columns of space, in blank lines and in lazy
 /// continuation lines; in the old style up to the first blank line.
 ///
-/// By the extended entry, and only by that, more options change blocks. With tables enabled, a delimiter row makes the
+/// By the full reading, and only by it, more options change blocks. With tables enabled, a delimiter row makes the
 /// line before it, the last of a paragraph, the head of a table, whose rows have as many cells. With task lists enabled,
 /// a paragraph that begins an item on the line of its list marker may begin with a TaskListMarker over `[ ]` or `[x]`,
 /// before white space, which is in no item. With GFM's alerts enabled, a block quote whose first line is `[!note]`, or

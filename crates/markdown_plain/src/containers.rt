@@ -1,5 +1,5 @@
 //! Block quotes (CommonMark 5.1), list items (5.2), and footnote definitions: how they continue in a line, and how they
-//! are opened. Functions that return a `Result` fail only where memory is refused.
+//! are opened. Functions that return a `Result` fail only if an allocation fails.
 ghost use Rattle.std.specs.Prelude.{◌≡◌, ℕ, ◌+◌, ◌<◌, ◌^◌, ◌++◌, ◌∷◌, [], true, None, List, nat_le, take, IfOk};
 ghost use Rattle.markdown_base.specs.EnabledOptions.{old_footnotes_on};
 ghost use Rattle.markdown_base.specs.Forest.{Forest};

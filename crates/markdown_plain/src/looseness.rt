@@ -48,7 +48,7 @@ impl Looseness {
     }
 
     /// Records that a list was opened with its first item: it is tight, whether or not a blank line precedes it. Fails
-    /// where memory is refused.
+    /// if an allocation fails.
     pub fn open_list(&mut self) -> Result<(), AllocError>
         ensures read { IfOk result (λ _. (blank : Bool)
             → IsRead self.old.lists.items [] (new_item blank) self.new) }

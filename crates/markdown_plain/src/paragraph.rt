@@ -1,5 +1,5 @@
 //! A paragraph: its lines, the breaks between them, and what else it may turn out to be (CommonMark 4.3, 4.7, 4.8).
-//! Functions that return a `Result` fail only where memory is refused.
+//! Functions that return a `Result` fail only if an allocation fails.
 ghost use Rattle.std.specs.Prelude.{◌≡◌, ℕ, ◌<◌, ◌≤◌, ◌++◌, ◌∷◌, [], true, false, None, List, length, IfOk};
 ghost use Rattle.std.specs.Prelude.{MatchOption, ◌+◌, ◌==◌, drop, not, slice_get, take, if◌then◌else◌};
 ghost use Rattle.markdown_base.specs.declared.item.ItemBody.TheVariants as body;

@@ -1,5 +1,5 @@
 //! The state of the block pass between two lines, and the closing of blocks. Functions that return a `Result` fail only
-//! where memory is refused.
+//! if an allocation fails.
 ghost use Rattle.std.specs.Prelude.{◌≡◌, ◌≤◌, List, [], ◌∷◌, ◌++◌, ◌&&◌, true, false, not, length, take};
 ghost use Rattle.std.specs.Prelude.{drop, max, IfOk, ℕ, Option};
 ghost use Rattle.std.specs.Option.{option_map};

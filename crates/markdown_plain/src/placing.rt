@@ -1,5 +1,5 @@
 //! The block pass's calls of its builder, with the stretches of the open blocks kept beside it. Functions that return a
-//! `Result` fail only where memory is refused.
+//! `Result` fail only if an allocation fails.
 ghost use Rattle.std.specs.Prelude.{◌≡◌, true, false};
 ghost use Rattle.markdown_builder.specs.Bodies.{is_leaf, is_plain_block};
 ghost use Rattle.markdown_builder.specs.EvenRows.{InnermostRowIsEven};

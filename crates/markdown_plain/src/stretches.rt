@@ -1,5 +1,5 @@
 //! Stretches of open blocks that take nothing of a line, so that no line examines each block of one. Functions that
-//! return a `Result` fail only where memory is refused.
+//! return a `Result` fail only if an allocation fails.
 ghost use Rattle.std.specs.Prelude.{◌≡◌, ◌≤◌, ◌+◌, ◌++◌, ◌∷◌, true, List, [], drop, length, IfOk, IfErr};
 ghost use Rattle.markdown_builder.specs.declared.open_block.OpenBlock.{OpenBlock};
 ghost use Rattle.markdown_plain.specs.OpenBlocks.{outer_of};

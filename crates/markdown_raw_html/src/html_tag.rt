@@ -73,7 +73,7 @@ fn copy_text<R: LineRule>(
 
 /// Returns the open or closing tag (CommonMark 6.6) whose `<` is at the byte offset `at`; `None` if no tag begins
 /// there, or if it contains a line ending after which, by `rule`, the text may not continue. Only a copy of the tag's
-/// bytes without prefixes allocates memory. The error is a refused allocation.
+/// bytes without prefixes allocates memory. Fails only if an allocation fails.
 pub fn scan_html_tag<R: LineRule>(
     alloc: Global,
     text: &str,

@@ -1,4 +1,4 @@
-//! Copies and `'static` forms of events and their tags: the same event, or an allocation was refused.
+//! Copies and `'static` forms of events and their tags: the same event, or an allocation failed.
 use crate::texts::{LONG, boxed};
 use markdown_base::cow_str::CowStr;
 use markdown_base::event::Event;
@@ -105,7 +105,7 @@ fn event(alloc: Global, kind: Kind) -> Result<Event<'static>, AllocError> {
     }
 }
 
-/// Returns whether this is what is wanted, or an allocation was refused. The type is a parameter, so that no event is
+/// Returns whether this is what is wanted, or an allocation failed. The type is a parameter, so that no event is
 /// dropped here.
 fn is_same_or_refused<T: PartialEq + Drop>(made: Result<T, Fault>, wanted: &T) -> bool {
     match made {
@@ -133,7 +133,7 @@ fn are_wanted<T: PartialEq + Drop>(
     Some(is_same_or_refused(copy, &wanted) && held == wanted)
 }
 
-/// Returns whether an event is copied, and unchanged where an allocation was refused.
+/// Returns whether an event is copied, and unchanged if an allocation failed.
 fn is_copied(alloc: Global, kind: Kind) -> Option<bool> {
     let held = event(alloc, kind).ok()?;
     let copy = held.try_clone(alloc);

@@ -27,13 +27,13 @@ fn of_blocks(alloc: Global, source: Source) -> Result<Parser<'static, Asked>, Fa
     Parser::from_blocks(alloc, blocks, Some(callback_for(source)))
 }
 
-/// Returns a parser by the extended entry.
+/// Returns a parser by the full reading.
 fn extended(alloc: Global, source: Source) -> Result<Parser<'static, Asked>, Fault> {
     let callback = Some(callback_for(source));
     Parser::new_extended(alloc, source.text, source.options(), callback)
 }
 
-/// Returns whether each constructor returns a parser, or an allocation was refused.
+/// Returns whether each constructor returns a parser, or an allocation failed.
 fn makes(alloc: Global, source: Source) -> bool {
     is_made(Blocks::of_text(alloc, source.text, source.options()))
         && is_made(Parser::new(alloc, source.text))
@@ -201,7 +201,7 @@ fn html_of(alloc: Global, source: Source) -> Result<String, Fault> {
     )
 }
 
-/// Returns whether all of the HTML is returned, or an allocation was refused.
+/// Returns whether all of the HTML is returned, or an allocation failed.
 fn renders(alloc: Global, source: Source) -> Option<bool> {
     let full = html_of(alloc, source).ok()?;
     let is_so = match html_of(alloc, source) {
@@ -212,7 +212,7 @@ fn renders(alloc: Global, source: Source) -> Option<bool> {
     Some(is_so)
 }
 
-/// Returns whether the old text is followed by all of the HTML, or by a prefix of it where an allocation was refused.
+/// Returns whether the old text is followed by all of the HTML, or by a prefix of it if an allocation failed.
 fn pushes(alloc: Global, source: Source) -> Option<bool> {
     let full = html_of(alloc, source).ok()?;
     let is_so = writes_html(alloc, source, full.as_str());
@@ -258,7 +258,7 @@ fn are_same_entries(given: &[Entry], full: &[Entry]) -> bool {
     true
 }
 
-/// Returns whether all entries are returned, or an allocation was refused.
+/// Returns whether all entries are returned, or an allocation failed.
 fn is_outline(given: Result<Vec<Entry>, Fault>, full: &[Entry]) -> bool {
     match given {
         Ok(entries) => are_same_entries(entries.as_slice(), full),
@@ -308,7 +308,7 @@ static READINGS: [(&str, Reading); 10] = [
     ("outline_of", Reading::OutliningBlocks),
 ];
 
-/// Returns whether what is promised for a way to read a text holds, or None where an allocation was refused for what it
+/// Returns whether what is promised for a way to read a text holds, or None if an allocation failed for what it
 /// is compared with.
 fn stands(alloc: Global, reading: Reading, source: Source) -> Option<bool> {
     match reading {

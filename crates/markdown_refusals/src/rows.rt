@@ -1,4 +1,4 @@
-//! The promises by name, each with whether it holds, or with None where an allocation was refused for what it needs.
+//! The promises by name, each with whether it holds, or with None if an allocation failed for what it needs.
 use crate::tables::{Call, answers_again};
 use crate::{events, lists, tables, texts, trees};
 use std::alloc::Global;

@@ -19,7 +19,7 @@ pub enum Call {
     PutAttributes,
 }
 
-/// Returns allocations over one definition and one footnote, or None where an allocation was refused.
+/// Returns allocations over one definition and one footnote, or None if an allocation failed.
 fn made(alloc: Global) -> Option<Allocations<'static>> {
     let mut parts = defining(alloc, &[("ß", "/u")]).ok()?;
     parts.footnotes.push(CowStr::Borrowed("n")).ok()?;
@@ -133,7 +133,7 @@ pub fn answers_again(alloc: Global, call: Call) -> Option<bool> {
     Some(is_so)
 }
 
-/// Returns how often the footnote has been used, or None where an allocation was refused.
+/// Returns how often the footnote has been used, or None if an allocation failed.
 fn uses(held: &mut Allocations<'static>) -> Option<usize> {
     match held.footdefs.get_mut(CowStr::Borrowed("N")) {
         Ok(Some(footnote)) => Some(footnote.use_count),
@@ -142,7 +142,7 @@ fn uses(held: &mut Allocations<'static>) -> Option<usize> {
     }
 }
 
-/// Returns whether a use is counted once, and not at all where an allocation was refused.
+/// Returns whether a use is counted once, and not at all if an allocation failed.
 pub fn counts(alloc: Global) -> Option<bool> {
     let mut held = made(alloc)?;
     let counted = held.footdefs.count_use("N");

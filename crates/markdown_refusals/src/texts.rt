@@ -1,4 +1,4 @@
-//! Copies and `'static` forms of texts: the same text, or an allocation was refused; where none is made, the same text.
+//! Copies and `'static` forms of texts: the same text, or an allocation failed; where none is made, the same text.
 use markdown_base::block_parts::LinkDef;
 use markdown_base::cow_str::CowStr;
 use markdown_base::fault::Fault;
@@ -34,7 +34,7 @@ pub fn frees_a_slice(alloc: Global) -> bool {
     is_text_or_refused(CowStr::Borrowed(LONG).into_static(alloc))
 }
 
-/// Returns whether a boxed text is copied, and unchanged where an allocation was refused.
+/// Returns whether a boxed text is copied, and unchanged if an allocation failed.
 pub fn copies_a_boxed_text(alloc: Global) -> Option<bool> {
     let text = boxed(alloc).ok()?;
     Some(is_text_or_refused(text.try_clone(alloc)) && text.as_str() == LONG)

@@ -152,7 +152,7 @@ fn is_one_of_each(parts: &BlockParts<'_>) -> bool {
     is_defined && are_named && are_bare
 }
 
-/// Returns whether a tree that keeps the rules passes the check unchanged, or an allocation was refused.
+/// Returns whether a tree that keeps the rules passes the check unchanged, or an allocation failed.
 pub fn checks(alloc: Global) -> bool {
     match checked(alloc) {
         Ok(blocks) => {

@@ -9,7 +9,7 @@ use markdown_test_helpers::lists::{Listed, is_nothing, is_same};
 use std::alloc::Global;
 use std::ops::Range;
 
-/// Returns whether a call returned a value, or an allocation was refused.
+/// Returns whether a call returned a value, or an allocation failed.
 pub fn is_made<T: Drop>(made: Result<T, Fault>) -> bool {
     match made {
         Ok(made) => {
@@ -20,7 +20,7 @@ pub fn is_made<T: Drop>(made: Result<T, Fault>) -> bool {
     }
 }
 
-/// Returns all items of an iterator in a list, or None where an allocation was refused.
+/// Returns all items of an iterator in a list, or None if an allocation failed.
 pub fn all_of<T: Drop, I: Iterator<Item = Result<T, Fault>> + Drop>(
     alloc: Global,
     items: I,

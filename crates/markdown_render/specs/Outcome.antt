@@ -31,7 +31,7 @@ module _ {W : Type 0} (contents : W → Option (List ℕ)) (options : Options) (
           × stands (contents old) (contents new) html)
 
     -- Where nothing failed, the whole HTML has been written. Nothing is written before everything has been read and
-    -- rendered; where an allocation was refused, it may have been before that, or while writing.
+    -- rendered; if an allocation failed, it may have been before that, or while writing.
     abbrev pub Leaves : Result (Unit {0}) Failure → Type 0
     Leaves (Ok done) = IsWritten Appends
     Leaves (Err ReadFailed) = new ≡ old

@@ -36,7 +36,7 @@ pub record IsEntryTooDeepOf (extended : Bool) (bytes : List ℕ) (options : Opti
       × (views_of (reading_of blocks false answers) ≡ events ++ more)
   pub deep : IsTooDeep events
 
--- the same of the present entry
+-- the same of the port's profile
 abbrev pub IsRenderingOf : (bytes : List ℕ) → Options → (html : List ℕ) → Type 0
 IsRenderingOf bytes options html = IsEntryRenderingOf false bytes options html
 

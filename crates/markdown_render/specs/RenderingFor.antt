@@ -59,7 +59,7 @@ pub record IsEntryTooDeepFor {F : Type 0} (extended : Bool) (step : F → Questi
   pub read : AreFirstEventsFor step callback (reading_of blocks (is_some callback)) events
   pub deep : IsTooDeep events
 
--- the same of the present entry
+-- the same of the port's profile
 abbrev pub IsRenderingFor : {F : Type 0} → (F → Question → Option Answer → F → Type 0) → Option F → (text : List ℕ)
     → Options → (html : List ℕ) → Type 0
 IsRenderingFor step callback text options html = IsEntryRenderingFor false step callback text options html

@@ -15,7 +15,7 @@ fn read_words(rt: &(impl Env + AllocGlobal)) -> io::Result<Vec<String>> {
 ///
 /// # Errors
 ///
-/// The exit status, where they could not be read, and why is said on `err`, in one line: 1 where memory was refused, 2
+/// The exit status, where they could not be read, and why is said on `err`, in one line: 1 if an allocation failed, 2
 /// otherwise, since the only other reason is a word that is not UTF-8.
 pub fn words_or_status<E: Write>(
     read: io::Result<Vec<String>>,

@@ -1,4 +1,4 @@
-//! Rendering a text by the extended entry.
+//! Rendering a text by the full reading.
 ghost use Rattle.std.specs.Prelude.{◌≡◌, ◌⊎◌, IfOk, IfErr, IfSome, string_bytes};
 ghost use Rattle.markdown_render.specs.RenderingFor.{IsExtendedRenderingFor, IsExtendedTooDeepFor};
 
@@ -10,12 +10,12 @@ use markdown_defs::BrokenLinkCallback;
 use markdown_inline::walk::Parser;
 use std::alloc::Global;
 
-/// Returns the HTML of a text that is read by the extended entry. The callback, where there is one, is called for each
+/// Returns the HTML of a text, by the full reading. The callback, where there is one, is called for each
 /// link label that has no definition.
 ///
 /// # Errors
 ///
-/// `Memory` where an allocation is refused, and `Depth` where more than 2^64 - 1 Starts are open in one image.
+/// `Memory` if an allocation fails, and `Depth` where more than 2^64 - 1 Starts are open in one image.
 pub fn render_extended<'input, F: BrokenLinkCallback<'input>>(
     alloc: Global,
     text: &'input str,

@@ -41,7 +41,7 @@ pub fn offsets_can_be_merged<'input, F: BrokenLinkCallback<'input>>(iter: &Offse
 ///
 /// # Errors
 ///
-/// `Memory` where an allocation is refused, and `Depth` where more than 2^64 - 1 Starts are open in one image.
+/// `Memory` if an allocation fails, and `Depth` where more than 2^64 - 1 Starts are open in one image.
 pub fn merged_html<'input, F: BrokenLinkCallback<'input>>(
     alloc: Global,
     parser: Parser<'input, F>,

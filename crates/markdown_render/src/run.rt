@@ -25,7 +25,7 @@ pub enum Failure {
     ReadFailed,
     /// The input is not UTF-8.
     NotText,
-    /// Rendering; or an allocation was refused, in whatever call.
+    /// Rendering; or an allocation failed, in whatever call.
     Fault(Fault),
     /// A call of the output writer.
     WriteFailed,
@@ -55,7 +55,7 @@ impl From<Fault> for Failure {
     }
 }
 
-/// Returns the failure of a call of the reader or the writer: `Fault(Memory)` where an allocation was refused in it,
+/// Returns the failure of a call of the reader or the writer: `Fault(Memory)` if an allocation failed in it,
 /// otherwise `attempted`.
 fn failure_of(error: io::Error, attempted: Failure) -> Failure
     ensures memory { error_kind error ≡ ErrorKind.OutOfMemory
@@ -74,7 +74,7 @@ fn failure_of(error: io::Error, attempted: Failure) -> Failure
 /// # Errors
 ///
 /// `ReadFailed` where a call of the reader fails, `NotText` where the input is not UTF-8, and `Fault(Memory)`
-/// where an allocation is refused.
+/// if an allocation fails.
 pub fn read_text<R: Read>(alloc: Global, input: &mut R) -> Result<String, Failure>
     ensures text { IfOk result (λ text. IfSome (R.remaining input.old) (λ bytes. string_bytes text
         ≡ bytes)) }
@@ -133,7 +133,7 @@ fn write_whole<W: Write>(out: &mut W, bytes: &[u8]) -> Result<(), Failure>
 ///
 /// # Errors
 ///
-/// `WriteFailed` where a call of the writer fails, and `Fault(Memory)` where an allocation is refused. A prefix of the
+/// `WriteFailed` where a call of the writer fails, and `Fault(Memory)` if an allocation fails. A prefix of the
 /// HTML, or all of it, has then been written.
 pub fn print<W: Write>(out: &mut W, html: &str) -> Result<(), Failure>
     ensures written { OnOk result (Appends (W.contents out.old) (W.contents out.new) html.now) }

@@ -60,7 +60,7 @@ module _ {C : Type 0} {step : C → Question → Option Answer → C
         });
       }
 
--- so it does where memory is refused
+-- so it does if an allocation fails
 pub bracket_stops : {C : Type 0} (ix : ℕ) (tree : Arena Item) (old new : Resolver C) → ChangesForBracket old new
     → StopsLooking ix tree old new
 bracket_stops {C} ix tree old new changes =

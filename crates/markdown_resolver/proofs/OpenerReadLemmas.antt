@@ -58,7 +58,7 @@ other_kind (body.MaybeLinkClose could_be) e = let no : ◌≡◌ {A = Option Bra
     (Some BracketReader) None = e in cc no
 other_kind other e = refl
 
--- what is true of an error where memory was refused
+-- what is true of an error if an allocation failed
 pub if_err : {X E : Type 0} {P : Type 0} (r : Result X E) → P → IfErr r (λ fault. P)
 if_err (Ok x) p = tt
 if_err (Err fault) p = p

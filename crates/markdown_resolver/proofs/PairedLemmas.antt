@@ -196,7 +196,7 @@ then_pairs step s above first old mid nodes quiet r p = record {
   resolves = pair_resolves step s above first old mid nodes r p;
 }
 
--- where memory is refused to pass one, the questions asked are the first of the chain
+-- if an allocation fails to pass one, the questions asked are the first of the chain
 pub stops_resolving : {C : Type 0} (step : C → Question → Option Answer → C → Type 0) (s : Setting)
     (above : EnclosingBlocks) (first : ℕ) (old : ResolverState C) (callback : Option C) (work work' : Work)
     (p : StopsInPassOne step s above first old callback) → ((later : Answers) → RisesInPart
@@ -211,7 +211,7 @@ stops_resolving step s above first old callback work work' p counts = record {
   counts = counts;
 }
 
--- where memory is refused to pairing, the chain's questions were all asked
+-- if an allocation fails to pairing, the chain's questions were all asked
 pub stops_in : {C : Type 0} (step : C → Question → Option Answer → C → Type 0) (s : Setting) (above : EnclosingBlocks)
     (first : ℕ) (old mid : ResolverState C)
     (work work' : Work) (r : ResolvesFrom step s.text (pass_one s no_notes above) (Some first) old mid)

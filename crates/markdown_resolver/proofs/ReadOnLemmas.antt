@@ -170,7 +170,7 @@ reads_on_all step s above first old new spent spent' brackets wikilinks none r =
       (record p { spent = r.ends ++ []; asked = r.questions; made = 0 + r.made }) r.stands;
 }
 
--- where memory was refused on the way, it was in pass one
+-- if an allocation failed on the way, it was in pass one
 pub stops_pass_one : {C : Type 0} (step : C → Question → Option Answer → C → Type 0) (s : Setting)
     (above : EnclosingBlocks)
     (first : ℕ) (old : ResolverState C) (spent : SpentEnds) (callback' : Option C) → AreSpent spent []

@@ -131,7 +131,7 @@ looks_at_none failed visits items passed items' left = record {
   past = λ e. omega arith;
 }
 
--- nor did any where memory was refused
+-- nor did any if an allocation failed
 pub stops_at_none : (failed : Bool) (visits items : ℕ) → LooksAtMost failed failed visits visits items
 stops_at_none failed visits items = record {
   more = 0;

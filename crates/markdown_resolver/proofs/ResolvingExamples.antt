@@ -146,7 +146,7 @@ row_autolink : (state : ReferenceState) → left_by_pass_one (codes "<http://a.b
 unfolding pass_one read_chain read_tree markup_at all both either nonempty often often_past one optional
 row_autolink state = refl
 
--- an address, with the extended entry; a link round it stays one
+-- an address, with the full reading; a link round it stays one
 abbrev address_in_link : List ℕ
 address_in_link = codes "[a <b@c.d>](u)"
 

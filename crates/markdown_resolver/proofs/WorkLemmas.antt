@@ -114,7 +114,7 @@ module _ {C : Type 0} (step : C → Question → Option Answer → C → Type 0)
       (ap (λ (o : Outcome (Unit {0})). finds_in s o.forest) (sym (r.resolves later)))
       (counts_paired (finds_in s (chain_at s.text mid (Some first))) paired later)
 
-  -- and where memory was refused to pairing, by those of a part of it
+  -- and if an allocation failed to pairing, by those of a part of it
   pub counts_in_part : PairCounts (delimiters_of (trees_at mid.nodes (Some first))) 0 then new
       → (later : Answers) → RisesInPart (counts_of later) work new
   counts_in_part paired later = record {

@@ -29,7 +29,7 @@ use markdown_spans::prefixes::ContainerPrefix;
 impl<'a, F: BrokenLinkCallback<'a>> Resolver<'a, F> {
     ghost use Rattle.markdown_resolver.specs.ReadsBracket.{CanReadOther, ChangesForOther, ReadsOther, StopsLooking};
 
-    /// Reads a `<`: an autolink (CommonMark 6.5), to an absolute URI or, with the extended entry, to an address, or
+    /// Reads a `<`: an autolink (CommonMark 6.5), to an absolute URI or, with the full reading, to an address, or
     /// raw HTML (6.6), if there is one and the next item starts directly after the `<`; otherwise the `<` becomes a
     /// Text, as it does where it is not before the block's end. The scanner has to be one of the text up to that end.
     /// Returns the rest of the chain.

@@ -72,7 +72,7 @@ pub record IsSafeEntryTooDeepOf (extended : Bool) (bytes : List ℕ) (options : 
       × (views_of (reading_of blocks false answers) ≡ events ++ more)
   pub deep : IsTooDeep (safe_events events)
 
--- the same of the present entry
+-- the same of the port's profile
 abbrev pub IsSafeRenderingFor : {F : Type 0} → (F → Question → Option Answer → F → Type 0) → Option F
     → (text : List ℕ) → Options → (html : List ℕ) → Type 0
 IsSafeRenderingFor step callback text options html = IsSafeEntryRenderingFor false step callback text options html

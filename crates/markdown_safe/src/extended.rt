@@ -1,4 +1,4 @@
-//! Rendering a text safely by the extended entry.
+//! Rendering a text safely by the full reading.
 ghost use Rattle.std.specs.Prelude.{◌≡◌, ◌⊎◌, IfOk, IfErr, IfSome, string_bytes};
 ghost use Rattle.markdown_safe.specs.SafeHtml.{IsSafeHtml};
 ghost use Rattle.markdown_safe.specs.SafeRendering.{IsSafeExtendedRenderingFor, IsSafeExtendedTooDeepFor};
@@ -11,12 +11,12 @@ use markdown_inline::walk::Parser;
 use markdown_render::pushed::push_items;
 use std::alloc::Global;
 
-/// Returns safe HTML of a text that is read by the extended entry. The callback, where there is one, is called for each
+/// Returns safe HTML of a text, by the full reading. The callback, where there is one, is called for each
 /// link label that has no definition; what it answers is made safe too.
 ///
 /// # Errors
 ///
-/// `Memory` where an allocation is refused, and `Depth` where more than 2^64 - 1 Starts are open in one image.
+/// `Memory` if an allocation fails, and `Depth` where more than 2^64 - 1 Starts are open in one image.
 pub fn safe_html_extended<'input, F: BrokenLinkCallback<'input>>(
     alloc: Global,
     text: &'input str,

@@ -16,7 +16,7 @@ use std::alloc::Global;
 ///
 /// # Errors
 ///
-/// `Memory` where an allocation is refused, and `Depth` where more than 2^64 - 1 Starts are open in one image.
+/// `Memory` if an allocation fails, and `Depth` where more than 2^64 - 1 Starts are open in one image.
 pub fn safe_html<'input, F: BrokenLinkCallback<'input>>(
     alloc: Global,
     text: &'input str,

@@ -42,7 +42,7 @@ fn is_safe_scheme(scheme: &[u8]) -> bool
         || scheme.eq_ignore_ascii_case(b"tel")
 }
 
-/// Returns whether a URL has no scheme, or one that runs no script. The error is a refused allocation.
+/// Returns whether a URL has no scheme, or one that runs no script. Fails only if an allocation fails.
 pub(crate) fn is_safe_url(alloc: Global, url: &str) -> Result<bool, AllocError>
     ensures { IfOk result (λ safe. safe ≡ is_safe_url url.now) }
 {

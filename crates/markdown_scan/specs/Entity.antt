@@ -13,7 +13,7 @@ use Rattle.markdown_scan.specs.declared.entity.Characters.TheVariants.{One, Name
 use Rattle.markdown_scan.specs.declared.entity.EntityNames.{EntityNames}
 use Rattle.markdown_scan.specs.declared.entity.EntityNames.TheVariants.{Basic, Html}
 
--- the names that count with these options: in the extended entry those of HTML
+-- the names that count with these options: in the full reading those of HTML
 abbrev pub entity_names : Options → EntityNames
 entity_names options = if is_extended options then Html else Basic
 

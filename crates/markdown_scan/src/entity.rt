@@ -20,7 +20,7 @@ pub enum EntityNames {
     Html,
 }
 
-/// Returns the names that count with these options: in the extended entry those of HTML.
+/// Returns the names that count with these options: in the full reading those of HTML.
 pub fn entity_names(options: Options) -> EntityNames
     ensures { result ≡ entity_names options }
 {
@@ -56,7 +56,7 @@ impl Characters {
         }
     }
 
-    /// Appends the characters to a text. The error is a refused allocation.
+    /// Appends the characters to a text. Fails only if an allocation fails.
     pub(crate) fn append_to(self, text: &mut String) -> Result<(), AllocError>
         ensures { IfOk result (λ _. string_bytes text.new
             ≡ string_bytes text.old ++ text_in_utf8 self) }

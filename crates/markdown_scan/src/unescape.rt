@@ -124,7 +124,7 @@ fn unescaped_copy(
 
 /// Returns the text with its backslash escapes and its entities replaced by their characters; in a table, two
 /// backslashes and a pipe are replaced by the pipe. A text that does not change is returned as a slice of the source,
-/// without an allocation. The error is a refused allocation.
+/// without an allocation. Fails only if an allocation fails.
 // inlined: most texts are returned as they are, after one look
 #[inline(always)]
 pub fn unescape<'t>(

@@ -69,7 +69,7 @@ math_found s above a after None = nothing
 math_found s above a after (Some m) =
     math_span m.display (span_between s above Math (math_text_start a after) (start_of m.closer)) (end_of m.last)
 
--- what begins at a `<`, up to the block's end, if the next item starts directly after the `<`; the extended entry has
+-- what begins at a `<`, up to the block's end, if the next item starts directly after the `<`; the full reading has
 -- addresses
 abbrev pub markup_found : {A : Type 0} → Setting → EnclosingBlocks → TreeNode A → (is_followed : Bool) → Find A
 markup_found s above a false = nothing

@@ -100,7 +100,7 @@ fn is_wanted(mark: Option<SpanMark>, wanted: Option<usize>) -> bool
     }
 }
 
-/// Records a mark, if there is one. The error is a refused allocation.
+/// Records a mark, if there is one. Fails only if an allocation fails.
 pub fn note(noted: &mut Vec<SpanMark>, mark: Option<SpanMark>) -> Result<(), AllocError>
     ensures { OnOk result (noted.new.items ≡ noted.old.items ++ option_to_list mark) }
 {
@@ -112,7 +112,7 @@ pub fn note(noted: &mut Vec<SpanMark>, mark: Option<SpanMark>) -> Result<(), All
 
 /// Searches a chain for the first mark of a kind with the wanted key, and returns its number; `None` if there is none,
 /// or no key is wanted. `visits` counts each item that is examined, and the marks before the one that is found are
-/// recorded. The error is a refused allocation.
+/// recorded. Fails only if an allocation fails.
 // inlined: each caller names the kind
 #[inline(always)]
 pub fn walk_to(

@@ -40,7 +40,7 @@ pub fn text_parser<'a>(
     or_fail(Parser::new_ext(alloc, source, options))
 }
 
-/// Returns a parser of a text that is read by the extended entry, with these options.
+/// Returns a parser of a text, by the full reading, with these options.
 pub fn extended_parser<'a>(
     alloc: Global,
     source: &'a str,

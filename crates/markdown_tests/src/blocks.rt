@@ -51,7 +51,7 @@ fn what_was_checked_comes_back(rt: HostRuntime) -> Result<(), Fail> {
     )
 }
 
-/// Returns whether a block result is of the extended entry, and its options.
+/// Returns whether a block result is of the full reading, and its options.
 fn entry_and_options(blocks: Blocks<'_>) -> (bool, Options) {
     let extended = blocks.is_extended();
     let (_, options, tree, parts) = blocks.into_parts();

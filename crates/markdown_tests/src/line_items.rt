@@ -236,7 +236,7 @@ fn brackets_and_entities(rt: HostRuntime) -> Result<(), Fail> {
     )
 }
 
-/// Texts, and their items with the options of the extended entry.
+/// Texts, and their items with the options of the full reading.
 static NAMES_OF_HTML: [(&str, &str); 5] = [
     (
         "&auml;&ngE;&NotEqualTilde;&fjlig;&AMP;",
@@ -263,7 +263,7 @@ fn names_of_html(rt: HostRuntime) -> Result<(), Fail> {
     Ok(())
 }
 
-/// Texts, and their items with the options of the extended entry and smart punctuation.
+/// Texts, and their items with the options of the full reading and smart punctuation.
 static DASHES_AND_DOTS: [(&str, &str); 9] = [
     (
         "a--b---c",
@@ -342,7 +342,7 @@ fn options_add_items(rt: HostRuntime) -> Result<(), Fail> {
             "MaybeSmartQuote(34, true, false) 0..1;Text 1..2;MaybeSmartQuote(39, false, false) 2..3;\
             Text 3..4;MaybeSmartQuote(34, false, true) 4..5;",
         ),
-        // the present entry reads no dashes, and the extended one only with smart punctuation
+        // the port's profile has no dashes, and the full reading only with smart punctuation
         ("a--b...", Options::ENABLE_SMART_PUNCTUATION, "Text 0..7;"),
         (
             "a--b...",

@@ -20,7 +20,7 @@ module _ {W : Type 0} (held : W → Option (List ℕ)) (options : Options) (unre
           × stands (held old) (held new) json)
 
     -- Where nothing failed, all lines have been written. Nothing is written before everything has been read and parsed;
-    -- where an allocation was refused, it may have been before that, or while writing.
+    -- if an allocation failed, it may have been before that, or while writing.
     abbrev pub LeavesJson : Result (Unit {0}) Failure → Type 0
     LeavesJson (Ok done) = JsonIsWritten Appends
     LeavesJson (Err ReadFailed) = new ≡ old

@@ -28,7 +28,7 @@ outline_lines entries = flat_map entry_line entries
 abbrev pub heading_lines : List Element → List ℕ
 heading_lines elements = outline_lines (entries_of (ranged (events_of elements)))
 
--- these are the lines of the headings of a text, read by the present entry or by the extended one
+-- these are the lines of the headings of a text, read by the port's profile or by the extended one
 abbrev pub IsOutlineJsonOf : (bytes : List ℕ) → Options → (json : List ℕ) → Type 0
 IsOutlineJsonOf bytes options json = AreLinesOf heading_lines bytes options json
 

@@ -29,11 +29,11 @@ pub record AreEntryLinesOf (lines : List Element → List ℕ) (extended : Bool)
   pub written : (answers : Answers) → json ≡ lines (reading_of blocks false answers)
   pub by_rules : json ≡ lines (reading_of_text (source_for extended bytes options) false [])
 
--- the same of the present entry
+-- the same of the port's profile
 abbrev pub AreLinesOf : (lines : List Element → List ℕ) → (bytes : List ℕ) → Options → (json : List ℕ) → Type 0
 AreLinesOf lines bytes options json = AreEntryLinesOf lines false bytes options json
 
--- these are the lines of the events of a text, read by the present entry or by the extended one
+-- these are the lines of the events of a text, read by the port's profile or by the extended one
 abbrev pub IsJsonOf : (bytes : List ℕ) → Options → (json : List ℕ) → Type 0
 IsJsonOf bytes options json = AreLinesOf reading_lines bytes options json
 

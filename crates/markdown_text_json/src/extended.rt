@@ -1,4 +1,4 @@
-//! The events and the headings of a text that is read by the extended entry, as JSON.
+//! The events and the headings of a text, by the full reading, as JSON.
 ghost use Rattle.std.specs.Prelude.{◌≡◌, IfOk, IfErr, string_bytes};
 ghost use Rattle.markdown_text_json.specs.TextJson.{IsExtendedJsonOf};
 ghost use Rattle.markdown_text_json.specs.OutlineJson.{IsExtendedOutlineJsonOf};
@@ -12,12 +12,12 @@ use markdown_json::push_json;
 use markdown_outline::outline;
 use std::alloc::Global;
 
-/// Returns a line of JSON for each event of a text that is read by the extended entry, as `text_json` does for the
+/// Returns a line of JSON for each event of a text, by the full reading, as `text_json` does for the
 /// present one.
 ///
 /// # Errors
 ///
-/// `Memory` where an allocation is refused; there is no other error.
+/// `Memory` if an allocation fails; there is no other error.
 pub fn text_json_extended(alloc: Global, text: &str, options: Options) -> Result<String, Fault>
     ensures json { IfOk result (λ json. IsExtendedJsonOf text.now options (string_bytes json)) }
     ensures refused { IfErr result (λ fault. fault ≡ Fault.Memory) }
@@ -29,12 +29,12 @@ pub fn text_json_extended(alloc: Global, text: &str, options: Options) -> Result
     Ok(json)
 }
 
-/// Returns a line of JSON for each heading of a text that is read by the extended entry, as `outline_json` does for the
+/// Returns a line of JSON for each heading of a text, by the full reading, as `outline_json` does for the
 /// present one.
 ///
 /// # Errors
 ///
-/// `Memory` where an allocation is refused; there is no other error.
+/// `Memory` if an allocation fails; there is no other error.
 pub fn outline_json_extended(alloc: Global, text: &str, options: Options) -> Result<String, Fault>
     ensures json { IfOk result (λ json. IsExtendedOutlineJsonOf text.now options
         (string_bytes json)) }

@@ -55,8 +55,8 @@ fn push_entry(s: &mut String, entry: &Entry) -> Result<(), AllocError>
     )
 }
 
-/// Appends a line of JSON for each entry of an outline: its level, its text and its range. Where an allocation is
-/// refused, a prefix of the lines has been appended.
+/// Appends a line of JSON for each entry of an outline: its level, its text and its range. If an allocation
+/// fails, a prefix of the lines has been appended.
 ///
 /// ```
 /// let mut json = String::new(alloc);

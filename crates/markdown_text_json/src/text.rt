@@ -13,7 +13,7 @@ use std::alloc::Global;
 ///
 /// # Errors
 ///
-/// `Memory` where an allocation is refused; there is no other error.
+/// `Memory` if an allocation fails; there is no other error.
 pub fn text_json(alloc: Global, text: &str, options: Options) -> Result<String, Fault>
     ensures json { IfOk result (λ json. IsJsonOf text.now options (string_bytes json)) }
     ensures refused { IfErr result (λ fault. fault ≡ Fault.Memory) }

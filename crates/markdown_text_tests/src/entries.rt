@@ -18,7 +18,7 @@ const TEXTS: &[&str] = &[
     "# *a* `b`\n\n> 1. [c](d) <https://e>\n\n- ~~f~~\n",
 ];
 
-/// Returns the HTML of a text by the present entry and by the extended one.
+/// Returns the HTML of a text by the port's profile and by the extended one.
 fn by_each_entry(alloc: Global, text: &str, options: Options) -> Result<(String, String), Fail> {
     let present = html_of(alloc, text_parser(alloc, text, options)?)?;
     let extended = html_of(alloc, extended_parser(alloc, text, options)?)?;

@@ -1,4 +1,4 @@
-//! How many cells are added to the rows of a table, as the extended entry reads it.
+//! How many cells are added to the rows of a table, by the full reading.
 use markdown_base::options::Options;
 use markdown_test_parsers::html::parser_shows;
 use markdown_test_parsers::parsers::extended_parser;

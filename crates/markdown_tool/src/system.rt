@@ -47,7 +47,7 @@ impl<'r> Files for System<'r> {
 ///
 /// # Errors
 ///
-/// The exit status, where they cannot be read, and why is said on `err`, in one line: 1 where memory was refused, otherwise
+/// The exit status, where they cannot be read, and why is said on `err`, in one line: 1 if an allocation failed, otherwise
 /// 2, since a word is not UTF-8.
 pub fn words_of<E: Write>(rt: &(impl Env + AllocGlobal), err: &mut E) -> Result<Vec<String>, u8> {
     match read_words(rt) {

@@ -10,7 +10,7 @@ use std::alloc::Global;
 ///
 /// # Errors
 ///
-/// `Memory` where an allocation is refused, and `Depth` as `safe_html` returns it.
+/// `Memory` if an allocation fails, and `Depth` as `safe_html` returns it.
 pub fn comment_html(alloc: Global, text: &str, options: Options) -> Result<String, Fault>
     ensures { IfOk result (λ html. IsComment (string_bytes html)) }
 {

@@ -9,7 +9,7 @@ use std::alloc::Global;
 ///
 /// # Errors
 ///
-/// `Memory` where an allocation is refused, and `Depth` as `render` returns it.
+/// `Memory` if an allocation fails, and `Depth` as `render` returns it.
 pub fn hello_page(alloc: Global) -> Result<String, Fault>
     ensures { IfOk result (λ html. string_bytes html ≡ codes "<p>hello world</p>\n") }
 {

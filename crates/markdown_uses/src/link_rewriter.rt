@@ -73,7 +73,7 @@ fn tag_at_site<'a>(alloc: Global, site: &str, tag: Tag<'a>) -> Result<Tag<'a>, F
 }
 
 /// Returns a new text, of the site's address and the destination, if this is a path from the root; otherwise the
-/// destination. The error is a refused allocation.
+/// destination. Fails only if an allocation fails.
 fn destination_at_site<'a>(
     alloc: Global,
     site: &str,

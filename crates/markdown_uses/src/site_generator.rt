@@ -11,7 +11,7 @@ use std::alloc::Global;
 ///
 /// # Errors
 ///
-/// `Memory` where an allocation is refused, and `Depth` as `push_html` returns it.
+/// `Memory` if an allocation fails, and `Depth` as `push_html` returns it.
 pub fn page_html(alloc: Global, source: &str, options: Options) -> Result<String, Fault>
     ensures { IfOk result (λ html. IsPageOf source.now options (string_bytes html)) }
 {

@@ -84,7 +84,7 @@ impl<'a> Writer<'a> {
 /// After each of them the *open* HTML of some events has been appended: without what closes an image that has no End.
 ///
 /// - The error of the first item that is one: the open HTML of the events before it.
-/// - `Memory`, where an allocation is refused: the open HTML of the events before the one that was being written, and a
+/// - `Memory`, if an allocation fails: the open HTML of the events before the one that was being written, and a
 ///   prefix of its bytes; or, where an image was to be closed after the last event, the open HTML of all events, and a
 ///   prefix of what closes the image.
 /// - `Depth`, where more than 2^64 - 1 Starts in one image have no End yet: the open HTML of the events read.

@@ -181,7 +181,7 @@ fn after_texts<'a, P: EventRange>(
 }
 
 /// Takes the iterator's next result, and returns what the merge does next and what it then holds. Joining texts fails
-/// where memory is refused; then what was held is dropped.
+/// if an allocation fails; then what was held is dropped.
 pub fn take_in<'a, P: EventRange>(
     alloc: Global,
     held: Held<'a, P>,

@@ -21,7 +21,7 @@ pub struct Merging<'a, I, P> {
     pub alloc: Global,
     pub iter: I,
     pub held: Held<'a, P>,
-    /// Whether an allocation has been refused; then `next` returns `None`.
+    /// Whether an allocation has failed; then `next` returns `None`.
     pub over: bool,
 }
 
@@ -49,8 +49,8 @@ fn rebuilt<'a, T: MergeItem<'a>>(answer: Option<Placed<'a, T::At>>) -> Option<Re
     }
 }
 
-/// Calls the iterator until the merge has a result to return; returns this, and what the merge then holds. Fails where
-/// memory is refused; then what was held is dropped.
+/// Calls the iterator until the merge has a result to return; returns this, and what the merge then holds. Fails if an
+/// allocation fails; then what was held is dropped.
 fn advance<'a, T: MergeItem<'a>, I: Iterator<Item = Result<T, Fault>>>(
     alloc: Global,
     iter: &mut I,
@@ -95,7 +95,7 @@ impl<'a, I, P: EventRange> Merging<'a, I, P> {
     }
 }
 
-/// Returns the next item of a merge. Where an allocation is refused it is the error `Memory`, and every later call
+/// Returns the next item of a merge. If an allocation fails it is the error `Memory`, and every later call
 /// returns `None`.
 pub fn next_item<'a, T: MergeItem<'a>, I: Iterator<Item = Result<T, Fault>>>(
     merging: &mut Merging<'a, I, T::At>,
