@@ -55,7 +55,7 @@ pub struct Parser<'input, F = DefaultBrokenLinkCallback> {
     /// The allocator for copies of heading attributes, and for the list of all events that are left.
     alloc: Global,
     tree: Tree<Item>,
-    /// The blocks among the entered nodes of the tree.
+    /// What is known of the entered nodes of the tree: the containers, and the innermost block.
     above: BlocksAbove,
     resolver: Resolver<'input, F>,
     ghost entered: { IsKnownAt (gfm_footnotes_on resolver.options) tree.nodes tree.spine above },

@@ -1,7 +1,7 @@
 -- The last block among items that were entered, and what is known of them as one more is entered and left.
 use Rattle.std.proofs.Common.{◌≡◌, ◌≤◌, ◌<◌, ℕ, zero, suc, Bool, true, false, List, [], ◌∷◌, ◌++◌, Option, Some}
 use Rattle.std.proofs.Common.{None, ◌+◌, ◌-◌, get_or, map, length, take, refl, sym, ap, ◌∙◌, append-nil, arith, ⊎_elim}
-use Rattle.std.proofs.Math.Seq.{take-append_seam}
+use Rattle.std.proofs.Math.Seq.{take-append_seam, take-length}
 use Rattle.std.proofs.lemmas.Bool.{cases_lt}
 use Rattle.std.specs.Prelude.{if◌then◌else◌}
 use Rattle.std.specs.List.{slice_get}
@@ -134,15 +134,11 @@ known_none gfm a style = record {
   inside = λ low. omega (arith, low);
 }
 
--- an item with a part in lines is a block, and so it is not the last of those searched
-every : (items : List Item) → take (length items) items ≡ items
-every [] = refl
-every (a ∷ items) = ap (λ (l : List Item). a ∷ l) (every items)
-
 whole : (items : List Item) (item : Item) → take (suc (length items)) (items ++ item ∷ []) ≡ items ++ item ∷ []
 whole [] item = refl
 whole (a ∷ items) item = ap (λ (l : List Item). a ∷ l) (whole items item)
 
+-- an item with a part in lines is a block, and so it is not the last of those searched
 pub block_searched : (gfm : Bool) (items : List Item) (item : Item) (a : Above)
     → IsKnownOf gfm (items ++ item ∷ []) a → is_block item.body ≡ true → a.searched ≤ length items
 block_searched gfm items item a k is =
@@ -212,7 +208,7 @@ module _ (gfm : Bool) (items : List Item) (item : Item) (a : Above) (k : IsKnown
             ∙ ap (λ (n : ℕ). up_to_block (take n (items ++ item ∷ []))) all ∙ ap up_to_block (whole items item)
             ∙ up_to_more items item
             ∙ ap (λ (b : Bool). if b then suc (length items) else up_to_block items) no_block
-            ∙ ap up_to_block (sym (every items));
+            ∙ ap up_to_block (sym (take-length items));
         inside = λ _. inside;
       }
 
@@ -224,7 +220,7 @@ known_searched gfm items a block k is low = record {
   style = k.style;
   containers = k.containers;
   within = omega arith;
-  block = is ∙ ap up_to_block (sym (every items));
+  block = is ∙ ap up_to_block (sym (take-length items));
   inside = λ _. low;
 }
 

@@ -25,7 +25,7 @@ pub struct BlocksAbove {
     /// Those that have a part in the beginning of each line inside them, the outermost first.
     containers: Vec<Item>,
     /// Among how many of the nodes, from the outermost on, the innermost block was searched: not more than there are.
-    /// The last of these is no block, so only markup inside markup is searched more than once.
+    /// Kept only where the last of these is no block: a chain directly in a block finds it at once.
     searched: usize,
     /// How many of these there are up to that block, it included: 0 where none is a block.
     block: usize,
