@@ -7,44 +7,43 @@
  *
  * # DESCRIPTION
  *
- * The calls of the library `libmarkdown_inline`. Those into a buffer work as `snprintf` does: each returns the length of
- * the whole result in bytes, and writes the result to the caller's buffer if the whole fits. A caller tries with some
- * buffer, or with none to learn the length, and if the number is greater than the length of the buffer, once more with a
- * buffer of that length. Those whose names end in `_alloc` return the result in memory that the caller frees.
+ * The calls of the library `libmarkdown_inline`. Those into a buffer work like `snprintf`: each returns the length of
+ * the whole result in bytes, and writes the result to the caller's buffer if the whole result fits. A caller tries
+ * with some buffer, or with none to learn the length. If the number is greater than the length of the buffer, the
+ * caller tries once more with a buffer of that length. Calls whose names end in `_alloc` return the result in memory
+ * that the caller frees.
  *
  * ## Trusted texts and untrusted input
  *
- * `markdown_to_safe_html` and `markdown_safe_html_alloc` are for untrusted input, whose authors have no
- * markup of their own in the page. The HTML of the other calls is not sanitised: they are for trusted texts, whose
- * raw HTML and destinations, `javascript:` among them, come through as the text's author wrote them. The JSON has
- * them too.
+ * For untrusted input use `markdown_to_safe_html` and `markdown_safe_html_alloc`. The HTML of the other calls is not
+ * sanitised, nor is the JSON: they are for trusted texts. Raw HTML and destinations, even `javascript:`, come through
+ * as the author wrote them.
  *
  * ## Pointers and lengths
  *
- * Lengths count bytes. No text that is passed in ends with a NUL: none is read past `text_length` bytes, and it may
- * hold any bytes, NUL among them. `text` and `out` may be NULL where their length is 0. `text` is only read. `out` is
- * written only in its first `out_length` bytes, without a NUL at the end. The two may not overlap. No pointer is kept
- * after the call.
+ * Lengths count bytes. `text` needs no NUL at its end: it is not read past `text_length` bytes, and may hold any
+ * bytes, NUL among them. `text` is only read. Only the first `out_length` bytes of `out` are written, without a NUL at
+ * the end. The two may not overlap. Each may be NULL if its length is 0. No pointer is kept after the call.
  *
  * ## Memory
  *
- * A call allocates memory by `malloc` and `realloc`, and frees all of it before it returns, but the result of a call
- * that ends in `_alloc`.
+ * A call allocates memory by `malloc` and `realloc`, and frees all of it before it returns, except the result of a
+ * call that ends in `_alloc`.
  *
  * ## Stack
  *
- * A call takes about 16 KiB of stack, however deeply the text nests: as measured on usual and on hostile texts, and not
- * proved. A thread whose stack has 64 KiB can make every call; one of 20 KiB cannot.
+ * A call takes about 16 KiB of stack, however deeply the text nests. This is measured on usual and on hostile texts,
+ * and not proved. A thread whose stack has 64 KiB can make every call; one of 20 KiB cannot.
  *
  * ## Threads
  *
  * A call reads and writes only its arguments and memory of its own. Any number of threads may call at the same time,
- * each with its own `out`; they may share a `text`. Do not call from a signal handler, or from the forked child of a
- * process that has threads.
+ * each with its own `out`, and they may share a `text`. Do not call from a signal handler, or from the forked child of
+ * a process that has threads.
  *
  * ## Platform
  *
- * Linux with glibc from 2.17 on, on any x86-64 processor.
+ * Linux with glibc 2.17 or later, on any x86-64 processor.
  */
 
 #include <stddef.h>
@@ -68,7 +67,7 @@ extern "C" {
 /**
  * ## Status
  *
- * What a call returns instead of a length. The buffer is unchanged.
+ * A call that fails returns one of these instead of a length, and leaves the buffer unchanged.
  */
 
 /** The text is not UTF-8. */
@@ -77,18 +76,19 @@ extern "C" {
 /** An allocation failed. The call may be tried again. */
 #define MARKDOWN_NO_MEMORY (-2)
 
-/** More than 2^64 - 1 Starts are open in one image, which is more than can be counted. */
+/** More than 2^64 - 1 Starts are open in one image, more than can be counted. */
 #define MARKDOWN_TOO_DEEP (-3)
 
 /**
  * ## Options
  *
- * Bits that enable extensions. `MARKDOWN_DEFAULT` enables none, and leaves out what it says. The bits of the full reading
- * change nothing unless `MARKDOWN_EXTENDED` is set, and bits that are not listed here change nothing at all.
+ * Bits that enable extensions. Without `MARKDOWN_EXTENDED` a call reads by the port's profile, and with it by the full
+ * reading. The bits of the full reading change nothing unless `MARKDOWN_EXTENDED` is set. Bits that are not listed
+ * here never change anything.
  */
 
-/** CommonMark 0.31.2 without extensions, and with less: e-mail addresses in angle brackets, and named entities other than
- * `&amp;`, `&lt;`, `&gt;` and `&quot;`, stay text, unless `MARKDOWN_EXTENDED` is set.
+/** CommonMark 0.31.2 without extensions, by the port's profile: e-mail addresses in angle brackets, and named entities
+ * other than `&amp;`, `&lt;`, `&gt;` and `&quot;`, are text.
  */
 #define MARKDOWN_DEFAULT 0
 
@@ -107,8 +107,8 @@ extern "C" {
 /** Curly quotes; with `MARKDOWN_EXTENDED` also dashes for `--` and `---`, and an ellipsis for `...`. */
 #define MARKDOWN_SMART (1 << 5)
 
-/** Attributes of headings, of the full reading: `# a {#id .class name=value}`. Names are the author's, `onclick` too,
- * but in safe HTML, which has none of them.
+/** Attributes of headings, of the full reading: `# a {#id .class name=value}`. They may have any name, even `onclick`.
+ * Safe HTML has none of them.
  */
 #define MARKDOWN_HEADING_ATTRIBUTES (1 << 6)
 
@@ -136,8 +136,8 @@ extern "C" {
 /** `[[page]]` and `[[page|text]]`. */
 #define MARKDOWN_WIKILINKS (1 << 15)
 
-/** The full reading, which reads e-mail addresses in angle brackets and all named entities of HTML too, and has more
- * extensions. It is none itself. Libraries up to 0.8.0 take it for a bit that changes nothing.
+/** The full reading, which also has e-mail addresses in angle brackets, all named entities of HTML, and more
+ * extensions. The bit itself enables no extension. Libraries up to 0.8.0 ignore it.
  */
 #define MARKDOWN_EXTENDED (1 << 30)
 
@@ -148,40 +148,37 @@ extern "C" {
 /** Renders a trusted `text` as HTML, which is not sanitised.
  *
  * Returns the length of the HTML in bytes. If that is at most `out_length`, the HTML is written to the front of `out`,
- * and the bytes after it are unchanged; otherwise `out` is unchanged. Returns `MARKDOWN_NOT_UTF8`, `MARKDOWN_NO_MEMORY`
- * or `MARKDOWN_TOO_DEEP` on an error, and `out` is unchanged.
+ * and the bytes after it are unchanged. Otherwise `out` is unchanged. On an error it returns `MARKDOWN_NOT_UTF8`,
+ * `MARKDOWN_NO_MEMORY` or `MARKDOWN_TOO_DEEP`, and `out` is unchanged.
  */
 int64_t markdown_to_html(const uint8_t *text, size_t text_length, uint32_t options, uint8_t *out,
                          size_t out_length);
 
 /** Renders an untrusted `text` as safe HTML.
  *
- * Raw HTML is shown as text, a link or an image has an empty destination unless its scheme is `http`, `https`, `mailto`
- * or `tel`, or it has none, and the ids of footnotes begin with `user-content-`. Put the HTML into a `div` of a page that is
- * declared to be in UTF-8, and not into a link or a paragraph. Images are loaded from where the text says.
+ * Raw HTML is shown as text. A destination is empty unless its scheme is `http`, `https`, `mailto` or `tel`, or it has
+ * no scheme. The ids of footnotes begin with `user-content-`. Put the HTML into a `div` of a page that is declared to
+ * be in UTF-8, and not into a link or a paragraph. Images are loaded from where the text says.
  *
- * Returns, and writes to `out`, as `markdown_to_html` does, with the same errors.
+ * Results and errors are those of `markdown_to_html`.
  */
 int64_t markdown_to_safe_html(const uint8_t *text, size_t text_length, uint32_t options, uint8_t *out,
                               size_t out_length);
 
-/** Reads `text` as events, as JSON: a line for each event with its range, as `[{"Text":"a"},{"start":0,"end":1}]`. The
- * ranges are byte offsets in `text`. Each line ends with a line feed.
+/** Writes the events of `text` as JSON: a line for each event with its range, as `[{"Text":"a"},{"start":0,"end":1}]`.
+ * The ranges are byte offsets in `text`. Each line ends with a line feed.
  *
- * Returns the length of the lines in bytes. If that is at most `out_length`, the lines are written to the front of
- * `out`, and the bytes after them are unchanged; otherwise `out` is unchanged. Returns `MARKDOWN_NOT_UTF8` or
- * `MARKDOWN_NO_MEMORY` on an error, and `out` is unchanged.
+ * Results are as those of `markdown_to_html`, for the lines instead of the HTML. The errors are `MARKDOWN_NOT_UTF8`
+ * and `MARKDOWN_NO_MEMORY`.
  */
 int64_t markdown_to_json(const uint8_t *text, size_t text_length, uint32_t options, uint8_t *out,
                          size_t out_length);
 
-/** Makes a table of the headings of `text`, as JSON: a line for each, as
- * `{"level":1,"text":"A b","range":{"start":0,"end":7}}` for `# A *b*`. The level is 1 to 6. The text is without markup,
- * with a space for each line break. The ranges are byte offsets in `text`. Each line ends with a line feed.
+/** Writes the headings of `text` as JSON: a line for each, as `{"level":1,"text":"A b","range":{"start":0,"end":7}}`
+ * for `# A *b*`. The level is 1 to 6. The text is without markup, with a space for each line break. The ranges are
+ * byte offsets in `text`. Each line ends with a line feed.
  *
- * Returns the length of the lines in bytes. If that is at most `out_length`, the lines are written to the front of
- * `out`, and the bytes after them are unchanged; otherwise `out` is unchanged. Returns `MARKDOWN_NOT_UTF8` or
- * `MARKDOWN_NO_MEMORY` on an error, and `out` is unchanged.
+ * Results and errors are those of `markdown_to_json`.
  */
 int64_t markdown_to_outline(const uint8_t *text, size_t text_length, uint32_t options, uint8_t *out,
                             size_t out_length);
@@ -189,9 +186,9 @@ int64_t markdown_to_outline(const uint8_t *text, size_t text_length, uint32_t op
 /**
  * ## Calls that allocate
  *
- * Each takes the arguments of the call into a buffer of its name, and returns the result in memory from `malloc`,
- * with a NUL after it, or NULL on an error. If `length` is not NULL, `*length` is then the length of the result in
- * bytes, without that NUL, or the status. Free the result by `markdown_free`.
+ * Each takes the arguments of the matching call into a buffer, without the buffer. It returns the result in memory
+ * from `malloc`, with a NUL after it, or NULL on an error. If `length` is not NULL, `*length` is then the length of
+ * the result in bytes, without that NUL, or the status. Free the result by `markdown_free`.
  */
 
 /** The HTML of `markdown_to_html`, which is not sanitised. */
@@ -206,7 +203,7 @@ char *markdown_json_alloc(const char *text, size_t text_length, uint32_t options
 /** The lines of `markdown_to_outline`. */
 char *markdown_outline_alloc(const char *text, size_t text_length, uint32_t options, int64_t *length);
 
-/** Frees what one of these calls returned, once. Does nothing with NULL. */
+/** Frees what one of these calls returned. Call it once for each result; it does nothing for NULL. */
 void markdown_free(void *result);
 
 /**
