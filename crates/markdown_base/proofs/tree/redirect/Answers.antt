@@ -7,6 +7,18 @@ use Rattle.markdown_base.proofs.ArenaLemmas.{parent_within}
 use Rattle.markdown_base.proofs.StoredNodesLemmas.{read_child, read_next, nodes-changed}
 use Rattle.markdown_base.proofs.tree.redirect.Goals as goal
 
+pub bounds-nodes-before : goal.bounds-nodes-before
+bounds-nodes-before g c =
+    let there : c.in-Some.before < length (nodes_of c.args.nodes.now) = rw c.in-Some.is at c.requires.within.cursor in
+    omega (arith, there, length-map c.args.nodes.now node_of)
+
+pub offset_bounds-nodes-before : goal.offset_bounds-nodes-before
+offset_bounds-nodes-before g c =
+    let there : c.in-Some.before < length (nodes_of c.args.nodes.now) = rw c.in-Some.is at c.requires.within.cursor in
+    let l : c.in-Some.before < length c.args.nodes.now =
+    omega (arith, there, length-map c.args.nodes.now node_of) in
+    search rules
+
 pub bounds-nodes-parent : goal.bounds-nodes-parent
 bounds-nodes-parent g c =
     let there : innermost c.args.spine.now < length (nodes_of c.args.nodes.now) =

@@ -12,6 +12,17 @@ use Rattle.markdown_base.proofs.tree.Tree.append.Goals as goal
 written : {X : Type 0} (xs ys : List X) (n : ℕ) → length xs ≡ n → take n (xs ++ ys) ≡ xs
 written xs ys n e = rw (← e) (take-append_seam xs ys)
 
+pub invariant_of-self : goal.invariant_of-self
+invariant_of-self g c = rw c.reserve.ensures.items c.self.invariant
+
+pub redirect-next-requires-clause-within : goal.redirect-next-requires-clause-within
+redirect-next-requires-clause-within g c =
+    rw (c.deref_mut.ensures.value, c.reserve.ensures.items, c.deref.ensures.value) c.self.invariant
+
+pub returns-clause-number : goal.returns-clause-number
+returns-clause-number g c =
+    rw (← c.self.view_is) (omega (arith, c.len-ix.ensures, length-map c.self.inside.nodes.items node_of))
+
 pub invariant_of-self-2 : goal.invariant_of-self-2
 invariant_of-self-2 g c =
     let stored = c.self.inside.nodes.items in

@@ -1,7 +1,14 @@
 -- The node is read, changed and written back.
-use Rattle.std.proofs.Common.{refl}
+use Rattle.std.proofs.Common.{◌<◌, length, refl, arith}
+use Rattle.std.proofs.lemmas.List.{length-map}
+use Rattle.markdown_base.specs.StoredNodes.{node_of, nodes_of}
 use Rattle.markdown_base.proofs.StoredNodesLemmas.{arena_changed, leads_within, within_written}
 use Rattle.markdown_base.proofs.tree.Tree.set_item.Goals as goal
+
+pub index_mut-requires : goal.index_mut-requires
+index_mut-requires g c =
+    let there : c.args.ix < length (nodes_of c.self.inside.nodes.items) = rw (← c.self.view_is) at c.requires in
+    omega (arith, there, length-map c.self.inside.nodes.items node_of)
 
 pub returns : goal.returns
 returns g c =

@@ -1,8 +1,14 @@
 -- The node is read, changed and written back.
-use Rattle.std.proofs.Common.{ap}
+use Rattle.std.proofs.Common.{◌<◌, length, ap, arith}
+use Rattle.std.proofs.lemmas.List.{length-map}
 use Rattle.markdown_base.specs.StoredNodes.{node_of, nodes_of}
 use Rattle.markdown_base.proofs.StoredNodesLemmas.{arena_changed, can_lead, leads_within, within_written}
 use Rattle.markdown_base.proofs.tree.Tree.set_next.Goals as goal
+
+pub index_mut-node-requires : goal.index_mut-node-requires
+index_mut-node-requires g c =
+    let there : c.args.ix < length (nodes_of c.self.inside.nodes.items) = rw (← c.self.view_is) at c.requires.node in
+    omega (arith, there, length-map c.self.inside.nodes.items node_of)
 
 pub returns : goal.returns
 returns g c =
