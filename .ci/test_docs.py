@@ -50,7 +50,7 @@ fn main() {
 ```
 
 ```text
-fn is_blank(byte: u8) -> bool
+fn Byte::is_blank(byte: u8) -> bool
     ensures { result == BlankByte byte.now }
 ```
 """
@@ -156,7 +156,7 @@ class Command(DocsTest):
     def test_fails(self):
         self.replace("README.md", "version 1.2.3", "version 1.2.2")
         status, lines = self.run_main(docs.main)
-        self.assertEqual((status, lines), (1, ["README.md names the version 1.2.2, not 1.2.3, as CHANGELOG.md"]))
+        self.assertEqual((status, lines), (1, ["README.md names the version 1.2.2, not 1.2.3, as CHANGELOG.md does"]))
 
     def test_writes_the_table_of_entities_and_nothing_else(self):
         self.write("table", "\n")
@@ -169,8 +169,8 @@ class Command(DocsTest):
         self.assertEqual((status, lines[0]), (2, docs.__doc__.splitlines()[0]))
 
     def test_each_check_is_run(self):
-        self.assertEqual({*docs.CHECKS}, {it for name, it in vars(docs).items() if name.startswith("check_")} - {
-            docs.check_item, docs.check_left_out})
+        checks = {check for name, check in vars(docs).items() if name.startswith("check_")}
+        self.assertEqual({*docs.CHECKS}, checks - {docs.check_item, docs.check_left_out})
 
 
 class Entities(DocsTest):
@@ -217,7 +217,8 @@ class Contracts(DocsTest):
 
     def test_another_clause(self):
         self.replace("crates/markdown/CALLING.md", "result == Blank", "result == Other")
-        self.assert_finds(self.check, "crates/markdown/CALLING.md: not in the library: fn is_blank(byte: u8) -> bool; quote")
+        message = "crates/markdown/CALLING.md: not in the library: fn Byte::is_blank(byte: u8) -> bool; quote"
+        self.assert_finds(self.check, message)
 
     def test_another_line(self):
         self.replace("crates/markdown/CALLING.md", "```text\n", "```text\npub mod kinds;\npub mod others;\n")

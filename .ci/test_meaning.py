@@ -15,11 +15,15 @@ pub use inner::{shown};
 ghost use Rattle.markdown_base.specs.Fields.{field};
 ghost use Rattle.markdown_base.specs.Hidden.{hidden as kept};
 
-/// A type with a field for clauses.
+/// A type with a field for clauses, which a proof gives.
 pub struct Held {
-    pub ghost view: field by { self.bytes },
-    ghost own: kept,
-    invariant { kept }
+    bytes: u8,
+    ghost own: { kept },
+    pub ghost view: { field } by { kept },
+}
+
+impl Model for Held {
+    ghost invariant = { λ held. kept held };
 }
 """
 CODE_OF_BYTES = """\
@@ -31,7 +35,9 @@ ghost use Rattle.markdown_base.specs.Hidden.{hidden};
 pub fn blank(byte: u8) -> bool
     requires { is_blank byte.now }
 {
-    helper(byte)
+    // hidden
+    let hidden = helper(byte);
+    hidden
 }
 
 fn helper(byte: u8) -> bool
@@ -59,14 +65,14 @@ ghost use Rattle.markdown_base.specs.Passed.{is_blank as blank};
 ghost use Rattle.markdown_scan.specs.Scans.{scans, scan_of};
 
 pub trait Scanner {
-    ghost state: scans;
+    ghost state = { scans };
     fn scan(&self);
 }
 
 pub struct Bytes {}
 
 impl Scanner for Bytes {
-    ghost state: scan_of blank;
+    ghost state = { scan_of blank };
 }
 """
 CODE_OF_TOOL = """\
@@ -177,13 +183,35 @@ class WhatGivesMeaning(MeaningTest):
         )
         self.assertEqual(self.listed("markdown_tool"), ["markdown_base/specs/Hidden.antt", "markdown_tool/specs/Lines.antt"])
 
-    def test_the_clauses_of_a_file_may_name_a_constructor(self):
-        self.write("crates/markdown_tool/specs/Lines.antt", "pub data Line : Type 0 where\n  line : Line\n")
-        self.assertEqual(self.listed("markdown_tool"), ["markdown_tool/specs/Lines.antt"])
+    def test_a_constructor_names_what_its_type_does(self):
+        self.write(
+            "crates/markdown_tool/specs/Lines.antt",
+            "use Rattle.markdown_base.specs.Hidden.{hidden}\npub data Line : Type 0 where\n  line : hidden 1 -> Line\n",
+        )
+        self.assertEqual(self.listed("markdown_tool"), ["markdown_base/specs/Hidden.antt", "markdown_tool/specs/Lines.antt"])
+
+    def test_a_file_that_only_passes_on_a_type_of_elsewhere_gives_no_meaning(self):
+        self.write("crates/markdown_tool/specs/Lines.antt", "pub use Rattle.std.specs.Prelude.{Nat as line}\n")
+        self.assertEqual(self.listed("markdown_tool"), [])
 
     def test_why_a_file_gives_meaning(self):
         status, lines = self.run_main(meaning.main, "markdown_base", "Bytes")
         self.assertEqual((status, lines), (0, ["is_blank of markdown_base/specs/Bytes.antt, which is named by", "blank"]))
+
+    def test_why_by_more_than_one_step(self):
+        _, lines = self.run_main(meaning.main, "markdown_scan", "Scans")
+        self.assertEqual(lines, ["scans of markdown_scan/specs/Scans.antt, which is named by", "Scanner::state"])
+        self.write(
+            "crates/markdown_tool/specs/Lines.antt",
+            "use Rattle.markdown_tool.specs.Ends.{end}\npub line : Nat\nline = end\n",
+        )
+        self.write(
+            "crates/markdown_tool/specs/Ends.antt",
+            "use Rattle.markdown_base.specs.Bytes.{space}\npub end : Nat\nend = space\n",
+        )
+        _, lines = self.run_main(meaning.main, "markdown_tool", "Bytes")
+        steps = ["space of markdown_base/specs/Bytes", "end of markdown_tool/specs/Ends", "line of markdown_tool/specs/Lines"]
+        self.assertEqual(lines, [f"{step}.antt, which is named by" for step in steps] + ["write"])
 
     def test_why_for_a_file_that_gives_no_meaning(self):
         _, lines = self.run_main(meaning.main, "markdown_base", "Hidden")
@@ -361,13 +389,15 @@ class OtherDefinitions(MeaningTest):
         self.replace("docs/FILES.md", row, f"| `markdown/specs/Words.antt` | words |\n{row}")
         self.assert_passes(self.check)
 
-    def test_a_part_of_the_docs_is_not_there(self):
-        message = "docs/ARCHITECTURE.md has no section 'Where each syntax is', or docs/FILES.md no table '| File | Defines |'"
-        self.replace("docs/ARCHITECTURE.md", "## Where", "## Here")
-        self.assert_finds(self.check, message)
-        self.write("docs/ARCHITECTURE.md", ARCHITECTURE)
+    def test_a_table_is_not_there(self):
+        no_table = "docs/FILES.md has no table that begins '| File | Defines |'"
+        no_section = "docs/ARCHITECTURE.md has no table in a section '## Where each syntax is'"
         self.replace("docs/FILES.md", "| File | Defines |", "| File | Holds |")
-        self.assert_finds(self.check, message)
+        self.assert_finds(self.check, no_table)
+        self.remove("docs/ARCHITECTURE.md")
+        self.assert_finds(self.check, f"{no_section}: there is no such file", no_table)
+        meaning.write_lists(self.tree())
+        self.assertIn("| File | Holds |", self.read("docs/FILES.md"))
 
     def test_writing(self):
         self.replace("docs/FILES.md", "| `scan/specs/Scans.antt` | scans |\n", "")
