@@ -9,3 +9,4 @@ pub mod HtmlWords
 pub mod SafeWords
 pub mod MergeWords
 pub mod OutlineWords
+pub mod Correct

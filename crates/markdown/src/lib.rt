@@ -2,6 +2,8 @@
 //! names this crate alone, in `crates.txt`, in code and in clauses; the code is in the crates that it uses.
 #![tactic(auto)]
 
+pub mod theorem;
+
 /// Block results: a text with its tree of items and the parts that they refer to, passed in and checked, or made from a
 /// text.
 pub mod blocks {
