@@ -1,8 +1,8 @@
-"""Random documents of tables, task lists and footnotes by the extended entry, `cmark-gfm` and `pulldown-cmark` 0.9.2:
+"""Random documents of tables, task lists and footnotes by the full reading, `cmark-gfm` and `pulldown-cmark` 0.9.2:
 `extended.py (--program COMMAND [--each FORM] | --library FILE) [--extensions NAME..] [--peers NAME..] [--count N] [--seed SEED]`.
 
 Ours is a command, to which the word of each extension is added in the form of `--each` (`{}` by default, `-e {}` for the
-tool), or the C library as a shared object, which is called with the extended entry. The peers are Debian's packages. The
+tool), or the C library as a shared object, which is called for the full reading. The peers are Debian's packages. The
 extensions are of `tables tasklists footnotes strikethrough`, all but the last by default; for `pulldown-cmark` footnotes
 are those of the old style, which it has.
 

@@ -2,7 +2,7 @@
 
 `hostile.py --check PROGRAM [KIND ..]` tells whether a program takes at most 2.2 times the instructions at twice the size:
 for each kind, or these, at 10,000, 20,000 and 40,000 bytes, without an extension, with those that the kind needs, and with all.
-PROGRAM is `markdown_html`, which takes extensions as words, or `markdown`, which reads by the extended entry; `--check` may
+PROGRAM is `markdown_html`, which takes extensions as words, or `markdown`, which has the full reading; `--check` may
 be given for each. It prints a table of the instructions in millions, without those of a text of one letter, how often one size
 takes those of the one before, and how many a byte takes. A line where one size takes more than 2.2 times as many says so
 at its end, and then the exit status is 1. `--jobs N` runs N programs at once.
@@ -385,7 +385,7 @@ CHARACTERS = {
     "dots": ".",
 }
 
-# what the extended entry alone reads, but for tables
+# what the full reading alone has, but for tables
 EXTENDED_BLOCKS = {
     "metadata": "---\na\n---\n",
     "open-metadata": "---\na\n\n",
@@ -426,7 +426,7 @@ NEEDS = {
     **{kind: ["gfm"] for kind in EXTENDED_BLOCKS if "alert" in kind},
     **{kind: ["heading-attributes"] for kind in EXTENDED_BLOCKS if "attributes" in kind or "braces" in kind},
 }
-# those that the present entry has; it takes the others' words, and reads nothing more for them
+# those that the port's profile has; it takes the others' words, and reads nothing more for them
 PRESENT = ["footnotes", "math", "old-footnotes", "smart", "strikethrough", "subscript", "superscript", "wikilinks"]
 OF_PULLDOWN = {"tables": "-T", "footnotes": "-F", "old-footnotes": "-F"}
 

@@ -1,4 +1,4 @@
-"""Texts that attack, each rendered for strangers' text and checked: `safe_attack.py SHARED_OBJECT [COUNT]`.
+"""Texts that attack, each rendered as untrusted input and checked: `safe_attack.py SHARED_OBJECT [COUNT]`.
 
 SHARED_OBJECT is made as `.ci/callers` makes it. COUNT texts (20,000 by default) are made of shapes (links, images,
 definitions, titles, info strings, footnotes, wikilinks, math, raw HTML) with payloads (schemes in all spellings, tags,
@@ -83,7 +83,7 @@ def is_safe(name, value):
 
 
 class Reader(HTMLParser):
-    """Collects what a page for strangers' text must not have."""
+    """Collects what a page of untrusted input must not have."""
 
     def __init__(self):
         super().__init__(convert_charrefs=True)

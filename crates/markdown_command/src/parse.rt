@@ -145,7 +145,7 @@ fn command<'a>(
     ensures { IfOk result (λ made. app_of made
         ≡ tool (Names formats.entry) (Names extensions.entry)) }
 {
-    let safe = flag(alloc, "safe").help("Write safe HTML, for texts of strangers");
+    let safe = flag(alloc, "safe").help("Write safe HTML, for untrusted input");
     let bare = bare(alloc)?;
     let with_formats = bare.arg(to(alloc, formats))?;
     let with_safe = with_formats.arg(safe)?;

@@ -113,7 +113,7 @@ pub fn to_html(text: &str, extensions: Extensions) -> Result<String, Error> {
     result_of(sys::markdown_html_alloc, text, extensions)
 }
 
-/// Returns the safe HTML of a text that a stranger wrote: raw HTML is shown as text, and destinations have one of the schemes
+/// Returns the safe HTML of untrusted input: raw HTML is shown as text, and destinations have one of the schemes
 /// `http`, `https`, `mailto` and `tel`, or none.
 pub fn to_safe_html(text: &str, extensions: Extensions) -> Result<String, Error> {
     result_of(sys::markdown_safe_html_alloc, text, extensions)
