@@ -3,7 +3,7 @@ complete -c @PROGRAM@ -s t -l to -x -a 'html events outline toc' -d 'What to wri
 complete -c @PROGRAM@ -s e -l extension -x -a '@EXTENSIONS@' -d 'Enable an extension'
 complete -c @PROGRAM@ -s a -l all-extensions -d 'Enable all extensions but old-footnotes'
 complete -c @PROGRAM@ -l gfm -d 'Enable the extensions that GitHub has'
-complete -c @PROGRAM@ -l safe -d 'Write safe HTML, for texts that strangers wrote'
+complete -c @PROGRAM@ -l safe -d 'Write safe HTML, for untrusted input'
 complete -c @PROGRAM@ -s f -l full-page -d 'Write a whole page of HTML'
 complete -c @PROGRAM@ -l title -x -d 'The title of the page'
 complete -c @PROGRAM@ -l css -x -d 'Link the page to a style sheet'
