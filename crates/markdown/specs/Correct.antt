@@ -1,4 +1,4 @@
--- The main theorem's statement: the HTML of a text is the HTML that is defined of it.
+-- What the clauses of rendering say of the HTML, put together: the HTML of a text is the HTML that is defined of it.
 use Rattle.std.specs.Prelude.{◌≡◌, ℕ, Bool, List}
 use Rattle.markdown_base.specs.declared.options.Options.{Options}
 use Rattle.markdown_blocks.specs.Blocks.{source_for}
