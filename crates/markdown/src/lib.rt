@@ -2,7 +2,7 @@
 //! names this crate alone, in `crates.txt`, in code and in clauses; the code is in the crates that it uses.
 #![tactic(auto)]
 
-pub mod theorem;
+pub mod rendering;
 
 /// Block results: a text with its tree of items and the parts that they refer to, passed in and checked, or made from a
 /// text.
@@ -38,12 +38,14 @@ pub mod merge {
 
 /// The HTML of events, and of texts.
 pub mod html {
+    pub use crate::rendering::to_html;
     pub use markdown_out::html::push_html;
     pub use markdown_render::{merged_html, render};
 }
 
-/// Safe HTML of texts that strangers wrote: events made safe, and the HTML of a text's.
+/// Safe HTML of untrusted input: events made safe, and the HTML of a text's.
 pub mod safe {
+    pub use crate::rendering::to_safe_html;
     pub use markdown_safe::{Safe, SafeWithOffset, safe_event, safe_html};
 }
 

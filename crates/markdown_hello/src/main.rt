@@ -1,8 +1,8 @@
 //! The smallest program over the library: Markdown on standard input, safe HTML on standard output.
 #![tactic(auto)]
 
-use markdown::extended::safe_html_extended;
-use markdown::{DefaultBrokenLinkCallback, Options};
+use markdown::Options;
+use markdown::safe::to_safe_html;
 use std::io::Read;
 use std::process::ExitCode;
 
@@ -12,8 +12,7 @@ fn main(rt: HostRuntime) -> ExitCode {
         return ExitCode::from(1);
     }
     let options = Options::ENABLE_TABLES.union(Options::ENABLE_STRIKETHROUGH);
-    let callback = None::<DefaultBrokenLinkCallback>;
-    match safe_html_extended(rt.alloc(), text.as_str(), options, callback) {
+    match to_safe_html(rt.alloc(), text.as_str(), options) {
         Ok(html) => {
             let _ = rt.print(html.as_str());
             ExitCode::from(0)
