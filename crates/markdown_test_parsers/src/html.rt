@@ -23,6 +23,11 @@ pub fn html_of<'a, I: Iterator<Item = Result<Event<'a>, Fault>>>(
     Ok(html)
 }
 
+/// Returns the HTML of a parser.
+pub fn parser_html(alloc: Global, parser: Parser<'_>) -> Result<String, Fail> {
+    html_of(alloc, parser)
+}
+
 /// Checks the HTML of a parser.
 pub fn parser_shows(
     alloc: Global,
@@ -30,6 +35,6 @@ pub fn parser_shows(
     parser: Parser<'_>,
     wanted: &str,
 ) -> Result<(), Fail> {
-    let html = html_of(alloc, parser)?;
+    let html = parser_html(alloc, parser)?;
     gives(row, html.as_str(), wanted)
 }

@@ -100,6 +100,11 @@ pub fn ask_for(parser: &mut Parser<'_>, calls: u64) -> u64 {
     given
 }
 
+/// Returns the events of a parser as a text, each with its range.
+pub fn events_of(alloc: Global, parser: Parser<'_>) -> Result<String, Fail> {
+    notes_of(alloc, parser.into_offset_iter())
+}
+
 /// Checks the events of a parser, each with its range.
 pub fn parser_gives(
     alloc: Global,
@@ -107,6 +112,6 @@ pub fn parser_gives(
     parser: Parser<'_>,
     wanted: &str,
 ) -> Result<(), Fail> {
-    let notes = notes_of(alloc, parser.into_offset_iter())?;
+    let notes = events_of(alloc, parser)?;
     gives(row, notes.as_str(), wanted)
 }
