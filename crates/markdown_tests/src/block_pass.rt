@@ -5,7 +5,7 @@ use markdown_base::options::Options;
 use markdown_base::tree::Tree;
 use markdown_plain::blocks;
 use markdown_test_helpers::documents::random_text;
-use markdown_test_helpers::rows::gives;
+use markdown_test_helpers::rows::{Rows, gives};
 use markdown_test_helpers::trees::push_items;
 use std::alloc::{AllocError, Global};
 use std::test::Fail;
@@ -23,12 +23,6 @@ fn name_of(alloc: Global, body: ItemBody) -> Result<String, AllocError> {
     String::from_str(alloc, name)
 }
 
-/// Checks the items of the blocks of a text.
-fn has_blocks(alloc: Global, text: &str, want: &str) -> Result<(), Fail> {
-    let list = listed(alloc, text)?;
-    gives(text, list.as_str(), want)
-}
-
 /// Returns the items of a text's blocks.
 fn listed(alloc: Global, text: &str) -> Result<String, AllocError> {
     let (mut tree, parts) = blocks(alloc, text, Options::empty())?;
@@ -42,6 +36,7 @@ fn listed(alloc: Global, text: &str) -> Result<String, AllocError> {
 
 #[test]
 fn paragraphs(rt: HostRuntime) -> Result<(), Fail> {
+    let mut rows = Rows::new();
     for &(text, want) in &[
         ("", ""),
         (" \t\r\n\n  \r \t", ""),
@@ -53,13 +48,14 @@ fn paragraphs(rt: HostRuntime) -> Result<(), Fail> {
             "0 Paragraph 0..2;1 Text 0..1;0 Paragraph 6..7;1 Text 6..7;",
         ),
     ] {
-        has_blocks(rt.alloc(), text, want)?;
+        rows.gives_text(text, listed(rt.alloc(), text)?, want);
     }
-    Ok(())
+    rows.end()
 }
 
 #[test]
 fn breaks(rt: HostRuntime) -> Result<(), Fail> {
+    let mut rows = Rows::new();
     for &(text, want) in &[
         (
             "a\nb",
@@ -95,9 +91,9 @@ fn breaks(rt: HostRuntime) -> Result<(), Fail> {
             "0 Paragraph 0..6;1 Text 0..1;1 SoftBreak 1..3;1 Text 3..4;",
         ),
     ] {
-        has_blocks(rt.alloc(), text, want)?;
+        rows.gives_text(text, listed(rt.alloc(), text)?, want);
     }
-    Ok(())
+    rows.end()
 }
 
 #[test]

@@ -6,7 +6,7 @@ use markdown_base::tag::HeadingLevel;
 use markdown_base::tree::Tree;
 use markdown_blocks::{Blocks, Fault};
 use markdown_test_helpers::parts::one_of_each;
-use markdown_test_helpers::rows::gives;
+use markdown_test_helpers::rows::Rows;
 use markdown_test_helpers::trees::{Node, TEXT, tree_of_nodes};
 use std::alloc::{AllocError, Global};
 use std::test::Fail;
@@ -280,12 +280,13 @@ static KEPT: [Row; 5] = [
 ];
 
 /// Checks whether each tree keeps the rules.
-fn compare(alloc: Global, rows: &[Row], are_kept: bool) -> Result<(), Fail> {
-    for &(rule, over, nodes) in rows {
+fn compare(alloc: Global, table: &[Row], are_kept: bool) -> Result<(), Fail> {
+    let mut rows = Rows::new();
+    for &(rule, over, nodes) in table {
         let tree = tree_of_nodes(alloc, nodes)?;
-        gives((rule, over), is_well_formed(alloc, over, tree)?, are_kept)?;
+        rows.gives((rule, over), is_well_formed(alloc, over, tree)?, are_kept);
     }
-    Ok(())
+    rows.end()
 }
 
 #[test]
@@ -364,17 +365,18 @@ static BODIES: [(&str, ItemBody, bool); 44] = [
 
 #[test]
 fn each_body_keeps_its_rules(rt: HostRuntime) -> Result<(), Fail> {
+    let mut rows = Rows::new();
     for &(over, body, is_kept) in &BODIES {
         let end = over.len();
         let nodes = [(0, 0, end, ItemBody::Paragraph), (1, 0, end, body)];
         let tree = tree_of_nodes(rt.alloc(), &nodes)?;
-        gives(
+        rows.gives(
             (over, body),
             is_well_formed(rt.alloc(), over, tree)?,
             is_kept,
-        )?;
+        );
     }
-    Ok(())
+    rows.end()
 }
 
 /// The link of a node that is set.
@@ -468,9 +470,10 @@ fn linked(
 
 #[test]
 fn numbers_and_links_keep_the_rules(rt: HostRuntime) -> Result<(), Fail> {
+    let mut rows = Rows::new();
     for &(rule, over, nodes, links) in &LINKED {
         let tree = linked(rt.alloc(), nodes, links)?;
-        gives(rule, is_well_formed(rt.alloc(), over, tree)?, false)?;
+        rows.gives(rule, is_well_formed(rt.alloc(), over, tree)?, false);
     }
-    Ok(())
+    rows.end()
 }

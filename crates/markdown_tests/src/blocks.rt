@@ -8,7 +8,7 @@ use markdown_base::options::Options;
 use markdown_base::tree::Tree;
 use markdown_blocks::Blocks;
 use markdown_test_helpers::parts::{no_parts, one_text};
-use markdown_test_helpers::rows::gives;
+use markdown_test_helpers::rows::{Rows, gives};
 use markdown_test_helpers::trees::{item, nested, push_items, text, tree_of};
 use std::alloc::{AllocError, Global};
 use std::test::Fail;
@@ -102,18 +102,19 @@ fn listed(alloc: Global, tree: Tree<Item>, parts: BlockParts<'_>) -> Result<Stri
 }
 
 /// Checks the items of the blocks of a text, and that the text and the options are returned.
-fn has_items(alloc: Global, source: &str, items: &str) -> Result<(), Fail> {
+fn has_items(alloc: Global, rows: &mut Rows, source: &str, items: &str) -> Result<(), Fail> {
     let blocks = Blocks::of_text(alloc, source, Options::ENABLE_MATH)?;
     let (text, options, tree, parts) = blocks.into_parts();
     let held = listed(alloc, tree, parts);
-    gives(source, text, source)?;
-    gives(source, options, Options::ENABLE_MATH)?;
-    gives(source, held?.as_str(), items)
+    rows.gives(source, text, source);
+    rows.gives(source, options, Options::ENABLE_MATH);
+    rows.gives_text(source, held?, items);
+    Ok(())
 }
 
 #[test]
 fn a_text_has_blocks_of_its_own(rt: HostRuntime) -> Result<(), Fail> {
-    let rows = &[
+    let table = &[
         ("", ""),
         (" \t\n", ""),
         (
@@ -135,8 +136,9 @@ fn a_text_has_blocks_of_its_own(rt: HostRuntime) -> Result<(), Fail> {
             "0 Paragraph 0..4;1 SynthesizeText(CowIndex(0)) 0..4;<;",
         ),
     ];
-    for &(source, items) in rows {
-        has_items(rt.alloc(), source, items)?;
+    let mut rows = Rows::new();
+    for &(source, items) in table {
+        has_items(rt.alloc(), &mut rows, source, items)?;
     }
-    Ok(())
+    rows.end()
 }

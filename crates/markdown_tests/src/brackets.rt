@@ -23,7 +23,7 @@ use markdown_scan::entity::EntityNames;
 use markdown_scan::line_rule::NoPrefix;
 use markdown_test_helpers::lists::is_nothing;
 use markdown_test_helpers::parts::{defining, no_parts};
-use markdown_test_helpers::rows::gives;
+use markdown_test_helpers::rows::{Rows, gives};
 use markdown_test_helpers::trees::{item, text};
 use std::alloc::{AllocError, Global};
 use std::test::Fail;
@@ -93,10 +93,11 @@ static TAILS: [Tail; 11] = [
 
 #[test]
 fn tails_of_links(rt: HostRuntime) -> Result<(), Fail> {
+    let mut rows = Rows::new();
     for row in &TAILS {
-        gives((row.0, row.1), has_tail(rt.alloc(), *row)?, true)?;
+        rows.gives((row.0, row.1), has_tail(rt.alloc(), *row)?, true);
     }
-    Ok(())
+    rows.end()
 }
 
 static NO_TAILS: [&str; 9] = [
@@ -113,10 +114,11 @@ static NO_TAILS: [&str; 9] = [
 
 #[test]
 fn no_tails_of_links(rt: HostRuntime) -> Result<(), Fail> {
+    let mut rows = Rows::new();
     for &text in &NO_TAILS {
-        gives(text, is_nothing(tail_of(rt.alloc(), text, false)?), true)?;
+        rows.gives(text, is_nothing(tail_of(rt.alloc(), text, false)?), true);
     }
-    Ok(())
+    rows.end()
 }
 
 /// Returns the label of the reference at the byte offset `at`, and the offset after it.
@@ -146,6 +148,7 @@ fn label_of(
 fn forms_of_references(rt: HostRuntime) -> Result<(), Fail> {
     let open = |at: usize| Some(item(at, at + 1, ItemBody::MaybeLinkOpen));
     let close = Some(item(6, 7, ItemBody::MaybeLinkClose(true)));
+    let mut rows = Rows::new();
     for (source, at, next, after, wanted) in [
         ("[foo][]", 5, open(5), close, Some((0, true))),
         (
@@ -161,9 +164,9 @@ fn forms_of_references(rt: HostRuntime) -> Result<(), Fail> {
         ("[a]", 3, None, None, None),
     ] {
         let found = label_of(rt.alloc(), source, at, next, after)?;
-        gives(source, found, wanted)?;
+        rows.gives(source, found, wanted);
     }
-    Ok(())
+    rows.end()
 }
 
 /// A target's type, destination and title.
@@ -302,7 +305,7 @@ fn shown_by(source: &str, end: usize, name: &str) -> Option<(Shown, bool)> {
 
 #[test]
 fn bodies_of_wikilinks(rt: HostRuntime) -> Result<(), Fail> {
-    let rows = &[
+    let table = &[
         ("[[foo]]", 5, "foo", Some(Shown::Name)),
         ("[[bar|baz]]", 9, "bar", Some(Shown::From(6))),
         ("[[a|\\*b]]", 7, "a", Some(Shown::From(4))),
@@ -310,11 +313,12 @@ fn bodies_of_wikilinks(rt: HostRuntime) -> Result<(), Fail> {
         ("[[|b]]", 4, "", None),
         ("[[]]", 2, "", None),
     ];
-    for &(source, end, name, shown) in rows {
+    let mut rows = Rows::new();
+    for &(source, end, name, shown) in table {
         let wanted = shown.map(|kind| (kind, true));
-        gives(source, shown_by(source, end, name), wanted)?;
+        rows.gives(source, shown_by(source, end, name), wanted);
     }
-    Ok(())
+    rows.end()
 }
 
 fn opener(node: usize, is_image: bool) -> Opener {
@@ -341,6 +345,7 @@ fn left_after_link(
 #[test]
 fn links_disable_earlier_brackets_and_images_do_not(rt: HostRuntime) -> Result<(), Fail> {
     let mut openers = ChainOpeners::new(rt.alloc());
+    let mut rows = Rows::new();
     for &(outer, inner, live) in &[
         (false, false, false),
         (true, false, true),
@@ -348,11 +353,11 @@ fn links_disable_earlier_brackets_and_images_do_not(rt: HostRuntime) -> Result<(
     ] {
         let (first, second) = (opener(1, outer), opener(3, inner));
         let found = left_after_link(&mut openers, first, second)?;
-        gives(
+        rows.gives(
             (outer, inner),
             found,
             [Some((second, true)), Some((first, live)), None],
-        )?;
+        );
     }
-    Ok(())
+    rows.end()
 }

@@ -4,7 +4,7 @@ use markdown_raw_html::raw_html::RawHtmlScanner;
 use markdown_spans::after_less::{Autolink, AutolinkKind, LessThan, MarkupFound, scan_after_less};
 use markdown_spans::prefixes::ContainerPrefix;
 use markdown_spans::span_text::{SpanKind, span_text};
-use markdown_test_helpers::rows::gives;
+use markdown_test_helpers::rows::Rows;
 use std::alloc::{AllocError, Global};
 use std::test::Fail;
 
@@ -58,22 +58,29 @@ static SPANS: [Span; 19] = [
 ];
 
 /// Checks the text of a span, and whether it is a slice of the source.
-fn shows(alloc: Global, span: Span, prefix: &ContainerPrefix<'_>) -> Result<(), Fail> {
+fn shows(
+    alloc: Global,
+    rows: &mut Rows,
+    span: Span,
+    prefix: &ContainerPrefix<'_>,
+) -> Result<(), Fail> {
     let (kind, text, in_table, wanted, as_slice) = span;
     let (made, is_slice) = shown(alloc, text, kind, in_table, prefix)?;
-    gives(
+    rows.gives(
         (text, in_table),
         (made.as_str(), is_slice),
         (wanted, as_slice),
-    )
+    );
+    Ok(())
 }
 
 /// Checks each span.
 fn all_show(alloc: Global, prefix: &ContainerPrefix<'_>) -> Result<(), Fail> {
+    let mut rows = Rows::new();
     for span in &SPANS {
-        shows(alloc, *span, prefix)?;
+        shows(alloc, &mut rows, *span, prefix)?;
     }
-    Ok(())
+    rows.end()
 }
 
 #[test]
@@ -162,19 +169,22 @@ static WITH_ADDRESSES: [(&str, usize, &str); 6] = [
 /// Checks what begins at the `<` of each text, with or without addresses.
 fn all_have_markup(
     alloc: Global,
+    rows: &mut Rows,
     texts: &[(&str, usize, &str)],
     addresses: bool,
     prefix: &ContainerPrefix<'_>,
 ) -> Result<(), Fail> {
     for &(text, start, expected) in texts {
         let found = markup(alloc, text, start, addresses, prefix)?;
-        gives(text, found.as_str(), expected)?;
+        rows.gives_text(text, found, expected);
     }
     Ok(())
 }
 
 #[test]
 fn markup_after_a_less_than_sign(rt: HostRuntime) -> Result<(), Fail> {
-    all_have_markup(rt.alloc(), &MARKUP, false, &IN_NOTHING)?;
-    all_have_markup(rt.alloc(), &WITH_ADDRESSES, true, &IN_NOTHING)
+    let mut rows = Rows::new();
+    all_have_markup(rt.alloc(), &mut rows, &MARKUP, false, &IN_NOTHING)?;
+    all_have_markup(rt.alloc(), &mut rows, &WITH_ADDRESSES, true, &IN_NOTHING)?;
+    rows.end()
 }

@@ -1,7 +1,8 @@
 //! The block quotes and lists that the block pass makes of small texts, by the sections of CommonMark (5.1 to 5.3), and
 //! the footnote definitions in both styles.
-use crate::rows::{assert_made, compare};
+use crate::rows::{compare, shown};
 use markdown_base::options::Options;
+use markdown_test_helpers::rows::Rows;
 use std::test::Fail;
 
 #[test]
@@ -130,6 +131,7 @@ fn lists(rt: HostRuntime) -> Result<(), Fail> {
 
 #[test]
 fn footnotes(rt: HostRuntime) -> Result<(), Fail> {
+    let mut rows = Rows::new();
     for &(options, text, want) in &[
         (
             Options::ENABLE_FOOTNOTES,
@@ -147,7 +149,7 @@ fn footnotes(rt: HostRuntime) -> Result<(), Fail> {
             "0 FootnoteDefinition(CowIndex(0)) 0..8;1 Paragraph 6..8;2 T 6..7;0 Paragraph 9..11;1 T 9..10;",
         ),
     ] {
-        assert_made(rt.alloc(), text, options, want)?;
+        rows.gives_text(text, shown(rt.alloc(), text, options)?, want);
     }
-    Ok(())
+    rows.end()
 }

@@ -10,7 +10,7 @@ use markdown_base::options::Options;
 use markdown_base::tree::Tree;
 use markdown_builder::builder::Builder;
 use markdown_items::items;
-use markdown_test_helpers::rows::gives;
+use markdown_test_helpers::rows::{Rows, gives};
 use std::alloc::{AllocError, Global};
 use std::test::Fail;
 
@@ -97,24 +97,13 @@ fn listed(alloc: Global, text: &str, options: Options) -> Result<String, AllocEr
     part_listed(alloc, text, 0, text.as_bytes().len(), options)
 }
 
-/// Checks the items of a text.
-fn has_items(alloc: Global, text: &str, options: Options, want: &str) -> Result<(), Fail> {
-    let list = listed(alloc, text, options)?;
-    gives(text, list.as_str(), want)
-}
-
 /// Checks the items of each text, with GFM's options.
-fn compare(alloc: Global, rows: &[(&str, &str)]) -> Result<(), Fail> {
-    for (text, want) in rows {
-        has_items(alloc, text, Options::ENABLE_GFM, want)?;
+fn compare(alloc: Global, table: &[(&str, &str)]) -> Result<(), Fail> {
+    let mut rows = Rows::new();
+    for (text, want) in table {
+        rows.gives_text(text, listed(alloc, text, Options::ENABLE_GFM)?, want);
     }
-    Ok(())
-}
-
-/// Checks the items of the part of a text from `start` up to `end`, with GFM's options.
-fn part_has(alloc: Global, text: &str, start: usize, end: usize, want: &str) -> Result<(), Fail> {
-    let list = part_listed(alloc, text, start, end, Options::ENABLE_GFM)?;
-    gives(text, list.as_str(), want)
+    rows.end()
 }
 
 #[test]
@@ -257,10 +246,11 @@ static NAMES_OF_HTML: [(&str, &str); 5] = [
 #[test]
 fn names_of_html(rt: HostRuntime) -> Result<(), Fail> {
     let options = Options::ENABLE_GFM.with_extended(true);
+    let mut rows = Rows::new();
     for &(text, want) in &NAMES_OF_HTML {
-        has_items(rt.alloc(), text, options, want)?;
+        rows.gives_text(text, listed(rt.alloc(), text, options)?, want);
     }
-    Ok(())
+    rows.end()
 }
 
 /// Texts, and their items with the options of the full reading and smart punctuation.
@@ -309,14 +299,16 @@ static DASHES_AND_DOTS: [(&str, &str); 9] = [
 #[test]
 fn dashes_and_dots(rt: HostRuntime) -> Result<(), Fail> {
     let options = Options::ENABLE_SMART_PUNCTUATION.with_extended(true);
+    let mut rows = Rows::new();
     for &(text, want) in &DASHES_AND_DOTS {
-        has_items(rt.alloc(), text, options, want)?;
+        rows.gives_text(text, listed(rt.alloc(), text, options)?, want);
     }
-    Ok(())
+    rows.end()
 }
 
 #[test]
 fn options_add_items(rt: HostRuntime) -> Result<(), Fail> {
+    let mut rows = Rows::new();
     for &(text, options, want) in &[
         (
             "~a~~",
@@ -361,13 +353,14 @@ fn options_add_items(rt: HostRuntime) -> Result<(), Fail> {
             MaybeMath(false, false, 0) 4..5;",
         ),
     ] {
-        has_items(rt.alloc(), text, options, want)?;
+        rows.gives_text(text, listed(rt.alloc(), text, options)?, want);
     }
-    Ok(())
+    rows.end()
 }
 
 #[test]
 fn a_line_is_read_alone(rt: HostRuntime) -> Result<(), Fail> {
+    let mut rows = Rows::new();
     for &(text, start, end, want) in &[
         ("hello world", 6, 11, "Text 6..11;"),
         (
@@ -394,9 +387,10 @@ fn a_line_is_read_alone(rt: HostRuntime) -> Result<(), Fail> {
         ("a\\*", 0, 2, "Text 0..2;"),
         ("a``", 0, 2, "Text 0..1;MaybeCode(1, false) 1..2;"),
     ] {
-        part_has(rt.alloc(), text, start, end, want)?;
+        let list = part_listed(rt.alloc(), text, start, end, Options::ENABLE_GFM)?;
+        rows.gives_text(text, list, want);
     }
-    Ok(())
+    rows.end()
 }
 
 /// Appends a paragraph over a text, whose items are read up to `cut`, and then up to the end.

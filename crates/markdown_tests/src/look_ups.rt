@@ -4,7 +4,7 @@ use markdown_base::cow_str::CowStr;
 use markdown_base::fault::Fault;
 use markdown_defs::{Absence, Allocations, FootnoteDef, RefDefs};
 use markdown_test_helpers::parts::{defining, no_parts};
-use markdown_test_helpers::rows::gives;
+use markdown_test_helpers::rows::{Rows, gives};
 use std::alloc::{AllocError, Global};
 use std::test::Fail;
 
@@ -53,10 +53,11 @@ static KEYS: [(&str, Option<&str>); 12] = [
 
 #[test]
 fn keys_find_the_first_of_equal_folding(rt: HostRuntime) -> Result<(), Fail> {
+    let mut rows = Rows::new();
     for &(key, dest) in &KEYS {
-        gives(key, finds(rt.alloc(), &DEFINITIONS, key, dest)?, true)?;
+        rows.gives(key, finds(rt.alloc(), &DEFINITIONS, key, dest)?, true);
     }
-    Ok(())
+    rows.end()
 }
 
 /// Returns whether each of two labels finds this destination under the other.
@@ -104,15 +105,16 @@ static APART: [(&str, &str); 6] = [
 
 #[test]
 fn foldings_are_unicodes(rt: HostRuntime) -> Result<(), Fail> {
+    let mut rows = Rows::new();
     for &(label, key) in &MATCHING {
         let is_so = find_each_other(rt.alloc(), label, key, Some("/u"))?;
-        gives((label, key), is_so, true)?;
+        rows.gives((label, key), is_so, true);
     }
     for &(label, key) in &APART {
         let is_so = find_each_other(rt.alloc(), label, key, None)?;
-        gives((label, key), is_so, true)?;
+        rows.gives((label, key), is_so, true);
     }
-    Ok(())
+    rows.end()
 }
 
 /// Appends a label and its destination.
@@ -206,12 +208,13 @@ static USES: [(&str, Option<usize>, Option<usize>); 6] = [
 
 /// Counts a use of each name, and checks what is then counted.
 fn count_uses(held: &mut Allocations<'_>) -> Result<(), Fail> {
+    let mut rows = Rows::new();
     for &(name, before, after) in &USES {
         let is_defined = before.is_some();
         let counted = count_one_use(held, name)?;
-        gives(name, counted, (before, is_defined, is_defined, after))?;
+        rows.gives(name, counted, (before, is_defined, is_defined, after));
     }
-    Ok(())
+    rows.end()
 }
 
 #[test]

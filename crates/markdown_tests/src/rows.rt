@@ -5,7 +5,7 @@ use markdown_base::cow_str::CowStr;
 use markdown_base::item::ItemBody;
 use markdown_base::options::Options;
 use markdown_plain::blocks;
-use markdown_test_helpers::rows::gives;
+use markdown_test_helpers::rows::Rows;
 use markdown_test_helpers::trees::push_items;
 use std::alloc::{AllocError, Global};
 use std::test::Fail;
@@ -65,24 +65,19 @@ fn listed(alloc: Global, text: &str, options: Options) -> Result<String, AllocEr
 
 const TEXT: &str = "Text { backslash_escaped: false }";
 
-/// Returns the same, with `T` for a Text.
-fn shown(alloc: Global, text: &str, options: Options) -> Result<String, AllocError> {
+/// Returns the items of a text's blocks, with `T` for a Text, and then the definitions.
+pub fn shown(alloc: Global, text: &str, options: Options) -> Result<String, AllocError> {
     let list = listed(alloc, text, options)?;
     let short = list.as_str().replace(alloc, TEXT, "T");
     drop(list);
     short
 }
 
-/// Checks the items and the definitions of a text.
-pub fn assert_made(alloc: Global, text: &str, options: Options, want: &str) -> Result<(), Fail> {
-    let made = shown(alloc, text, options)?;
-    gives(text, made.as_str(), want)
-}
-
 /// Checks the items and the definitions of each text, read with no options.
-pub fn compare(alloc: Global, rows: &[(&str, &str)]) -> Result<(), Fail> {
-    for (text, want) in rows {
-        assert_made(alloc, text, Options::empty(), want)?;
+pub fn compare(alloc: Global, table: &[(&str, &str)]) -> Result<(), Fail> {
+    let mut rows = Rows::new();
+    for (text, want) in table {
+        rows.gives_text(text, shown(alloc, text, Options::empty())?, want);
     }
-    Ok(())
+    rows.end()
 }

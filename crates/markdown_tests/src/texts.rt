@@ -5,7 +5,7 @@ use markdown_base::event::Event;
 use markdown_base::fault::Fault;
 use markdown_base::inline_str::InlineStr;
 use markdown_base::tag::{HeadingLevel, InvalidHeadingLevel, LinkType, Tag, TagEnd};
-use markdown_test_helpers::rows::gives;
+use markdown_test_helpers::rows::{Rows, gives};
 use std::alloc::{AllocError, Global};
 use std::convert::{AsStr, TryFrom};
 use std::fmt::Debug;
@@ -122,21 +122,23 @@ fn is_held_in_place(text: &str) -> Option<bool> {
 #[test]
 fn texts_are_copied(rt: HostRuntime) -> Result<(), Fail> {
     let alloc = rt.alloc();
+    let mut rows = Rows::new();
     // 22 and 23 bytes
     for &(text, form) in &[
         ("", "in place"),
         ("1234567890123456789012", "in place"),
         ("12345678901234567890123", "boxed"),
     ] {
-        gives(text, are_held(alloc, text, form)?, [true; 4])?;
+        rows.gives(text, are_held(alloc, text, form)?, [true; 4]);
         let wanted = if form == "in place" { Some(true) } else { None };
-        gives(text, is_held_in_place(text), wanted)?;
+        rows.gives(text, is_held_in_place(text), wanted);
     }
     let in_place = [
         is_held(CowStr::from('a').try_clone(alloc), "a", "in place"),
         is_held(CowStr::from('a').into_static(alloc), "a", "in place"),
     ];
-    gives("a", in_place, [true; 2])
+    rows.gives("a", in_place, [true; 2]);
+    rows.end()
 }
 
 #[test]
