@@ -9,7 +9,7 @@ use markdown_inline::walk::Parser;
 use markdown_test_helpers::lists::is_nothing;
 use markdown_test_helpers::notes::notes_of;
 use markdown_test_helpers::parts::{defining, one_text};
-use markdown_test_helpers::rows::gives;
+use markdown_test_helpers::rows::{Rows, gives};
 use markdown_test_helpers::trees::item;
 use markdown_test_parsers::faults::or_fail;
 use markdown_test_parsers::made::{Placed, TEXT, tree_of_placed};
@@ -65,11 +65,12 @@ fn items_after(alloc: Global, calls: u64) -> Result<u128, Fail> {
 
 #[test]
 fn items_are_counted_once(rt: HostRuntime) -> Result<(), Fail> {
+    let mut rows = Rows::new();
     // the Start and the first Text come before the first open item of the chain
     for &(calls, items) in &[(0, 0), (2, 0), (3, 9), (4, 9), (12, 9), (14, 9)] {
-        gives(calls, items_after(rt.alloc(), calls)?, items)?;
+        rows.gives(calls, items_after(rt.alloc(), calls)?, items);
     }
-    Ok(())
+    rows.end()
 }
 
 /// A text, and one that is referred to by its number.

@@ -1,7 +1,7 @@
 //! The definitions of a text, as `reference_definitions` of its parser returns them.
 use markdown_base::fault::Fault;
 use markdown_defs::RefDefs;
-use markdown_test_helpers::rows::gives;
+use markdown_test_helpers::rows::Rows;
 use markdown_test_parsers::parsers::{ask_for, plain_parser};
 use std::alloc::{AllocError, Global};
 use std::test::Fail;
@@ -20,16 +20,17 @@ fn listed(alloc: Global, definitions: &RefDefs<'_>) -> Result<String, AllocError
     Ok(list)
 }
 
-/// Checks the definitions of a text.
-fn defines(alloc: Global, source: &str, wanted: &str) -> Result<(), Fail> {
+/// Returns the definitions of a text.
+fn defined_in(alloc: Global, source: &str) -> Result<String, Fail> {
     let parser = plain_parser(alloc, source)?;
-    let list = listed(alloc, parser.reference_definitions())?;
+    let list = listed(alloc, parser.reference_definitions());
     drop(parser);
-    gives(source, list.as_str(), wanted)
+    Ok(list?)
 }
 
 #[test]
 fn the_first_of_each_label_is_listed(rt: HostRuntime) -> Result<(), Fail> {
+    let mut rows = Rows::new();
     for &(source, wanted) in &[
         (
             "[a B c]: http://example.com\n[ß]: /u\n",
@@ -38,9 +39,9 @@ fn the_first_of_each_label_is_listed(rt: HostRuntime) -> Result<(), Fail> {
         ("[a]: /1\n[A]: /2\n\n[a]", "[a] (/1) 0..7 "),
         ("text", ""),
     ] {
-        defines(rt.alloc(), source, wanted)?;
+        rows.gives_text(source, defined_in(rt.alloc(), source)?, wanted);
     }
-    Ok(())
+    rows.end()
 }
 
 /// Returns the span of the definition that a key finds.
@@ -51,19 +52,18 @@ fn span_of(definitions: &RefDefs<'_>, key: &str) -> Result<Option<(usize, usize)
     }
 }
 
-/// Checks that a key finds a definition of a text with this span, after this number of events.
-fn finds(
+/// Returns the span of the definition that a key finds in a text, after this number of events.
+fn span_in(
     alloc: Global,
     source: &str,
     events: u64,
     key: &str,
-    span: Option<(usize, usize)>,
-) -> Result<(), Fail> {
+) -> Result<Option<(usize, usize)>, Fail> {
     let mut parser = plain_parser(alloc, source)?;
     ask_for(&mut parser, events);
     let found = span_of(parser.reference_definitions(), key);
     drop(parser);
-    gives(key, found?, span)
+    Ok(found?)
 }
 
 #[test]
@@ -71,6 +71,7 @@ fn keys_find_definitions(rt: HostRuntime) -> Result<(), Fail> {
     let two = "[a B c]: http://example.com\n[ß]: /u\n";
     let three = "[a B c]: http://example.com\n[another]: https://google.com\n\ntext\n\n\
         [final ONE]: http://wikipedia.org\n";
+    let mut rows = Rows::new();
     for &(source, events, key, span) in &[
         (two, 0, "A b C", Some((0, 27))),
         (two, 0, "SS", Some((28, 36))),
@@ -79,7 +80,7 @@ fn keys_find_definitions(rt: HostRuntime) -> Result<(), Fail> {
         (three, 0, "nope", None),
         (three, 1, "final one", Some((65, 98))),
     ] {
-        finds(rt.alloc(), source, events, key, span)?;
+        rows.gives(key, span_in(rt.alloc(), source, events, key)?, span);
     }
-    Ok(())
+    rows.end()
 }

@@ -1,7 +1,7 @@
 //! That a text is read by the entry that is called, whatever bits the options have.
 use bitflags::Flags;
 use markdown_base::options::Options;
-use markdown_test_helpers::rows::gives;
+use markdown_test_helpers::rows::Rows;
 use markdown_test_parsers::html::html_of;
 use markdown_test_parsers::parsers::{extended_parser, text_parser};
 use std::alloc::Global;
@@ -26,16 +26,18 @@ fn by_each_entry(alloc: Global, text: &str, options: Options) -> Result<(String,
 }
 
 /// Checks that a text is read with the bit as it is without.
-fn is_read_alike(alloc: Global, text: &str) -> Result<(), Fail> {
+fn is_read_alike(alloc: Global, rows: &mut Rows, text: &str) -> Result<(), Fail> {
     let with = by_each_entry(alloc, text, Options::from_bits_retain(ENTRY_BIT))?;
     let without = by_each_entry(alloc, text, Options::empty())?;
-    gives(text, with, without)
+    rows.gives(text, with, without);
+    Ok(())
 }
 
 #[test]
 fn a_bit_of_the_options_chooses_no_entry(rt: HostRuntime) -> Result<(), Fail> {
+    let mut rows = Rows::new();
     for text in TEXTS {
-        is_read_alike(rt.alloc(), text)?;
+        is_read_alike(rt.alloc(), &mut rows, text)?;
     }
-    Ok(())
+    rows.end()
 }

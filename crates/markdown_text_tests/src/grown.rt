@@ -1,5 +1,5 @@
 //! A text and the items of a paragraph over it, which are built together.
-use crate::rows::{counted, tree_gives, tree_shows};
+use crate::rows::{counted, events_of_tree, tree_gives, tree_shows};
 use markdown_base::item::{Item, ItemBody};
 use markdown_base::tree::Tree;
 use markdown_document::work::Work;
@@ -66,6 +66,12 @@ impl Grown {
     pub fn shows(self, alloc: Global, row: &str, wanted: &str) -> Result<(), Fail> {
         let Grown { source, tree } = self;
         tree_shows(alloc, row, source.as_str(), tree, wanted)
+    }
+
+    /// Returns its events, each with its range.
+    pub fn events(self, alloc: Global) -> Result<String, Fail> {
+        let Grown { source, tree } = self;
+        events_of_tree(alloc, source.as_str(), tree)
     }
 
     /// Checks its events, each with its range.

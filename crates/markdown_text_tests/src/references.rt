@@ -8,7 +8,7 @@ use markdown_base::options::Options;
 use markdown_defs::{BoxedCallback, BrokenLink, BrokenLinkCallback, Closure};
 use markdown_render::render;
 use markdown_test_helpers::parts::defining;
-use markdown_test_helpers::rows::gives;
+use markdown_test_helpers::rows::Rows;
 use markdown_test_helpers::trees::{item, text, tree_of};
 use markdown_test_parsers::callbacks::{Recording, Reply, Replying, questions_in};
 use markdown_test_parsers::faults::or_fail;
@@ -61,11 +61,12 @@ const QUESTIONS: &[(&str, usize, u64)] = &[
 
 #[test]
 fn questions(rt: HostRuntime) -> Result<(), Fail> {
+    let mut rows = Rows::new();
     for &(source, events, questions) in QUESTIONS {
         let (_, asked) = questions_in(rt.alloc(), source, events)?;
-        gives((source, events), asked, questions)?;
+        rows.gives((source, events), asked, questions);
     }
-    Ok(())
+    rows.end()
 }
 
 /// Returns the events of a text, and the questions, with a callback that has these answers.
@@ -79,25 +80,16 @@ fn asked_of(alloc: Global, source: &str, reply: Reply) -> Result<(String, String
     Ok((events, questions))
 }
 
-/// Checks the events of a text, and the questions, with a callback that has these answers.
-fn is_answered(
-    alloc: Global,
-    source: &str,
-    reply: Reply,
-    events: &str,
-    questions: &str,
-) -> Result<(), Fail> {
-    let (found, asked) = asked_of(alloc, source, reply)?;
-    gives(
-        source,
-        (found.as_str(), asked.as_str()),
-        (events, questions),
-    )
+/// Checks the events of a text, and the questions.
+fn is_answered(rows: &mut Rows, source: &str, found: (String, String), wanted: (&str, &str)) {
+    let (events, questions) = found;
+    rows.gives(source, (events.as_str(), questions.as_str()), wanted);
 }
 
 #[test]
 fn answers(rt: HostRuntime) -> Result<(), Fail> {
     let alloc = rt.alloc();
+    let mut rows = Rows::new();
     for &(source, reply, events, questions) in &[
         (
             "[a] [b]",
@@ -134,14 +126,16 @@ fn answers(rt: HostRuntime) -> Result<(), Fail> {
             "23..35 Collapsed (my website) ",
         ),
     ] {
-        is_answered(alloc, source, reply, events, questions)?;
+        let found = asked_of(alloc, source, reply)?;
+        is_answered(&mut rows, source, found, (events, questions));
     }
-    Ok(())
+    rows.end()
 }
 
 /// Checks the rendering of a text with a callback, or its events.
 fn is_given<'a, F: BrokenLinkCallback<'a>>(
     alloc: Global,
+    rows: &mut Rows,
     source: &'a str,
     callback: F,
     given: Given<'_>,
@@ -152,15 +146,16 @@ fn is_given<'a, F: BrokenLinkCallback<'a>>(
         Given::Html(wanted) => {
             let options = Options::empty();
             let html = or_fail(render(alloc, source, options, Some(callback)))?;
-            gives(source, html.as_str(), wanted)
+            rows.gives_text(source, html, wanted);
         }
         Given::Events(wanted) => {
             let parser = parser_asking(alloc, source, callback)?;
             let (events, callback) = or_fail(all_noted(alloc, parser))?;
             drop(callback);
-            gives(source, events.as_str(), wanted)
+            rows.gives_text(source, events, wanted);
         }
     }
+    Ok(())
 }
 
 /// Two labels without a definition, and what is given for them where each answer has the number of its question.
@@ -176,14 +171,21 @@ const NUMBERED: (&str, [Given<'static>; 2]) = (
 );
 
 /// Checks what is given for a text with a boxed callback that has these answers.
-fn is_given_with(alloc: Global, source: &str, reply: Reply, given: Given<'_>) -> Result<(), Fail> {
+fn is_given_with(
+    alloc: Global,
+    rows: &mut Rows,
+    source: &str,
+    reply: Reply,
+    given: Given<'_>,
+) -> Result<(), Fail> {
     let boxed: Box<dyn BoxedCallback> = Box::new(alloc, Replying::new(alloc, reply))?;
-    is_given(alloc, source, boxed, given)
+    is_given(alloc, rows, source, boxed, given)
 }
 
 #[test]
 fn boxed_callbacks(rt: HostRuntime) -> Result<(), Fail> {
     let (numbered, [html, events]) = NUMBERED;
+    let mut rows = Rows::new();
     for (source, reply, given) in [
         (numbered, Reply::Number, html),
         (numbered, Reply::Number, events),
@@ -194,13 +196,18 @@ fn boxed_callbacks(rt: HostRuntime) -> Result<(), Fail> {
         ),
         ("[a]", Reply::Nothing, Given::Html("<p>[a]</p>\n")),
     ] {
-        is_given_with(rt.alloc(), source, reply, given)?;
+        is_given_with(rt.alloc(), &mut rows, source, reply, given)?;
     }
-    Ok(())
+    rows.end()
 }
 
 /// Checks what is given with a closure that counts its questions, and that there are two.
-fn is_given_with_a_closure(alloc: Global, source: &str, given: Given<'_>) -> Result<(), Fail> {
+fn is_given_with_a_closure(
+    alloc: Global,
+    rows: &mut Rows,
+    source: &str,
+    given: Given<'_>,
+) -> Result<(), Fail> {
     let mut asked = 0u64;
     let numbering = |link: BrokenLink| -> Option<(CowStr, CowStr)>
         ensures counted { asked.exit ≡ (asked.entry + 1) % 2 ^ 64 }
@@ -210,15 +217,18 @@ fn is_given_with_a_closure(alloc: Global, source: &str, given: Given<'_>) -> Res
         let destination = format!(in alloc; "/{asked}").ok()?;
         Some((CowStr::from(destination), CowStr::Borrowed("")))
     };
-    is_given(alloc, source, Closure::new(numbering), given)?;
-    gives("questions", asked, 2)
+    is_given(alloc, rows, source, Closure::new(numbering), given)?;
+    rows.gives("questions", asked, 2);
+    Ok(())
 }
 
 #[test]
 fn closures_that_count(rt: HostRuntime) -> Result<(), Fail> {
     let (source, [html, events]) = NUMBERED;
-    is_given_with_a_closure(rt.alloc(), source, html)?;
-    is_given_with_a_closure(rt.alloc(), source, events)
+    let mut rows = Rows::new();
+    is_given_with_a_closure(rt.alloc(), &mut rows, source, html)?;
+    is_given_with_a_closure(rt.alloc(), &mut rows, source, events)?;
+    rows.end()
 }
 
 /// Returns the events of a text, with `X` for the answer, and the questions, with a callback that answers with this
@@ -232,6 +242,7 @@ fn asked_by_bytes(alloc: Global, source: &str, bytes: usize) -> Result<(String, 
 
 #[test]
 fn references_expand_up_to_a_limit(rt: HostRuntime) -> Result<(), Fail> {
+    let mut rows = Rows::new();
     for &(source, bytes, events, questions) in &[
         (
             "[a] [b]",
@@ -248,12 +259,8 @@ fn references_expand_up_to_a_limit(rt: HostRuntime) -> Result<(), Fail> {
             "0..3 Shortcut (a) 4..7 Shortcut (b) ",
         ),
     ] {
-        let (found, asked) = asked_by_bytes(rt.alloc(), source, bytes)?;
-        gives(
-            source,
-            (found.as_str(), asked.as_str()),
-            (events, questions),
-        )?;
+        let found = asked_by_bytes(rt.alloc(), source, bytes)?;
+        is_answered(&mut rows, source, found, (events, questions));
     }
-    Ok(())
+    rows.end()
 }

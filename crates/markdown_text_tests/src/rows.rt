@@ -7,17 +7,22 @@ use markdown_document::work::Work;
 use markdown_inline::walk::Parser;
 use markdown_render::merged::merged_html;
 use markdown_test_helpers::parts::{no_parts, one_of_each};
-use markdown_test_helpers::rows::gives;
+use markdown_test_helpers::rows::{Rows, gives};
 use markdown_test_parsers::faults::or_fail;
-use markdown_test_parsers::html::parser_shows;
+use markdown_test_parsers::html::{parser_html, parser_shows};
 use markdown_test_parsers::made::{Placed, tree_of_placed};
-use markdown_test_parsers::parsers::{parser_gives, parser_of, plain_parser, text_parser};
+use markdown_test_parsers::parsers::{events_of, parser_of, plain_parser, text_parser};
 use std::alloc::Global;
 use std::test::Fail;
 
+/// Returns the HTML of the merge of a parser.
+fn merge_html(alloc: Global, parser: Parser<'_>) -> Result<String, Fail> {
+    or_fail(merged_html(alloc, parser))
+}
+
 /// Checks the HTML of the merge of a parser.
 fn merge_shows(alloc: Global, row: &str, parser: Parser<'_>, wanted: &str) -> Result<(), Fail> {
-    let html = or_fail(merged_html(alloc, parser))?;
+    let html = merge_html(alloc, parser)?;
     gives((row, "merged"), html.as_str(), wanted)
 }
 
@@ -69,41 +74,35 @@ pub type Made = (
 );
 
 /// Returns the parser of a tree made by hand.
-fn made_parser<'a>(
-    alloc: Global,
-    source: &'a str,
-    options: &[Options],
-    placed: &[Placed],
-) -> Result<Parser<'a>, Fail> {
+fn made_parser(alloc: Global, row: Made) -> Result<Parser<'static>, Fail> {
+    let (source, options, placed, _) = row;
     let tree = tree_of_placed(alloc, placed)?;
     let parts = one_of_each(alloc)?;
     parser_of(alloc, source, union_of(options), tree, parts)
 }
 
 /// Checks what a tree made by hand gives.
-fn check_made_row(alloc: Global, row: Made) -> Result<(), Fail> {
-    let (source, options, placed, given) = row;
-    let parser = made_parser(alloc, source, options, placed)?;
+fn check_made_row(alloc: Global, rows: &mut Rows, row: Made) -> Result<(), Fail> {
+    let (source, _, _, given) = row;
+    let parser = made_parser(alloc, row)?;
     match given {
         Given::Html(html) => {
-            parser_shows(alloc, source, parser, html)?;
-            merge_shows(
-                alloc,
-                source,
-                made_parser(alloc, source, options, placed)?,
-                html,
-            )
+            rows.gives_text(source, parser_html(alloc, parser)?, html);
+            let merged = merge_html(alloc, made_parser(alloc, row)?)?;
+            rows.gives_text((source, "merged"), merged, html);
         }
-        Given::Events(events) => parser_gives(alloc, source, parser, events),
+        Given::Events(events) => rows.gives_text(source, events_of(alloc, parser)?, events),
     }
+    Ok(())
 }
 
 /// Checks what each tree made by hand gives.
-pub fn check_made(alloc: Global, rows: &[Made]) -> Result<(), Fail> {
-    for row in rows {
-        check_made_row(alloc, *row)?;
+pub fn check_made(alloc: Global, table: &[Made]) -> Result<(), Fail> {
+    let mut rows = Rows::new();
+    for row in table {
+        check_made_row(alloc, &mut rows, *row)?;
     }
-    Ok(())
+    rows.end()
 }
 
 /// Checks the HTML of a tree over a text.
@@ -118,7 +117,13 @@ pub fn tree_shows(
     parser_shows(alloc, row, parser, wanted)
 }
 
-/// Checks the events of a tree over a text, each with its range.
+/// Returns the events of a tree over a text, each with its range.
+pub fn events_of_tree(alloc: Global, source: &str, tree: Tree<Item>) -> Result<String, Fail> {
+    let parser = parser_of(alloc, source, Options::empty(), tree, no_parts(alloc))?;
+    events_of(alloc, parser)
+}
+
+/// Checks these events.
 pub fn tree_gives(
     alloc: Global,
     row: &str,
@@ -126,8 +131,8 @@ pub fn tree_gives(
     tree: Tree<Item>,
     wanted: &str,
 ) -> Result<(), Fail> {
-    let parser = parser_of(alloc, source, Options::empty(), tree, no_parts(alloc))?;
-    parser_gives(alloc, row, parser, wanted)
+    let events = events_of_tree(alloc, source, tree)?;
+    gives(row, events.as_str(), wanted)
 }
 
 /// Returns the counts of the work of a walk of a tree over a text.

@@ -2,7 +2,7 @@
 use crate::grown::Grown;
 use markdown_base::index::in_32_bits;
 use markdown_base::item::ItemBody;
-use markdown_test_helpers::rows::gives;
+use markdown_test_helpers::rows::{Rows, gives};
 use std::alloc::{AllocError, Global};
 use std::test::Fail;
 
@@ -158,33 +158,32 @@ fn apart_given(alloc: Global, bytes: usize) -> Result<String, AllocError> {
     Ok(events)
 }
 
-/// Checks that `runs` runs of each kind, in a text of `bytes` bytes, stay texts, and checks the counts of the work and
-/// a
-/// bound on the comparisons.
-fn stay_apart(
-    alloc: Global,
-    runs: usize,
-    bytes: usize,
-    delimiters: u128,
-    examined: u128,
-) -> Result<(), Fail> {
+/// Returns whether `runs` runs of each kind, in a text of `bytes` bytes, stay texts.
+fn stay_apart(alloc: Global, runs: usize, bytes: usize) -> Result<bool, Fail> {
+    let found = apart(alloc, runs, bytes)?.events(alloc)?;
     let wanted = apart_given(alloc, bytes)?;
-    apart(alloc, runs, bytes)?.gives(alloc, "runs that never pair", wanted.as_str())?;
-    let work = apart(alloc, runs, bytes)?.counted(alloc)?;
-    gives(
-        runs,
-        (work.delimiters, work.examined <= examined),
-        (delimiters, true),
-    )
+    Ok(found.as_str() == wanted.as_str())
 }
 
+/// A row has the number of runs of each kind, the bytes of the text, the counted delimiters, and a bound on comparisons.
 #[test]
 fn runs_that_never_pair(rt: HostRuntime) -> Result<(), Fail> {
+    let mut rows = Rows::new();
     for &(runs, bytes, delimiters, examined) in &[
         (500, 2_000, 1_000, 10_000),
         (5_000, 20_000, 10_000, 110_000),
     ] {
-        stay_apart(rt.alloc(), runs, bytes, delimiters, examined)?;
+        rows.gives(
+            (runs, "stay texts"),
+            stay_apart(rt.alloc(), runs, bytes)?,
+            true,
+        );
+        let work = apart(rt.alloc(), runs, bytes)?.counted(rt.alloc())?;
+        rows.gives(
+            runs,
+            (work.delimiters, work.examined <= examined),
+            (delimiters, true),
+        );
     }
-    Ok(())
+    rows.end()
 }
