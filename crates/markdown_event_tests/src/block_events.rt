@@ -6,7 +6,7 @@ use markdown_base::item::ItemBody;
 use markdown_base::options::Options;
 use markdown_base::tag::{Alignment, BlockQuoteKind, HeadingLevel, MetadataBlockKind};
 use markdown_test_helpers::parts::{no_parts, one_text};
-use markdown_test_helpers::rows::gives;
+use markdown_test_helpers::rows::{Rows, gives};
 use markdown_test_parsers::faults::or_fail;
 use markdown_test_parsers::html::parser_shows;
 use markdown_test_parsers::made::{Placed, TEXT, tree_of_placed};
@@ -24,28 +24,40 @@ fn events_of(alloc: Global, placed: &[Placed], parts: BlockParts<'static>) -> Re
 }
 
 /// Checks the events of a tree over `abc`, which may refer to one text.
-fn tree_gives(alloc: Global, placed: &[Placed], row: ItemBody, wanted: &str) -> Result<(), Fail> {
-    let events = events_of(alloc, placed, one_text(alloc)?)?;
-    gives(row, events.as_str(), wanted)
+fn tree_gives(
+    alloc: Global,
+    rows: &mut Rows,
+    placed: &[Placed],
+    row: ItemBody,
+    wanted: &str,
+) -> Result<(), Fail> {
+    rows.gives_text(row, events_of(alloc, placed, one_text(alloc)?)?, wanted);
+    Ok(())
 }
 
 /// Checks the Start and the End of a body that contains a text.
-fn block_gives(alloc: Global, body: ItemBody, start: &str, end: &str) -> Result<(), Fail> {
+fn block_gives(
+    alloc: Global,
+    rows: &mut Rows,
+    body: ItemBody,
+    start: &str,
+    end: &str,
+) -> Result<(), Fail> {
     let wanted = format!(in alloc; "<{start}>0..3 [b]1..2 </{end}>0..3 ")?;
     let placed = [(0, 0, 3, body), (1, 1, 2, TEXT)];
-    tree_gives(alloc, &placed, body, wanted.as_str())
+    tree_gives(alloc, rows, &placed, body, wanted.as_str())
 }
 
 /// Checks the event of a body in an item.
-fn leaf_gives(alloc: Global, body: ItemBody, name: &str) -> Result<(), Fail> {
+fn leaf_gives(alloc: Global, rows: &mut Rows, body: ItemBody, name: &str) -> Result<(), Fail> {
     let wanted = format!(in alloc; "<li>0..3 {name}1..2 </li>0..3 ")?;
     let placed = [(0, 0, 3, ItemBody::ListItem(2)), (1, 1, 2, body)];
-    tree_gives(alloc, &placed, body, wanted.as_str())
+    tree_gives(alloc, rows, &placed, body, wanted.as_str())
 }
 
 #[test]
 fn trees(rt: HostRuntime) -> Result<(), Fail> {
-    let rows = &[
+    let table = &[
         (ItemBody::Paragraph, "p", "p"),
         (ItemBody::Heading(HeadingLevel::H3, None), "h3", "h3"),
         (ItemBody::BlockQuote(None), "blockquote", "blockquote"),
@@ -83,15 +95,16 @@ fn trees(rt: HostRuntime) -> Result<(), Fail> {
             "footnote",
         ),
     ];
-    for &(body, start, end) in rows {
-        block_gives(rt.alloc(), body, start, end)?;
+    let mut rows = Rows::new();
+    for &(body, start, end) in table {
+        block_gives(rt.alloc(), &mut rows, body, start, end)?;
     }
-    Ok(())
+    rows.end()
 }
 
 #[test]
 fn single_events(rt: HostRuntime) -> Result<(), Fail> {
-    let rows = &[
+    let table = &[
         (
             ItemBody::Text {
                 backslash_escaped: true,
@@ -109,10 +122,11 @@ fn single_events(rt: HostRuntime) -> Result<(), Fail> {
         (ItemBody::HardBreak(false), "//"),
         (ItemBody::Rule, "<hr>"),
     ];
-    for &(body, name) in rows {
-        leaf_gives(rt.alloc(), body, name)?;
+    let mut rows = Rows::new();
+    for &(body, name) in table {
+        leaf_gives(rt.alloc(), &mut rows, body, name)?;
     }
-    Ok(())
+    rows.end()
 }
 
 /// Returns parts with the alignments of two columns.

@@ -1,7 +1,7 @@
 //! What each byte of a text is written as in HTML.
 use crate::signs::{Sign, items_of};
 use markdown_base::tag::LinkType;
-use markdown_test_helpers::rows::gives;
+use markdown_test_helpers::rows::Rows;
 use markdown_test_parsers::html::html_of;
 use std::alloc::{AllocError, Global};
 use std::test::Fail;
@@ -103,17 +103,19 @@ fn html_at(alloc: Global, place: Place, text: &str) -> Result<String, AllocError
 }
 
 /// Checks what the bytes of a text are written as at a place.
-fn is_escaped(alloc: Global, place: Place, text: &str) -> Result<(), Fail> {
+fn is_escaped(alloc: Global, rows: &mut Rows, place: Place, text: &str) -> Result<(), Fail> {
     let expected = html_at(alloc, place, text)?;
     let html = html_of(alloc, items_of(alloc, &[sign_at(place, text)]))?;
-    gives(place, html.as_str() == expected.as_str(), true)
+    rows.gives(place, html.as_str() == expected.as_str(), true);
+    Ok(())
 }
 
 #[test]
 fn each_byte_is_escaped(rt: HostRuntime) -> Result<(), Fail> {
     let all = all_bytes(rt.alloc())?;
+    let mut rows = Rows::new();
     for place in [Place::Text, Place::Math, Place::Destination] {
-        is_escaped(rt.alloc(), place, all.as_str())?;
+        is_escaped(rt.alloc(), &mut rows, place, all.as_str())?;
     }
-    Ok(())
+    rows.end()
 }

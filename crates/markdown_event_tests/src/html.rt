@@ -9,7 +9,7 @@ use markdown_base::tag::{
 };
 use markdown_out::html::push_html;
 use markdown_out::merge::TextMergeStream;
-use markdown_test_helpers::rows::gives;
+use markdown_test_helpers::rows::{Rows, gives};
 use std::alloc::{AllocError, Global};
 use std::test::Fail;
 
@@ -32,22 +32,23 @@ fn written<'a, I: Iterator<Item = Item<'a>>>(
 type Row = (&'static [Sign<'static>], &'static str, Option<Fault>);
 
 /// Checks the result of a call that appends the HTML of a row.
-fn has_written(found: (Option<Fault>, String), row: Row) -> Result<(), Fail> {
+fn has_written(rows: &mut Rows, found: (Option<Fault>, String), row: Row) {
     let (fault, all) = found;
     let (_, html, wanted) = row;
-    gives(
+    rows.gives(
         html,
         (fault, all.as_str().strip_prefix("old ")),
         (wanted, Some(html)),
-    )
+    );
 }
 
 /// Checks the HTML that the events of each row append, and the result of the call.
-fn check(alloc: Global, rows: &[Row]) -> Result<(), Fail> {
-    for row in rows {
-        has_written(written(alloc, items_of(alloc, row.0))?, *row)?;
+fn check(alloc: Global, table: &[Row]) -> Result<(), Fail> {
+    let mut rows = Rows::new();
+    for row in table {
+        has_written(&mut rows, written(alloc, items_of(alloc, row.0))?, *row);
     }
-    Ok(())
+    rows.end()
 }
 
 const BLOCKS: &[Sign<'static>] = &[
@@ -400,12 +401,13 @@ const RUNS: &[Sign<'static>] = &[
 ];
 
 /// Checks the HTML that the merge of the events of each row appends, and the result of the call.
-fn check_merges(alloc: Global, rows: &[Row]) -> Result<(), Fail> {
-    for row in rows {
+fn check_merges(alloc: Global, table: &[Row]) -> Result<(), Fail> {
+    let mut rows = Rows::new();
+    for row in table {
         let merge = TextMergeStream::new(alloc, items_of(alloc, row.0));
-        has_written(written(alloc, merge)?, *row)?;
+        has_written(&mut rows, written(alloc, merge)?, *row);
     }
-    Ok(())
+    rows.end()
 }
 
 #[test]

@@ -4,7 +4,7 @@ use crate::signs::{Sign, items_of, ranged_items_of};
 use markdown_base::fault::Fault;
 use markdown_out::merge::{TextMergeStream, TextMergeWithOffset};
 use markdown_test_helpers::notes::{push_event, push_placed};
-use markdown_test_helpers::rows::gives;
+use markdown_test_helpers::rows::Rows;
 use std::alloc::{AllocError, Global};
 use std::test::Fail;
 
@@ -113,20 +113,22 @@ static ROWS: [Row; 5] = [
 
 #[test]
 fn events(rt: HostRuntime) -> Result<(), Fail> {
+    let mut rows = Rows::new();
     for &(signs, wanted, _) in &ROWS {
         let merge = TextMergeStream::new(rt.alloc(), items_of(rt.alloc(), signs));
         let found = called(rt.alloc(), merge, signs.len() + 1)?;
-        gives(wanted, found.as_str(), wanted)?;
+        rows.gives_text(wanted, found, wanted);
     }
-    Ok(())
+    rows.end()
 }
 
 #[test]
 fn events_with_ranges(rt: HostRuntime) -> Result<(), Fail> {
+    let mut rows = Rows::new();
     for &(signs, _, wanted) in &ROWS {
         let merge = TextMergeWithOffset::new(rt.alloc(), ranged_items_of(rt.alloc(), signs));
         let found = called(rt.alloc(), merge, signs.len() + 1)?;
-        gives(wanted, found.as_str(), wanted)?;
+        rows.gives_text(wanted, found, wanted);
     }
-    Ok(())
+    rows.end()
 }

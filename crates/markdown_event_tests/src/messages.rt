@@ -2,7 +2,7 @@
 use crate::runs::{Given, Input, Program, reported, words_of};
 use markdown_base::fault::Fault;
 use markdown_render::run::Failure;
-use markdown_test_helpers::rows::gives;
+use markdown_test_helpers::rows::Rows;
 use std::alloc::Global;
 use std::io::ErrorKind;
 use std::test::Fail;
@@ -28,7 +28,7 @@ const BROKEN: Option<ErrorKind> = Some(ErrorKind::BrokenPipe);
 const MEMORY: Option<ErrorKind> = Some(ErrorKind::OutOfMemory);
 
 /// Checks the status and the message of a program, and that it prints nothing.
-fn is_said(alloc: Global, program: Program, row: Row) -> Result<(), Fail> {
+fn is_said(alloc: Global, rows: &mut Rows, program: Program, row: Row) -> Result<(), Fail> {
     let (words, input, out, err, wanted) = row;
     let words = words_of(alloc, words)?;
     let given = Given {
@@ -39,16 +39,17 @@ fn is_said(alloc: Global, program: Program, row: Row) -> Result<(), Fail> {
     };
     let found = program.printed(alloc, given)?;
     let (status, message) = wanted;
-    gives(
+    rows.gives(
         (program, wanted),
         (found.status, found.message.as_str(), found.text.as_str()),
         (status, message, ""),
-    )
+    );
+    Ok(())
 }
 
 #[test]
 fn messages(rt: HostRuntime) -> Result<(), Fail> {
-    let rows: &[Row] = &[
+    let table: &[Row] = &[
         (&[], NO_TEXT, None, None, (1, "input is not UTF-8\n")),
         (&[], UNREAD, None, None, (1, "read failed\n")),
         (
@@ -71,23 +72,25 @@ fn messages(rt: HostRuntime) -> Result<(), Fail> {
         (UNKNOWN, UNREAD, None, BROKEN, (2, "")),
         (&[], NO_TEXT, None, BROKEN, (1, "")),
     ];
-    for row in rows {
-        is_said(rt.alloc(), Program::Html, *row)?;
-        is_said(rt.alloc(), Program::Events, *row)?;
+    let mut rows = Rows::new();
+    for row in table {
+        is_said(rt.alloc(), &mut rows, Program::Html, *row)?;
+        is_said(rt.alloc(), &mut rows, Program::Events, *row)?;
     }
-    Ok(())
+    rows.end()
 }
 
 /// No text makes a program fail by these.
 #[test]
 fn messages_of_faults(rt: HostRuntime) -> Result<(), Fail> {
+    let mut rows = Rows::new();
     for (fault, wanted) in [
         (Fault::Memory, "out of memory\n"),
         (Fault::Blocks, "bad block result\n"),
         (Fault::Depth, "image nested too deeply\n"),
     ] {
         let (status, message) = reported(rt.alloc(), Failure::Fault(fault))?;
-        gives(wanted, (status, message.as_str()), (1, wanted))?;
+        rows.gives(wanted, (status, message.as_str()), (1, wanted));
     }
-    Ok(())
+    rows.end()
 }

@@ -6,9 +6,9 @@ use markdown_base::fault::Fault;
 use markdown_base::tag::{HeadingLevel, TagEnd};
 use markdown_outline::outline;
 use markdown_test_helpers::lists::{Items, Listed};
-use markdown_test_helpers::rows::gives;
+use markdown_test_helpers::rows::Rows;
 use markdown_test_parsers::outlines::said_of;
-use std::alloc::Global;
+use std::alloc::{AllocError, Global};
 use std::ops::Range;
 use std::test::Fail;
 
@@ -38,11 +38,10 @@ impl<'s> Listed for Signed<'s> {
     }
 }
 
-/// Checks the outline of events, or the error.
-fn events_have<'s>(alloc: Global, row: &str, rows: &'s [Row], wanted: &str) -> Result<(), Fail> {
+/// Returns the outline of events as a text, or the error.
+fn outline_of<'s>(alloc: Global, rows: &'s [Row]) -> Result<String, AllocError> {
     let events = Items::of(Signed { alloc, rows }, rows.len());
-    let notes = said_of(alloc, outline(alloc, events))?;
-    gives(row, notes.as_str(), wanted)
+    said_of(alloc, outline(alloc, events))
 }
 
 const OPEN: Row = (Some(Sign::Open(TagEnd::Heading(HeadingLevel::H1))), 0, 9);
@@ -146,8 +145,9 @@ static OUTLINES: [(&str, &[Row], &str); 13] = [
 
 #[test]
 fn outlines_of_events(rt: HostRuntime) -> Result<(), Fail> {
+    let mut rows = Rows::new();
     for &(row, events, wanted) in &OUTLINES {
-        events_have(rt.alloc(), row, events, wanted)?;
+        rows.gives_text(row, outline_of(rt.alloc(), events)?, wanted);
     }
-    Ok(())
+    rows.end()
 }

@@ -6,24 +6,24 @@ use markdown_defs::{BoxedCallback, BrokenLinkCallback, DefaultBrokenLinkCallback
 use markdown_inline::runs::{gather, gather_offsets};
 use markdown_test_helpers::lists::is_nothing;
 use markdown_test_helpers::parts::no_parts;
-use markdown_test_helpers::rows::gives;
+use markdown_test_helpers::rows::{Rows, gives};
 use markdown_test_helpers::trees::{item, nested};
 use markdown_test_parsers::callbacks::{Reply, Replying, questions_in};
 use markdown_test_parsers::faults::or_fail;
 use markdown_test_parsers::html::parser_shows;
 use markdown_test_parsers::made::{Placed, TEXT, tree_of_placed};
 use markdown_test_parsers::parsers::{
-    all_noted, ask_for, parser_asking, parser_gives, parser_of, plain_parser,
+    all_noted, ask_for, events_of, parser_asking, parser_gives, parser_of, plain_parser,
 };
 use std::alloc::{AllocError, Global};
 use std::ops::Range;
 use std::test::Fail;
 
-/// Checks the events of a tree over a text, each with its range.
-fn tree_gives(alloc: Global, source: &str, placed: &[Placed], events: &str) -> Result<(), Fail> {
+/// Returns the events of a tree over a text, each with its range.
+fn events_of_tree(alloc: Global, source: &str, placed: &[Placed]) -> Result<String, Fail> {
     let tree = tree_of_placed(alloc, placed)?;
     let parser = parser_of(alloc, source, Options::empty(), tree, no_parts(alloc))?;
-    parser_gives(alloc, source, parser, events)
+    events_of(alloc, parser)
 }
 
 const A_BREAK: &[Placed] = &[
@@ -42,6 +42,7 @@ const A_TIGHT_PARAGRAPH: &[Placed] = &[
 
 #[test]
 fn trees_made_by_hand(rt: HostRuntime) -> Result<(), Fail> {
+    let mut rows = Rows::new();
     for &(source, placed, events) in &[
         ("a\\", A_BREAK, "<p>0..2 [a]0..1 //1..2 </p>0..2 "),
         (
@@ -50,9 +51,9 @@ fn trees_made_by_hand(rt: HostRuntime) -> Result<(), Fail> {
             "<p>0..1 [a]0..1 </p>0..1 <p>1..2 [b]1..2 </p>1..2 ",
         ),
     ] {
-        tree_gives(rt.alloc(), source, placed, events)?;
+        rows.gives_text(source, events_of_tree(rt.alloc(), source, placed)?, events);
     }
-    Ok(())
+    rows.end()
 }
 
 /// Returns the events of `count` paragraphs of one byte, each in the one before it, with their ranges.

@@ -1,6 +1,6 @@
 //! What the two programs print for texts, with arguments and without.
 use crate::runs::{Given, Input, Printed, Program, words_of};
-use markdown_test_helpers::rows::gives;
+use markdown_test_helpers::rows::Rows;
 use std::alloc::Global;
 use std::test::Fail;
 
@@ -17,22 +17,22 @@ fn printed(alloc: Global, program: Program, words: &[&str], input: &str) -> Resu
 }
 
 /// Checks that a program has succeeded with this text on standard output, and nothing on standard error.
-fn has_printed(row: (&[&str], &str), found: Printed, wanted: &str) -> Result<(), Fail> {
-    gives(
+fn has_printed(rows: &mut Rows, row: (&[&str], &str), found: Printed, wanted: &str) {
+    rows.gives(
         row,
         (found.status, found.message.as_str(), found.text.as_str()),
         (0, "", wanted),
-    )
+    );
 }
 
 /// Arguments, a text, and what is printed.
 type Row = (&'static [&'static str], &'static str, &'static str);
 
 /// Checks what a program prints for each row.
-fn prints(alloc: Global, program: Program, rows: &[Row]) -> Result<(), Fail> {
-    for &(words, input, wanted) in rows {
+fn prints(alloc: Global, rows: &mut Rows, program: Program, table: &[Row]) -> Result<(), Fail> {
+    for &(words, input, wanted) in table {
         let found = printed(alloc, program, words, input)?;
-        has_printed((words, input), found, wanted)?;
+        has_printed(rows, (words, input), found, wanted);
     }
     Ok(())
 }
@@ -79,6 +79,8 @@ const EVENTS: &[Row] = &[
 
 #[test]
 fn texts(rt: HostRuntime) -> Result<(), Fail> {
-    prints(rt.alloc(), Program::Html, HTML)?;
-    prints(rt.alloc(), Program::Events, EVENTS)
+    let mut rows = Rows::new();
+    prints(rt.alloc(), &mut rows, Program::Html, HTML)?;
+    prints(rt.alloc(), &mut rows, Program::Events, EVENTS)?;
+    rows.end()
 }

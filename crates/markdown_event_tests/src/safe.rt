@@ -4,7 +4,7 @@ use markdown_base::fault::Fault;
 use markdown_base::tag::{Alignment, BlockQuoteKind, LinkType, MetadataBlockKind, TagEnd};
 use markdown_out::html::push_html;
 use markdown_safe::Safe;
-use markdown_test_helpers::rows::gives;
+use markdown_test_helpers::rows::Rows;
 use std::alloc::Global;
 use std::test::Fail;
 
@@ -16,12 +16,13 @@ fn safe_html_of(alloc: Global, signs: &'static [Sign<'static>]) -> Result<String
 }
 
 /// Checks the HTML of the events of each row.
-fn check(alloc: Global, rows: &[(&'static [Sign<'static>], &'static str)]) -> Result<(), Fail> {
-    for row in rows {
+fn check(alloc: Global, table: &[(&'static [Sign<'static>], &'static str)]) -> Result<(), Fail> {
+    let mut rows = Rows::new();
+    for row in table {
         let html = safe_html_of(alloc, row.0).ok();
-        gives(row.1, html.as_deref(), Some(row.1))?;
+        rows.gives(row.1, html.as_deref(), Some(row.1));
     }
-    Ok(())
+    rows.end()
 }
 
 const QUOTED_TABLE: &[Sign<'static>] = &[

@@ -2,7 +2,7 @@
 use markdown_base::options::Options;
 use markdown_defs::BrokenLinkCallback;
 use markdown_render::{merged_html, render};
-use markdown_test_helpers::rows::gives;
+use markdown_test_helpers::rows::{Rows, gives};
 use markdown_test_parsers::callbacks::{Recording, Reply};
 use markdown_test_parsers::faults::or_fail;
 use markdown_test_parsers::parsers::{all_noted, parser_asking};
@@ -58,7 +58,7 @@ fn given_and_asked(alloc: Global, source: &str) -> Result<(String, Option<u64>),
 
 #[test]
 fn callbacks_come_back(rt: HostRuntime) -> Result<(), Fail> {
-    let rows = &[
+    let table = &[
         (
             "This is a link w/o def: [hello][world]",
             "<p>0..38 [This is a link w/o def: ]0..24 <a ReferenceUnknown (YOLO) (SWAG) (world)>24..38 \
@@ -72,9 +72,10 @@ fn callbacks_come_back(rt: HostRuntime) -> Result<(), Fail> {
         ),
         ("a", "<p>0..1 [a]0..1 </p>0..1 ", 0),
     ];
-    for &(source, events, asked) in rows {
+    let mut rows = Rows::new();
+    for &(source, events, asked) in table {
         let (found, counted) = given_and_asked(rt.alloc(), source)?;
-        gives(source, (found.as_str(), counted), (events, Some(asked)))?;
+        rows.gives(source, (found.as_str(), counted), (events, Some(asked)));
     }
-    Ok(())
+    rows.end()
 }
