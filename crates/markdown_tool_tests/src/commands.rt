@@ -1,6 +1,6 @@
 //! Command lines that are wrong, and those that ask for help or the version.
 use crate::shelf::after_run;
-use markdown_test_helpers::rows::gives;
+use markdown_test_helpers::rows::Rows;
 use std::alloc::Global;
 use std::io::ErrorKind;
 use std::test::Fail;
@@ -37,28 +37,31 @@ const WRONG: &[(&[&str], &str)] = &[
 
 #[test]
 fn wrong_words(rt: HostRuntime) -> Result<(), Fail> {
+    let mut rows = Rows::new();
     for (words, said) in WRONG {
         let left = after_run(rt.alloc(), words, None)?;
         let is_said = left.message.as_str().starts_with(said);
-        gives(
+        rows.gives(
             (*words, left.message.as_str()),
             (left.status, left.reads, is_said, left.written.as_str()),
             (2, 0, true, ""),
-        )?;
+        );
     }
-    Ok(())
+    rows.end()
 }
 
 #[test]
 fn the_version(rt: HostRuntime) -> Result<(), Fail> {
+    let mut rows = Rows::new();
     for words in [["-V"], ["--version"]] {
         let left = after_run(rt.alloc(), words.as_slice(), None)?;
-        gives(
+        rows.gives(
             words.as_slice(),
             (left.status, left.message.as_str(), left.written.as_str()),
             (0, "", "-: markdown 0.10.0\n"),
-        )?;
+        );
     }
     let cut = after_run(rt.alloc(), &["--help"], Some(ErrorKind::BrokenPipe))?;
-    gives("a closed pipe", (cut.status, cut.message.as_str()), (1, ""))
+    rows.gives("a closed pipe", (cut.status, cut.message.as_str()), (1, ""));
+    rows.end()
 }

@@ -1,6 +1,6 @@
 //! What is said where a file cannot be read or written, and that nothing is written then.
 use crate::shelf::after_run;
-use markdown_test_helpers::rows::gives;
+use markdown_test_helpers::rows::Rows;
 use std::alloc::Global;
 use std::io::ErrorKind;
 use std::test::Fail;
@@ -61,9 +61,10 @@ const FAILURES: &[Row] = &[
 
 #[test]
 fn failing_calls(rt: HostRuntime) -> Result<(), Fail> {
+    let mut rows = Rows::new();
     for (words, write_fails, reads, said) in FAILURES {
         let left = after_run(rt.alloc(), words, *write_fails)?;
-        gives(
+        rows.gives(
             *words,
             (
                 left.status,
@@ -72,7 +73,7 @@ fn failing_calls(rt: HostRuntime) -> Result<(), Fail> {
                 left.written.as_str(),
             ),
             (1, *reads, *said, ""),
-        )?;
+        );
     }
-    Ok(())
+    rows.end()
 }

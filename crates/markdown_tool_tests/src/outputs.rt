@@ -1,6 +1,6 @@
 //! What is written for files, by format.
 use crate::shelf::after_run;
-use markdown_test_helpers::rows::gives;
+use markdown_test_helpers::rows::Rows;
 use std::alloc::Global;
 use std::test::Fail;
 
@@ -81,21 +81,23 @@ const PAGES: &[Row] = &[
 ];
 
 /// Checks what is written for each row, with status 0 and no message.
-fn writes(alloc: Global, rows: &[Row]) -> Result<(), Fail> {
-    for (words, wanted) in rows {
+fn writes(alloc: Global, rows: &mut Rows, table: &[Row]) -> Result<(), Fail> {
+    for (words, wanted) in table {
         let left = after_run(alloc, words, None)?;
-        gives(
+        rows.gives(
             *words,
             (left.status, left.message.as_str(), left.written.as_str()),
             (0, "", *wanted),
-        )?;
+        );
     }
     Ok(())
 }
 
 #[test]
 fn files(rt: HostRuntime) -> Result<(), Fail> {
-    writes(rt.alloc(), FORMATS)?;
-    writes(rt.alloc(), EXTENSIONS)?;
-    writes(rt.alloc(), PAGES)
+    let mut rows = Rows::new();
+    writes(rt.alloc(), &mut rows, FORMATS)?;
+    writes(rt.alloc(), &mut rows, EXTENSIONS)?;
+    writes(rt.alloc(), &mut rows, PAGES)?;
+    rows.end()
 }
