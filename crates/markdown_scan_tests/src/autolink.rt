@@ -1,6 +1,6 @@
 //! Autolinks: the examples of CommonMark 6.5, and the bounds of a scheme.
 use markdown_scan::autolink::scan_uri_autolink;
-use markdown_test_helpers::rows::gives;
+use markdown_test_helpers::rows::Rows;
 use std::test::Fail;
 
 // Returns the result for an autolink whose `<` is the first byte.
@@ -69,19 +69,21 @@ static TEXTS: [(&str, Option<(usize, &str)>); 30] = [
 
 #[test]
 fn autolinks() -> Result<(), Fail> {
+    let mut rows = Rows::new();
     for &(text, wanted) in &TEXTS {
-        gives(text, autolink_of(text), wanted)?;
+        rows.gives(text, autolink_of(text), wanted);
     }
-    Ok(())
+    rows.end()
 }
 
 #[test]
 fn fronts_of_an_autolink() -> Result<(), Fail> {
     let text = "<https://example.com/?search=a&b=(c)#d>";
+    let mut rows = Rows::new();
     for end in 1..38 {
         if text.is_char_boundary(end) {
-            gives(end, autolink_of(&text[..end]), None)?;
+            rows.gives(end, autolink_of(&text[..end]), None);
         }
     }
-    Ok(())
+    rows.end()
 }

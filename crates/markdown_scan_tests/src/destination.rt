@@ -1,6 +1,6 @@
 //! Link destinations: the examples of CommonMark 6.3, and the bound on parentheses.
 use markdown_scan::destination::scan_link_destination;
-use markdown_test_helpers::rows::gives;
+use markdown_test_helpers::rows::Rows;
 use std::test::Fail;
 
 // Returns the destination that a text begins with.
@@ -55,15 +55,18 @@ static TEXTS: [(&str, Option<(usize, &str)>); 34] = [
 
 #[test]
 fn destinations() -> Result<(), Fail> {
+    let mut rows = Rows::new();
     for &(text, wanted) in &TEXTS {
-        gives(text, destination_of(text, 32), wanted)?;
+        rows.gives(text, destination_of(text, 32), wanted);
     }
     let after_others = scan_link_destination("[é](é)", 5, 32);
-    gives("[é](é)", after_others, Some((2, "é")))
+    rows.gives("[é](é)", after_others, Some((2, "é")));
+    rows.end()
 }
 
 #[test]
 fn nested_parentheses() -> Result<(), Fail> {
+    let mut rows = Rows::new();
     for &(text, max_nesting, is_one) in &[
         ("(a)", 0, true),
         ("((a))", 0, false),
@@ -90,7 +93,7 @@ fn nested_parentheses() -> Result<(), Fail> {
         } else {
             None
         };
-        gives(text, destination_of(text, max_nesting), wanted)?;
+        rows.gives(text, destination_of(text, max_nesting), wanted);
     }
-    Ok(())
+    rows.end()
 }

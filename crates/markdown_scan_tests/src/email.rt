@@ -1,6 +1,6 @@
 //! Email autolinks: the examples of CommonMark 6.5, and the bounds of a label.
 use markdown_scan::email::scan_email_autolink;
-use markdown_test_helpers::rows::gives;
+use markdown_test_helpers::rows::Rows;
 use std::test::Fail;
 
 // Returns the result for an autolink whose `<` is the first byte.
@@ -88,8 +88,9 @@ static TEXTS: [(&str, Option<(usize, &str)>); 40] = [
 
 #[test]
 fn addresses() -> Result<(), Fail> {
+    let mut rows = Rows::new();
     for &(text, wanted) in &TEXTS {
-        gives(text, autolink_of(text), wanted)?;
+        rows.gives(text, autolink_of(text), wanted);
     }
-    Ok(())
+    rows.end()
 }

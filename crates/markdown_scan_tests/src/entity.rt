@@ -1,6 +1,6 @@
 //! Entities: the examples of CommonMark 2.5 that one reference decides, and the boundaries; with either set of names.
 use markdown_scan::entity::{Characters, EntityNames, scan_entity};
-use markdown_test_helpers::rows::gives;
+use markdown_test_helpers::rows::Rows;
 use std::test::Fail;
 
 /// Texts, and the length of the reference that each begins with, and the character that it stands for.
@@ -119,29 +119,32 @@ fn named(found: Option<(usize, Characters)>) -> Option<(usize, &'static str)> {
 
 #[test]
 fn references() -> Result<(), Fail> {
+    let mut rows = Rows::new();
     for &(text, wanted) in &TEXTS {
         let found = scan_entity(text.as_bytes(), EntityNames::Basic);
-        gives(text, one(found), wanted)?;
+        rows.gives(text, one(found), wanted);
     }
-    Ok(())
+    rows.end()
 }
 
 #[test]
 fn names_of_html() -> Result<(), Fail> {
+    let mut rows = Rows::new();
     for &(text, wanted) in &NAMES {
         let found = scan_entity(text.as_bytes(), EntityNames::Html);
-        gives(text, named(found), wanted)?;
+        rows.gives(text, named(found), wanted);
     }
-    Ok(())
+    rows.end()
 }
 
 #[test]
 fn numbers_beside_names_of_html() -> Result<(), Fail> {
+    let mut rows = Rows::new();
     for &(text, wanted) in &TEXTS {
         if text.starts_with("&#") {
             let found = scan_entity(text.as_bytes(), EntityNames::Html);
-            gives(text, one(found), wanted)?;
+            rows.gives(text, one(found), wanted);
         }
     }
-    Ok(())
+    rows.end()
 }

@@ -1,7 +1,7 @@
 //! Tags: the examples of CommonMark 6.6 that one scan decides, and lines with prefixes.
 use markdown_raw_html::html_tag::scan_html_tag;
 use markdown_scan::line_rule::{LineRule, NoPrefix, OneLine};
-use markdown_test_helpers::rows::gives;
+use markdown_test_helpers::rows::{Rows, gives};
 use std::alloc::{AllocError, Global};
 use std::test::Fail;
 
@@ -37,11 +37,6 @@ fn has_tag<R: LineRule>(
         Some(tag) => Ok(length == Some(tag.end) && tag.without_prefixes.is_none()),
         None => Ok(length.is_none()),
     }
-}
-
-/// Checks that a text begins with such a tag, where each line may continue it.
-fn begins(alloc: Global, text: &str, length: Option<usize>) -> Result<(), Fail> {
-    gives(text, has_tag(alloc, text, length, &NoPrefix)?, true)
 }
 
 /// Texts, and the length of the tag that each begins with.
@@ -99,21 +94,23 @@ static TEXTS: [(&str, Option<usize>); 43] = [
 
 #[test]
 fn tags(rt: HostRuntime) -> Result<(), Fail> {
+    let mut rows = Rows::new();
     for &(text, length) in &TEXTS {
-        begins(rt.alloc(), text, length)?;
+        rows.gives(text, has_tag(rt.alloc(), text, length, &NoPrefix)?, true);
     }
-    Ok(())
+    rows.end()
 }
 
 #[test]
 fn no_front_of_a_tag_is_one(rt: HostRuntime) -> Result<(), Fail> {
     let text = "<a foo=\"bar\" bam = 'baz <em>\"</em>'\n_boolean zoop:33=zoop:33 />";
+    let mut rows = Rows::new();
     for end in 0..text.as_bytes().len() {
         if let Some(front) = text.get(..end) {
-            begins(rt.alloc(), front, None)?;
+            rows.gives(front, has_tag(rt.alloc(), front, None, &NoPrefix)?, true);
         }
     }
-    Ok(())
+    rows.end()
 }
 
 /// Returns the bytes as a text, which is empty for None.
@@ -152,8 +149,9 @@ fn prefixes_of_lines_are_left_out(rt: HostRuntime) -> Result<(), Fail> {
 
 #[test]
 fn a_line_that_may_not_end_ends_no_tag(rt: HostRuntime) -> Result<(), Fail> {
+    let mut rows = Rows::new();
     for &(text, length) in &[("<a\nb>", None), ("<a b='\n'>", None), ("<a b>\n", Some(5))] {
-        gives(text, has_tag(rt.alloc(), text, length, &OneLine)?, true)?;
+        rows.gives(text, has_tag(rt.alloc(), text, length, &OneLine)?, true);
     }
-    Ok(())
+    rows.end()
 }

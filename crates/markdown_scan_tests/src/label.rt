@@ -2,7 +2,7 @@
 use markdown_base::cow_str::CowStr;
 use markdown_scan::label::scan_link_label;
 use markdown_scan::line_rule::{NoPrefix, OneLine};
-use markdown_test_helpers::rows::gives;
+use markdown_test_helpers::rows::Rows;
 use std::alloc::{AllocError, Global};
 use std::test::Fail;
 
@@ -68,15 +68,17 @@ static TEXTS: [(&str, bool, Option<(usize, &str)>); 30] = [
 
 #[test]
 fn labels(rt: HostRuntime) -> Result<(), Fail> {
+    let mut rows = Rows::new();
     for &(text, in_table, wanted) in &TEXTS {
-        gives(
+        rows.gives(
             (text, in_table),
             has_label(rt.alloc(), text, in_table, wanted)?,
             true,
-        )?;
+        );
     }
     let of_two_lines = scan_link_label(rt.alloc(), "a\nb]", &OneLine, false)?;
-    gives("a\nb]", of_two_lines.is_none(), true)
+    rows.gives("a\nb]", of_two_lines.is_none(), true);
+    rows.end()
 }
 
 /// Returns a label of `count` copies of a text, and then an end.
@@ -106,6 +108,7 @@ fn is_long_label(
 
 #[test]
 fn labels_of_999_characters(rt: HostRuntime) -> Result<(), Fail> {
+    let mut rows = Rows::new();
     for &(character, count, end, in_table, is_label) in &[
         ("a", 999, "]", false, true),
         ("a", 1000, "]", false, false),
@@ -117,7 +120,7 @@ fn labels_of_999_characters(rt: HostRuntime) -> Result<(), Fail> {
     ] {
         let found = is_long_label(rt.alloc(), character, count, end, in_table)?;
         let wanted = if is_label { Some(true) } else { None };
-        gives((character, count, in_table), found, wanted)?;
+        rows.gives((character, count, in_table), found, wanted);
     }
-    Ok(())
+    rows.end()
 }

@@ -1,11 +1,12 @@
 //! Line endings, and white space by columns: the examples of CommonMark 2.2, and the bounds.
 use markdown_scan::line_end::scan_line_ending;
 use markdown_scan::line_start::LineStart;
-use markdown_test_helpers::rows::gives;
+use markdown_test_helpers::rows::{Rows, gives};
 use std::test::Fail;
 
 #[test]
 fn line_endings() -> Result<(), Fail> {
+    let mut rows = Rows::new();
     for &(text, length) in &[
         ("\n", Some(1)),
         ("\n\r", Some(1)),
@@ -19,9 +20,9 @@ fn line_endings() -> Result<(), Fail> {
         ("\u{85}", None),
         ("\u{2028}", None),
     ] {
-        gives(text, scan_line_ending(text.as_bytes()), length)?;
+        rows.gives(text, scan_line_ending(text.as_bytes()), length);
     }
-    Ok(())
+    rows.end()
 }
 
 // Scans at most `most` columns of space of a line. Returns their number, and the bytes scanned.
@@ -33,6 +34,7 @@ fn space_of(line: &str, most: usize) -> (usize, usize) {
 
 #[test]
 fn a_tab_goes_to_the_next_stop() -> Result<(), Fail> {
+    let mut rows = Rows::new();
     for &(line, columns, bytes) in &[
         ("", 0, 0),
         ("a", 0, 0),
@@ -46,9 +48,9 @@ fn a_tab_goes_to_the_next_stop() -> Result<(), Fail> {
         ("\t \ta", 8, 3),
         ("\n", 0, 0),
     ] {
-        gives(line, space_of(line, 100), (columns, bytes))?;
+        rows.gives(line, space_of(line, 100), (columns, bytes));
     }
-    Ok(())
+    rows.end()
 }
 
 // Returns the bytes scanned, and the columns that remain of the last tab.
@@ -101,6 +103,7 @@ fn marker_of(line: &str, spaces: usize) -> (bool, usize) {
 
 #[test]
 fn markers() -> Result<(), Fail> {
+    let mut rows = Rows::new();
     for &(line, spaces, is_marker, bytes) in &[
         ("> a", 0, true, 2),
         (">a", 0, true, 1),
@@ -113,9 +116,9 @@ fn markers() -> Result<(), Fail> {
         ("\t> a", 3, false, 1),
         ("\t> a", 4, true, 3),
     ] {
-        gives(line, marker_of(line, spaces), (is_marker, bytes))?;
+        rows.gives(line, marker_of(line, spaces), (is_marker, bytes));
     }
-    Ok(())
+    rows.end()
 }
 
 // Returns whether the space of a line extends to its end, and then no column remains.
@@ -127,6 +130,7 @@ fn is_blank(line: &str) -> bool {
 
 #[test]
 fn blank_lines() -> Result<(), Fail> {
+    let mut rows = Rows::new();
     for &(line, blank) in &[
         ("", true),
         ("\n", true),
@@ -135,7 +139,7 @@ fn blank_lines() -> Result<(), Fail> {
         ("  a", false),
         ("\u{b}", false),
     ] {
-        gives(line, is_blank(line), blank)?;
+        rows.gives(line, is_blank(line), blank);
     }
-    Ok(())
+    rows.end()
 }

@@ -1,6 +1,6 @@
 //! Named entities: the examples of CommonMark 2.5, and the ends of the table.
 use markdown_entities::named_entity::scan_named_entity;
-use markdown_test_helpers::rows::gives;
+use markdown_test_helpers::rows::Rows;
 use std::test::Fail;
 
 /// Texts, and the length of the entity that each begins with, and its characters.
@@ -65,8 +65,9 @@ static TEXTS: [(&str, Option<(usize, &str)>); 51] = [
 
 #[test]
 fn names() -> Result<(), Fail> {
+    let mut rows = Rows::new();
     for &(text, wanted) in &TEXTS {
-        gives(text, scan_named_entity(text.as_bytes()), wanted)?;
+        rows.gives(text, scan_named_entity(text.as_bytes()), wanted);
     }
-    Ok(())
+    rows.end()
 }

@@ -1,7 +1,7 @@
 //! Comments, CDATA sections, declarations and processing instructions: the examples of CommonMark
 //! 6.6 that one scan decides, each from its `<` on, with the length of the raw HTML.
 use markdown_raw_html::raw_html::RawHtmlScanner;
-use markdown_test_helpers::rows::gives;
+use markdown_test_helpers::rows::{Rows, gives};
 use std::test::Fail;
 
 #[derive(Clone, Copy, Drop)]
@@ -75,10 +75,11 @@ static TEXTS: [(Kind, &str, Option<usize>); 39] = [
 
 #[test]
 fn kinds() -> Result<(), Fail> {
+    let mut rows = Rows::new();
     for &(kind, text, end) in &TEXTS {
-        gives(text, end_of(kind, text), end)?;
+        rows.gives(text, end_of(kind, text), end);
     }
-    Ok(())
+    rows.end()
 }
 
 #[test]

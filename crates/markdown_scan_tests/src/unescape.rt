@@ -2,7 +2,7 @@
 use markdown_base::cow_str::CowStr;
 use markdown_scan::entity::EntityNames;
 use markdown_scan::unescape::unescape;
-use markdown_test_helpers::rows::gives;
+use markdown_test_helpers::rows::Rows;
 use std::alloc::{AllocError, Global};
 use std::test::Fail;
 
@@ -27,19 +27,26 @@ fn stands_for(
 }
 
 // Checks that the text is unescaped to this one, with either set of names.
-fn reads(alloc: Global, text: &str, in_table: bool, expected: &str) -> Result<(), Fail> {
+fn reads(
+    alloc: Global,
+    rows: &mut Rows,
+    text: &str,
+    in_table: bool,
+    expected: &str,
+) -> Result<(), Fail> {
     for names in [EntityNames::Basic, EntityNames::Html] {
-        gives(
+        rows.gives(
             (text, in_table),
             stands_for(alloc, text, in_table, names, expected)?,
             true,
-        )?;
+        );
     }
     Ok(())
 }
 
 #[test]
 fn escapes_and_entities(rt: HostRuntime) -> Result<(), Fail> {
+    let mut rows = Rows::new();
     for &(text, expected) in &[
         // escaped punctuation, each of its 32 characters
         (
@@ -72,13 +79,14 @@ fn escapes_and_entities(rt: HostRuntime) -> Result<(), Fail> {
         ("a\\", "a\\"),
         ("\\*a\\", "*a\\"),
     ] {
-        reads(rt.alloc(), text, false, expected)?;
+        reads(rt.alloc(), &mut rows, text, false, expected)?;
     }
-    Ok(())
+    rows.end()
 }
 
 #[test]
 fn texts_that_stay(rt: HostRuntime) -> Result<(), Fail> {
+    let mut rows = Rows::new();
     for &text in &[
         "",
         "a",
@@ -94,10 +102,10 @@ fn texts_that_stay(rt: HostRuntime) -> Result<(), Fail> {
         "\\\n",
         "a | b",
     ] {
-        reads(rt.alloc(), text, false, text)?;
-        reads(rt.alloc(), text, true, text)?;
+        reads(rt.alloc(), &mut rows, text, false, text)?;
+        reads(rt.alloc(), &mut rows, text, true, text)?;
     }
-    Ok(())
+    rows.end()
 }
 
 // Texts, and what each becomes with the names of HTML.
@@ -120,25 +128,28 @@ static NAMED: [(&str, &str); 10] = [
 
 #[test]
 fn names_of_html(rt: HostRuntime) -> Result<(), Fail> {
+    let mut rows = Rows::new();
     for &(text, expected) in &NAMED {
         let read = stands_for(rt.alloc(), text, false, EntityNames::Html, expected)?;
-        gives(text, read, true)?;
+        rows.gives(text, read, true);
     }
-    Ok(())
+    rows.end()
 }
 
 // Texts that have no name but HTML's stay without these.
 #[test]
 fn other_names_stay(rt: HostRuntime) -> Result<(), Fail> {
+    let mut rows = Rows::new();
     for &text in &["&copy;", "/&auml;&ngE;", "&AMP;", "&apos;", "&nGt;"] {
         let read = stands_for(rt.alloc(), text, false, EntityNames::Basic, text)?;
-        gives(text, read, true)?;
+        rows.gives(text, read, true);
     }
-    Ok(())
+    rows.end()
 }
 
 #[test]
 fn pipes_in_a_table(rt: HostRuntime) -> Result<(), Fail> {
+    let mut rows = Rows::new();
     for &(text, inside, outside) in &[
         ("\\\\|", "|", "\\|"),
         ("\\|", "|", "|"),
@@ -147,8 +158,8 @@ fn pipes_in_a_table(rt: HostRuntime) -> Result<(), Fail> {
         ("\\\\\\|", "\\|", "\\|"),
         ("\\\\*", "\\*", "\\*"),
     ] {
-        reads(rt.alloc(), text, true, inside)?;
-        reads(rt.alloc(), text, false, outside)?;
+        reads(rt.alloc(), &mut rows, text, true, inside)?;
+        reads(rt.alloc(), &mut rows, text, false, outside)?;
     }
-    Ok(())
+    rows.end()
 }
