@@ -110,6 +110,12 @@ through_first_after-ends mark n closing bytes is =
     EndsWith-after mark n bytes (through_first closing (drop n bytes))
     (through_first-ends mark closing (drop n bytes) is)
 
+-- bytes that are read at a place of a text end in it
+pub opening_fits : (opening text : List ℕ) (start : ℕ) → start ≤ length text
+    → begins_with opening (drop start text) ≡ true → start + length opening ≤ length text
+opening_fits opening text start h begins =
+    omega (arith, begins_with-fits opening (drop start text) begins, length-drop start text, h)
+
 -- the last byte of each family is `>`
 pub comment-ends : (bytes : List ℕ) → IfSome (comment bytes) (EndsWith 62 bytes)
 comment-ends bytes =
