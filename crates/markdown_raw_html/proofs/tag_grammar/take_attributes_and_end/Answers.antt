@@ -1,0 +1,5 @@
+use Rattle.markdown_raw_html.proofs.TagTextLemmas.{both_some}
+use Rattle.markdown_raw_html.proofs.tag_grammar.take_attributes_and_end.Goals as goal
+
+pub returns : goal.returns
+returns g c = both_some _ _ _ _ _ _ c.take_attributes-rest.ensures c.take_open_tag_end.ensures

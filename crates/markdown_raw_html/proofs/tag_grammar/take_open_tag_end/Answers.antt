@@ -1,0 +1,5 @@
+use Rattle.markdown_raw_html.proofs.TagTextLemmas.{both_some}
+use Rattle.markdown_raw_html.proofs.tag_grammar.take_open_tag_end.Goals as goal
+
+pub returns : goal.returns
+returns g c = both_some _ _ _ _ _ _ c.take_white_space-rest.ensures c.take_angle_bracket.ensures

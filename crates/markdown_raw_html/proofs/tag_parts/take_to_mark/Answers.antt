@@ -1,0 +1,5 @@
+use Rattle.markdown_raw_html.proofs.TagTextLemmas.{both_some}
+use Rattle.markdown_raw_html.proofs.tag_parts.take_to_mark.Goals as goal
+
+pub returns : goal.returns
+returns g c = both_some _ _ _ _ _ _ c.take_all-end.ensures c.take_one.ensures

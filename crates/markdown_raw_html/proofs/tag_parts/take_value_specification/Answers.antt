@@ -1,0 +1,5 @@
+use Rattle.markdown_raw_html.proofs.TagTextLemmas.{both_some}
+use Rattle.markdown_raw_html.proofs.tag_parts.take_value_specification.Goals as goal
+
+pub returns : goal.returns
+returns g c = both_some _ _ _ _ _ _ c.take_white_space-equals.ensures c.take_equals_and_value.ensures
