@@ -1,8 +1,9 @@
 -- What the bounds say of a stack, as it changes.
-use Rattle.std.proofs.Common.{◌≡◌, ℕ, ◌%◌, ◌<◌, ◌≤◌, min, Bool, true, false, List, length, take, get_or, inl, inr, refl}
-use Rattle.std.proofs.Common.{ap, sym, ◌∙◌, subst, arith}
+use Rattle.std.proofs.Common.{◌≡◌, ℕ, ◌%◌, ◌<◌, ◌≤◌, min, Bool, true, false, List, [], ◌∷◌, ◌++◌, length, take}
+use Rattle.std.proofs.Common.{get_or, inl, inr, refl, ap, sym, ◌∙◌, subst, arith}
 use Rattle.std.specs.Prelude.{All, if◌then◌else◌, ◌==◌}
-use Rattle.std.proofs.lemmas.List.{take_all, take-take, length-take-le, length-take, get_or-take}
+use Rattle.std.proofs.lemmas.List.{take_all, take-take, take-append-le, length-take-le, length-take}
+use Rattle.std.proofs.lemmas.List.{length_push, get_or-take}
 use Rattle.std.proofs.lemmas.List.Elements.{All-take}
 use Rattle.std.proofs.lemmas.Bool.{eqb-true, eqb-false, cond_both, cases_lt}
 use Rattle.markdown_delims.specs.declared.run.Delimiter.{Delimiter}
@@ -43,6 +44,38 @@ BoundCharacter-cut d stack b n w h =
       remainder_zero = All-cut (IsOutOfStep d 0) stack b.remainder_zero n h.remainder_zero;
       remainder_one = All-cut (IsOutOfStep d 1) stack b.remainder_one n h.remainder_one;
       remainder_two = All-cut (IsOutOfStep d 2) stack b.remainder_two n h.remainder_two;
+    }
+
+-- what the bounds say, they say of a stack with one more run too
+BoundCharacter-push : (d : Delimiter) (stack : List Characters) (c : Characters) (b : CharacterBounds)
+    → BoundCharacter d stack b → BoundCharacter d (stack ++ c ∷ []) b
+BoundCharacter-push d stack c b h =
+    record {
+      cannot_open_within = longer h.cannot_open_within;
+      zero_within = longer h.zero_within;
+      one_within = longer h.one_within;
+      two_within = longer h.two_within;
+      cannot_open = same (IsOfBoth d) h.cannot_open_within h.cannot_open;
+      remainder_zero = same (IsOutOfStep d 0) h.zero_within h.remainder_zero;
+      remainder_one = same (IsOutOfStep d 1) h.one_within h.remainder_one;
+      remainder_two = same (IsOutOfStep d 2) h.two_within h.remainder_two;
+    }
+  where
+    longer : {n : ℕ} → n ≤ length stack → n ≤ length (stack ++ c ∷ [])
+    longer w = rw length_push (omega (arith, w))
+
+    same : (P : Characters → Type 0) {n : ℕ} → n ≤ length stack → All P (take n stack)
+        → All P (take n (stack ++ c ∷ []))
+    same P {n} w a = rw (take-append-le n stack (c ∷ []) w) a
+
+pub BoundStack-push : (stack : List Characters) (c : Characters) (b : LowerBounds) → BoundStack stack b
+    → BoundStack (stack ++ c ∷ []) b
+BoundStack-push stack c b h =
+    record {
+      star = BoundCharacter-push Star stack c b.star h.star;
+      underscore = BoundCharacter-push Underscore stack c b.underscore h.underscore;
+      tilde_within = rw length_push (omega (arith, h.tilde_within));
+      caret_within = rw length_push (omega (arith, h.caret_within));
     }
 
 -- the bound of a remainder, by the remainder

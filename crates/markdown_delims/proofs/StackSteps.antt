@@ -1,8 +1,8 @@
 -- A push, a search that finds and one that does not, of the stack and its bounds.
 use Rattle.std.proofs.Common.{◌≡◌, ℕ, ◌+◌, ◌-◌, ◌<◌, ◌≤◌, true, false, List, [], ◌∷◌, ◌++◌, length, take, get_or, Some}
-use Rattle.std.proofs.Common.{None, refl, ap, sym, ◌∙◌, subst, arith}
+use Rattle.std.proofs.Common.{◌^◌, None, refl, ap, sym, ◌∙◌, subst, arith}
 use Rattle.std.proofs.lemmas.List.{length-take-le, length_push}
-use Rattle.std.proofs.lemmas.List.Elements.{All-take}
+use Rattle.std.proofs.lemmas.List.Elements.{All-push, All-take}
 use Rattle.markdown_document.specs.Counts.{comparisons_per_delimiter}
 use Rattle.markdown_delims.specs.declared.run.Run.{Run}
 use Rattle.markdown_delims.specs.declared.run.Characters.{Characters}
@@ -11,7 +11,8 @@ use Rattle.markdown_delims.specs.MayPair.{may_pair}
 use Rattle.markdown_delims.specs.RunSearch.{nearest_run}
 use Rattle.markdown_delims.specs.Bounds.{bound_for, raised_for, lowered, above_bounds}
 use Rattle.markdown_delims.specs.OpenRuns.{open_runs, openers_of, potential_of, IsSound}
-use Rattle.markdown_delims.proofs.BoundLaws.{BoundStack-cut, BoundStack-raised, bound_at-within, drop_bound-within}
+use Rattle.markdown_delims.proofs.BoundLaws.{BoundStack-cut, BoundStack-push, BoundStack-raised, bound_at-within}
+use Rattle.markdown_delims.proofs.BoundLaws.{drop_bound-within}
 use Rattle.markdown_delims.proofs.Potential.{above_bounds-push, above_bounds-cut, above_bounds-raised}
 use Rattle.markdown_delims.proofs.Searches.{open_runs-pushed, open_runs-lowered, nearest-passed, nearest-taken}
 use Rattle.markdown_delims.proofs.Searches.{nearest-below, may_take-fails, may_take-holds}
@@ -38,6 +39,16 @@ module _ (stack : List Characters) (examined : ℕ) (b : LowerBounds) (sound : I
       }
   openers_of-push c =
       rw (open_runs-pushed b stack c (drop_bound-within c.run.delimiter stack b sound.bound), potential-push c) refl
+
+  pub IsSound-push : (c : Characters) → 0 < c.count
+      → potential_of stack examined b + comparisons_per_delimiter < 2 ^ 128
+      → IsSound (stack ++ c ∷ []) examined b
+  IsSound-push c some room =
+      record {
+        bound = BoundStack-push stack c b sound.bound;
+        counts = All-push (λ d. 0 < d.count) stack c sound.counts some;
+        fits = rw (potential-push c) room;
+      }
 
   -- a search that succeeds at a position has paid for its comparisons with the runs that it removes
   pub potential-cut : (i after : ℕ) → i ≤ length stack → after + i ≡ examined + length stack
