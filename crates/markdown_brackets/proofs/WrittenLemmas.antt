@@ -1,8 +1,9 @@
 -- What is read of a block's text, and that nothing is read past its end.
 use Rattle.std.proofs.Common.{rules, ◌≡◌, ℕ, ◌<◌, ◌≤◌, Bool, List, Option, Some, None, Result, Ok, Err, length, take}
 use Rattle.std.proofs.Common.{arith, ◌+◌, ◌&&◌, true, false, refl, if◌then◌else◌}
-use Rattle.std.proofs.lemmas.List.{length-take}
+use Rattle.std.proofs.lemmas.List.{get_or-take, length-take}
 use Rattle.std.specs.Prelude.{IfOk, slice_range}
+use Rattle.std.specs.Str.{IsCharBoundary}
 use Rattle.std.specs.Option.{option_and_then, option_map, option_or}
 use Rattle.markdown_base.specs.Arena.{sibling_of}
 use Rattle.markdown_base.specs.BlockTree.{item_at}
@@ -31,6 +32,17 @@ other_written names in_table o other (Some t) h = absurd h
 
 pub whole_range : (text : List ℕ) (end : ℕ) → slice_range text 0 end ≡ take end text
 whole_range text end = search rules
+
+-- a boundary of a text is one of the text's beginning up to some byte after it
+pub boundary_before : (text : List ℕ) (end i : ℕ) → IsCharBoundary text i → i ≤ end → IsCharBoundary (take end text) i
+boundary_before text end i at before = (
+  omega (arith, length-take end text, at.0, before),
+  λ inside high.
+      let below : i < end = omega (arith, length-take end text, inside) in
+      let within : i < length text = omega (arith, length-take end text, inside) in
+      let byte = get_or-take end text i 0 below in
+      omega (arith, byte, at.1 within (omega (arith, byte, high))),
+)
 
 -- what follows of a result that is no error
 pub ok_map : {X E : Type 0} (r : Result X E) (P G : X → Type 0) → IfOk r P → ((x : X) → P x → G x) → IfOk r G
