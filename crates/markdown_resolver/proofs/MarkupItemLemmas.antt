@@ -51,17 +51,6 @@ use Rattle.markdown_resolver.proofs.PutFoundLemmas.{same_before}
 use Rattle.markdown_resolver.proofs.FollowersLemmas.{opens_chain}
 use Rattle.markdown_resolver.proofs.MarkupEndLemmas.{EndsClosed}
 
--- a boundary of a text is one of the text's beginning up to some byte after it
-pub boundary_before : (text : List ℕ) (end i : ℕ) → IsCharBoundary text i → i ≤ end → IsCharBoundary (take end text) i
-boundary_before text end i at before = (
-  omega (arith, length-take end text, at.0, before),
-  λ inside high.
-      let below : i < end = omega (arith, length-take end text, inside) in
-      let within : i < length text = omega (arith, length-take end text, inside) in
-      let byte = get_or-take end text i 0 below in
-      omega (arith, byte, at.1 within (omega (arith, byte, high))),
-)
-
 -- a boundary of a text's beginning up to another boundary is one of the text
 pub boundary_after : (text : List ℕ) (end i : ℕ) → IsCharBoundary text end → IsCharBoundary (take end text) i
     → IsCharBoundary text i

@@ -35,7 +35,7 @@ use Rattle.markdown_spans.proofs.AfterLessLemmas.{closed_boundary}
 use Rattle.markdown_spans.proofs.SliceLemmas.{slice_of_slice}
 use Rattle.markdown_document.proofs.OriginLemmas.{slice_wider}
 use Rattle.markdown_defs.specs.Allocations.{Allocated}
-use Rattle.markdown_brackets.proofs.WrittenLemmas.{whole_range}
+use Rattle.markdown_brackets.proofs.WrittenLemmas.{boundary_before, whole_range}
 use Rattle.markdown_resolver.specs.declared.continuation.Continuation.{Continuation}
 use Rattle.markdown_resolver.specs.ChainPlace.{CanReadItem, IsPlaceOf}
 use Rattle.markdown_resolver.specs.Chains.{CanResolve}
@@ -45,7 +45,7 @@ use Rattle.markdown_resolver.specs.ReadsItem.{ReadsItem}
 use Rattle.markdown_document.specs.declared.chain_place.ChainPlace.{ChainPlace}
 use Rattle.markdown_resolver.proofs.ChainPlaceLemmas.{prefix_is}
 use Rattle.markdown_resolver.proofs.MarkupEndLemmas.{MarkupEnds, found_at, markup_ends}
-use Rattle.markdown_resolver.proofs.MarkupItemLemmas.{address_lies, boundary_before, closed_in, lies_at, lies_to}
+use Rattle.markdown_resolver.proofs.MarkupItemLemmas.{address_lies, closed_in, lies_at, lies_to}
 use Rattle.markdown_resolver.proofs.MarkupItemLemmas.{none_past_end, one_byte_long}
 use Rattle.markdown_resolver.proofs.ReadsItemLemmas.{ReadsAs, opener_unquiet, read_opener, reads_item}
 use Rattle.markdown_resolver.proofs.FollowersLemmas.{opens_chain}

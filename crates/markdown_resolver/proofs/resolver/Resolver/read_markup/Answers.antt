@@ -6,9 +6,9 @@ use Rattle.markdown_base.specs.BlockTree.{no_item}
 use Rattle.markdown_base.specs.declared.item.Item.{Item}
 use Rattle.markdown_document.specs.Tables.{tables_of}
 use Rattle.markdown_spans.specs.MarkupView.{markup_of}
-use Rattle.markdown_brackets.proofs.WrittenLemmas.{whole_range}
+use Rattle.markdown_brackets.proofs.WrittenLemmas.{boundary_before, whole_range}
 use Rattle.markdown_resolver.specs.declared.continuation.Continuation.{Continuation}
-use Rattle.markdown_resolver.proofs.MarkupItemLemmas.{boundary_before, lies_at}
+use Rattle.markdown_resolver.proofs.MarkupItemLemmas.{lies_at}
 use Rattle.markdown_resolver.proofs.MarkupLemmas.{if_ok, is_scanned, markup_stands, none_follows, none_past_block}
 use Rattle.markdown_resolver.proofs.MarkupLemmas.{reads_found, reads_text, scan_finds}
 use Rattle.markdown_resolver.proofs.resolver.Resolver.read_markup.Goals as goal
