@@ -2,6 +2,7 @@
 use Rattle.std.proofs.Common.{rules, ◌≡◌, ℕ, ◌≤◌, List, [], Some, true, refl, sym, ap, ◌∙◌, subst, append-nil, arith}
 use Rattle.std.proofs.Common.{slice_index}
 use Rattle.std.proofs.lemmas.Bool.Decides.{nat_tests}
+use Rattle.std.specs.Str.{IsCharBoundary}
 use Rattle.markdown_base.specs.Forest.{Forest}
 use Rattle.markdown_builder.specs.BuilderView.{BuilderView, with_items}
 use Rattle.markdown_builder.specs.Shown.{Shown}
@@ -15,6 +16,7 @@ use Rattle.markdown_items.proofs.RestOfLineLemmas.{past_plain, at_start, at_end,
 use Rattle.markdown_items.proofs.RestOfLineLemmas.{adds_found, adds_more, adds_none, more_texts, no_run, no_texts}
 use Rattle.markdown_items.proofs.RestOfLineLemmas.{IsSame, run_before_text, run_found, same_found, text_after}
 use Rattle.markdown_items.proofs.RestOfLineLemmas.{texts_found}
+use Rattle.markdown_items.proofs.ItemLemmas.{goes_on}
 use Rattle.markdown_items.proofs.line_items.items.Goals as goal
 
 pub line-init : goal.line-init
@@ -41,6 +43,31 @@ line-init c =
           (with_items view.levels (content_items view.text extensions view.at c.args.end)) view view.at at
           (omega arith) first (at_start extensions view c.args.end over));
     }
+
+pub append_special-requires-clause-here : goal.append_special-requires-clause-here
+append_special-requires-clause-here c =
+    let at = c.line.at in
+    let text : c.args.builder.now.text ≡ c.line.builder.text =
+    sym (ap (λ (v : BuilderView). v.text) c.line.invariant.same) in
+    let bytes : c.as_bytes-bytes.result.now ≡ c.line.builder.text =
+    c.as_bytes-bytes.ensures.value ∙ (c.text.ensures ∙ text) in
+    record {
+      start = subst (λ (t : List ℕ). IsCharBoundary t c.at.result) text c.at.ensures.boundary;
+      begun = omega (arith, c.at.ensures.value, c.line.invariant.begun, c.line.invariant.placed);
+      more = c.line-test.true;
+      end = subst (λ (t : List ℕ). IsCharBoundary t c.args.end) text c.requires.boundary;
+      special = subst (λ (t : List ℕ). is_special c.of.result.dashes (slice_index t at) ≡ true) bytes
+          (c.line.invariant.special c.line-test.true);
+    }
+
+pub line-smaller : goal.line-smaller
+line-smaller c =
+    let line : Line = record { start = c.at.result; end = c.args.end; extensions = c.of.result } in
+    let appends : AppendsFound c.line.builder line c.line.at c.append_special.new.builder c.in_ok-next.next =
+    c.in_ok-next.ensures in
+    let further = goes_on c.line.builder.text c.args.end c.line.at appends.found c.line-test.true appends.fits in
+    let first = c.first_special-at-in-line.ensures in
+    omega (arith, further.past, further.within, appends.further, first.low, first.high)
 
 pub line-preserved : goal.line-preserved
 line-preserved c =
