@@ -1,16 +1,18 @@
 -- Where a label's text is its source as it is.
 use Rattle.std.proofs.Common.{◌≡◌, ℕ, suc, ◌+◌, List, [], ◌∷◌, ◌++◌, Bool, true, false, not, ◌&&◌, ◌||◌}
 use Rattle.std.proofs.Common.{Option, Some, None, IfSome, take, inl, inr, refl, sym, ◌∙◌, ap, arith, ◌==◌, is_none}
-use Rattle.std.proofs.Common.{unwrap_or, if◌then◌else◌, nat_le, count_by}
+use Rattle.std.proofs.Common.{unwrap_or, if◌then◌else◌, nat_le, count_by, length-take, take_all}
+use Rattle.std.proofs.Common.{option_and_then}
 use Rattle.std.specs.List.{list_any}
-use Rattle.std.proofs.lemmas.Option.{same_Some}
+use Rattle.std.specs.Option.{option_map}
+use Rattle.std.proofs.lemmas.Option.{none-some, same_Some}
 use Rattle.std.proofs.lemmas.Bool.{cond_both, and_parts}
 use Rattle.std.proofs.lemmas.Bool.Decides.{nat_tests, eqb_tells}
 use Rattle.markdown_base.specs.Bytes.{backslash, space}
 use Rattle.markdown_scan.specs.AsciiKinds.{is_white_space}
 use Rattle.markdown_scan.specs.Backslash.{begins_pipe, is_bare}
 use Rattle.markdown_scan.specs.Label.{label_bytes, body, put_before, shown, with_shown, collapse_whitespace, gap}
-use Rattle.markdown_scan.specs.Label.{refused, begins_character, is_not_white_space}
+use Rattle.markdown_scan.specs.Label.{refused, begins_character, fits_label, is_not_white_space}
 use Rattle.markdown_scan.specs.LinePrefix.{prefix_after, ends_line}
 use Rattle.markdown_scan.specs.LabelScan.{found_in, end_after, stays, is_collapsed}
 
@@ -130,3 +132,70 @@ pub source_is_text : (skipped : List ℕ → Option ℕ) (in_table : Bool) (sour
 source_is_text skipped true source text is kept = cc
 source_is_text skipped false source text is kept =
     found_whole source text (body false (label_bytes skipped 0 text)) (body_whole skipped false text) is kept
+
+-- the label of what was found, if it passes the test
+abbrev label_if : Bool → (ℕ × List ℕ) → Option (ℕ × List ℕ)
+label_if fits f =
+    option_map (λ g. (g.0 + 1, collapse_whitespace false false g.1)) (if fits then Some f else None)
+
+-- the label of what was found
+abbrev label_of : Option (ℕ × List ℕ) → Option (ℕ × List ℕ)
+label_of found = option_map (λ f. (f.0 + 1, collapse_whitespace false false f.1))
+    (option_and_then (λ f. if fits_label f.1 then Some f else None) found)
+
+-- what was found has the place of the label's end if it passes the test
+end_if : (end : Option ℕ) (f : ℕ × List ℕ) → end ≡ end_after 0 0 false (Some f)
+    → end ≡ (if fits_label f.1 then Some f.0 else None)
+end_if end f e =
+    let place : 0 + f.0 ≡ f.0 = omega arith in
+    let count : 0 + count_by begins_character f.1 ≡ count_by begins_character f.1 = omega arith in
+    rw (place, count) at e
+
+none_if : (fits : Bool) (f : ℕ × List ℕ) → None ≡ (if fits then Some f.0 else None) → None ≡ label_if fits f
+none_if true f e = cc
+none_if false f e = refl
+
+some_if : (fits : Bool) (n : ℕ) (text : List ℕ) (f : ℕ × List ℕ) → Some n ≡ (if fits then Some f.0 else None)
+    → text ≡ collapse_whitespace false false f.1 → Some (n + 1, text) ≡ label_if fits f
+some_if true n text f e is = rw (same_Some n f.0 e, is) refl
+some_if false n text f e is = cc
+
+same_if : (fits : Bool) (n m : ℕ) (text : List ℕ) (f : ℕ × List ℕ) → Some n ≡ (if fits then Some f.0 else None)
+    → label_if fits f ≡ Some (m + 1, text) → (n ≡ m) × (collapse_whitespace false false f.1 ≡ text)
+same_if true n m text f e is =
+    let both = same_Some (f.0 + 1, collapse_whitespace false false f.1) (m + 1, text) is in
+    let ends : f.0 + 1 ≡ m + 1 = ap (λ (p : ℕ × List ℕ). p.0) both in
+    (omega (arith, same_Some n f.0 e, ends), ap (λ (p : ℕ × List ℕ). p.1) both)
+same_if false n m text f e is = cc
+
+-- a prefix of the same length of a prefix
+pub take_again : (n : ℕ) (text : List ℕ) → take n (take n text) ≡ take n text
+take_again n text = take_all n (take n text) (omega (arith, length-take n text))
+
+-- there is no label without an end
+pub no_label : (found : Option (ℕ × List ℕ)) → None ≡ end_after 0 0 false found → None ≡ label_of found
+no_label None e = refl
+no_label (Some f) e = none_if (fits_label f.1) f (end_if None f e)
+
+-- the label with this end and this text
+pub label_read : (n : ℕ) (text : List ℕ) (found : Option (ℕ × List ℕ)) → Some n ≡ end_after 0 0 false found
+    → IfSome found (λ f. text ≡ collapse_whitespace false false f.1) → Some (n + 1, text) ≡ label_of found
+label_read n text None e is = cc
+label_read n text (Some f) e is = some_if (fits_label f.1) n text f (end_if (Some n) f e) is
+
+-- a label whose text differs from its source is no slice of it
+pub label_differs : (n m : ℕ) (text : List ℕ) (found : Option (ℕ × List ℕ)) → Some n ≡ end_after 0 0 false found
+    → IfSome found (λ f. (k : ℕ) → collapse_whitespace false false f.1 ≡ take k (take n text) → ⊥)
+    → label_of found ≡ Some (m + 1, take m text) → ⊥
+label_differs n m text None e differs is = cc
+label_differs n m text (Some f) e differs is =
+    let both = same_if (fits_label f.1) n m (take m text) f (end_if (Some n) f e) is in
+    differs n (both.1 ∙ (ap (λ k. take k text) (sym both.0) ∙ sym (take_again n text)))
+
+-- a label that has an end is there
+pub label_there : (n : ℕ) (found : Option (ℕ × List ℕ)) → Some n ≡ end_after 0 0 false found → label_of found ≡ None
+    → ⊥
+label_there n None e none = cc
+label_there n (Some f) e none =
+    let text = collapse_whitespace false false f.1 in
+    none-some (n + 1, text) (sym none ∙ sym (label_read n text (Some f) e refl))
