@@ -1,7 +1,7 @@
 -- A label's definitions at a whole character.
 use Rattle.std.proofs.Common.{◌≡◌, ℕ, suc, ◌+◌, ◌≤◌, ◌<◌, List, [], ◌∷◌, ◌++◌, Bool, true, false, Option, Some, None}
 use Rattle.std.proofs.Common.{length, drop, get_or}
-use Rattle.std.proofs.Common.{inl, inr, refl, sym, ◌∙◌, ap, arith, ◌==◌}
+use Rattle.std.proofs.Common.{inl, inr, refl, sym, ◌∙◌, ap, arith, ◌==◌, ◌||◌, if◌then◌else◌, IfSome}
 use Rattle.std.specs.Prelude.{encode_utf8}
 use Rattle.std.proofs.lemmas.List.{append-nil}
 use Rattle.std.proofs.lemmas.Str.{encode_ascii, inside_one, length-encode, len_utf8_bounds}
@@ -11,8 +11,9 @@ use Rattle.markdown_scan.specs.AsciiKinds.{is_white_space}
 use Rattle.markdown_base.specs.Bytes.{backslash}
 use Rattle.markdown_scan.specs.Backslash.{is_bare}
 use Rattle.markdown_scan.specs.Label.{label_bytes, body, put_before, shown, with_shown, collapse_whitespace, gap}
+use Rattle.markdown_scan.specs.Label.{is_bracket}
 use Rattle.markdown_scan.specs.LinePrefix.{prefix_after}
-use Rattle.markdown_scan.specs.LabelScan.{character_shown, found_in}
+use Rattle.markdown_scan.specs.LabelScan.{EndsHere, character_shown, found_in}
 use Rattle.markdown_scan.proofs.LabelLemmas.{body_step, found_step, put_before_twice, put_before_none}
 
 -- no byte is ASCII
@@ -163,4 +164,36 @@ character_step skipped in_table escaped c tail n no_end no_start after within = 
         ∙ found_step skipped in_table escaped c tail n no_end no_start after within
         ∙ rw (encode_ascii c low.1),
   )
+]
+
+-- the text ends where there are no bytes
+pub ends_empty : (skipped : List ℕ → Option ℕ) (in_table escaped : Bool) (bytes : List ℕ) → length bytes ≡ 0
+    → EndsHere skipped in_table escaped bytes
+ends_empty skipped in_table escaped [] none = tt
+ends_empty skipped in_table escaped (x ∷ bytes) none = absurd (omega (arith, none))
+
+bracket_is_low : (escaped : Bool) (c : ℕ) → is_bracket escaped c ≡ true → c < 128
+bracket_is_low true c is = cc
+bracket_is_low false c is = grind (arith, nat_tests)
+
+ends_by : (in_table closes opens : Bool) (more : Option (ℕ × List ℕ)) → (closes || opens) ≡ true
+    → IfSome (with_shown in_table (if closes then Some (0, []) else if opens then None else more)) (λ f. f.1 ≡ [])
+ends_by in_table true opens more is = refl
+ends_by in_table false true more is = tt
+ends_by in_table false false more is = cc
+
+-- the text ends before a bracket
+pub ends_at_bracket : (skipped : List ℕ → Option ℕ) (in_table escaped : Bool) (c : ℕ) (tail : List ℕ)
+    → is_bracket escaped c ≡ true → EndsHere skipped in_table escaped (encode_utf8 c ++ tail)
+ends_at_bracket skipped in_table escaped c tail is =
+    rw (encode_ascii c (bracket_is_low escaped c is))
+    (ends_by in_table (is_bare escaped c 93) (is_bare escaped c 91) _ is)
+
+-- the text ends where it may not continue on another line
+pub ends_at_line : (skipped : List ℕ → Option ℕ) (in_table escaped : Bool) (c : ℕ) (tail : List ℕ)
+    → is_bare escaped c 93 ≡ false → is_bare escaped c 91 ≡ false → prefix_after skipped c tail ≡ None
+    → EndsHere skipped in_table escaped (encode_utf8 c ++ tail)
+ends_at_line skipped in_table escaped c tail no_end no_start none = elim (leb_tells 128 c) [
+  | inl high ↦ cc (none, high_ends_no_line skipped c tail high.1)
+  | inr low ↦ rw (encode_ascii c low.1, no_end, no_start, none) tt
 ]
