@@ -154,3 +154,33 @@ too_long at characters solid (Some f) more =
     let still : 999 < characters + count_by begins_character f.1 = omega arith in
     too_many (characters + count_by begins_character f.1) (solid || list_any is_not_white_space f.1) (Some (at + f.0))
     still
+
+last : (n at end : ℕ) (solid : Bool) → nat_le n 999 ≡ true → end ≡ at
+    → (if solid then Some at else None) ≡ (if nat_le n 999 && (solid || false) then Some end else None)
+last n at end true few same = rw (few, same) refl
+last n at end false few same = rw few refl
+
+-- a label that is closed here
+pub closed_here : (whole : Option ℕ) (skipped : List ℕ → Option ℕ) (in_table escaped solid : Bool)
+    (at characters b : ℕ) (tail : List ℕ)
+    → whole ≡ end_after at characters solid (found_in skipped in_table escaped (b ∷ tail))
+    → is_bare escaped b 93 ≡ true → characters ≤ 999 → (if solid then Some at else None) ≡ whole
+closed_here whole skipped in_table escaped solid at characters b tail was closes few =
+    let fits : nat_le (characters + 0) 999 ≡ true = grind (arith, nat_tests) in
+    last (characters + 0) at (at + 0) solid fits (omega arith) ∙ sym (rw closes at was)
+
+-- none, where an opening bracket follows
+pub opened_here : (whole : Option ℕ) (skipped : List ℕ → Option ℕ) (in_table escaped solid : Bool)
+    (at characters b : ℕ) (tail : List ℕ)
+    → whole ≡ end_after at characters solid (found_in skipped in_table escaped (b ∷ tail))
+    → is_bare escaped b 93 ≡ false → is_bare escaped b 91 ≡ true → None ≡ whole
+opened_here whole skipped in_table escaped solid at characters b tail was no_end opens =
+    sym (rw (no_end, opens) at was)
+
+-- none, where the text may not continue on another line
+pub refused_here : (whole : Option ℕ) (skipped : List ℕ → Option ℕ) (in_table escaped solid : Bool)
+    (at characters b : ℕ) (tail : List ℕ)
+    → whole ≡ end_after at characters solid (found_in skipped in_table escaped (b ∷ tail))
+    → is_bare escaped b 93 ≡ false → is_bare escaped b 91 ≡ false → prefix_after skipped b tail ≡ None → None ≡ whole
+refused_here whole skipped in_table escaped solid at characters b tail was no_end no_start none =
+    sym (rw (no_end, no_start, none) at was)

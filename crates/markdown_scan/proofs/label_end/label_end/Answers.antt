@@ -1,9 +1,10 @@
-use Rattle.std.proofs.Common.{◌+◌, ◌<◌, count_by, drop, sym, ◌∙◌, arith, false, length-drop}
+use Rattle.std.proofs.Common.{◌+◌, ◌<◌, count_by, drop, sym, ◌∙◌, ap, arith, false, length-drop, None, Some}
+use Rattle.std.proofs.Common.{if◌then◌else◌}
 use Rattle.std.proofs.lemmas.List.{take_rest, drop-drop}
 use Rattle.markdown_scan.specs.Label.{begins_character}
 use Rattle.markdown_scan.specs.LabelScan.{byte_shown, end_after, found_in}
 use Rattle.markdown_scan.proofs.DestinationLemmas.{drop_next}
-use Rattle.markdown_scan.proofs.LabelLemmas.{end_step, too_long}
+use Rattle.markdown_scan.proofs.LabelLemmas.{closed_here, end_step, opened_here, refused_here, too_long}
 use Rattle.markdown_scan.proofs.label_end.label_end.Goals as goal
 
 pub returns-then-characters-gt-MAX_LABEL_CHARACTERS-clause-value
@@ -49,3 +50,40 @@ loop-first-preserved g c =
           (rw split.0 at invariant.value) (sym c.is_bare.ensures ∙ c.if-is_bare.false) (sym c.is_bare-in-Some.ensures
           ∙ c.if-is_bare-2.false) (sym c.in-Some-prefix_after.ensures.value) within);
     }
+
+pub returns-then-solid-clause-value : goal.returns-then-solid-clause-value
+returns-then-solid-clause-value g c =
+    ap (λ solid. if solid then Some c.loop-first.at else None) (sym c.if-solid.true) ∙ closed_here
+    (end_after 0 0 false (found_in (g.R.LineRule.skipped c.args.rule.now) c.args.in_table false c.args.bytes.now))
+    (g.R.LineRule.skipped c.args.rule.now) c.args.in_table c.loop-first.escaped c.loop-first.solid c.loop-first.at
+    c.loop-first.characters c.in-Some.first.now c.in-Some.tail.now
+    (rw c.in-Some.ensures.cases.0 at c.loop-first.invariant.value)
+    (sym c.is_bare.ensures ∙ c.if-is_bare.true) c.loop-first.invariant.few
+
+pub returns-else-solid-clause-value : goal.returns-else-solid-clause-value
+returns-else-solid-clause-value g c =
+    ap (λ solid. if solid then Some c.loop-first.at else None) (sym c.if-solid.false) ∙ closed_here
+    (end_after 0 0 false (found_in (g.R.LineRule.skipped c.args.rule.now) c.args.in_table false c.args.bytes.now))
+    (g.R.LineRule.skipped c.args.rule.now) c.args.in_table c.loop-first.escaped c.loop-first.solid c.loop-first.at
+    c.loop-first.characters c.in-Some.first.now c.in-Some.tail.now
+    (rw c.in-Some.ensures.cases.0 at c.loop-first.invariant.value)
+    (sym c.is_bare.ensures ∙ c.if-is_bare.true) c.loop-first.invariant.few
+
+pub returns-then-is_bare-2-clause-value : goal.returns-then-is_bare-2-clause-value
+returns-then-is_bare-2-clause-value g c =
+    opened_here
+    (end_after 0 0 false (found_in (g.R.LineRule.skipped c.args.rule.now) c.args.in_table false c.args.bytes.now))
+    (g.R.LineRule.skipped c.args.rule.now) c.args.in_table c.loop-first.escaped c.loop-first.solid c.loop-first.at
+    c.loop-first.characters c.in-Some.first.now c.in-Some.tail.now
+    (rw c.in-Some.ensures.cases.0 at c.loop-first.invariant.value)
+    (sym c.is_bare.ensures ∙ c.if-is_bare.false) (sym c.is_bare-in-Some.ensures ∙ c.if-is_bare-2.true)
+
+pub returns-in_default-prefix_after-clause-value : goal.returns-in_default-prefix_after-clause-value
+returns-in_default-prefix_after-clause-value g c =
+    refused_here
+    (end_after 0 0 false (found_in (g.R.LineRule.skipped c.args.rule.now) c.args.in_table false c.args.bytes.now))
+    (g.R.LineRule.skipped c.args.rule.now) c.args.in_table c.loop-first.escaped c.loop-first.solid c.loop-first.at
+    c.loop-first.characters c.in-Some.first.now c.in-Some.tail.now
+    (rw c.in-Some.ensures.cases.0 at c.loop-first.invariant.value)
+    (sym c.is_bare.ensures ∙ c.if-is_bare.false) (sym c.is_bare-in-Some.ensures ∙ c.if-is_bare-2.false)
+    (sym {a = None} c.in_default-prefix_after.ensures.value)
