@@ -17,6 +17,16 @@ before_ascii_of_rest text i n inside ascii =
     let within : i + n < length text = omega (arith, rw length-drop at inside) in
     IsCharBoundary-before_ascii text (i + n) within (rw get_or-drop at ascii)
 
+-- before what follows byte i and n bytes, if that is nothing or begins with an ASCII byte
+pub at_ascii_of_rest : (text : List ℕ) (i n : ℕ) → i ≤ length text → n ≤ length (drop i text)
+    → (n < length (drop i text) → get_or (drop i text) n 0 < 128) → IsCharBoundary text (i + n)
+at_ascii_of_rest text i n start within ascii = (
+  omega (arith, start, rw length-drop at within),
+  λ inside high.
+      let low : get_or (drop i text) n 0 < 128 = ascii (omega (arith, length-drop i text, inside)) in
+      absurd (omega (arith, rw get_or-drop at low, high)),
+)
+
 -- after an ASCII byte of what follows byte i
 pub after_ascii_of_rest : (text : List ℕ) (i n : ℕ) → IsUtf8 text → n < length (drop i text)
     → get_or (drop i text) n 0 < 128

@@ -1,16 +1,17 @@
 -- Steps of the scanner of a destination: the length of the whole is the number of bytes before an offset and the length
 -- of the rest.
 use Rattle.std.proofs.Common.{◌≡◌, ℕ, zero, suc, ◌+◌, ◌<◌, ◌==◌, ◌||◌, List, ◌∷◌, Bool, true, false, Option, Some, None}
-use Rattle.std.proofs.Common.{drop}
+use Rattle.std.proofs.Common.{drop, take}
 use Rattle.std.proofs.Common.{length, get_or, refl, ◌∙◌, sym, ap, arith}
+use Rattle.std.specs.Prelude.{slice_index}
 use Rattle.std.specs.Option.{option_map}
 use Rattle.std.proofs.lemmas.List.{drop-drop, drop_more}
-use Rattle.markdown_base.specs.Bytes.{backslash, close_parenthesis, open_parenthesis}
+use Rattle.markdown_base.specs.Bytes.{backslash, close_parenthesis, less_than, open_parenthesis}
 use Rattle.markdown_base.proofs.ByteListLemmas.{neither}
 use Rattle.markdown_scan.specs.AsciiKinds.{is_control_or_space}
 use Rattle.markdown_scan.specs.Backslash.{is_bare}
 use Rattle.markdown_scan.specs.Destination.{angle_length, is_refused, bare_length, is_past_bare, is_too_deep}
-use Rattle.markdown_scan.specs.Destination.{open_after}
+use Rattle.markdown_scan.specs.Destination.{destination, open_after}
 use Rattle.markdown_scan.specs.Together.{may_matter, IsPast}
 
 -- one more byte after `at` bytes
@@ -79,3 +80,21 @@ ordinary_steps max_nesting bytes (suc n) past =
     let next : n + 1 ≡ suc n = omega arith in
     rw next at (ordinary_step max_nesting (bare_length max_nesting false 0 bytes) false 0 n (get_or bytes n 0)
     (drop (n + 1) bytes) (rw (drop_more bytes n 0 here) at before) (past.none n (omega arith)))
+
+-- a destination in angle brackets, and none where these are not closed
+pub in_angles : (max_nesting n : ℕ) (bytes : List ℕ) → (slice_index bytes 0 == less_than) ≡ true
+    → Some n ≡ angle_length false (drop 1 bytes) → Some (n + 2, take n (drop 1 bytes)) ≡ destination max_nesting bytes
+in_angles max_nesting n bytes begins found = rw (begins, sym {a = Some n} found) refl
+
+pub not_closed : (max_nesting : ℕ) (bytes : List ℕ) → (slice_index bytes 0 == less_than) ≡ true
+    → None ≡ angle_length false (drop 1 bytes) → None ≡ destination max_nesting bytes
+not_closed max_nesting bytes begins found = rw (begins, sym {a = None} found) refl
+
+-- a destination without angle brackets, and none where parentheses are not balanced or too deep
+pub in_no_angles : (max_nesting n : ℕ) (bytes : List ℕ) → (slice_index bytes 0 == less_than) ≡ false
+    → Some n ≡ bare_length max_nesting false 0 bytes → Some (n, take n bytes) ≡ destination max_nesting bytes
+in_no_angles max_nesting n bytes begins found = rw (begins, sym {a = Some n} found) refl
+
+pub not_balanced : (max_nesting : ℕ) (bytes : List ℕ) → (slice_index bytes 0 == less_than) ≡ false
+    → None ≡ bare_length max_nesting false 0 bytes → None ≡ destination max_nesting bytes
+not_balanced max_nesting bytes begins found = rw (begins, sym {a = None} found) refl
