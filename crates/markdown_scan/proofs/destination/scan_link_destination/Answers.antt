@@ -28,7 +28,8 @@ returns-in_err-length-clause-value c =
     rw c.from_residual.ensures (not_closed c.args.max_nesting (drop c.args.at c.args.text.now)
     (rw (c.as_bytes.ensures.value, c.range_from-rest.ensures.value) at
     (sym c.begins_angle.ensures.value ∙ c.if-begins_angle.true))
-    (rw (c.as_bytes-then-begins_angle.ensures.value, take_rest, c.range_from-rest.ensures.value) at c.in_err-length.ensures.value))
+    (rw (c.as_bytes-then-begins_angle.ensures.value, take_rest, c.range_from-rest.ensures.value) at
+    c.in_err-length.ensures.value))
 
 pub returns-then-begins_angle-clause-value : goal.returns-then-begins_angle-clause-value
 returns-then-begins_angle-clause-value c =
@@ -38,7 +39,8 @@ returns-then-begins_angle-clause-value c =
     ∙ in_angles c.args.max_nesting n (drop c.args.at c.args.text.now)
     (rw (c.as_bytes.ensures.value, c.range_from-rest.ensures.value) at
     (sym c.begins_angle.ensures.value ∙ c.if-begins_angle.true))
-    (rw (c.as_bytes-then-begins_angle.ensures.value, take_rest, c.range_from-rest.ensures.value) at c.in_ok-length.ensures.value)
+    (rw (c.as_bytes-then-begins_angle.ensures.value, take_rest, c.range_from-rest.ensures.value) at
+    c.in_ok-length.ensures.value)
 
 pub returns-in_err-length-2-clause-value : goal.returns-in_err-length-2-clause-value
 returns-in_err-length-2-clause-value c =
