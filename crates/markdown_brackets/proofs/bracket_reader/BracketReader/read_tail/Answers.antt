@@ -1,13 +1,31 @@
 -- The tail is that of the block's text, by the items ahead, and its title comes from there.
-use Rattle.std.proofs.Common.{◌∙◌}
+use Rattle.std.proofs.Common.{◌∙◌, arith}
+use Rattle.std.proofs.lemmas.List.{length-take}
 use Rattle.std.specs.Prelude.{IfOk}
 use Rattle.markdown_base.specs.BlockTree.{no_item}
 use Rattle.markdown_brackets.specs.ChainAhead.{starts_from}
 use Rattle.markdown_brackets.specs.LinkTail.{link_tail}
 use Rattle.markdown_brackets.specs.LinkTailView.{ReadsTail}
 use Rattle.markdown_brackets.proofs.TailTitleLemmas.{has_title}
-use Rattle.markdown_brackets.proofs.WrittenLemmas.{ok_map, whole_range}
+use Rattle.markdown_brackets.proofs.WrittenLemmas.{boundary_before, ok_map, whole_range}
 use Rattle.markdown_brackets.proofs.bracket_reader.BracketReader.read_tail.Goals as goal
+
+pub scan_link_tail-requires-clause-at : goal.scan_link_tail-requires-clause-at
+scan_link_tail-requires-clause-at g c =
+    let place = c.args.self.now.place.now in
+    let text = c.range-text.ensures.value ∙ whole_range place.text.now place.block_end in
+    rw (text, c.item.ensures no_item)
+    (boundary_before place.text.now place.block_end _ c.requires.ready.1.closes c.requires.inside)
+
+pub scan_link_tail-requires-clause-items : goal.scan_link_tail-requires-clause-items
+scan_link_tail-requires-clause-items g c =
+    let place = c.args.self.now.place.now in
+    let text = c.range-text.ensures.value ∙ whole_range place.text.now place.block_end in
+    λ n s starts within.
+    rw text
+    (boundary_before place.text.now place.block_end s
+    (c.requires.ready.1.later n s (rw c.next.ensures.value at starts))
+    (omega (arith, length-take place.block_end place.text.now, rw text at within)))
 
 pub returns-clause-value : goal.returns-clause-value
 returns-clause-value g c =
