@@ -25,6 +25,14 @@ returns-clause-form g c =
     (g.R.LineRule.skipped rules.rule.now) rules.in_table c.range-text.result.now c.item.result.now.end
     c.linked_item-first.result c.linked_item-second.result)
     = c.scan_form.ensures in
-    rw (c.rules.ensures.style, c.rules.ensures.in_table, c.rules.ensures.rule, text, c.linked_item-first.ensures,
-    c.linked_item-second.ensures, c.link_after.ensures.value, c.next-next.ensures.value)
+    rw (
+      c.rules.ensures.style,
+      c.rules.ensures.in_table,
+      c.rules.ensures.rule,
+      text,
+      c.linked_item-first.ensures,
+      c.linked_item-second.ensures,
+      c.link_after.ensures.value,
+      c.next-next.ensures.value,
+    )
     at (rw (c.item.ensures no_item) at read)
