@@ -1,6 +1,6 @@
 -- Without a callback the HTML is the one that is defined of the text, and a fault is the same for all answers.
 use Rattle.std.proofs.Common.{◌≡◌, ◌⊎◌, ℕ, true, List, Option, None, Result, IfOk, IfErr, IsUtf8, String, Global}
-use Rattle.std.proofs.Common.{string_bytes, inl, inr}
+use Rattle.std.proofs.Common.{string_bytes, inl, inr, refl}
 use Rattle.std.proofs.lemmas.Result.{IfErr-weaker, IfOk-weaker}
 use Rattle.markdown_base.specs.Questions.{Answer, Question}
 use Rattle.markdown_base.specs.declared.fault.Fault.{Fault}
