@@ -1,4 +1,5 @@
 //! The texts that are read, each with its options and its questions to a callback.
+use crate::tries::Outcome;
 use markdown_base::cow_str::CowStr;
 use markdown_base::fault::Fault;
 use markdown_base::options::Options;
@@ -21,7 +22,7 @@ pub struct Question {
 pub struct Source {
     pub text: &'static str,
     enabled: Option<Options>,
-    pub questions: &'static [Question],
+    questions: &'static [Question],
 }
 
 impl Source {
@@ -129,24 +130,18 @@ pub struct Asked {
     in_order: bool,
 }
 
-impl Asked {
-    /// Returns whether the questions so far are a prefix of those of the text.
-    pub fn is_beginning(&self) -> bool {
-        self.in_order && self.asked <= self.questions.len()
-    }
-
-    /// Returns whether the questions so far are all of those of the text.
-    pub fn is_whole(&self) -> bool {
-        self.in_order && self.asked == self.questions.len()
-    }
-}
-
-/// Returns whether a broken link is that of a question.
-fn is_about(link: &BrokenLink<'_>, question: &Question) -> bool {
-    link.span.start == question.start
-        && link.span.end == question.end
-        && link.link_type == question.form
-        && link.reference.as_str() == question.label
+/// Returns whether a callback had all questions of a text, or a prefix of them where the walk was cut short.
+pub fn is_asked(callback: Option<Asked>, outcome: Outcome) -> bool {
+    let Some(callback) = callback else {
+        return false;
+    };
+    let wanted = callback.questions.len();
+    let fits = match outcome {
+        Outcome::Whole => callback.asked == wanted,
+        Outcome::Cut => callback.asked <= wanted,
+        Outcome::Wrong => false,
+    };
+    callback.in_order && fits
 }
 
 impl<'input> BrokenLinkCallback<'input> for Asked {
@@ -159,7 +154,12 @@ impl<'input> BrokenLinkCallback<'input> for Asked {
         link: BrokenLink<'input>,
     ) -> Option<(CowStr<'input>, CowStr<'input>)> {
         let is_next = match self.questions.get(self.asked) {
-            Some(question) => is_about(&link, question),
+            Some(question) => {
+                link.span.start == question.start
+                    && link.span.end == question.end
+                    && link.link_type == question.form
+                    && link.reference.as_str() == question.label
+            }
             None => false,
         };
         drop(link);

@@ -1,7 +1,10 @@
 //! Lists of events made by hand, to be merged or rendered, and the lists that they have to become.
-use crate::tries::{gives, writes};
+ghost use Rattle.std.specs.Iterator.{IsFinite};
+
+use crate::tries::{Given, gives, writes};
 use markdown_base::cow_str::CowStr;
 use markdown_base::event::Event;
+use markdown_base::fault::Fault;
 use markdown_base::tag::{Tag, TagEnd};
 use markdown_out::merge::{TextMergeStream, TextMergeWithOffset};
 use markdown_test_helpers::events::{image, text};
@@ -51,41 +54,6 @@ impl Listed for RangedTexts {
     }
 }
 
-/// The merge of `Texts`.
-#[derive(Drop)]
-struct Merged;
-
-impl Listed for Merged {
-    type Item = Event<'static>;
-
-    fn item(&self, at: usize) -> Option<Event<'static>> {
-        match at {
-            0 => Some(text("a first text and a second")),
-            1 => Some(Event::Rule),
-            2 => Some(text("a third and a fourth")),
-            _ => None,
-        }
-    }
-}
-
-/// The same, with ranges.
-#[derive(Drop)]
-struct MergedRanges;
-
-impl Listed for MergedRanges {
-    type Item = (Event<'static>, Range<usize>);
-
-    fn item(&self, at: usize) -> Option<(Event<'static>, Range<usize>)> {
-        let range = match at {
-            0 => 0..25,
-            1 => 25..29,
-            _ => 29..49,
-        };
-        let event = Merged.item(at)?;
-        Some((event, range))
-    }
-}
-
 /// An image with alt text, footnotes of this name, and a list.
 #[derive(Drop)]
 struct Mixed<'a> {
@@ -115,17 +83,38 @@ fn given<L>(list: L, count: usize) -> Items<WithoutErrors<L>> {
     Items::of(WithoutErrors::of(list), count)
 }
 
+/// Returns whether a merge gives these items, or a prefix of them. The type is a parameter, so that no event is dropped
+/// here.
+fn merges_to<T: Given, I: Iterator<Item = Result<T, Fault>> + Drop>(merge: I, full: [T; 3]) -> bool
+    requires can { (left : I) → I.can_next left }
+    requires ends { (left : I) → IsFinite (I.remaining left) }
+{
+    gives(Ok(merge), &full, false)
+}
+
 pub fn merges(alloc: Global) -> bool {
-    gives(TextMergeStream::new(alloc, given(Texts, 5)), Merged)
+    merges_to(
+        TextMergeStream::new(alloc, given(Texts, 5)),
+        [
+            text("a first text and a second"),
+            Event::Rule,
+            text("a third and a fourth"),
+        ],
+    )
 }
 
 pub fn merges_with_ranges(alloc: Global) -> bool {
-    gives(
+    merges_to(
         TextMergeWithOffset::new(alloc, given(RangedTexts, 5)),
-        MergedRanges,
+        [
+            (text("a first text and a second"), 0..25),
+            (Event::Rule, 25..29),
+            (text("a third and a fourth"), 29..49),
+        ],
     )
 }
 
 pub fn renders_mixed_events(alloc: Global) -> Option<bool> {
-    writes(alloc, given(Mixed { name: "a" }, 8), MIXED)
+    let html = String::from_str(alloc, MIXED).ok();
+    writes(alloc, html, Ok(given(Mixed { name: "a" }, 8)))
 }

@@ -3,9 +3,8 @@
 //! a call is compared with, as the events of a run without refusals, it says so; without a refusal it never does.
 //!
 //! With the argument `readings` it only reads texts, for which the same is promised where each later allocation is
-//! refused
-//! too. With `quiet` it makes the calls that do not allocate instead, and with `still` only what these calls need: both
-//! runs make the same number of allocations.
+//! refused too. With `quiet` it makes the calls that do not allocate instead, and with `still` only what these calls need:
+//! both runs make the same number of allocations.
 #![tactic(auto)]
 
 mod asked;
@@ -60,7 +59,7 @@ fn tried(
     if word.as_str() == "readings" {
         return readings::broken(alloc, uncompared);
     }
-    if quiet::gives(alloc, word.as_str() == "quiet") {
+    if quiet::gives(alloc, word.as_str() == "quiet") == Ok(true) {
         return None;
     }
     Some(("calls without memory", ""))

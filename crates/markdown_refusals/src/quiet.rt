@@ -1,47 +1,36 @@
 //! The calls that do not allocate. Each function makes what the calls need, and makes the calls if `calls` is true: a
-//! run
-//! that makes them allocates as often as one that does not.
+//! run that makes them allocates as often as one that does not.
 ghost use Rattle.std.specs.Prelude.{◌≡◌, None};
 
+use crate::tables::{lists_one, made, puts_alignments, puts_attributes, puts_link, puts_text};
 use markdown_base::cow_str::CowStr;
 use markdown_base::fault::Fault;
 use markdown_base::options::Options;
-use markdown_base::tag::{Alignment, LinkType};
+use markdown_base::tag::LinkType;
 use markdown_blocks::Blocks;
 use markdown_defs::{
-    Allocations, BrokenLink, BrokenLinkCallback, Closure, DefaultBrokenLinkCallback, RefDefs,
+    Allocations, BrokenLink, BrokenLinkCallback, Closure, DefaultBrokenLinkCallback,
 };
 use markdown_inline::walk::Parser;
 use markdown_out::merge::{TextMergeStream, TextMergeWithOffset};
 use markdown_test_helpers::lists::is_nothing;
-use markdown_test_helpers::parts::{no_attributes, no_parts};
 use std::alloc::Global;
 
 const DEFINING: &str = "a\n\n[b]: /u";
 
-/// Returns whether the one definition of the text is listed.
-fn lists_the_definition(definitions: &RefDefs<'_>) -> bool {
-    let mut items = definitions.iter();
-    let first = match items.next() {
-        Some((label, definition)) => label == "b" && definition.dest.as_str() == "/u",
-        None => false,
-    };
-    first && is_nothing(items.next())
-}
-
-/// Calls the accessors of a new parser, with ranges and without.
-fn has_definition(parser: Parser<'_, DefaultBrokenLinkCallback>) -> bool {
-    let first = lists_the_definition(parser.reference_definitions()) && parser.work().items == 0;
+/// Calls the accessors of a new parser, with ranges and without, and merges with ranges.
+fn has_definition(alloc: Global, parser: Parser<'_, DefaultBrokenLinkCallback>) -> bool {
+    let first = lists_one(parser.reference_definitions(), "b") && parser.work().items == 0;
     let iter = parser.into_offset_iter();
-    let second = lists_the_definition(iter.reference_definitions()) && iter.work().items == 0;
-    drop(iter);
+    let second = lists_one(iter.reference_definitions(), "b") && iter.work().items == 0;
+    drop(TextMergeWithOffset::new(alloc, iter));
     first && second
 }
 
 fn parsers(alloc: Global, calls: bool) -> Result<bool, Fault> {
     let parser = Parser::new(alloc, DEFINING)?;
     if calls {
-        return Ok(has_definition(parser));
+        return Ok(has_definition(alloc, parser));
     }
     drop(parser);
     Ok(true)
@@ -71,12 +60,12 @@ fn ended_parsers(alloc: Global, calls: bool) -> Result<bool, Fault> {
 }
 
 fn merges(alloc: Global, calls: bool) -> Result<bool, Fault> {
-    let first = Parser::new(alloc, "")?;
-    let second = Parser::new(alloc, "")?;
+    let parser = Parser::new(alloc, "")?;
     if calls {
-        drop(TextMergeStream::new(alloc, first));
-        drop(TextMergeWithOffset::new(alloc, second.into_offset_iter()));
+        drop(TextMergeStream::new(alloc, parser));
+        return Ok(true);
     }
+    drop(parser);
     Ok(true)
 }
 
@@ -91,57 +80,19 @@ fn blocks(alloc: Global, calls: bool) -> Result<bool, Fault> {
     Ok(text == DEFINING && options == Options::ENABLE_MATH && tree.len() == 3 && definitions == 1)
 }
 
-/// Calls `take_cow`, and indexes.
-fn texts(alloc: Global, calls: bool) -> Result<bool, Fault> {
-    let mut held = Allocations::new(alloc, no_parts(alloc))?;
-    let ix = held.allocate_cow(CowStr::Borrowed("a"))?;
-    if !calls {
-        return Ok(true);
-    }
-    let is_there = held[ix].as_str() == "a";
-    let taken = held.take_cow(ix);
-    let is_same = taken.as_str() == "a";
-    drop(taken);
-    Ok(is_there && is_same && held[ix].as_str() == "")
+/// Puts in a value of each kind, and takes it out again if `calls` is true.
+fn puts_values(alloc: Global, held: &mut Allocations<'static>, calls: bool) -> Result<bool, Fault> {
+    Ok(
+        puts_text(held, calls)?
+            && puts_link(held, calls)?
+            && puts_alignments(alloc, held, calls)?
+            && puts_attributes(alloc, held, calls)?,
+    )
 }
 
-/// Calls `take_link`, and indexes.
-fn links(alloc: Global, calls: bool) -> Result<bool, Fault> {
-    let mut held = Allocations::new(alloc, no_parts(alloc))?;
-    let ix = held.allocate_link(
-        LinkType::Inline,
-        CowStr::Borrowed("u"),
-        CowStr::Borrowed("t"),
-        CowStr::Borrowed("i"),
-    )?;
-    if !calls {
-        return Ok(true);
-    }
-    let is_there = held[ix].1.as_str() == "u";
-    let taken = held.take_link(ix);
-    let is_same = taken.0 == LinkType::Inline && taken.2.as_str() == "t";
-    drop(taken);
-    Ok(is_there && is_same && held[ix].0 == LinkType::ShortcutUnknown)
-}
-
-/// Calls `take_alignment`, and indexes.
-fn alignments(alloc: Global, calls: bool) -> Result<bool, Fault> {
-    let mut held = Allocations::new(alloc, no_parts(alloc))?;
-    let ix = held.allocate_alignment(vec![in alloc; Alignment::Left]?)?;
-    if !calls {
-        return Ok(true);
-    }
-    let is_there = held[ix].len() == 1;
-    let taken = held.take_alignment(ix);
-    let is_same = taken.len() == 1;
-    drop(taken);
-    Ok(is_there && is_same && held[ix].is_empty())
-}
-
-fn headings(alloc: Global, calls: bool) -> Result<bool, Fault> {
-    let mut held = Allocations::new(alloc, no_parts(alloc))?;
-    let ix = held.allocate_heading(no_attributes(alloc))?;
-    Ok(!calls || held[ix].classes.is_empty())
+fn values(alloc: Global, calls: bool) -> Result<bool, Fault> {
+    let mut held = made(alloc)?;
+    puts_values(alloc, &mut held, calls)
 }
 
 /// Returns whether a callback returns None.
@@ -170,22 +121,15 @@ fn callbacks(calls: bool) -> bool {
     is_silent(&mut closure) && is_silent(&mut none)
 }
 
-/// Returns whether all calls return what they should; no allocation is refused.
-fn all_give(alloc: Global, calls: bool) -> Result<bool, Fault> {
+/// Makes what the calls need, and the calls if `calls` is true. Returns whether all of them return what they should; no
+/// allocation is refused.
+pub fn gives(alloc: Global, calls: bool) -> Result<bool, Fault> {
     Ok(
         parsers(alloc, calls)?
             && ended_parsers(alloc, calls)?
             && merges(alloc, calls)?
             && blocks(alloc, calls)?
-            && texts(alloc, calls)?
-            && links(alloc, calls)?
-            && alignments(alloc, calls)?
-            && headings(alloc, calls)?
+            && values(alloc, calls)?
             && callbacks(calls),
     )
-}
-
-/// Makes what the calls need, and the calls if `calls` is true. Returns whether all of them return what they should.
-pub fn gives(alloc: Global, calls: bool) -> bool {
-    all_give(alloc, calls) == Ok(true)
 }

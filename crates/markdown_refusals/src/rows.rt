@@ -1,5 +1,6 @@
 //! The promises by name, each with whether it holds, or with None if an allocation failed for what it needs.
 use crate::tables::{Call, answers_again};
+use crate::texts::Place;
 use crate::{events, lists, tables, texts, trees};
 use std::alloc::Global;
 
@@ -7,19 +8,19 @@ pub fn all(alloc: Global) -> [(&'static str, Option<bool>); 23] {
     [
         (
             "a slice is copied without memory",
-            Some(texts::copies_a_slice(alloc)),
+            texts::copies_a_text(alloc, Place::Slice),
         ),
         (
             "a slice is freed from its source or gone",
-            Some(texts::frees_a_slice(alloc)),
+            texts::frees_a_text(alloc, Place::Slice),
         ),
         (
             "a text on the heap is copied whole or stays",
-            texts::copies_a_boxed_text(alloc),
+            texts::copies_a_text(alloc, Place::Heap),
         ),
         (
             "a text on the heap is freed from its source without memory",
-            texts::frees_a_boxed_text(alloc),
+            texts::frees_a_text(alloc, Place::Heap),
         ),
         ("a refused append leaves the tree", trees::appends(alloc)),
         ("a refused push leaves the tree", trees::pushes(alloc)),
@@ -74,16 +75,19 @@ pub fn all(alloc: Global) -> [(&'static str, Option<bool>); 23] {
         ),
         (
             "a definition is freed from its source or gone",
-            Some(texts::frees_a_definition(alloc)),
+            texts::frees_a_definition(alloc),
         ),
         (
             "a broken link is freed from its source or gone",
             Some(texts::frees_a_broken_link(alloc)),
         ),
-        ("an event is copied whole or stays", events::copies(alloc)),
+        (
+            "an event is copied whole or stays",
+            events::stand(alloc, false),
+        ),
         (
             "an event is freed from its source or gone",
-            events::frees(alloc),
+            events::stand(alloc, true),
         ),
     ]
 }

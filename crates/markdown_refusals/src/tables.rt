@@ -1,10 +1,11 @@
 //! The promises of definitions, footnotes and allocations: after a refusal the same call returns what it always does.
+use crate::tries::put;
 use markdown_base::block_parts::HeadingAttributes;
 use markdown_base::cow_str::CowStr;
 use markdown_base::fault::Fault;
 use markdown_base::tag::{Alignment, LinkType};
-use markdown_defs::Allocations;
-use markdown_test_helpers::parts::{defining, no_attributes};
+use markdown_defs::{Allocations, RefDefs};
+use markdown_test_helpers::parts::defining;
 use std::alloc::Global;
 
 /// The calls.
@@ -19,57 +20,95 @@ pub enum Call {
     PutAttributes,
 }
 
-/// Returns allocations over one definition and one footnote, or None if an allocation failed.
-fn made(alloc: Global) -> Option<Allocations<'static>> {
-    let mut parts = defining(alloc, &[("ß", "/u")]).ok()?;
-    parts.footnotes.push(CowStr::Borrowed("n")).ok()?;
-    Allocations::new(alloc, parts).ok()
+/// Returns allocations over one definition and one footnote.
+pub fn made(alloc: Global) -> Result<Allocations<'static>, Fault> {
+    let mut parts = defining(alloc, &[("ß", "/u")])?;
+    put(&mut parts.footnotes, CowStr::Borrowed("n"))?;
+    Allocations::new(alloc, parts)
 }
 
-/// Returns whether a text is put in under the first number.
-fn puts_text(held: &mut Allocations<'static>) -> Result<bool, Fault> {
+/// Returns whether a text is put in under the first number, and, if `calls`, whether it is found and taken there.
+pub fn puts_text(held: &mut Allocations<'static>, calls: bool) -> Result<bool, Fault> {
     let ix = held.allocate_cow(CowStr::Borrowed("a"))?;
-    Ok(ix.0 == 0 && held[ix].as_str() == "a")
+    if !calls {
+        return Ok(true);
+    }
+    let is_there = held[ix].as_str() == "a";
+    let taken = held.take_cow(ix);
+    let is_taken = taken.as_str() == "a";
+    drop(taken);
+    let is_gone = held[ix].as_str() == "";
+    Ok(ix.0 == 0 && is_there && is_taken && is_gone)
 }
 
-/// Returns whether a link is put in under the first number.
-fn puts_link(held: &mut Allocations<'static>) -> Result<bool, Fault> {
+/// A link as it is held.
+type Held = (LinkType, CowStr<'static>, CowStr<'static>, CowStr<'static>);
+
+/// Returns whether this is the link that is put in.
+fn is_link(link: &Held) -> bool {
+    link.0 == LinkType::Inline
+        && link.1.as_str() == "u"
+        && link.2.as_str() == "t"
+        && link.3.as_str() == "i"
+}
+
+/// Returns whether a link is put in under the first number, and, if `calls`, whether it is found and taken there.
+pub fn puts_link(held: &mut Allocations<'static>, calls: bool) -> Result<bool, Fault> {
     let ix = held.allocate_link(
         LinkType::Inline,
         CowStr::Borrowed("u"),
         CowStr::Borrowed("t"),
         CowStr::Borrowed("i"),
     )?;
-    let (link_type, destination, title, id) = &held[ix];
-    Ok(
-        ix.0 == 0
-            && *link_type == LinkType::Inline
-            && destination.as_str() == "u"
-            && title.as_str() == "t"
-            && id.as_str() == "i",
-    )
+    if !calls {
+        return Ok(true);
+    }
+    let is_there = is_link(&held[ix]);
+    let taken = held.take_link(ix);
+    let is_taken = is_link(&taken);
+    drop(taken);
+    let is_gone = held[ix].0 == LinkType::ShortcutUnknown;
+    Ok(ix.0 == 0 && is_there && is_taken && is_gone)
 }
 
-/// Returns whether alignments are put in under the first number.
-fn puts_alignments(alloc: Global, held: &mut Allocations<'static>) -> Result<bool, Fault> {
+/// Returns whether alignments are put in under the first number, and, if `calls`, whether they are found and taken there.
+pub fn puts_alignments(
+    alloc: Global,
+    held: &mut Allocations<'static>,
+    calls: bool,
+) -> Result<bool, Fault> {
     let ix = held.allocate_alignment(vec![in alloc; Alignment::Center]?)?;
-    Ok(ix.0 == 0 && held[ix].as_slice() == [Alignment::Center].as_slice())
+    if !calls {
+        return Ok(true);
+    }
+    let is_there = held[ix].as_slice() == [Alignment::Center].as_slice();
+    let taken = held.take_alignment(ix);
+    let is_taken = taken.as_slice() == [Alignment::Center].as_slice();
+    drop(taken);
+    let is_gone = held[ix].is_empty();
+    Ok(ix.0 == 0 && is_there && is_taken && is_gone)
 }
 
-/// Returns whether a heading's attributes are put in under the first number.
-fn puts_attributes(alloc: Global, held: &mut Allocations<'static>) -> Result<bool, Fault> {
-    let mut attributes = no_attributes(alloc);
-    attributes.id = Some(CowStr::Borrowed("i"));
-    let ix = held.allocate_heading(attributes)?;
-    Ok(ix.0 == 1 && has_id(&held[ix]))
-}
-
-/// Returns whether a heading's attributes have this id.
-fn has_id(attributes: &HeadingAttributes<'_>) -> bool {
-    match &attributes.id {
+/// Returns whether a heading's attributes are put in under the first number, and, if `calls`, whether they are found
+/// there.
+pub fn puts_attributes(
+    alloc: Global,
+    held: &mut Allocations<'static>,
+    calls: bool,
+) -> Result<bool, Fault> {
+    let ix = held.allocate_heading(HeadingAttributes {
+        id: Some(CowStr::Borrowed("i")),
+        classes: Vec::new(alloc),
+        attrs: Vec::new(alloc),
+    })?;
+    if !calls {
+        return Ok(true);
+    }
+    let has_id = match &held[ix].id {
         Some(id) => id.as_str() == "i",
         None => false,
-    }
+    };
+    Ok(ix.0 == 1 && has_id)
 }
 
 /// Returns whether a key finds the definition.
@@ -80,24 +119,19 @@ fn looks_up(held: &Allocations<'static>) -> Result<bool, Fault> {
     }
 }
 
-/// Returns whether a name finds the footnote, which has not been used.
-fn is_unused(held: &mut Allocations<'static>) -> Result<bool, Fault> {
+/// Returns whether a name finds the footnote, which has been used so often.
+fn is_used(held: &mut Allocations<'static>, count: usize) -> Result<bool, Fault> {
     match held.footdefs.get_mut(CowStr::Borrowed("N"))? {
-        Some(footnote) => Ok(footnote.use_count == 0),
+        Some(footnote) => Ok(footnote.use_count == count),
         None => Ok(false),
     }
 }
 
-/// Returns whether the one definition is listed, and the footnote is unused.
-fn is_as_made(held: &mut Allocations<'static>) -> bool {
-    lists_the_definition(held) && is_unused(held) == Ok(true)
-}
-
-/// Returns whether the one definition is listed.
-fn lists_the_definition(held: &Allocations<'static>) -> bool {
+/// Returns whether one definition is listed, with this label.
+pub fn lists_one(definitions: &RefDefs<'_>, wanted: &str) -> bool {
     let mut listed = 0usize;
-    for (label, definition) in held.refdefs.iter() {
-        if label != "ß" || definition.dest.as_str() != "/u" {
+    for (label, definition) in definitions.iter() {
+        if label != wanted || definition.dest.as_str() != "/u" {
             return false;
         }
         listed = listed.saturating_add(1);
@@ -110,46 +144,38 @@ fn answers(alloc: Global, held: &mut Allocations<'static>, call: Call) -> Result
     match call {
         Call::LookUp => looks_up(held),
         Call::Contains => held.footdefs.contains("N"),
-        Call::LookUpUses => is_unused(held),
-        Call::PutText => puts_text(held),
-        Call::PutLink => puts_link(held),
-        Call::PutAlignments => puts_alignments(alloc, held),
-        Call::PutAttributes => puts_attributes(alloc, held),
+        Call::LookUpUses => is_used(held, 0),
+        Call::PutText => puts_text(held, true),
+        Call::PutLink => puts_link(held, true),
+        Call::PutAlignments => puts_alignments(alloc, held, true),
+        Call::PutAttributes => puts_attributes(alloc, held, true),
     }
 }
 
 /// Returns whether a call does so, at once or after a refusal: a refused call allocates nothing, and changes nothing
-/// else.
+/// else, so that the one definition is listed, and the footnote is unused.
 pub fn answers_again(alloc: Global, call: Call) -> Option<bool> {
-    let mut held = made(alloc)?;
+    let mut held = made(alloc).ok()?;
     let is_so = match answers(alloc, &mut held, call) {
         Ok(answered) => answered,
         Err(fault) => {
             fault == Fault::Memory
-                && is_as_made(&mut held)
+                && lists_one(&held.refdefs, "ß")
+                && is_used(&mut held, 0) == Ok(true)
                 && answers(alloc, &mut held, call) == Ok(true)
         }
     };
     Some(is_so)
 }
 
-/// Returns how often the footnote has been used, or None if an allocation failed.
-fn uses(held: &mut Allocations<'static>) -> Option<usize> {
-    match held.footdefs.get_mut(CowStr::Borrowed("N")) {
-        Ok(Some(footnote)) => Some(footnote.use_count),
-        Ok(None) => Some(1000),
-        Err(_) => None,
-    }
-}
-
 /// Returns whether a use is counted once, and not at all if an allocation failed.
 pub fn counts(alloc: Global) -> Option<bool> {
-    let mut held = made(alloc)?;
+    let mut held = made(alloc).ok()?;
     let counted = held.footdefs.count_use("N");
     let expected = if counted == Ok(true) { 1 } else { 0 };
-    let seen = match uses(&mut held) {
-        Some(seen) => Some(seen),
-        None => uses(&mut held),
+    let is_seen = match is_used(&mut held, expected) {
+        Ok(is_seen) => is_seen,
+        Err(_) => is_used(&mut held, expected) == Ok(true),
     };
-    Some(counted != Ok(false) && seen == Some(expected))
+    Some(counted != Ok(false) && is_seen)
 }

@@ -1,4 +1,6 @@
-//! Copies and `'static` forms of texts: the same text, or an allocation failed; where none is made, the same text.
+//! Copies and `'static` forms of texts and definitions: the same value, or an allocation failed; where none is made, the
+//! same value.
+use crate::tries::tried;
 use markdown_base::block_parts::LinkDef;
 use markdown_base::cow_str::CowStr;
 use markdown_base::fault::Fault;
@@ -9,49 +11,50 @@ use std::alloc::{AllocError, Global};
 /// A text of more bytes than are stored inline.
 pub const LONG: &str = "a text of more than 22 bytes";
 
-fn is_text(made: Result<CowStr<'_>, AllocError>) -> bool {
-    match made {
-        Ok(text) => text.as_str() == LONG,
-        Err(_) => false,
+/// Where a text is.
+#[derive(Clone, Copy, PartialEq, Drop)]
+pub enum Place {
+    Slice,
+    Heap,
+}
+
+pub fn text(alloc: Global, place: Place) -> Result<CowStr<'static>, AllocError> {
+    match place {
+        Place::Slice => Ok(CowStr::Borrowed(LONG)),
+        Place::Heap => Ok(CowStr::from(String::from_str(alloc, LONG)?)),
     }
 }
 
-fn is_text_or_refused(made: Result<CowStr<'_>, AllocError>) -> bool {
-    made.is_err() || is_text(made)
+/// Returns whether the text is made, or, if one allocation is needed, it failed.
+fn is_text(made: Result<CowStr<'_>, AllocError>, allocates: bool) -> bool {
+    match made {
+        Ok(text) => text.as_str() == LONG,
+        Err(_) => allocates,
+    }
 }
 
-/// Returns a boxed text.
-pub fn boxed(alloc: Global) -> Result<CowStr<'static>, AllocError> {
-    Ok(CowStr::from(String::from_str(alloc, LONG)?))
+/// Returns whether a text is copied, and unchanged if an allocation failed. The copy of a slice is made without
+/// allocating.
+pub fn copies_a_text(alloc: Global, place: Place) -> Option<bool> {
+    let held = text(alloc, place).ok()?;
+    let is_copied = is_text(held.try_clone(alloc), place == Place::Heap);
+    Some(is_copied && held.as_str() == LONG)
 }
 
-/// Returns whether the copy of a slice is made without allocating.
-pub fn copies_a_slice(alloc: Global) -> bool {
-    is_text(CowStr::Borrowed(LONG).try_clone(alloc))
+/// Returns whether a text becomes `'static`. One that is owned already does so without allocating.
+pub fn frees_a_text(alloc: Global, place: Place) -> Option<bool> {
+    let held = text(alloc, place).ok()?;
+    Some(is_text(held.into_static(alloc), place == Place::Slice))
 }
 
-pub fn frees_a_slice(alloc: Global) -> bool {
-    is_text_or_refused(CowStr::Borrowed(LONG).into_static(alloc))
-}
-
-/// Returns whether a boxed text is copied, and unchanged if an allocation failed.
-pub fn copies_a_boxed_text(alloc: Global) -> Option<bool> {
-    let text = boxed(alloc).ok()?;
-    Some(is_text_or_refused(text.try_clone(alloc)) && text.as_str() == LONG)
-}
-
-/// Returns whether a text that is owned already becomes `'static` without allocating.
-pub fn frees_a_boxed_text(alloc: Global) -> Option<bool> {
-    let text = boxed(alloc).ok()?;
-    Some(is_text(text.into_static(alloc)))
-}
-
-fn definition(dest: CowStr<'static>, title: CowStr<'static>) -> LinkDef<'static> {
-    LinkDef {
+fn definition(alloc: Global, place: Place) -> Result<LinkDef<'static>, AllocError> {
+    let dest = text(alloc, place)?;
+    let title = text(alloc, place)?;
+    Ok(LinkDef {
         dest,
         title: Some(title),
         span: 3..7,
-    }
+    })
 }
 
 fn is_definition(held: &LinkDef<'_>) -> bool {
@@ -61,38 +64,28 @@ fn is_definition(held: &LinkDef<'_>) -> bool {
     held.dest.as_str() == LONG && title.as_str() == LONG && held.span == (3..7)
 }
 
-fn is_definition_or_refused(made: Result<LinkDef<'_>, Fault>) -> bool {
-    match made {
-        Ok(made) => is_definition(&made),
-        Err(fault) => fault == Fault::Memory,
-    }
+/// Returns whether what was made is the definition.
+fn is_made(made: Result<LinkDef<'_>, Fault>) -> Result<bool, Fault> {
+    Ok(is_definition(&made?))
 }
 
 /// Returns whether a definition is copied, at once or after a refusal, and unchanged.
 pub fn copies_a_definition(alloc: Global) -> Option<bool> {
-    let dest = boxed(alloc).ok()?;
-    let title = boxed(alloc).ok()?;
-    let held = definition(dest, title);
-    let is_copied = match held.try_clone(alloc) {
-        Ok(copy) => is_definition(&copy),
+    let held = definition(alloc, Place::Heap).ok()?;
+    let is_copied = match is_made(held.try_clone(alloc)) {
+        Ok(is_same) => is_same,
         Err(fault) => {
-            fault == Fault::Memory && is_definition(&held) && is_made(held.try_clone(alloc))
+            fault == Fault::Memory
+                && is_definition(&held)
+                && is_made(held.try_clone(alloc)) == Ok(true)
         }
     };
     Some(is_copied && is_definition(&held))
 }
 
-/// Returns whether the definition is made.
-fn is_made(made: Result<LinkDef<'_>, Fault>) -> bool {
-    match made {
-        Ok(made) => is_definition(&made),
-        Err(_) => false,
-    }
-}
-
-pub fn frees_a_definition(alloc: Global) -> bool {
-    let held = definition(CowStr::Borrowed(LONG), CowStr::Borrowed(LONG));
-    is_definition_or_refused(held.into_static(alloc))
+pub fn frees_a_definition(alloc: Global) -> Option<bool> {
+    let held = definition(alloc, Place::Slice).ok()?;
+    tried(Ok::<bool, Fault>(true), is_made(held.into_static(alloc)))
 }
 
 pub fn frees_a_broken_link(alloc: Global) -> bool {

@@ -1,4 +1,5 @@
 //! The promises of trees and of block results.
+use crate::tries::put;
 use markdown_base::block_parts::BlockParts;
 use markdown_base::cow_str::CowStr;
 use markdown_base::index::{AlignmentIndex, CowIndex, HeadingIndex};
@@ -74,10 +75,11 @@ static ALL_KINDS: [Node; 15] = [
 fn checked(alloc: Global) -> Result<Blocks<'static>, Fault> {
     let tree = tree_of_nodes(alloc, &ALL_KINDS)?;
     let mut parts = one_of_each(alloc)?;
-    parts
-        .definitions
-        .push((CowStr::Borrowed("a"), link_to("/u")))?;
-    parts.footnotes.push(CowStr::Borrowed("n"))?;
+    put(
+        &mut parts.definitions,
+        (CowStr::Borrowed("a"), link_to("/u")),
+    )?;
+    put(&mut parts.footnotes, CowStr::Borrowed("n"))?;
     Blocks::checked(alloc, OPEN, Options::ENABLE_MATH, tree, parts)
 }
 
@@ -101,14 +103,6 @@ static LINKS: [(Option<usize>, Option<usize>); 16] = [
     (None, None),
 ];
 
-/// Returns whether an item is that of a row.
-fn is_node(row: Option<&Node>, item: Item) -> bool {
-    match row {
-        Some(&(_, start, end, body)) => Item { start, end, body } == item,
-        None => false,
-    }
-}
-
 /// Returns whether a tree has these items in preorder, from the root's first child on, and these links.
 fn is_tree(tree: &Tree<Item>, nodes: &[Node], links: &[(Option<usize>, Option<usize>)]) -> bool {
     for ix in 0..tree.len() {
@@ -117,7 +111,11 @@ fn is_tree(tree: &Tree<Item>, nodes: &[Node], links: &[(Option<usize>, Option<us
         }
     }
     'items: for ix in 1..tree.len() {
-        if !is_node(nodes.get(ix - 1), *tree.item(ix)) {
+        let is_node = match nodes.get(ix - 1) {
+            Some(&(_, start, end, body)) => *tree.item(ix) == Item { start, end, body },
+            None => false,
+        };
+        if !is_node {
             return false;
         }
     }

@@ -1,13 +1,18 @@
-//! What is checked for the calls of each kind: the items of iterators, compared with those of a run without refusals or
-//! of a list, and the HTML after an old text.
+//! What is checked for the calls of each kind: what they return, the items of iterators, compared with those of a run
+//! without refusals, and the HTML after an old text. The types are parameters, so that no event is dropped here.
 ghost use Rattle.std.specs.Iterator.{IsFinite};
 
 use markdown_base::event::Event;
 use markdown_base::fault::Fault;
 use markdown_out::html::push_html;
-use markdown_test_helpers::lists::{Listed, is_nothing, is_same};
-use std::alloc::Global;
+use markdown_test_helpers::lists::is_nothing;
+use std::alloc::{AllocError, Global};
 use std::ops::Range;
+
+/// Appends an item to a list.
+pub fn put<T: Drop>(list: &mut Vec<T>, item: T) -> Result<(), AllocError> {
+    Ok(list.push(item)?)
+}
 
 /// Returns whether a call returned a value, or an allocation failed.
 pub fn is_made<T: Drop>(made: Result<T, Fault>) -> bool {
@@ -20,27 +25,31 @@ pub fn is_made<T: Drop>(made: Result<T, Fault>) -> bool {
     }
 }
 
-/// Returns all items of an iterator in a list, or None if an allocation failed.
+/// Returns whether a call returned what is wanted, or an allocation failed; None where what is wanted was not made.
+pub fn tried<T: PartialEq + Drop, E: Drop>(
+    wanted: Result<T, E>,
+    made: Result<T, Fault>,
+) -> Option<bool> {
+    let wanted = wanted.ok()?;
+    match made {
+        Ok(made) => Some(made == wanted),
+        Err(fault) => Some(fault == Fault::Memory),
+    }
+}
+
+/// Returns all items of an iterator in a list.
 pub fn all_of<T: Drop, I: Iterator<Item = Result<T, Fault>> + Drop>(
     alloc: Global,
-    items: I,
+    made: Result<I, Fault>,
 ) -> Option<Vec<T>>
-    requires can { I.can_next items }
-    requires ends { IsFinite (I.remaining items) }
+    requires can { (left : I) → I.can_next left }
+    requires ends { (left : I) → IsFinite (I.remaining left) }
 {
     let mut all = Vec::new(alloc);
-    for item in items {
+    for item in made.ok()? {
         all.push(item.ok()?).ok()?;
     }
     Some(all)
-}
-
-/// Returns whether an item is at this position of a list.
-fn stands_at<T: PartialEq + Drop>(full: &[T], at: usize, item: T) -> bool {
-    match full.get(at) {
-        Some(wanted) => *wanted == item,
-        None => false,
-    }
 }
 
 /// How items compare with those of a run without refusals.
@@ -53,17 +62,13 @@ pub enum Outcome {
     Wrong,
 }
 
-fn right_if(is_so: bool, outcome: Outcome) -> Outcome {
-    if is_so { outcome } else { Outcome::Wrong }
-}
-
-/// An item of a merge.
-pub trait Merged: PartialEq + Drop {
+/// An item of an iterator.
+pub trait Given: PartialEq + Drop {
     /// Returns whether this is a text that the other begins with: an error has ended its run.
     fn begins(&self, whole: &Self) -> bool;
 }
 
-impl Merged for Event<'static> {
+impl Given for Event<'static> {
     fn begins(&self, whole: &Event<'static>) -> bool {
         match (self, whole) {
             (Event::Text(text), Event::Text(whole)) => whole.as_str().starts_with(text.as_str()),
@@ -72,21 +77,24 @@ impl Merged for Event<'static> {
     }
 }
 
-impl Merged for (Event<'static>, Range<usize>) {
+impl Given for (Event<'static>, Range<usize>) {
     fn begins(&self, whole: &(Event<'static>, Range<usize>)) -> bool {
         self.0.begins(&whole.0) && self.1.start == whole.1.start && self.1.end <= whole.1.end
     }
 }
 
-/// Returns how an item compares with the one at its position in a list.
-fn beside<T: Merged>(full: &[T], at: usize, item: T) -> Outcome {
+/// Returns how an item compares with the one at its position in a list. `cuts` says whether it may be a text cut short.
+fn beside<T: Given>(full: &[T], at: usize, item: T, cuts: bool) -> Outcome {
     let Some(whole) = full.get(at) else {
         return Outcome::Wrong;
     };
     if *whole == item {
         return Outcome::Whole;
     }
-    right_if(item.begins(whole), Outcome::Cut)
+    if cuts && item.begins(whole) {
+        return Outcome::Cut;
+    }
+    Outcome::Wrong
 }
 
 /// Returns whether three calls return None.
@@ -96,17 +104,16 @@ fn stays_over<T: Drop, I: Iterator<Item = T>>(items: &mut I) -> bool
     is_nothing(items.next()) && is_nothing(items.next()) && is_nothing(items.next())
 }
 
-/// Returns how the items of a merge compare with those of a run without refusals. Only None may follow them. The last
-/// item
-/// of a prefix may be a text cut short.
-pub fn compared<T: Merged, I: Iterator<Item = Result<T, Fault>> + Drop>(
-    items: I,
+/// Returns how items compare with those of a run without refusals. Only None may follow them. If `cuts`, as in a merge,
+/// the last item of a prefix may be a text cut short.
+pub fn walked<T: Given, I: Iterator<Item = Result<T, Fault>>>(
+    items: &mut I,
     full: &[T],
+    cuts: bool,
 ) -> Outcome
     requires can { (left : I) → I.can_next left }
-    requires ends { IsFinite (I.remaining items) }
+    requires ends { (left : I) → IsFinite (I.remaining left) }
 {
-    let mut items = items;
     let mut last = Outcome::Whole;
     'giving: for at in 0..1000 {
         match items.next() {
@@ -114,92 +121,78 @@ pub fn compared<T: Merged, I: Iterator<Item = Result<T, Fault>> + Drop>(
                 if last != Outcome::Whole {
                     return Outcome::Wrong;
                 }
-                last = beside(full, at, item);
+                last = beside(full, at, item, cuts);
             }
             Some(Err(fault)) => {
-                let is_right = fault == Fault::Memory && stays_over(&mut items);
-                return right_if(is_right && last != Outcome::Wrong, Outcome::Cut);
+                if fault == Fault::Memory && last != Outcome::Wrong && stays_over(items) {
+                    return Outcome::Cut;
+                }
+                return Outcome::Wrong;
             }
             None => {
-                let is_right = at == full.len() && stays_over(&mut items);
-                return right_if(is_right && last == Outcome::Whole, Outcome::Whole);
+                if at == full.len() && last == Outcome::Whole && stays_over(items) {
+                    return Outcome::Whole;
+                }
+                return Outcome::Wrong;
             }
         }
     }
     Outcome::Wrong
 }
 
-/// Returns how items compare with those of a run without refusals, and the iterator after them. Only None may follow
-/// them.
-pub fn walked<T: PartialEq + Drop, I: Iterator<Item = Result<T, Fault>> + Drop>(
-    items: I,
+/// Returns whether the items of an iterator are these, or a prefix of them.
+pub fn gives<T: Given, I: Iterator<Item = Result<T, Fault>> + Drop>(
+    made: Result<I, Fault>,
     full: &[T],
-) -> (Outcome, I)
-    requires can { (left : I) → I.can_next left }
-    requires ends { IsFinite (I.remaining items) }
-{
-    let mut items = items;
-    'giving: for at in 0..1000 {
-        match items.next() {
-            Some(Ok(item)) => {
-                if !stands_at(full, at, item) {
-                    return (Outcome::Wrong, items);
-                }
-            }
-            Some(Err(fault)) => {
-                let is_right = fault == Fault::Memory && stays_over(&mut items);
-                return (right_if(is_right, Outcome::Cut), items);
-            }
-            None => {
-                let is_right = at == full.len() && stays_over(&mut items);
-                return (right_if(is_right, Outcome::Whole), items);
-            }
-        }
-    }
-    (Outcome::Wrong, items)
-}
-
-/// Returns whether an iterator returns the items of a list in order, and then only None; or a prefix of them, `Memory`,
-/// and then only None.
-pub fn gives<L: Listed, I: Iterator<Item = Result<L::Item, Fault>> + Drop>(
-    items: I,
-    list: L,
+    cuts: bool,
 ) -> bool
     requires can { (left : I) → I.can_next left }
-    requires ends { IsFinite (I.remaining items) }
+    requires ends { (left : I) → IsFinite (I.remaining left) }
 {
-    let mut items = items;
-    'giving: for at in 0..100 {
-        match items.next() {
-            Some(Ok(item)) => {
-                if !is_same(list.item(at), item) {
-                    return false;
-                }
-            }
-            Some(Err(fault)) => return fault == Fault::Memory && stays_over(&mut items),
-            None => return is_nothing(list.item(at)) && stays_over(&mut items),
+    match made {
+        Ok(items) => {
+            let mut items = items;
+            walked(&mut items, full, cuts) != Outcome::Wrong
         }
+        Err(fault) => fault == Fault::Memory,
     }
-    false
+}
+
+/// Returns whether the items of an iterator are those of the first, or a prefix of them.
+pub fn repeats<T: Given, I: Iterator<Item = Result<T, Fault>> + Drop>(
+    alloc: Global,
+    first: Result<I, Fault>,
+    second: Result<I, Fault>,
+    cuts: bool,
+) -> Option<bool>
+    requires can { (left : I) → I.can_next left }
+    requires ends { (left : I) → IsFinite (I.remaining left) }
+{
+    let full = all_of(alloc, first)?;
+    Some(gives(second, full.as_slice(), cuts))
 }
 
 /// Returns whether the old text is followed by all of the HTML; or by a prefix of it, and the error is `Memory`. None
-/// where there is no old text.
-pub fn writes<'a, I: Iterator<Item = Result<Event<'a>, Fault>>>(
+/// where there is no HTML or no old text.
+pub fn writes<'a, I: Iterator<Item = Result<Event<'a>, Fault>> + Drop>(
     alloc: Global,
-    events: I,
-    html: &str,
+    html: Option<String>,
+    events: Result<I, Fault>,
 ) -> Option<bool>
-    requires can { I.can_next events }
-    requires ends { IsFinite (I.remaining events) }
+    requires can { (left : I) → I.can_next left }
+    requires ends { (left : I) → IsFinite (I.remaining left) }
 {
+    let html = html?;
     let mut written = String::from_str(alloc, "old").ok()?;
-    let ended = push_html(alloc, &mut written, events);
+    let ended = match events {
+        Ok(events) => push_html(alloc, &mut written, events),
+        Err(fault) => Err(fault),
+    };
     let is_so = match written.as_str().strip_prefix("old") {
         None => false,
         Some(front) => match ended {
-            Ok(()) => front == html,
-            Err(fault) => fault == Fault::Memory && html.starts_with(front),
+            Ok(()) => front == html.as_str(),
+            Err(fault) => fault == Fault::Memory && html.as_str().starts_with(front),
         },
     };
     Some(is_so)
