@@ -26,6 +26,12 @@ pub record IsAtSpecial (text : List ℕ) (line : Line) (at : ℕ) : Type 0 where
   pub end : IsCharBoundary text line.end
   pub special : is_special line.extensions.dashes (slice_index text at) ≡ true
 
+-- an item may be appended at an offset: a leaf is open, what was appended ends before it, and a special byte is there
+pub record MayAppendAt (view : BuilderView) (line : Line) (at : ℕ) : Type 0 where
+  pub inside : view.leaf ≡ true
+  pub placed : view.at ≤ at
+  pub here : IsAtSpecial view.text line at
+
 -- the offset at which to continue after what was found at an offset
 abbrev pub next_after : ℕ → Found → ℕ
 next_after at (found.Text next) = next

@@ -10,7 +10,7 @@ ghost use Rattle.markdown_items.specs.LineItems.{is_after_backslash, item_extens
 ghost use Rattle.markdown_items.specs.RestOfLine.{HasSpecialRun, RunIsOver};
 ghost use Rattle.markdown_items.specs.Found.{found_at};
 ghost use Rattle.markdown_items.specs.FoundView.{found_view};
-ghost use Rattle.markdown_items.specs.FoundFits.{IsAtSpecial, FoundFits, AppendsFound, run_after_text, view_after};
+ghost use Rattle.markdown_items.specs.FoundFits.{MayAppendAt, FoundFits, AppendsFound, run_after_text, view_after};
 
 use crate::dashes::dashes_for;
 use crate::delimiter_run::run_end;
@@ -68,9 +68,7 @@ fn append_run(
     stop: usize,
     flags: Flags,
 ) -> Result<(), AllocError>
-    requires here { IsAtSpecial builder.old.text line at }
-    requires inside { builder.old.leaf ≡ true }
-    requires placed { builder.old.at ≤ at }
+    requires ready { MayAppendAt builder.old line at }
     requires fits { FoundFits builder.old.text line.end at (Found.Run stop flags) }
     ensures { IfOk result (λ _. builder.new
         ≡ view_after builder.old line at (Found.Run stop flags)) }
@@ -154,9 +152,7 @@ fn append_found(
     at: usize,
     found: Found,
 ) -> Result<(), AllocError>
-    requires here { IsAtSpecial builder.old.text line at }
-    requires inside { builder.old.leaf ≡ true }
-    requires placed { builder.old.at ≤ at }
+    requires ready { MayAppendAt builder.old line at }
     requires fits { FoundFits builder.old.text line.end at found }
     ensures { IfOk result (λ _. builder.new ≡ view_after builder.old line at found) }
 {
@@ -195,9 +191,7 @@ fn take_found(
     at: usize,
     found: Found,
 ) -> Result<usize, AllocError>
-    requires here { IsAtSpecial builder.old.text line at }
-    requires inside { builder.old.leaf ≡ true }
-    requires placed { builder.old.at ≤ at }
+    requires ready { MayAppendAt builder.old line at }
     requires value { found_view found ≡ found_at line builder.old.text at }
     requires fits { FoundFits builder.old.text line.end at found }
     ensures { IfOk result (λ next. AppendsFound builder.old line at builder.new next) }
@@ -217,9 +211,7 @@ fn append_special(
     line: Line,
     at: usize,
 ) -> Result<usize, AllocError>
-    requires here { IsAtSpecial builder.old.text line at }
-    requires inside { builder.old.leaf ≡ true }
-    requires placed { builder.old.at ≤ at }
+    requires { MayAppendAt builder.old line at }
     ensures { IfOk result (λ next. AppendsFound builder.old line at builder.new next) }
 {
     let text = builder.text();

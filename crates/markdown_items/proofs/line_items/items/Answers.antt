@@ -44,20 +44,24 @@ line-init c =
           (omega arith) first (at_start extensions view c.args.end over));
     }
 
-pub append_special-requires-clause-here : goal.append_special-requires-clause-here
-append_special-requires-clause-here c =
+pub append_special-requires : goal.append_special-requires
+append_special-requires c =
     let at = c.line.at in
     let text : c.args.builder.now.text ≡ c.line.builder.text =
     sym (ap (λ (v : BuilderView). v.text) c.line.invariant.same) in
     let bytes : c.as_bytes-bytes.result.now ≡ c.line.builder.text =
     c.as_bytes-bytes.ensures.value ∙ (c.text.ensures ∙ text) in
     record {
-      start = subst (λ (t : List ℕ). IsCharBoundary t c.at.result) text c.at.ensures.boundary;
-      begun = omega (arith, c.at.ensures.value, c.line.invariant.begun, c.line.invariant.placed);
-      more = c.line-test.true;
-      end = subst (λ (t : List ℕ). IsCharBoundary t c.args.end) text c.requires.boundary;
-      special = subst (λ (t : List ℕ). is_special c.of.result.dashes (slice_index t at) ≡ true) bytes
-          (c.line.invariant.special c.line-test.true);
+      inside = rw c.line.invariant.same c.requires.inside;
+      placed = c.line.invariant.placed;
+      here = record {
+        start = subst (λ (t : List ℕ). IsCharBoundary t c.at.result) text c.at.ensures.boundary;
+        begun = omega (arith, c.at.ensures.value, c.line.invariant.begun, c.line.invariant.placed);
+        more = c.line-test.true;
+        end = subst (λ (t : List ℕ). IsCharBoundary t c.args.end) text c.requires.boundary;
+        special = subst (λ (t : List ℕ). is_special c.of.result.dashes (slice_index t at) ≡ true) bytes
+            (c.line.invariant.special c.line-test.true);
+      };
     }
 
 pub line-smaller : goal.line-smaller
