@@ -1,6 +1,6 @@
 //! The kinds of HTML blocks, by how they begin and end (CommonMark 4.6).
 ghost use Rattle.std.specs.Prelude.{◌≡◌, ◌≤◌, length, IfOk};
-ghost use Rattle.std.specs.List.{list_any};
+ghost use Rattle.std.specs.List.{list_any, prefix_len};
 ghost use Rattle.markdown_lines.specs.HtmlKinds.{begins_ignoring_case, ends_at_blank, ends_in, holds};
 ghost use Rattle.markdown_lines.specs.HtmlBeginnings as spec;
 
@@ -189,17 +189,25 @@ fn is_name_byte(byte: u8) -> bool
     byte.is_ascii_alphanumeric() || byte == b'-'
 }
 
+/// Returns the length in bytes of the tag's name that bytes begin with.
+fn name_length(bytes: &[u8]) -> usize
+    ensures value { result ≡ prefix_len spec.is_name_byte bytes.now }
+    ensures within { result ≤ length bytes.now }
+{
+    for at in 0..bytes.len() {
+        if !is_name_byte(bytes[at]) {
+            return at;
+        }
+    }
+    bytes.len()
+}
+
 /// Returns the tag's name that bytes begin with.
 fn tag_name(bytes: &[u8]) -> &[u8]
     ensures value { result.now ≡ spec.name_at_start bytes.now }
     ensures within { length result.now ≤ length bytes.now }
 {
-    for at in 0..bytes.len() {
-        if !is_name_byte(bytes[at]) {
-            return &bytes[..at];
-        }
-    }
-    bytes
+    &bytes[..name_length(bytes)]
 }
 
 /// Returns whether a space, a tab, a `>` or nothing comes next.
