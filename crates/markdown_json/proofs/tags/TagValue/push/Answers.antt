@@ -14,3 +14,24 @@ returns-in-CodeBlock-clause-ok c =
 pub returns-in-FootnoteDefinition-clause-ok : goal.returns-in-FootnoteDefinition-clause-ok
 returns-in-FootnoteDefinition-clause-ok c = rw c.in-FootnoteDefinition.is
     c.push_variant-in-FootnoteDefinition.ensures.ok
+
+pub returns-in-Heading-clause-ok : goal.returns-in-Heading-clause-ok
+returns-in-Heading-clause-ok c = rw c.in-Heading.is c.push_variant.ensures.ok
+
+pub returns-in-Heading-clause-err : goal.returns-in-Heading-clause-err
+returns-in-Heading-clause-err c = rw c.in-Heading.is c.push_variant.ensures.err
+
+pub returns-in-List-clause-ok : goal.returns-in-List-clause-ok
+returns-in-List-clause-ok c = rw c.in-List.is c.push_variant-in-List.ensures.ok
+
+pub returns-in-List-clause-err : goal.returns-in-List-clause-err
+returns-in-List-clause-err c = rw c.in-List.is c.push_variant-in-List.ensures.err
+
+pub returns-in-Table-clause-ok : goal.returns-in-Table-clause-ok
+returns-in-Table-clause-ok c = rw c.in-Table.is c.push_variant-in-Table.ensures.ok
+
+pub returns-in-Table-clause-err : goal.returns-in-Table-clause-err
+returns-in-Table-clause-err c = rw c.in-Table.is c.push_variant-in-Table.ensures.err
+
+pub returns-in-FootnoteDefinition-clause-err : goal.returns-in-FootnoteDefinition-clause-err
+returns-in-FootnoteDefinition-clause-err c = rw c.in-FootnoteDefinition.is c.push_variant-in-FootnoteDefinition.ensures.err
