@@ -1,6 +1,6 @@
 -- Attributes in braces at the end of a heading's content: an id, classes, and names with or without values.
 use Rattle.std.specs.Prelude.{◌≡◌, ℕ, ◌+◌, ◌-◌, Bool, not, ◌==◌, ◌&&◌, ◌||◌, nat_le, nat_lt, List, [], ◌∷◌}
-use Rattle.std.specs.Prelude.{Option, Some, None, length, drop, take, map, slice_index, slice_range}
+use Rattle.std.specs.Prelude.{◌++◌, Option, Some, None, length, drop, take, map, slice_index, slice_range}
 use Rattle.std.specs.Prelude.{if◌then◌else◌}
 use Rattle.std.specs.List.{after_first, before_first, filter, position_or_len, slice_split}
 use Rattle.std.specs.Option.{option_map, option_or}
@@ -130,3 +130,11 @@ pub record AreAttributes (made : HeadingAttributes) (words : List (List ℕ)) : 
   pub id : option_map text_of made.id ≡ id_among words
   pub classes : map text_of made.classes.items ≡ classes_among words
   pub names : map attribute_view made.attrs.items ≡ names_among words
+
+-- what a word says is added to attributes
+pub record AddsWord (word : List ℕ) (old new : HeadingAttributes) : Type 0 where
+  pub id : option_map text_of new.id ≡ option_or (own_id word) (option_map text_of old.id)
+  pub classes : map text_of new.classes.items
+      ≡ map text_of old.classes.items ++ map (drop 1) (filter is_class (word ∷ []))
+  pub names : map attribute_view new.attrs.items
+      ≡ map attribute_view old.attrs.items ++ map name_and_value (filter is_named (word ∷ []))

@@ -7,8 +7,9 @@ ghost use Rattle.std.specs.Option.{option_map, option_or};
 ghost use Rattle.std.specs.Str.{IsCharBoundary};
 ghost use Rattle.markdown_base.specs.CowText.{text_of};
 ghost use Rattle.markdown_base.specs.Event.{attribute_view};
-ghost use Rattle.markdown_lines.specs.HeadingAttributes.{attributed, attributes_read, braces_from, braces_in, braces_to};
-ghost use Rattle.markdown_lines.specs.HeadingAttributes.{is_class, is_enclosed, is_named, name_and_value, own_id};
+ghost use Rattle.markdown_lines.specs.HeadingAttributes.{AddsWord, attributed, attributes_read, braces_from};
+ghost use Rattle.markdown_lines.specs.HeadingAttributes.{braces_in, braces_to};
+ghost use Rattle.markdown_lines.specs.HeadingAttributes.{is_enclosed, name_and_value};
 ghost use Rattle.markdown_lines.specs.HeadingAttributes.{parts_words, words_in, AreAttributes};
 
 use crate::atx_heading::{AtxHeading, content_length, trimmed_length};
@@ -163,14 +164,7 @@ fn name_and_value(word: &str) -> (CowStr<'_>, Option<CowStr<'_>>)
 
 /// Adds what a word says to the attributes.
 fn add_word<'a>(attributes: &mut HeadingAttributes<'a>, word: &'a str) -> Result<(), AllocError>
-    ensures id { IfOk result (λ _. option_map text_of attributes.new.id
-        ≡ option_or (own_id word.now) (option_map text_of attributes.old.id)) }
-    ensures classes { IfOk result (λ _. map text_of attributes.new.classes.items
-        ≡ map text_of attributes.old.classes.items
-        ++ map (drop 1) (filter is_class (word.now ∷ []))) }
-    ensures names { IfOk result (λ _. map attribute_view attributes.new.attrs.items
-        ≡ map attribute_view attributes.old.attrs.items
-        ++ map name_and_value (filter is_named (word.now ∷ []))) }
+    ensures { IfOk result (λ _. AddsWord word.now attributes.old attributes.new) }
 {
     if word.len() < 2 {
         return Ok(());

@@ -1,7 +1,6 @@
 -- The content of the heading is what is left of the line from there on.
 use Rattle.std.proofs.Common.{◌≡◌, ◌+◌, ◌-◌, Bool, true, false, List, ℕ, ◌∙◌, refl, sym, ap, arith, slice_range}
 use Rattle.std.specs.Prelude.{if◌then◌else◌}
-use Rattle.markdown_lines.specs.BlockStarts.{left_at}
 use Rattle.markdown_lines.specs.HeadingAttributes.{attributed, attributes_read}
 use Rattle.markdown_lines.proofs.PositionsLemmas.{rest_of_part}
 use Rattle.markdown_lines.proofs.line_reader.LineReader.whole_heading.Goals as goal

@@ -1,5 +1,5 @@
 -- The line after the one that opens metadata, and the lines after that.
-use Rattle.std.proofs.Common.{◌≡◌, List, ℕ, refl, sym, ap, ◌∙◌, arith, true, false, slice_range}
+use Rattle.std.proofs.Common.{refl, sym, ap, ◌∙◌, arith, true, false}
 use Rattle.std.specs.List.{list_all}
 use Rattle.markdown_lines.specs.Lines.{is_space_or_tab}
 use Rattle.markdown_lines.specs.MetadataBlocks.{closes_metadata}
