@@ -312,6 +312,51 @@ fn clone_link_texts<'a>(
     Ok((dest_url, title, id))
 }
 
+/// Returns a heading's tag without borrowing from the source, from the parts of one that may borrow. The only error is
+/// `Fault::Memory`.
+fn static_heading(
+    level: HeadingLevel,
+    id: Option<CowStr<'_>>,
+    classes: Vec<CowStr<'_>>,
+    attrs: Vec<(CowStr<'_>, Option<CowStr<'_>>)>,
+    alloc: Global,
+) -> Result<Tag<'static>, Fault>
+    ensures same { IfOk result (λ made. tag_view made ≡ heading (record {
+      level = level;
+      id = option_map text_of id.entry;
+      classes = map text_of classes.entry.items;
+      attributes = map attribute_view attrs.entry.items;
+    })) }
+    ensures refused { IfErr result (λ fault. fault ≡ Fault.Memory) }
+{
+    let id = static_optional(id, alloc)?;
+    let classes = static_texts(classes, alloc)?;
+    let attrs = static_attributes(attrs, alloc)?;
+    Ok(Tag::Heading {
+        level,
+        id,
+        classes,
+        attrs,
+    })
+}
+
+/// Returns the same texts of a link or an image without borrowing from the source. The only error is `Fault::Memory`.
+fn static_link_texts(
+    dest_url: CowStr<'_>,
+    title: CowStr<'_>,
+    id: CowStr<'_>,
+    alloc: Global,
+) -> Result<(CowStr<'static>, CowStr<'static>, CowStr<'static>), Fault>
+    ensures same { IfOk result (λ made. (text_of made.0 ≡ text_of dest_url.entry)
+        × (text_of made.1 ≡ text_of title.entry) × (text_of made.2 ≡ text_of id.entry)) }
+    ensures refused { IfErr result (λ fault. fault ≡ Fault.Memory) }
+{
+    let dest_url = dest_url.into_static(alloc)?;
+    let title = title.into_static(alloc)?;
+    let id = id.into_static(alloc)?;
+    Ok((dest_url, title, id))
+}
+
 impl<'a> From<Tag<'a>> for TagEnd {
     ghost use Rattle.markdown_base.specs.Event.{tag_end};
 
@@ -435,12 +480,7 @@ impl<'a> Tag<'a> {
                 id,
                 classes,
                 attrs,
-            } => Tag::Heading {
-                level: level,
-                id: static_optional(id, alloc)?,
-                classes: static_texts(classes, alloc)?,
-                attrs: static_attributes(attrs, alloc)?,
-            },
+            } => static_heading(level, id, classes, attrs, alloc)?,
             Tag::BlockQuote(kind) => Tag::BlockQuote(kind),
             Tag::CodeBlock(kind) => Tag::CodeBlock(kind.into_static(alloc)?),
             Tag::List(start) => Tag::List(start),
@@ -451,23 +491,29 @@ impl<'a> Tag<'a> {
                 dest_url,
                 title,
                 id,
-            } => Tag::Link {
-                link_type: link_type,
-                dest_url: dest_url.into_static(alloc)?,
-                title: title.into_static(alloc)?,
-                id: id.into_static(alloc)?,
-            },
+            } => {
+                let (dest_url, title, id) = static_link_texts(dest_url, title, id, alloc)?;
+                Tag::Link {
+                    link_type,
+                    dest_url,
+                    title,
+                    id,
+                }
+            }
             Tag::Image {
                 link_type,
                 dest_url,
                 title,
                 id,
-            } => Tag::Image {
-                link_type: link_type,
-                dest_url: dest_url.into_static(alloc)?,
-                title: title.into_static(alloc)?,
-                id: id.into_static(alloc)?,
-            },
+            } => {
+                let (dest_url, title, id) = static_link_texts(dest_url, title, id, alloc)?;
+                Tag::Image {
+                    link_type,
+                    dest_url,
+                    title,
+                    id,
+                }
+            }
             Tag::MetadataBlock(kind) => Tag::MetadataBlock(kind),
             Tag::Paragraph => Tag::Paragraph,
             Tag::HtmlBlock => Tag::HtmlBlock,
