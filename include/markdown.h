@@ -79,20 +79,21 @@ extern "C" {
 /** More than 2^64 - 1 Starts are open in one image, more than can be counted. */
 #define MARKDOWN_TOO_DEEP (-3)
 
+/** A bit of the options is set that is not listed below, as a bit of a later version. */
+#define MARKDOWN_UNKNOWN_OPTION (-4)
+
 /**
  * ## Options
  *
- * Bits that enable extensions. Without `MARKDOWN_EXTENDED` a call reads by the port's profile, and with it by the full
- * reading. The bits of the full reading change nothing unless `MARKDOWN_EXTENDED` is set. Bits that are not listed
- * here never change anything.
+ * Bits that enable extensions. A call reads all of CommonMark and the extensions whose bits are set; this is the full
+ * reading. With `MARKDOWN_PROFILE` it reads by the port's profile instead, in which the bits that are not in it change
+ * nothing. A bit that is not listed here is an error.
  */
 
-/** CommonMark 0.31.2 without extensions, by the port's profile: e-mail addresses in angle brackets, and named entities
- * other than `&amp;`, `&lt;`, `&gt;` and `&quot;`, are text.
- */
+/** CommonMark 0.31.2 without extensions. */
 #define MARKDOWN_DEFAULT 0
 
-/** Tables, of the full reading. */
+/** Tables; not in the port's profile. */
 #define MARKDOWN_TABLES (1 << 1)
 
 /** Footnotes in GitHub's style: `[^a]` and its definition `[^a]: text`. */
@@ -101,21 +102,21 @@ extern "C" {
 /** `~~a~~`, and `~a~` unless `MARKDOWN_SUBSCRIPT` is set. */
 #define MARKDOWN_STRIKETHROUGH (1 << 3)
 
-/** Task lists, of the full reading: `- [ ] a`, and `- [x] a` for a task that is done. */
+/** Task lists, `- [ ] a`, and `- [x] a` for a task that is done; not in the port's profile. */
 #define MARKDOWN_TASKLISTS (1 << 4)
 
-/** Curly quotes; with `MARKDOWN_EXTENDED` also dashes for `--` and `---`, and an ellipsis for `...`. */
+/** Curly quotes, dashes for `--` and `---`, and an ellipsis for `...`; in the port's profile curly quotes alone. */
 #define MARKDOWN_SMART (1 << 5)
 
-/** Attributes of headings, of the full reading: `# a {#id .class name=value}`. They may have any name, even `onclick`.
- * Safe HTML has none of them.
+/** Attributes of headings, `# a {#id .class name=value}`; not in the port's profile. They may have any name, even
+ * `onclick`. Safe HTML has none of them.
  */
 #define MARKDOWN_HEADING_ATTRIBUTES (1 << 6)
 
-/** Metadata between `---` lines, of the full reading; HTML shows none of it. */
+/** Metadata between `---` lines, of which HTML shows nothing; not in the port's profile. */
 #define MARKDOWN_YAML (1 << 7)
 
-/** Metadata between `+++` lines, of the full reading; HTML shows none of it. */
+/** Metadata between `+++` lines, of which HTML shows nothing; not in the port's profile. */
 #define MARKDOWN_PLUSES (1 << 8)
 
 /** Footnotes whose references need no definition. */
@@ -124,7 +125,7 @@ extern "C" {
 /** `$a$` and `$$a$$`. */
 #define MARKDOWN_MATH (1 << 10)
 
-/** Alerts, of the full reading: block quotes that begin with `[!NOTE]`, or another of five kinds. */
+/** Alerts, block quotes that begin with `[!NOTE]`, or another of five kinds; not in the port's profile. */
 #define MARKDOWN_GFM (1 << 11)
 
 /** `^a^`. */
@@ -136,9 +137,13 @@ extern "C" {
 /** `[[page]]` and `[[page|text]]`. */
 #define MARKDOWN_WIKILINKS (1 << 15)
 
-/** The full reading, which also has e-mail addresses in angle brackets, all named entities of HTML, and more
- * extensions. The bit itself enables no extension. Libraries up to 0.8.0 ignore it.
+/** The port's profile in place of the full reading: HTML that is fixed to the byte. E-mail addresses in angle brackets,
+ * and named entities other than `&amp;`, `&lt;`, `&gt;` and `&quot;`, are text. Libraries up to 0.9.0 ignore the bit, and
+ * read by the profile without it.
  */
+#define MARKDOWN_PROFILE (1 << 29)
+
+/** Changes nothing: it asked for the full reading before that was the default. */
 #define MARKDOWN_EXTENDED (1 << 30)
 
 /**
@@ -149,7 +154,7 @@ extern "C" {
  *
  * Returns the length of the HTML in bytes. If that is at most `out_length`, the HTML is written to the front of `out`,
  * and the bytes after it are unchanged. Otherwise `out` is unchanged. On an error it returns `MARKDOWN_NOT_UTF8`,
- * `MARKDOWN_NO_MEMORY` or `MARKDOWN_TOO_DEEP`, and `out` is unchanged.
+ * `MARKDOWN_NO_MEMORY`, `MARKDOWN_TOO_DEEP` or `MARKDOWN_UNKNOWN_OPTION`, and `out` is unchanged.
  */
 int64_t markdown_to_html(const uint8_t *text, size_t text_length, uint32_t options, uint8_t *out,
                          size_t out_length);
@@ -168,8 +173,8 @@ int64_t markdown_to_safe_html(const uint8_t *text, size_t text_length, uint32_t 
 /** Writes the events of `text` as JSON: a line for each event with its range, as `[{"Text":"a"},{"start":0,"end":1}]`.
  * The ranges are byte offsets in `text`. Each line ends with a line feed.
  *
- * Results are as those of `markdown_to_html`, for the lines instead of the HTML. The errors are `MARKDOWN_NOT_UTF8`
- * and `MARKDOWN_NO_MEMORY`.
+ * Results are as those of `markdown_to_html`, for the lines instead of the HTML. The errors are `MARKDOWN_NOT_UTF8`,
+ * `MARKDOWN_NO_MEMORY` and `MARKDOWN_UNKNOWN_OPTION`.
  */
 int64_t markdown_to_json(const uint8_t *text, size_t text_length, uint32_t options, uint8_t *out,
                          size_t out_length);

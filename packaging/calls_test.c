@@ -7,8 +7,8 @@
 
 #include "markdown.h"
 
-/* All options, and the full reading. */
-#define ALL_OPTIONS ((uint32_t)0x7fffffff)
+/* All extensions. */
+#define ALL_OPTIONS ((uint32_t)0xeffe)
 
 /* The stack that is enough, as the header says. */
 #define SMALL_STACK (64 * 1024)

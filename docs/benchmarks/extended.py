@@ -26,7 +26,6 @@ from random_blocks import html_of, inside, same_written, small
 
 # the bits of the C library
 BITS = {"tables": 1 << 1, "footnotes": 1 << 2, "strikethrough": 1 << 3, "tasklists": 1 << 4, "old-footnotes": (1 << 9) | (1 << 2)}
-EXTENDED = 1 << 30
 CMARK = {"tables": "table", "footnotes": "footnotes", "strikethrough": "strikethrough", "tasklists": "tasklist"}
 PULLDOWN = {"tables": "-T", "footnotes": "-F", "strikethrough": "-S", "tasklists": "-L"}
 
@@ -250,7 +249,7 @@ class Library:
         self.call.argtypes = [ctypes.c_char_p, ctypes.c_size_t, ctypes.c_uint32, ctypes.c_char_p, ctypes.c_size_t]
 
     def html(self, text, words):
-        given, bits = text.encode(), EXTENDED
+        given, bits = text.encode(), 0
         for word in words:
             bits |= BITS[word]
         length = self.call(given, len(given), bits, None, 0)

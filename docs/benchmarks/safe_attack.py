@@ -31,12 +31,12 @@ CLASSES = {"footnote-reference", "footnote-definition", "footnote-definition-lab
 CLASSES |= {f"markdown-alert-{kind}" for kind in ("note", "tip", "important", "warning", "caution")}
 VALUE = r'(?:[^&<>"]|&(?:amp|lt|gt|quot|#x27);)*'
 GRAMMAR = re.compile(rf'(?:[^&<>]|&(?:amp|lt|gt|quot|#x27);|<[a-z0-9]+(?: [a-z]+="{VALUE}")*(?: ?/)?>|</[a-z0-9]+>)*')
-ALL_EXTENSIONS = sum(1 << bit for bit in range(1, 16))
+ALL_EXTENSIONS = sum(1 << bit for bit in range(1, 16) if bit != 12)
 OLD_FOOTNOTES = 1 << 9
-EXTENDED = 1 << 30
+PROFILE = 1 << 29
 READINGS = {
-    f"the {entry} entry with {extensions}": bit | bits
-    for entry, bit in (("present", 0), ("extended", EXTENDED))
+    f"{reading} with {extensions}": bit | bits
+    for reading, bit in (("the port's profile", PROFILE), ("the full reading", 0))
     for extensions, bits in (
         ("no extension", 0), ("all extensions", ALL_EXTENSIONS), ("all but old footnotes", ALL_EXTENSIONS & ~OLD_FOOTNOTES)
     )

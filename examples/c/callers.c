@@ -1,6 +1,6 @@
-/* Renders the texts of a folder and compares what the calls write with what is stored beside them, which both entries
- * read alike but where a name begins with "extended"; then passes bytes that are not UTF-8, and buffers that are too
- * small. */
+/* Renders the texts of a folder and compares what the calls write with what is stored beside them, which the full reading and
+ * the port's profile read alike but where a name begins with "extended"; then passes bytes that are not UTF-8, a bit that is no
+ * option, and buffers that are too small. */
 #include <inttypes.h>
 #include <stdbool.h>
 #include <stdio.h>
@@ -108,21 +108,31 @@ static void try_stored(markdown_call *call, const char *folder, const char *name
 }
 
 static void try_text(markdown_call *call, const char *folder, const char *name, const char *kind) {
+    try_stored(call, folder, name, kind, OPTIONS);
     try_stored(call, folder, name, kind, OPTIONS | MARKDOWN_EXTENDED);
     if (strncmp(name, "extended", strlen("extended")) != 0) {
-        try_stored(call, folder, name, kind, OPTIONS);
+        try_stored(call, folder, name, kind, OPTIONS | MARKDOWN_PROFILE);
     }
 }
 
-static void try_not_utf8(markdown_call *call) {
-    const uint8_t text[] = {'a', 0xff};
+/* A refused call returns its status, and writes nothing. */
+static void try_refused(markdown_call *call, struct bytes text, uint32_t options, int64_t status, const char *what) {
     uint8_t out[64];
     memset(out, '?', sizeof out);
-    if (call(text, sizeof text, OPTIONS, out, sizeof out) != MARKDOWN_NOT_UTF8) {
-        fail("taken as UTF-8", "0xff");
+    if (call(text.at, text.length, options, out, sizeof out) != status) {
+        fail("not refused", what);
     }
     if (!all_are(out, sizeof out, '?')) {
-        fail("the buffer was written", "0xff");
+        fail("the buffer was written", what);
+    }
+}
+
+static void try_refusals(markdown_call *call) {
+    uint8_t text[] = {'a', 0xff};
+    try_refused(call, (struct bytes){text, 2}, OPTIONS, MARKDOWN_NOT_UTF8, "0xff");
+    const uint32_t unknown[] = {1, 1 << 12, 1 << 16, 1 << 28, UINT32_C(1) << 31};
+    for (size_t i = 0; i < sizeof unknown / sizeof unknown[0]; i++) {
+        try_refused(call, (struct bytes){text, 1}, OPTIONS | unknown[i], MARKDOWN_UNKNOWN_OPTION, "an unknown bit");
     }
 }
 
@@ -136,10 +146,10 @@ int main(int count, char **words) {
         try_text(markdown_to_json, words[1], words[i], "jsonl");
         try_text(markdown_to_outline, words[1], words[i], "outline");
     }
-    try_not_utf8(markdown_to_html);
-    try_not_utf8(markdown_to_safe_html);
-    try_not_utf8(markdown_to_json);
-    try_not_utf8(markdown_to_outline);
+    try_refusals(markdown_to_html);
+    try_refusals(markdown_to_safe_html);
+    try_refusals(markdown_to_json);
+    try_refusals(markdown_to_outline);
     printf("C: %d texts, as stored\n", count - 2);
     return 0;
 }

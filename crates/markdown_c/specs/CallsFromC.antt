@@ -1,5 +1,6 @@
 -- A call from C: its outcome, the number that it returns, and what the buffer then holds.
-use Rattle.std.specs.Prelude.{ℕ, ℤ, Bool, not, ◌==◌, pos, negsuc, nat_le, ◌++◌, List, length, drop, if◌then◌else◌}
+use Rattle.std.specs.Prelude.{◌≡◌, ℕ, ◌+◌, ℤ, Bool, true, false, ◌==◌, pos, negsuc, nat_le, ◌++◌, List, length, drop}
+use Rattle.std.specs.Prelude.{if◌then◌else◌}
 use Rattle.std.specs.Prelude.{Result, Ok, Err, String, string_bytes}
 use Rattle.std.specs.Int.RustNames.{bit_and}
 use Rattle.std.specs.Str.{IsUtf8}
@@ -7,11 +8,12 @@ use Rattle.markdown_base.specs.declared.fault.Fault.{Fault}
 use Rattle.markdown_base.specs.declared.fault.Fault.TheVariants as fault
 use Rattle.markdown_base.specs.declared.options.Options.{Options}
 use Rattle.markdown_render.specs.Rendering.{IsEntryRenderingOf, IsEntryTooDeepOf}
+use Rattle.markdown_render.specs.Words.{of_bits}
 use Rattle.markdown_safe.specs.SafeRendering.{IsSafeEntryRenderingOf, IsSafeEntryTooDeepOf}
 use Rattle.markdown_text_json.specs.TextJson.{AreEntryLinesOf, reading_lines}
 use Rattle.markdown_text_json.specs.OutlineJson.{heading_lines}
 use Rattle.markdown_c.specs.declared.readings.Refusal.{Refusal}
-use Rattle.markdown_c.specs.declared.readings.Refusal.TheVariants.{NotUtf8, Memory, Depth}
+use Rattle.markdown_c.specs.declared.readings.Refusal.TheVariants.{NotUtf8, Memory, Depth, UnknownOption}
 
 -- the refusal for an error of the library; no text has the error Blocks
 abbrev pub refusal_of : Fault → Refusal
@@ -24,50 +26,62 @@ abbrev pub bytes_of : {A : Type 0} → Result (String A) Refusal → Result (Lis
 bytes_of (Ok whole) = Ok (string_bytes whole)
 bytes_of (Err refusal) = Err refusal
 
--- the bit by which a caller asks for the full reading; no option has it
-abbrev pub extended_flag : ℕ
-extended_flag = 0x4000_0000
+-- the bits that enable extensions, those from 1 to 11 and from 13 to 15
+abbrev pub extension_bits : ℕ
+extension_bits = 0xEFFE
 
-abbrev pub asks_extended : (bits : ℕ) → Bool
-asks_extended bits = not (bit_and bits extended_flag == 0)
+-- the bit by which a caller asks for the port's profile
+abbrev pub profile_bit : ℕ
+profile_bit = 0x2000_0000
 
--- the HTML of a text, read by one of the entries, or why there is none
-abbrev pub IsHtmlOutcome : (extended : Bool) → (text : List ℕ) → Options → Result (List ℕ) Refusal → Type 0
-IsHtmlOutcome extended text options (Ok html) = IsEntryRenderingOf extended text options html
-IsHtmlOutcome extended text options (Err NotUtf8) = IsUtf8 text → ⊥
-IsHtmlOutcome extended text options (Err Memory) = Unit {0}
-IsHtmlOutcome extended text options (Err Depth) = IsEntryTooDeepOf extended text options
+-- the bit that asked for the full reading before that was the default, and now changes nothing
+abbrev pub extended_bit : ℕ
+extended_bit = 0x4000_0000
 
--- the safe HTML of a text, or why there is none
-abbrev pub IsSafeHtmlOutcome : (extended : Bool) → (text : List ℕ) → Options → Result (List ℕ) Refusal → Type 0
-IsSafeHtmlOutcome extended text options (Ok html) = IsSafeEntryRenderingOf extended text options html
-IsSafeHtmlOutcome extended text options (Err NotUtf8) = IsUtf8 text → ⊥
-IsSafeHtmlOutcome extended text options (Err Memory) = Unit {0}
-IsSafeHtmlOutcome extended text options (Err Depth) = IsSafeEntryTooDeepOf extended text options
+-- no bit is set but these
+abbrev pub are_known : (bits : ℕ) → Bool
+are_known bits = bit_and bits (extension_bits + profile_bit + extended_bit) == bits
 
--- the lines of a text, of one kind or another, or why there are none
-abbrev pub IsLinesOutcome : (AreLines : List ℕ → Options → List ℕ → Type 0) → (text : List ℕ) → Options
-    → Result (List ℕ) Refusal → Type 0
-IsLinesOutcome AreLines text options (Ok lines) = AreLines text options lines
-IsLinesOutcome AreLines text options (Err NotUtf8) = IsUtf8 text → ⊥
-IsLinesOutcome AreLines text options (Err Memory) = Unit {0}
-IsLinesOutcome AreLines text options (Err Depth) = ⊥
+-- the bits ask for the full reading
+abbrev pub read_in_full : (bits : ℕ) → Bool
+read_in_full bits = bit_and bits profile_bit == 0
 
--- the lines of the events of a text, or why there are none
-abbrev pub IsJsonOutcome : (extended : Bool) → (text : List ℕ) → Options → Result (List ℕ) Refusal → Type 0
-IsJsonOutcome extended text options outcome =
-    IsLinesOutcome (AreEntryLinesOf reading_lines extended) text options outcome
+-- what a call has to write is that of the text, or there is nothing, for this reason
+abbrev pub IsOutcome : (IsOf : Bool → List ℕ → Options → List ℕ → Type 0)
+    → (TooDeep : Bool → List ℕ → Options → Type 0) → (bits : ℕ) → (text : List ℕ) → Result (List ℕ) Refusal → Type 0
+IsOutcome IsOf TooDeep bits text (Ok whole) =
+    (are_known bits ≡ true) × IsOf (read_in_full bits) text (of_bits bits) whole
+IsOutcome IsOf TooDeep bits text (Err UnknownOption) = are_known bits ≡ false
+IsOutcome IsOf TooDeep bits text (Err NotUtf8) = IsUtf8 text → ⊥
+IsOutcome IsOf TooDeep bits text (Err Memory) = Unit {0}
+IsOutcome IsOf TooDeep bits text (Err Depth) = TooDeep (read_in_full bits) text (of_bits bits)
 
--- the lines of the headings of a text, or why there are none
-abbrev pub IsOutlineOutcome : (extended : Bool) → (text : List ℕ) → Options → Result (List ℕ) Refusal → Type 0
-IsOutlineOutcome extended text options outcome =
-    IsLinesOutcome (AreEntryLinesOf heading_lines extended) text options outcome
+-- no text is too deep for lines
+abbrev pub NeverTooDeep : Bool → List ℕ → Options → Type 0
+NeverTooDeep full text options = ⊥
 
--- the status of a refusal: -1, -2 and -3
+-- the HTML of a text, by what the bits ask for, or why there is none
+abbrev pub IsHtmlOutcome : (bits : ℕ) → (text : List ℕ) → Result (List ℕ) Refusal → Type 0
+IsHtmlOutcome = IsOutcome IsEntryRenderingOf IsEntryTooDeepOf
+
+-- the safe HTML
+abbrev pub IsSafeHtmlOutcome : (bits : ℕ) → (text : List ℕ) → Result (List ℕ) Refusal → Type 0
+IsSafeHtmlOutcome = IsOutcome IsSafeEntryRenderingOf IsSafeEntryTooDeepOf
+
+-- the lines of the events
+abbrev pub IsJsonOutcome : (bits : ℕ) → (text : List ℕ) → Result (List ℕ) Refusal → Type 0
+IsJsonOutcome = IsOutcome (AreEntryLinesOf reading_lines) NeverTooDeep
+
+-- the lines of the headings
+abbrev pub IsOutlineOutcome : (bits : ℕ) → (text : List ℕ) → Result (List ℕ) Refusal → Type 0
+IsOutlineOutcome = IsOutcome (AreEntryLinesOf heading_lines) NeverTooDeep
+
+-- the status of a refusal: -1, -2, -3 and -4
 abbrev pub refusal_status : Refusal → ℤ
 refusal_status NotUtf8 = negsuc 0
 refusal_status Memory = negsuc 1
 refusal_status Depth = negsuc 2
+refusal_status UnknownOption = negsuc 3
 
 -- the number that is returned: the length of the text to write, or a status
 abbrev pub returned_number : Result (List ℕ) Refusal → ℤ

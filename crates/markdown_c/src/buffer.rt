@@ -24,6 +24,7 @@ fn status(refusal: Refusal) -> i64
         Refusal::NotUtf8 => -1,
         Refusal::Memory => -2,
         Refusal::Depth => -3,
+        Refusal::UnknownOption => -4,
     }
 }
 

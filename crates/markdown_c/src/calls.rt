@@ -1,8 +1,7 @@
 //! The functions that C calls. A slice is passed as a pointer and a length, and the allocator is not passed.
 ghost use Rattle.std.specs.Prelude.{◌≡◌, ℕ, List, Result};
-ghost use Rattle.markdown_render.specs.Words.{of_bits};
 ghost use Rattle.markdown_c.specs.CallsFromC.{IsHtmlOutcome, IsJsonOutcome, IsOutlineOutcome, IsSafeHtmlOutcome};
-ghost use Rattle.markdown_c.specs.CallsFromC.{asks_extended, returned_number, buffer_after};
+ghost use Rattle.markdown_c.specs.CallsFromC.{returned_number, buffer_after};
 ghost use Rattle.markdown_c.specs.declared.readings.Refusal.{Refusal};
 
 use crate::buffer::answer;
@@ -10,17 +9,17 @@ use crate::readings::{html_of, json_of, outline_of, safe_html_of};
 use std::alloc::Global;
 
 /// Renders a trusted text as HTML, which is not sanitised. Returns the length of the HTML in bytes, and writes the HTML to
-/// the front of `out`, if it fits; otherwise `out` is unchanged. Each bit of `options` enables an extension, as in
-/// `Options`, but one, which no option has: it asks for the full reading.
+/// the front of `out`, if it fits; otherwise `out` is unchanged. The text is read in full. Bits 1 to 11 and 13 to 15 of
+/// `options` enable extensions, as in `Options`; bit 29 asks for the port's profile instead, and bit 30 changes nothing.
 ///
 /// # Errors
 ///
-/// Returns -1 if `text` is not UTF-8, -2 if an allocation fails, and -3 if more than 2^64 - 1 Starts are open in
-/// one image. `out` is then unchanged.
+/// Returns -1 if `text` is not UTF-8, -2 if an allocation fails, -3 if more than 2^64 - 1 Starts are open in one image,
+/// and -4 if another bit of `options` is set. `out` is then unchanged.
 #[unsafe(no_mangle)]
 pub extern "C" fn markdown_to_html(alloc: Global, text: &[u8], options: u32, out: &mut [u8]) -> i64
     ensures { (outcome : Result (List ℕ) Refusal)
-        × IsHtmlOutcome (asks_extended options) text.now (of_bits options) outcome
+        × IsHtmlOutcome options text.now outcome
         × (result ≡ returned_number outcome) × (out.new ≡ buffer_after out.old outcome) }
 {
     answer(html_of(alloc, text, options), out)
@@ -41,7 +40,7 @@ pub extern "C" fn markdown_to_safe_html(
     out: &mut [u8],
 ) -> i64
     ensures { (outcome : Result (List ℕ) Refusal)
-        × IsSafeHtmlOutcome (asks_extended options) text.now (of_bits options) outcome
+        × IsSafeHtmlOutcome options text.now outcome
         × (result ≡ returned_number outcome) × (out.new ≡ buffer_after out.old outcome) }
 {
     answer(safe_html_of(alloc, text, options), out)
@@ -53,11 +52,12 @@ pub extern "C" fn markdown_to_safe_html(
 ///
 /// # Errors
 ///
-/// Returns -1 if `text` is not UTF-8, and -2 if an allocation fails. `out` is then unchanged.
+/// Returns -1 if `text` is not UTF-8, -2 if an allocation fails, and -4 if a bit of `options` means nothing. `out` is then
+/// unchanged.
 #[unsafe(no_mangle)]
 pub extern "C" fn markdown_to_json(alloc: Global, text: &[u8], options: u32, out: &mut [u8]) -> i64
     ensures { (outcome : Result (List ℕ) Refusal)
-        × IsJsonOutcome (asks_extended options) text.now (of_bits options) outcome
+        × IsJsonOutcome options text.now outcome
         × (result ≡ returned_number outcome) × (out.new ≡ buffer_after out.old outcome) }
 {
     answer(json_of(alloc, text, options), out)
@@ -69,7 +69,8 @@ pub extern "C" fn markdown_to_json(alloc: Global, text: &[u8], options: u32, out
 ///
 /// # Errors
 ///
-/// Returns -1 if `text` is not UTF-8, and -2 if an allocation fails. `out` is then unchanged.
+/// Returns -1 if `text` is not UTF-8, -2 if an allocation fails, and -4 if a bit of `options` means nothing. `out` is then
+/// unchanged.
 #[unsafe(no_mangle)]
 pub extern "C" fn markdown_to_outline(
     alloc: Global,
@@ -78,7 +79,7 @@ pub extern "C" fn markdown_to_outline(
     out: &mut [u8],
 ) -> i64
     ensures { (outcome : Result (List ℕ) Refusal)
-        × IsOutlineOutcome (asks_extended options) text.now (of_bits options) outcome
+        × IsOutlineOutcome options text.now outcome
         × (result ≡ returned_number outcome) × (out.new ≡ buffer_after out.old outcome) }
 {
     answer(outline_of(alloc, text, options), out)

@@ -1,9 +1,9 @@
 //! The outcomes of calls: the HTML or the lines of a text, or the refusal.
-ghost use Rattle.std.specs.Prelude.{◌≡◌, IfOk, IfErr};
+ghost use Rattle.std.specs.Prelude.{◌≡◌, true, false, IfOk, IfErr};
 ghost use Rattle.std.specs.Str.{IsUtf8};
 ghost use Rattle.markdown_render.specs.Words.{of_bits};
 ghost use Rattle.markdown_c.specs.CallsFromC.{IsHtmlOutcome, IsJsonOutcome, IsOutlineOutcome, IsSafeHtmlOutcome};
-ghost use Rattle.markdown_c.specs.CallsFromC.{asks_extended, bytes_of};
+ghost use Rattle.markdown_c.specs.CallsFromC.{are_known, bytes_of, read_in_full};
 ghost use Rattle.markdown_c.specs.declared.readings.Refusal.{Refusal};
 
 use bitflags::Flags;
@@ -25,6 +25,8 @@ pub enum Refusal {
     Memory,
     /// More than 2^64 - 1 Starts are open in one image.
     Depth,
+    /// A bit of the options is set that means nothing.
+    UnknownOption,
 }
 
 /// Converts an error of the library. No text has the error `Blocks`.
@@ -54,69 +56,85 @@ fn text_of(bytes: &[u8]) -> Result<&str, Refusal>
     }
 }
 
-/// Returns the options that these bits enable.
-fn options_of(bits: u32) -> Options
-    ensures { result ≡ of_bits bits }
-{
-    Options::from_bits_retain(bits)
-}
+/// The bits that enable extensions.
+const EXTENSIONS: u32 = 0xEFFE;
 
-/// The bit that asks for the full reading.
+/// The bit that asks for the port's profile.
+const PROFILE: u32 = 1 << 29;
+
+/// The bit that asked for the full reading before that was the default, and now changes nothing.
 const EXTENDED: u32 = 1 << 30;
 
-/// Returns whether these bits ask for the full reading.
-fn asks_extended(bits: u32) -> bool
-    ensures { result ≡ asks_extended bits }
+/// Returns the options that these bits enable, or `UnknownOption` if one of them means nothing.
+fn options_of(bits: u32) -> Result<Options, Refusal>
+    ensures known { IfOk result (λ options. (options ≡ of_bits bits) × (are_known bits ≡ true)) }
+    ensures refused { IfErr result (λ refusal. (refusal ≡ Refusal.UnknownOption)
+        × (are_known bits ≡ false)) }
 {
-    bits & EXTENDED != 0
+    if bits & (EXTENSIONS + PROFILE + EXTENDED) == bits {
+        Ok(Options::from_bits_retain(bits))
+    } else {
+        Err(Refusal::UnknownOption)
+    }
+}
+
+/// Returns whether these bits ask for the full reading.
+fn read_in_full(bits: u32) -> bool
+    ensures { result ≡ read_in_full bits }
+{
+    bits & PROFILE == 0
 }
 
 /// Returns the HTML of a text, without a callback.
 pub(crate) fn html_of(alloc: Global, bytes: &[u8], bits: u32) -> Result<String, Refusal>
-    ensures { IsHtmlOutcome (asks_extended bits) bytes.now (of_bits bits) (bytes_of result) }
+    ensures { IsHtmlOutcome bits bytes.now (bytes_of result) }
 {
+    let options = options_of(bits)?;
     let text = text_of(bytes)?;
     let nobody = None::<DefaultBrokenLinkCallback>;
-    if asks_extended(bits) {
-        Ok(render_extended(alloc, text, options_of(bits), nobody)?)
+    if read_in_full(bits) {
+        Ok(render_extended(alloc, text, options, nobody)?)
     } else {
-        Ok(render(alloc, text, options_of(bits), nobody)?)
+        Ok(render(alloc, text, options, nobody)?)
     }
 }
 
 /// Returns the safe HTML of a text, without a callback.
 pub(crate) fn safe_html_of(alloc: Global, bytes: &[u8], bits: u32) -> Result<String, Refusal>
-    ensures { IsSafeHtmlOutcome (asks_extended bits) bytes.now (of_bits bits) (bytes_of result) }
+    ensures { IsSafeHtmlOutcome bits bytes.now (bytes_of result) }
 {
+    let options = options_of(bits)?;
     let text = text_of(bytes)?;
     let nobody = None::<DefaultBrokenLinkCallback>;
-    if asks_extended(bits) {
-        Ok(safe_html_extended(alloc, text, options_of(bits), nobody)?)
+    if read_in_full(bits) {
+        Ok(safe_html_extended(alloc, text, options, nobody)?)
     } else {
-        Ok(safe_html(alloc, text, options_of(bits), nobody)?)
+        Ok(safe_html(alloc, text, options, nobody)?)
     }
 }
 
 /// Returns the lines of the events of a text.
 pub(crate) fn json_of(alloc: Global, bytes: &[u8], bits: u32) -> Result<String, Refusal>
-    ensures { IsJsonOutcome (asks_extended bits) bytes.now (of_bits bits) (bytes_of result) }
+    ensures { IsJsonOutcome bits bytes.now (bytes_of result) }
 {
+    let options = options_of(bits)?;
     let text = text_of(bytes)?;
-    if asks_extended(bits) {
-        Ok(text_json_extended(alloc, text, options_of(bits))?)
+    if read_in_full(bits) {
+        Ok(text_json_extended(alloc, text, options)?)
     } else {
-        Ok(text_json(alloc, text, options_of(bits))?)
+        Ok(text_json(alloc, text, options)?)
     }
 }
 
 /// Returns the lines of the headings of a text.
 pub(crate) fn outline_of(alloc: Global, bytes: &[u8], bits: u32) -> Result<String, Refusal>
-    ensures { IsOutlineOutcome (asks_extended bits) bytes.now (of_bits bits) (bytes_of result) }
+    ensures { IsOutlineOutcome bits bytes.now (bytes_of result) }
 {
+    let options = options_of(bits)?;
     let text = text_of(bytes)?;
-    if asks_extended(bits) {
-        Ok(outline_json_extended(alloc, text, options_of(bits))?)
+    if read_in_full(bits) {
+        Ok(outline_json_extended(alloc, text, options)?)
     } else {
-        Ok(outline_json(alloc, text, options_of(bits))?)
+        Ok(outline_json(alloc, text, options)?)
     }
 }

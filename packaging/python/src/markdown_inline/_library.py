@@ -23,8 +23,6 @@ EXTENSIONS: Dict[str, int] = {
     "yaml": 1 << 7,
 }
 
-# The bit that asks for the full reading.
-_EXTENDED = 1 << 30
 _NO_MEMORY = -2
 _TOO_DEEP = -3
 
@@ -49,7 +47,7 @@ _library.markdown_free.restype = None
 def _bits(extensions: Iterable[str]) -> int:
     if isinstance(extensions, str):
         raise TypeError(f"extensions are an iterable of names, as [{extensions!r}]")
-    bits = _EXTENDED
+    bits = 0
     for name in extensions:
         if name not in EXTENSIONS:
             raise UnknownExtension(f"unknown extension {name!r}; there are {', '.join(EXTENSIONS)}")

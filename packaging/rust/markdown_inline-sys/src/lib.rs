@@ -7,6 +7,7 @@ use core::ffi::{c_char, c_void};
 pub const MARKDOWN_NOT_UTF8: i64 = -1;
 pub const MARKDOWN_NO_MEMORY: i64 = -2;
 pub const MARKDOWN_TOO_DEEP: i64 = -3;
+pub const MARKDOWN_UNKNOWN_OPTION: i64 = -4;
 
 pub const MARKDOWN_DEFAULT: u32 = 0;
 pub const MARKDOWN_TABLES: u32 = 1 << 1;
@@ -23,6 +24,7 @@ pub const MARKDOWN_GFM: u32 = 1 << 11;
 pub const MARKDOWN_SUPERSCRIPT: u32 = 1 << 13;
 pub const MARKDOWN_SUBSCRIPT: u32 = 1 << 14;
 pub const MARKDOWN_WIKILINKS: u32 = 1 << 15;
+pub const MARKDOWN_PROFILE: u32 = 1 << 29;
 pub const MARKDOWN_EXTENDED: u32 = 1 << 30;
 
 unsafe extern "C" {

@@ -94,7 +94,7 @@ type Call = unsafe extern "C" fn(*const c_char, usize, u32, *mut i64) -> *mut c_
 fn result_of(call: Call, text: &str, extensions: Extensions) -> Result<String, Error> {
     let mut length = 0;
     // SAFETY: the declarations are those of the header, and the text has this length.
-    let result = unsafe { call(text.as_ptr().cast(), text.len(), extensions.0 | sys::MARKDOWN_EXTENDED, &mut length) };
+    let result = unsafe { call(text.as_ptr().cast(), text.len(), extensions.0, &mut length) };
     if result.is_null() {
         return Err(if length == sys::MARKDOWN_TOO_DEEP { Error::TooDeep } else { Error::OutOfMemory });
     }

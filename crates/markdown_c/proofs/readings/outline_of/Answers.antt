@@ -1,4 +1,4 @@
--- The lines of the headings, of bytes that are text, by the entry that the bits ask for.
+-- The lines of the headings, of bytes that are text, in the way that the bits ask for.
 use Rattle.std.proofs.Common.{true, false, sym, ◌∙◌}
 use Rattle.std.proofs.lemmas.Result.{err_from_is_err_and}
 use Rattle.markdown_text_json.specs.OutlineJson.{heading_lines}
@@ -8,14 +8,14 @@ use Rattle.markdown_c.proofs.readings.outline_of.Goals as goal
 
 pub returns-in_ok-outline_json_extended : goal.returns-in_ok-outline_json_extended
 returns-in_ok-outline_json_extended c =
-    lines_of_text _ c.args.bytes.now _ _ true _ c.in_ok-text.ensures.text c.options_of.ensures
-    (sym c.if-asks_extended.true ∙ c.asks_extended.ensures)
+    lines_of_text _ c.args.bytes.now _ _ true c.in_ok-options.ensures.known c.in_ok-text.ensures.text
+    (sym c.if-read_in_full.true ∙ c.read_in_full.ensures)
     (AreEntryLinesOf heading_lines) _ c.in_ok-outline_json_extended.ensures.json
 
 pub returns-in_ok-outline_json : goal.returns-in_ok-outline_json
 returns-in_ok-outline_json c =
-    lines_of_text _ c.args.bytes.now _ _ false _ c.in_ok-text.ensures.text c.options_of-else-asks_extended.ensures
-    (sym c.if-asks_extended.false ∙ c.asks_extended.ensures)
+    lines_of_text _ c.args.bytes.now _ _ false c.in_ok-options.ensures.known c.in_ok-text.ensures.text
+    (sym c.if-read_in_full.false ∙ c.read_in_full.ensures)
     (AreEntryLinesOf heading_lines) _ c.in_ok-outline_json.ensures.json
 
 pub returns-in_err-outline_json_extended : goal.returns-in_err-outline_json_extended
@@ -23,8 +23,8 @@ returns-in_err-outline_json_extended c =
     let p = err_from_is_err_and c.from_residual-in_err-outline_json_extended.result
     c.from_residual-in_err-outline_json_extended.ensures.1 in
     rw (p.1, p.2)
-    (lines_refused _ c.args.bytes.now _ _ true _ c.in_ok-text.ensures.text c.options_of.ensures
-    (sym c.if-asks_extended.true ∙ c.asks_extended.ensures)
+    (lines_refused _ c.args.bytes.now _ _ true c.in_ok-options.ensures.known c.in_ok-text.ensures.text
+    (sym c.if-read_in_full.true ∙ c.read_in_full.ensures)
     (AreEntryLinesOf heading_lines) _ c.in_err-outline_json_extended.ensures.refused)
 
 pub returns-in_err-outline_json : goal.returns-in_err-outline_json
@@ -32,6 +32,6 @@ returns-in_err-outline_json c =
     let p = err_from_is_err_and c.from_residual-in_err-outline_json.result
     c.from_residual-in_err-outline_json.ensures.1 in
     rw (p.1, p.2)
-    (lines_refused _ c.args.bytes.now _ _ false _ c.in_ok-text.ensures.text c.options_of-else-asks_extended.ensures
-    (sym c.if-asks_extended.false ∙ c.asks_extended.ensures)
+    (lines_refused _ c.args.bytes.now _ _ false c.in_ok-options.ensures.known c.in_ok-text.ensures.text
+    (sym c.if-read_in_full.false ∙ c.read_in_full.ensures)
     (AreEntryLinesOf heading_lines) _ c.in_err-outline_json.ensures.refused)
