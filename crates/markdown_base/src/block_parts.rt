@@ -15,7 +15,9 @@ use std::ops::Range;
 /// A link reference definition (CommonMark 4.7).
 #[derive(Debug, Drop)]
 pub struct LinkDef<'a> {
+    /// The destination of its links.
     pub dest: CowStr<'a>,
+    /// The title of its links, if it has one.
     pub title: Option<CowStr<'a>>,
     /// The definition's source range in bytes, from its `[` to its end.
     pub span: Range<usize>,
@@ -60,7 +62,9 @@ impl<'a> LinkDef<'a> {
 /// The attributes in braces after a heading.
 #[derive(Debug, Drop)]
 pub struct HeadingAttributes<'a> {
+    /// The id, without its `#`, if there is one.
     pub id: Option<CowStr<'a>>,
+    /// The classes, each without its `.`.
     pub classes: Vec<CowStr<'a>>,
     /// Names, each with its value if it has one.
     pub attrs: Vec<(CowStr<'a>, Option<CowStr<'a>>)>,

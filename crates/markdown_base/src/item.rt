@@ -30,17 +30,25 @@ pub enum ItemBody {
     Subscript,
     /// Math: its text, whether it is display math.
     Math(CowIndex, bool),
+    /// A code span: its text.
     Code(CowIndex),
     Link(LinkIndex),
     Image(LinkIndex),
+    /// A footnote reference: the footnote's name.
     FootnoteReference(CowIndex),
     /// The marker of a task list item: whether the task is done.
     TaskListMarker(bool),
+    /// Raw HTML that is the bytes of the range.
     InlineHtml,
+    /// Raw HTML whose range contains line prefixes: its text without them.
     OwnedInlineHtml(CowIndex),
+    /// Text that replaces the bytes of the range.
     SynthesizeText(CowIndex),
+    /// A character that replaces the bytes of the range.
     SynthesizeChar(char),
+    /// A line of an HTML block.
     Html,
+    /// Text that is the bytes of the range: whether a backslash escapes the first of them.
     Text { backslash_escaped: bool },
     SoftBreak,
     /// A hard line break: whether it is written with a backslash.
@@ -50,12 +58,15 @@ pub enum ItemBody {
     Paragraph,
     /// A paragraph of a tight list, which has no events of its own.
     TightParagraph,
+    /// A thematic break.
     Rule,
+    /// A heading: its level, the attributes in braces after it, if any.
     Heading(HeadingLevel, Option<HeadingIndex>),
     /// A fenced code block: its info string.
     FencedCodeBlock(CowIndex),
     IndentCodeBlock,
     HtmlBlock,
+    /// A block quote: its kind, if it is one of GitHub's.
     BlockQuote(Option<BlockQuoteKind>),
     /// A list: whether it is tight, its marker's character, its first number.
     List(bool, u8, u64),

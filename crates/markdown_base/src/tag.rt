@@ -202,7 +202,9 @@ pub enum Tag<'a> {
     HtmlBlock,
     /// A list: the first number of an ordered list, `None` for a bullet list.
     List(Option<u64>),
+    /// A list item.
     Item,
+    /// A footnote definition: its name.
     FootnoteDefinition(CowStr<'a>),
     DefinitionList,
     DefinitionListTitle,
@@ -244,6 +246,7 @@ pub enum TagEnd {
     HtmlBlock,
     /// A list: whether it is ordered.
     List(bool),
+    /// A list item.
     Item,
     FootnoteDefinition,
     DefinitionList,
