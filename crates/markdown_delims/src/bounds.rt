@@ -9,9 +9,13 @@ use crate::run::{Delimiter, Run};
 /// The lower bounds for closers of one character: no run below the least bound that applies to a closer pairs with it.
 #[derive(Clone, Copy)]
 pub struct CharacterBounds {
+    /// For closers that cannot also open.
     pub cannot_open: usize,
+    /// For closers of a length with the remainder 0 modulo 3.
     pub remainder_zero: usize,
+    /// The same for the remainder 1.
     pub remainder_one: usize,
+    /// The same for the remainder 2.
     pub remainder_two: usize,
 }
 
@@ -20,11 +24,14 @@ pub struct CharacterBounds {
 pub struct LowerBounds {
     pub star: CharacterBounds,
     pub underscore: CharacterBounds,
+    /// For `~`: each run of it below this position is dropped.
     pub tilde: usize,
+    /// The same for `^`.
     pub caret: usize,
 }
 
 impl CharacterBounds {
+    /// Returns the bounds before any search, which are 0.
     pub fn zero() -> CharacterBounds
         ensures { result ≡ no_bounds }
     {
@@ -79,6 +86,7 @@ impl CharacterBounds {
 }
 
 impl LowerBounds {
+    /// Returns the bounds before any search, which are 0.
     pub fn zero() -> LowerBounds
         ensures { result ≡ zero_bounds }
     {
@@ -90,6 +98,7 @@ impl LowerBounds {
         }
     }
 
+    /// Returns the least of the bounds that apply to the closer.
     pub fn for_closer(&self, closer: &Run) -> usize
         ensures { result ≡ bound_for closer.now self.now }
     {
@@ -101,6 +110,7 @@ impl LowerBounds {
         }
     }
 
+    /// Sets the bounds that apply to the closer to `len`, the length of the stack in which its search found no run.
     pub fn raise_for(&mut self, closer: &Run, len: usize)
         ensures { self.new ≡ raised_for closer.now len self.old }
     {
@@ -112,6 +122,7 @@ impl LowerBounds {
         }
     }
 
+    /// Lowers to `len`, the new length of the stack, each bound that is greater.
     pub fn lower(&mut self, len: usize)
         ensures { self.new ≡ lowered len self.old }
     {

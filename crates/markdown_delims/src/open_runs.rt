@@ -51,6 +51,7 @@ impl Model for OpenRuns {
 }
 
 impl OpenRuns {
+    /// Returns no open runs, with no comparison made.
     #[tactic(auto, unfolding(crate::specs::OpenRuns::open_runs))]
     pub fn new(alloc: Global) -> OpenRuns
         ensures { result ≡ record { runs = []; examined = 0; potential = 0 } }
@@ -64,6 +65,7 @@ impl OpenRuns {
         }
     }
 
+    /// Returns the number of comparisons of open runs with closers since `new` or the last `clear`.
     pub fn examined(&self) -> u128
         ensures value { result ≡ self.now.examined }
         ensures within { self.now.examined ≤ self.now.potential }

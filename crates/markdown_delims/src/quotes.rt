@@ -24,6 +24,7 @@ pub enum Kind {
 /// The `'` that is remembered, if any, which a later one may close, and whether a `"` is open.
 #[derive(Clone, Copy)]
 pub struct OpenQuotes {
+    /// The number of its node.
     pub single: Option<usize>,
     pub double: bool,
 }

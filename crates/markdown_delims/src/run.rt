@@ -2,6 +2,7 @@
 ghost use Rattle.std.specs.Prelude.{◌≡◌};
 ghost use Rattle.markdown_delims.specs.MayPair.{may_pair, can_do_both, same_delimiter};
 
+/// The character of a delimiter run: `*`, `_`, `~` or `^`.
 #[derive(Clone, Copy)]
 pub enum Delimiter {
     Star,
@@ -28,6 +29,7 @@ pub struct Characters {
 }
 
 impl Delimiter {
+    /// Returns whether both are the same character.
     pub fn is_same(self, other: Delimiter) -> bool
         ensures { result ≡ same_delimiter self other }
     {
@@ -42,6 +44,7 @@ impl Delimiter {
 }
 
 impl Run {
+    /// Returns whether the run can both open and close.
     pub fn is_both(&self) -> bool
         ensures { result ≡ can_do_both self.now }
     {
