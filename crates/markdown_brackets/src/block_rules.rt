@@ -13,6 +13,7 @@ pub struct BlockRules<'r, R> {
     pub in_table: bool,
     /// The names by which entities are read.
     pub names: EntityNames,
+    /// How the labels of footnotes are read.
     pub style: FootnoteStyle,
 }
 

@@ -9,7 +9,9 @@ use std::alloc::Global;
 /// The waiting openers of a chain. An opener `[[` waits on both stacks.
 #[derive(Drop)]
 pub struct ChainOpeners {
+    /// For links, images and footnote references.
     pub brackets: OpenerStack,
+    /// For wikilinks: those that a `[` follows.
     pub wikilinks: OpenerStack,
 }
 

@@ -25,6 +25,7 @@ pub struct FoundLabel<'t> {
     pub is_footnote: bool,
     /// Its length in bytes, from its `[` through its `]`.
     pub length: usize,
+    /// Its text, as `scan_link_label` returns it; of a footnote, without the `^`.
     pub name: CowStr<'t>,
 }
 
