@@ -17,6 +17,7 @@ use std::ops::Range;
 pub struct BrokenLink<'a> {
     /// The source range of the reference, in bytes.
     pub span: Range<usize>,
+    /// How it is written: `Reference`, `Collapsed` or `Shortcut`.
     pub link_type: LinkType,
     /// The link label.
     pub reference: CowStr<'a>,
