@@ -1,6 +1,6 @@
 //! Braces at the end of a heading's content.
 
-/// Braces around attributes: where the `{` is, and where the `}` is.
+/// Braces around attributes: the byte offsets of the `{` and of the `}`.
 #[derive(Clone, Copy, Drop)]
 pub struct Braces {
     pub opening: usize,

@@ -13,6 +13,7 @@ use markdown_base::item::ItemBody;
 pub struct LineBreak {
     pub text_end: usize,
     pub start: usize,
+    /// A `SoftBreak` or a `HardBreak`.
     pub body: ItemBody,
 }
 
