@@ -20,8 +20,11 @@ pub type Placed<'a, P> = Result<(Event<'a>, P), Fault>;
 /// Two or more texts that have been joined.
 #[derive(Drop)]
 pub struct JoinedTexts<P> {
+    /// The texts, one after another.
     pub bytes: String,
+    /// The range of the first text.
     pub first: P,
+    /// The range of the last text.
     pub last: P,
 }
 
