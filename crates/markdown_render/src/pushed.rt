@@ -19,6 +19,8 @@ pub trait Pushed<I: Iterator> {
     /// Writing ends with this error: what then follows the old text.
     ghost is_stopped: { I → List ℕ → List ℕ → Fault → Type 0 };
 
+    /// Appends the HTML of what the iterator returns up to its first `None`. After an error `is_stopped` says what
+    /// follows the old text.
     fn push_all(alloc: Global, s: &mut String, iter: I) -> Result<(), Fault>
         requires can { I.can_next iter }
         requires ends { IsFinite (I.remaining iter) }
