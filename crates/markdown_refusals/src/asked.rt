@@ -26,6 +26,7 @@ pub struct Source {
 }
 
 impl Source {
+    /// Returns the options; the empty set if it has none.
     pub fn options(self) -> Options {
         match self.enabled {
             Some(options) => options,

@@ -92,6 +92,7 @@ fn merges_to<T: Given, I: Iterator<Item = Result<T, Fault>> + Drop>(merge: I, fu
     gives(Ok(merge), &full, false)
 }
 
+/// Returns whether the texts are merged, or a prefix of the merged events is given and an allocation failed.
 pub fn merges(alloc: Global) -> bool {
     merges_to(
         TextMergeStream::new(alloc, given(Texts, 5)),
@@ -103,6 +104,7 @@ pub fn merges(alloc: Global) -> bool {
     )
 }
 
+/// Returns the same for the texts with ranges.
 pub fn merges_with_ranges(alloc: Global) -> bool {
     merges_to(
         TextMergeWithOffset::new(alloc, given(RangedTexts, 5)),
@@ -114,6 +116,8 @@ pub fn merges_with_ranges(alloc: Global) -> bool {
     )
 }
 
+/// Returns whether the HTML of the mixed events is written, or a prefix of it and an allocation failed; None if one
+/// failed for the expected HTML or the old text.
 pub fn renders_mixed_events(alloc: Global) -> Option<bool> {
     let html = String::from_str(alloc, MIXED).ok();
     writes(alloc, html, Ok(given(Mixed { name: "a" }, 8)))

@@ -4,6 +4,7 @@ use crate::texts::Place;
 use crate::{events, lists, tables, texts, trees};
 use std::alloc::Global;
 
+/// Tries each promise, and returns it by name with whether it holds.
 pub fn all(alloc: Global) -> [(&'static str, Option<bool>); 23] {
     [
         (

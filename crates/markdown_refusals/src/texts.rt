@@ -18,6 +18,7 @@ pub enum Place {
     Heap,
 }
 
+/// Returns the long text at a place. Only one on the heap allocates memory.
 pub fn text(alloc: Global, place: Place) -> Result<CowStr<'static>, AllocError> {
     match place {
         Place::Slice => Ok(CowStr::Borrowed(LONG)),
@@ -83,11 +84,13 @@ pub fn copies_a_definition(alloc: Global) -> Option<bool> {
     Some(is_copied && is_definition(&held))
 }
 
+/// Returns whether a definition of slices becomes `'static` and stays the same, or an allocation failed.
 pub fn frees_a_definition(alloc: Global) -> Option<bool> {
     let held = definition(alloc, Place::Slice).ok()?;
     tried(Ok::<bool, Fault>(true), is_made(held.into_static(alloc)))
 }
 
+/// Returns whether a broken link whose label is a slice becomes `'static` and stays the same, or an allocation failed.
 pub fn frees_a_broken_link(alloc: Global) -> bool {
     let link = BrokenLink {
         span: 3..7,

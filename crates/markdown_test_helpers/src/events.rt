@@ -3,6 +3,7 @@ use markdown_base::cow_str::CowStr;
 use markdown_base::event::Event;
 use markdown_base::tag::{LinkType, Tag};
 
+/// Returns the Text of these words.
 pub fn text<'a>(words: &'a str) -> Event<'a> {
     Event::Text(CowStr::Borrowed(words))
 }

@@ -12,6 +12,7 @@ use std::test::Fail;
 pub trait Listed: Drop {
     type Item: PartialEq + Drop;
 
+    /// Returns the item with this number, if the list has it.
     fn item(&self, at: usize) -> Option<Self::Item>;
 }
 
@@ -67,6 +68,7 @@ pub struct WithoutErrors<L> {
 }
 
 impl<L> WithoutErrors<L> {
+    /// Returns the list with each item in an `Ok`.
     pub fn of(list: L) -> WithoutErrors<L> {
         WithoutErrors { list }
     }

@@ -3,6 +3,7 @@ use markdown_base::block_parts::{BlockParts, HeadingAttributes, LinkDef};
 use markdown_base::cow_str::CowStr;
 use std::alloc::{AllocError, Global};
 
+/// Returns empty parts.
 pub fn no_parts<'a>(alloc: Global) -> BlockParts<'a> {
     BlockParts {
         definitions: Vec::new(alloc),

@@ -27,6 +27,7 @@ pub struct Rows {
 }
 
 impl Rows {
+    /// Returns no rows.
     pub fn new() -> Rows {
         Rows {
             count: 0,

@@ -3,10 +3,12 @@ use markdown_base::item::{Item, ItemBody};
 use markdown_base::tree::Tree;
 use std::alloc::{AllocError, Global};
 
+/// Returns an item with this range and body.
 pub fn item(start: usize, end: usize, body: ItemBody) -> Item {
     Item { start, end, body }
 }
 
+/// Returns a text with this range, which no backslash precedes.
 pub fn text(start: usize, end: usize) -> Item {
     item(
         start,

@@ -28,6 +28,7 @@ pub struct Shelf {
 }
 
 impl Shelf {
+    /// Returns files of which none was read or written, where each write fails like this, if it does.
     pub fn new(alloc: Global, write_fails: Option<ErrorKind>) -> Shelf {
         Shelf {
             alloc,
@@ -82,7 +83,9 @@ impl Files for Shelf {
 pub struct Left {
     pub status: u8,
     pub message: String,
+    /// What was written, as a `Shelf` keeps it.
     pub written: String,
+    /// How many times a file was read, also where there was none.
     pub reads: usize,
 }
 
