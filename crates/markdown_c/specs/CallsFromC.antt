@@ -27,24 +27,24 @@ bytes_of (Ok whole) = Ok (string_bytes whole)
 bytes_of (Err refusal) = Err refusal
 
 -- the bits that enable extensions, those from 1 to 11 and from 13 to 15
-abbrev pub extension_bits : ℕ
-extension_bits = 0xEFFE
+abbrev pub extension_flags : ℕ
+extension_flags = 0xEFFE
 
 -- the bit by which a caller asks for the port's profile
-abbrev pub profile_bit : ℕ
-profile_bit = 0x2000_0000
+abbrev pub profile_flag : ℕ
+profile_flag = 0x2000_0000
 
 -- the bit that asked for the full reading before that was the default, and now changes nothing
-abbrev pub extended_bit : ℕ
-extended_bit = 0x4000_0000
+abbrev pub extended_flag : ℕ
+extended_flag = 0x4000_0000
 
 -- no bit is set but these
 abbrev pub are_known : (bits : ℕ) → Bool
-are_known bits = bit_and bits (extension_bits + profile_bit + extended_bit) == bits
+are_known bits = bit_and bits (extension_flags + profile_flag + extended_flag) == bits
 
 -- the bits ask for the full reading
 abbrev pub read_in_full : (bits : ℕ) → Bool
-read_in_full bits = bit_and bits profile_bit == 0
+read_in_full bits = bit_and bits profile_flag == 0
 
 -- what a call has to write is that of the text, or there is nothing, for this reason
 abbrev pub IsOutcome : (IsOf : Bool → List ℕ → Options → List ℕ → Type 0)

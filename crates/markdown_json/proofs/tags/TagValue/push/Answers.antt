@@ -34,4 +34,5 @@ pub returns-in-Table-clause-err : goal.returns-in-Table-clause-err
 returns-in-Table-clause-err c = rw c.in-Table.is c.push_variant-in-Table.ensures.err
 
 pub returns-in-FootnoteDefinition-clause-err : goal.returns-in-FootnoteDefinition-clause-err
-returns-in-FootnoteDefinition-clause-err c = rw c.in-FootnoteDefinition.is c.push_variant-in-FootnoteDefinition.ensures.err
+returns-in-FootnoteDefinition-clause-err c =
+    rw c.in-FootnoteDefinition.is c.push_variant-in-FootnoteDefinition.ensures.err
