@@ -34,18 +34,14 @@ pub fresh_never : (size : ℕ) (all : List ℕ) (seen : List Bool) (name : ℕ) 
     → AreNamedOnce size all → ⊥
 fresh_never size all seen name rest w u a = u (w.gives a).0
 
--- the names of an order, from a place on: that of the node there, if it names a part, and those
--- after it
-pub names_of-some : (part : NamedPart) (nodes : List (Node Item)) (order : List ℕ) (at ix name : ℕ)
-    → at < length order → ix ≡ get_or order at ix
-    → part_named part (item_at nodes ix).body ≡ Some name
+-- the names of an order, from a place on: that of the node there, if it names a part, and those after it
+pub names_of-some : (part : NamedPart) (nodes : List (Node Item)) (order : List ℕ) (at name : ℕ)
+    → at < length order → part_named part (item_at nodes (get_or order at 0)).body ≡ Some name
     → names_of part nodes (drop at order) ≡ name ∷ names_of part nodes (drop (at + 1) order)
-names_of-some part nodes order at ix name h e n =
-    rw (add-one, drop-cons order at ix h, ← e, n) refl
+names_of-some part nodes order at name h n = rw (add-one, drop-cons order at 0 h, n) refl
 
 -- or only those after it, if the node there names none
-pub names_of-none : (part : NamedPart) (nodes : List (Node Item)) (order : List ℕ) (at ix : ℕ)
-    → at < length order → ix ≡ get_or order at ix → part_named part (item_at nodes ix).body ≡ None
+pub names_of-none : (part : NamedPart) (nodes : List (Node Item)) (order : List ℕ) (at : ℕ)
+    → at < length order → part_named part (item_at nodes (get_or order at 0)).body ≡ None
     → names_of part nodes (drop at order) ≡ names_of part nodes (drop (at + 1) order)
-names_of-none part nodes order at ix h e n =
-    rw (add-one, drop-cons order at ix h, ← e, n) refl
+names_of-none part nodes order at h n = rw (add-one, drop-cons order at 0 h, n) refl

@@ -1,5 +1,5 @@
 -- Each step of the search, by the lemmas on what is found and what is pending.
-use Rattle.std.proofs.Common.{◌∙◌, ap, arith, refl, ◌++◌, ◌∷◌, []}
+use Rattle.std.proofs.Common.{◌∙◌, ap, arith, refl, length-append, ◌++◌, ◌∷◌, []}
 use Rattle.markdown_base.specs.ArenaForest.{links_of}
 use Rattle.markdown_blocks.proofs.SeenLemmas.{unset_within}
 use Rattle.markdown_blocks.proofs.ReachLemmas.{found_init, found_skips, found_visits, found_again_top, found_end}
@@ -24,6 +24,19 @@ returns-then-not-insert-clause-found c =
     (found_again_top (links_of c.args.tree.now.nodes) c.reach.seen.items c.reach.pending.items c.pop.new.self.items
     c.reach.order.items
     c.in-Some-link.ix c.reach.invariant e (λ h. let marked = c.if-not-insert.ensures.unseen.1 h in cc marked))
+
+pub next-requires : goal.next-requires
+next-requires c =
+    let sizes = c.reach.invariant.sizes in
+    omega (arith, unset_within c.reach.seen.items c.in-Some-link.ix (c.if-not-insert.ensures.unseen.0 refl), sizes)
+
+pub child-requires-in-Some-link : goal.child-requires-in-Some-link
+child-requires-in-Some-link c =
+    let sizes = c.reach.invariant.sizes in
+    omega (arith, unset_within c.reach.seen.items c.in-Some-link.ix (c.if-not-insert.ensures.unseen.0 refl), sizes)
+
+pub reach-smaller : goal.reach-smaller
+reach-smaller c = rw c.in-Some.ensures.items (simp length-append (omega arith))
 
 pub reach-smaller-in-Continue-branch-5 : goal.reach-smaller-in-Continue-branch-5
 reach-smaller-in-Continue-branch-5 c =
