@@ -1,5 +1,5 @@
 -- Reading a `$`: the contracts of the searches and the writes give what the lemmas on math spans require.
-use Rattle.std.proofs.Common.{Some, None, ap, subst, refl}
+use Rattle.std.proofs.Common.{Some, None, ap, subst, refl, ◌∙◌}
 use Rattle.markdown_base.specs.BlockTree.{item_at, no_item}
 use Rattle.markdown_base.specs.declared.item.Item.{Item}
 use Rattle.markdown_document.specs.ResolverStates.{above_cursor}
@@ -10,6 +10,7 @@ use Rattle.markdown_spans.specs.SpanClosers.{ClosesMath, has_failed}
 use Rattle.markdown_spans.specs.declared.span_text.SpanKind.TheVariants.{Math}
 use Rattle.markdown_resolver.specs.Rewritten.{Puts, one_item}
 use Rattle.markdown_resolver.proofs.ChainLeadsLemmas.{chain_leads}
+use Rattle.markdown_resolver.proofs.LiteralTextLemmas.{node_within}
 use Rattle.markdown_resolver.proofs.MathSpanLemmas.{PutsMath, dollar_body, math_cut, math_item, math_reads}
 use Rattle.markdown_resolver.proofs.MathSpanLemmas.{no_math_reads, puts_math, span_of, start_is}
 use Rattle.markdown_resolver.proofs.OpenerReadLemmas.{if_err}
@@ -17,6 +18,7 @@ use Rattle.markdown_resolver.proofs.ReadsItemLemmas.{holds_put, reads_item}
 use Rattle.markdown_resolver.proofs.SpanLooksLemmas.{math_search, math_up_to, nothing_looks, search_refused}
 use Rattle.markdown_resolver.proofs.SpanLooksLemmas.{search_stops, something_looks}
 use Rattle.markdown_resolver.proofs.resolver.Resolver.read_math.Goals as goal
+use Rattle.std.proofs.lemmas.Result.{IfOk-from_err, err_from_is_err_and}
 use Rattle.std.specs.Prelude.{Result, Ok, is_some}
 use Rattle.markdown_base.specs.EnabledOptions.{gfm_footnotes_on}
 use Rattle.markdown_base.specs.declared.fault.Fault.{Fault}
@@ -27,6 +29,13 @@ pub find_math_closer-requires : goal.find_math_closer-requires
 find_math_closer-requires g c =
     let chain = chain_leads c.requires.ready.chain.ready in
     record { ready = record { chain = chain; holds = c.requires.ready.learned.math } }
+
+pub make_literal-requires : goal.make_literal-requires
+make_literal-requires g c =
+    (c.args.place.now.text.now, tables_of c.args.self.now.lookup.tables, c.requires.ready.chain.ready)
+
+pub returns-in_default-clause-kept : goal.returns-in_default-clause-kept
+returns-in_default-clause-kept g c = refl
 
 -- nothing closes it: it becomes literal text
 pub returns-in_default-clause-reads : goal.returns-in_default-clause-reads
@@ -69,6 +78,15 @@ returns-in_default-clause-reads g c =
 -- something closes it: the text between them is taken
 pub math_text_start-requires : goal.math_text_start-requires
 math_text_start-requires g c = chain_leads c.requires.ready.chain.ready
+
+pub item-requires : goal.item-requires
+item-requires g c = (rw c.in-Some.is at c.in_ok-math.ensures.within).closer
+
+pub item-requires-2 : goal.item-requires-2
+item-requires-2 g c = node_within c.requires.ready.chain.ready
+
+pub item-requires-3 : goal.item-requires-3
+item-requires-3 g c = (rw c.in-Some.is at c.in_ok-math.ensures.within).last
 
 pub store_text-requires : goal.store_text-requires
 store_text-requires g c κs =
@@ -155,7 +173,26 @@ returns-in_err-math-clause-stops g c =
           s.work.math_visits c.find_math_closer.new.visits c.requires.ready.chain.ready refused.counted_at_most;
     }))
 
+pub returns-in_err-math-clause-reads : goal.returns-in_err-math-clause-reads
+returns-in_err-math-clause-reads g c = IfOk-from_err _ _ c.from_residual.ensures.0
+
+pub returns-in_err-math-clause-refused : goal.returns-in_err-math-clause-refused
+returns-in_err-math-clause-refused g c =
+    let error = err_from_is_err_and c.from_residual.result c.from_residual.ensures.1 in
+    rw error.1 (error.2, refl)
+
+pub returns-in_err-math-clause-kept : goal.returns-in_err-math-clause-kept
+returns-in_err-math-clause-kept g c = refl
+
 -- or to the text of what it has found
+pub returns-in_err-cow-clause-reads : goal.returns-in_err-cow-clause-reads
+returns-in_err-cow-clause-reads g c = IfOk-from_err _ _ c.from_residual-in_err-cow.ensures.0
+
+pub returns-in_err-cow-clause-refused : goal.returns-in_err-cow-clause-refused
+returns-in_err-cow-clause-refused g c =
+    let error = err_from_is_err_and c.from_residual-in_err-cow.result c.from_residual-in_err-cow.ensures.1 in
+    rw error.1 (error.2 ∙ c.in_err-cow.ensures.refused, refl)
+
 pub returns-in_err-cow-clause-stops : goal.returns-in_err-cow-clause-stops
 returns-in_err-cow-clause-stops g c =
     let s = c.args.self.now in
