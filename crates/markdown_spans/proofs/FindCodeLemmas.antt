@@ -12,13 +12,14 @@ use Rattle.markdown_base.specs.declared.node.Node.{Node}
 use Rattle.markdown_base.specs.Arena.{sibling_of}
 use Rattle.markdown_base.specs.BlockTree.{Numbered, item_at, numbered}
 use Rattle.markdown_spans.specs.ChainInArena.{LeadsThrough, HasChain}
-use Rattle.markdown_spans.specs.ChainSearch.{SearchesCode}
+use Rattle.markdown_document.specs.Counts.{RisesAtMost}
+use Rattle.markdown_spans.specs.ChainSearch.{SearchesCode, learned_by}
 use Rattle.markdown_spans.specs.Closers.{closing_count, code_close, code_closer, is_code_of}
 use Rattle.markdown_spans.specs.CloserSearches.{looked_for_code, looked_for_code_close, opens_code}
 use Rattle.markdown_spans.specs.SpanClosers.{ClosesCode, HoldsFrom, HoldsOf, Learned, LooksForCode, RisesBy}
-use Rattle.markdown_spans.specs.SpanClosers.{failed_by_now, has_failed}
+use Rattle.markdown_spans.specs.SpanClosers.{LooksForCodeAtMost, failed_by_now, has_failed}
 use Rattle.markdown_spans.specs.SpanClosers.{item_in, unless_failed}
-use Rattle.markdown_spans.specs.SpanMarks.{known_after, known_closer, mark_at}
+use Rattle.markdown_spans.specs.SpanMarks.{known_after, known_closer, known_closers, mark_at, marks_in}
 use Rattle.markdown_spans.proofs.LearnedLemmas.{KnownHere, from_opener, knows_all, known_here}
 use Rattle.markdown_spans.proofs.SpanSearchLemmas.{first_is_code}
 use Rattle.markdown_spans.specs.declared.span_marks.KnownCloser.{KnownCloser}
@@ -127,7 +128,7 @@ fails_with : (kind : SpanKind) (after : List Numbered) (found : Option ℕ) (lea
 fails_with kind after None learned' n v v' s = ap has_failed s.learns
 fails_with kind after (Some ix) learned' n v v' s = ap has_failed s.learns
 
-pub fails_walking : (nodes : List (Node Item)) (ix : ℕ) (m : SpanMark) (found : Option ℕ)
+fails_walking : (nodes : List (Node Item)) (ix : ℕ) (m : SpanMark) (found : Option ℕ)
     (learned learned' : Learned) (v v' : ℕ) → HasChain nodes (sibling_of nodes ix) →
     mark_at Code ix (item_at nodes ix).body ≡ Some m → (m.wanted ≡ 0 → ⊥) → learned ≡ None
     → ((low : ℕ) (after : List Numbered) → LeadsThrough nodes low (sibling_of nodes ix) after →
@@ -138,6 +139,44 @@ fails_walking nodes ix m found learned learned' v v' chain is some e s =
     let opens : opens_code (item_at nodes ix).body ≡ true = (opens_mark ix (item_at nodes ix).body m is).opens
     ∙ ap not wanted in
     rw (e, opens) (fails_with Code chain.chain found learned' m.wanted v v' (s chain.low chain.chain chain.leads))
+
+-- a search that fails has learned the closer of each mark
+holds_searched : (after : List Numbered) (found : Option ℕ) (learned' : Learned)
+    → learned' ≡ learned_by found Code after → HoldsOf Code learned' after
+holds_searched after None learned' e = rw e (knows_all Code after (known_closers (marks_in Code after)) refl)
+holds_searched after (Some ix) learned' e = rw e tt
+
+-- what a walk for the end of a code span finds, counts and learns
+pub record Walked (nodes : List (Node Item)) (ix : ℕ) (learned : Learned) (found : Option ℕ) (learned' : Learned)
+    (v v' : ℕ) : Type 0 where
+  pub closes : ClosesCode nodes ix found
+  pub counted : LooksForCode learned nodes ix v v'
+  pub failed : has_failed learned' ≡ failed_by_now learned (opens_code (item_at nodes ix).body) (is_some found)
+  pub holds : HoldsFrom Code learned' nodes (sibling_of nodes ix)
+
+pub walked : (nodes : List (Node Item)) (ix : ℕ) (m : SpanMark) (learned : Learned)
+    → HasChain nodes (sibling_of nodes ix) → mark_at Code ix (item_at nodes ix).body ≡ Some m → (m.wanted ≡ 0 → ⊥)
+    → learned ≡ None → (found : Option ℕ) (learned' : Learned) (v v' : ℕ)
+    → ((low : ℕ) (after : List Numbered) → LeadsThrough nodes low (sibling_of nodes ix) after
+    → SearchesCode m.wanted after found learned' v v') → Walked nodes ix learned found learned' v v'
+walked nodes ix m learned chain is some e found learned' v v' s =
+    let wanted : (m.wanted == 0) ≡ false = is_some_count m.wanted some in
+    let opens = opens_mark ix (item_at nodes ix).body m is in
+    record {
+      closes = λ low after leads. rw (opens.close after, wanted) (s low after leads).finds;
+      counted = λ low after leads. rw (e, opens.looked after, wanted) (s low after leads).counts;
+      failed = fails_walking nodes ix m found learned learned' v v' chain is some e s;
+      holds = λ low after leads. holds_searched after found learned' (s low after leads).learns;
+    }
+
+-- where memory was refused to the walk it has examined no more items
+pub walked_at_most : (nodes : List (Node Item)) (ix : ℕ) (m : SpanMark) (learned : Learned) (v v' : ℕ)
+    → mark_at Code ix (item_at nodes ix).body ≡ Some m → (m.wanted ≡ 0 → ⊥) → learned ≡ None
+    → ((low : ℕ) (after : List Numbered) → LeadsThrough nodes low (sibling_of nodes ix) after
+    → RisesAtMost (looked_for_code item_in m.wanted after) v v') → LooksForCodeAtMost learned nodes ix v v'
+walked_at_most nodes ix m learned v v' is some e s low after leads =
+    let wanted : (m.wanted == 0) ≡ false = is_some_count m.wanted some in
+    rw (e, (opens_mark ix (item_at nodes ix).body m is).looked after, wanted) (s low after leads)
 
 -- what closes a span is a node of the arena
 closer_within : (nodes : List (Node Item)) (n low : ℕ) (link : Option ℕ) (after : List Numbered) →

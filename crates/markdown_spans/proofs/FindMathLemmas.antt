@@ -12,14 +12,15 @@ use Rattle.markdown_base.specs.Arena.{sibling_of}
 use Rattle.markdown_base.specs.BlockTree.{Numbered, item_at}
 use Rattle.markdown_spans.specs.ChainInArena.{LeadsThrough, HasChain}
 use Rattle.markdown_spans.specs.ChainSearch.{NotesMath, NotesRest, SearchesMath, known_dollar, next_closer, past_second}
-use Rattle.markdown_spans.specs.ChainWalk.{LooksAlong, WalksTo, one_of}
+use Rattle.markdown_spans.specs.ChainWalk.{FirstIsSought, LooksAlong, WalksTo, one_of}
 use Rattle.markdown_spans.specs.Closers.{can_open, context_of, first_dollar, is_dollar, math_close, math_close_from}
 use Rattle.markdown_spans.specs.CloserSearches.{looked_for_dollar, looked_for_math}
 use Rattle.markdown_spans.specs.MathOpening.{closed_at, closed_by_first, dollar_at, marks_at, opener_at, searched_from}
 use Rattle.markdown_spans.specs.SpanClosers.{ClosesMath, HoldsFrom, Learned, RisesBy, StandsIn, failed_by_now}
 use Rattle.markdown_spans.specs.SpanClosers.{found_math, has_failed}
 use Rattle.markdown_spans.specs.SpanClosers.{item_in}
-use Rattle.markdown_spans.specs.SpanMarks.{known_closers, first_with, known_after, known_closer, mark_at, marks_in}
+use Rattle.markdown_spans.specs.SpanMarks.{first_with, is_wanted, known_after, known_closer, known_closers, mark_at}
+use Rattle.markdown_spans.specs.SpanMarks.{marks_in}
 use Rattle.markdown_spans.proofs.ChainWalkLemmas.{begins_at, chain_at, marks_in-append, rises_on}
 use Rattle.markdown_spans.proofs.FindCodeLemmas.{here_of, holds_left}
 use Rattle.markdown_spans.proofs.LearnedLemmas.{KnownHere, mark_number}
@@ -61,6 +62,33 @@ pub walks_in_vain : (kind : SpanKind) (wanted : Option ℕ) (nodes : List (Node 
 walks_in_vain kind wanted nodes chain old new visits visits' w =
     walks_to_end kind wanted nodes chain None old new visits visits' w
     (nothing_left nodes w.passes.low w.passes.rest w.passes.leads)
+
+-- a walk for nothing comes to the end
+none_wanted : (mark : Option SpanMark) → is_wanted None mark ≡ false
+none_wanted None = refl
+none_wanted (Some mark) = refl
+
+none_sought : (kind : SpanKind) (rest : List Numbered) → FirstIsSought kind None rest → rest ≡ []
+none_sought kind [] h = refl
+none_sought kind (a ∷ after) h = cc (h, none_wanted (mark_at kind a.number a.item.body))
+
+-- so it notes all marks, after that of the node
+pub walks_on : (nodes : List (Node Item)) (ix : ℕ) (after : List Numbered) (found : Option ℕ)
+    (old noted new : List SpanMark) (v v' : ℕ)
+    → noted ≡ old ++ option_to_list (mark_at Math ix (item_at nodes ix).body)
+    → WalksTo Math None nodes after found noted new v v' → NotesRest nodes ix after old new v v'
+walks_on nodes ix after found old noted new v v' e w =
+    let all = walks_to_end Math None nodes after found noted new v v' w (none_sought Math w.passes.rest w.stops) in
+    record {
+      notes = all.notes ∙ rw (e, append_assoc) refl;
+      counts = all.counts;
+    }
+
+-- and where memory was refused it has examined no more items
+pub breaks_on : (after : List Numbered) (v v' : ℕ) → LooksAlong Math None after v v' → RisesAtMost (length after) v v'
+breaks_on after v v' w =
+    rises_by_most (length w.passed) (length after) v v' w.counts
+    (omega (arith, ap length w.parts, length-append w.passed w.rest))
 
 -- the number of items examined for what closes an opener
 looked_if : (nodes : List (Node Item)) (o : MathOpener) (after : List Numbered) (s : Searched nodes o after)
