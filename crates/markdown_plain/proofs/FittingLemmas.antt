@@ -31,7 +31,7 @@ use Rattle.markdown_block_rules.specs.BlockGrowth.{Block, Kind}
 use Rattle.markdown_block_rules.specs.BlockRules.{Around, block_end, in_no_item, last_end, shown_block, shown_blocks}
 use Rattle.markdown_block_rules.specs.BlockRules.{shown_heading}
 use Rattle.markdown_plain.specs.CodeLines.{after_line}
-use Rattle.markdown_plain.specs.Fitting.{GoesOn}
+use Rattle.markdown_plain.specs.Fitting.{GoesOn, stepped}
 use Rattle.markdown_plain.specs.Fits.{AreLinesFrom, IsInLeaf, MayAddLine}
 use Rattle.markdown_plain.specs.Fits.{MayAddAfter, MayAddBefore, MayStep, after_lines}
 use Rattle.markdown_plain.specs.Frames.{Frame}
@@ -70,7 +70,7 @@ row_of outer block =
     ap (λ o. option_map_or (λ (b : OpenBlock). is_table_row b.body) o false) (innermost_of_opened outer block)
 
 -- a builder whose innermost open block is a leaf is in that leaf
-in_leaf : (view : BuilderView) (outer : List OpenBlock) (block : OpenBlock) → view.blocks ≡ outer ++ block ∷ []
+pub in_leaf : (view : BuilderView) (outer : List OpenBlock) (block : OpenBlock) → view.blocks ≡ outer ++ block ∷ []
     → view.leaf ≡ true → is_leaf block.body ≡ true → IsInLeaf view
 in_leaf view outer block blocks leaf is = record {
   leaf = leaf;
@@ -100,6 +100,12 @@ opened_at old now b opens leaf = record {
   here = ap (λ (v : BuilderView). v.at) opens;
 }
 
+-- the same after a step
+pub opened_from : (old first now : BuilderView) (at : ℕ) (b : ItemBody) → first ≡ stepped old at → Opens first now b
+    → is_leaf b ≡ true → IsInLeafAt old.text at now
+opened_from old first now at b steps opens leaf =
+    opened_at (stepped old at) now b (subst (λ (v : BuilderView). Opens v now b) steps opens) leaf
+
 -- more is appended to the leaf
 pub goes_at : (text : List ℕ) (at to : ℕ) (old new : BuilderView) → GoesOn old new to → IsInLeafAt text at old
     → IsInLeafAt text to new
@@ -108,6 +114,19 @@ goes_at text at to old new goes is = record {
   same = ap (λ (v : BuilderView). v.text) goes ∙ is.same;
   here = ap (λ (v : BuilderView). v.at) goes;
 }
+
+-- a step ahead of the place fits
+pub step_at : (text : List ℕ) (at to : ℕ) (view : BuilderView) → IsInLeafAt text at view → at ≤ to
+    → IsCharBoundary text to → MayStep view to
+step_at text at to view is low boundary =
+    let here = is.here in
+    may_step view to (omega (arith, here, low)) (subst (λ t. IsCharBoundary t to) (sym is.same) boundary)
+    is.inside.some
+
+-- a step stays in the leaf
+pub stepped_at : (text : List ℕ) (at to : ℕ) (old new : BuilderView) → new ≡ stepped old to → IsInLeafAt text at old
+    → IsInLeafAt text to new
+stepped_at text at to old new steps is = goes_at text at to old new (rw steps) is
 
 -- a line fits into the leaf
 pub line_at : (text : List ℕ) (at from to : ℕ) (view : BuilderView) → IsInLeafAt text at view → at ≤ from

@@ -160,7 +160,6 @@ impl<'a> Pass<'a> {
     }
 
     /// Adds an ATX heading that begins here.
-    #[tactic(auto, using(crate::proofs::OpenBlocksLemmas::outer_of_opened))]
     pub fn add_heading(&mut self, line: Line, heading: AtxHeading) -> Result<(), AllocError>
         requires { MayAddHeading self.old.placing.builder line heading }
         ensures text { IfOk result (λ _. self.new.placing.builder.text
