@@ -170,7 +170,6 @@ pub fn are_definitions(
 
 /// Appends a line that is not the paragraph's last, and the break after it. There is none where the line holds nothing
 /// more after a task marker.
-#[tactic(auto, using(crate::proofs::ParagraphLinesLemmas::empty_line, crate::proofs::ParagraphLinesLemmas::line_and_break))]
 fn add_broken_line(
     placing: &mut Placing<'_>,
     line: HeldLine,

@@ -1,14 +1,21 @@
 -- A line and the break after it are its items; there is none where nothing is left of it.
-use Rattle.std.proofs.Common.{◌≡◌, ◌∷◌, [], ◌∙◌, ap, rules}
+use Rattle.std.proofs.Common.{◌≡◌, ◌∷◌, [], ◌∙◌, ℕ, List, ap, arith, refl, rules}
 use Rattle.markdown_builder.specs.BuilderView.{BuilderView, with_items}
 use Rattle.std.proofs.lemmas.Result.{IfOk-weaker}
 use Rattle.markdown_builder.specs.Shown.{plain_item}
 use Rattle.markdown_items.specs.ContentItems.{content_items}
 use Rattle.markdown_items.specs.LineItems.{item_extensions}
+use Rattle.markdown_lines.specs.LineBreaks.{IsLineBreak}
+use Rattle.markdown_lines.specs.declared.held_line.HeldLine.{HeldLine}
+use Rattle.markdown_lines.specs.declared.line_break.LineBreak.{LineBreak}
 use Rattle.markdown_lines.specs.BlockBeginnings.{Source}
 use Rattle.markdown_plain.proofs.ParagraphLinesLemmas.{empty_line, line_and_break}
 use Rattle.markdown_plain.proofs.LeafTreesLemmas.{no_text, texts_after}
-use Rattle.markdown_plain.proofs.ClosableLemmas.{ahead_of, break_in, inside_leaf, still_open}
+use Rattle.markdown_plain.specs.Closable.{IsInText}
+use Rattle.markdown_plain.specs.Fitting.{GoesOn}
+use Rattle.markdown_plain.proofs.ClosableLemmas.{IsBreakIn, ahead_of, break_in, inside_leaf, still_open}
+use Rattle.markdown_plain.proofs.FittingLemmas.{may_step}
+use Rattle.markdown_plain.proofs.ParagraphTreesLemmas.{goes_on_twice}
 use Rattle.markdown_plain.proofs.paragraph.add_broken_line.Goals as goal
 
 pub returns-then-line-clause-items : goal.returns-then-line-clause-items
@@ -53,14 +60,46 @@ returns-clause-texts c =
     texts_after _ _ _ read (no_text _ _ (ap (λ (b : BuilderView). b.texts) appends
     ∙ ap (λ (b : BuilderView). b.texts) stepped))) c.add_inline.ensures.appends
 
+pub step_to-requires : goal.step_to-requires
+step_to-requires c =
+    let line = c.requires.line in
+    may_step c.args.placing.now.builder c.args.line.next (omega (arith, c.requires.ahead, line.content, line.ending))
+    line.next c.requires.inside.some
+
+pub returns-then-line-clause-text : goal.returns-then-line-clause-text
+returns-then-line-clause-text c = c.step_to.ensures.text
+
+pub returns-then-line-clause-goes_on : goal.returns-then-line-clause-goes_on
+returns-then-line-clause-goes_on c = rw c.step_to.ensures.steps
+
+pub returns-then-line-clause-over : goal.returns-then-line-clause-over
+returns-then-line-clause-over c = λ run. ap (λ (b : BuilderView). b.run) c.step_to.ensures.steps ∙ run
+
+pub line_break-between-requires : goal.line_break-between-requires
+line_break-between-requires c =
+    record { ordered = c.requires.line.content; boundary = rw c.text-text.ensures c.requires.line.stop }
+
+-- the content ends before the break, between characters
+break_of : (text same : List ℕ) (line : HeldLine) (between : LineBreak) → same ≡ text → IsInText text line
+    → IsLineBreak same line.start line.stop between → IsBreakIn text line.start line.stop between
+break_of text same line between e is broken =
+    break_in text line.start line.stop between is.stop is.content (rw e at broken)
+
+pub add_items-requires : goal.add_items-requires
+add_items-requires c =
+    let between = break_of c.args.placing.now.builder.text c.text-text.result.now c.args.line
+    c.line_break-between.result c.text-text.ensures c.requires.line c.line_break-between.ensures.value in
+    record {
+      inside = c.requires.inside.leaf;
+      ahead = (omega (arith, c.requires.ahead, between.low), between.end);
+    }
+
 -- the break begins after the content
 pub step_to-requires-2 : goal.step_to-requires-2
 step_to-requires-2 c =
     let old = c.args.placing.now.builder in
-    let line = c.requires.line in
-    let between = break_in old.text c.args.line.start c.args.line.stop c.line_break-between.result line.stop
-    line.content
-    (search rules) in
+    let between = break_of old.text c.text-text.result.now c.args.line c.line_break-between.result c.text-text.ensures
+    c.requires.line c.line_break-between.ensures.value in
     let read = c.in_ok-add_items.ensures.appends in
     let begun = still_open old c.add_items.new.self.builder (ap (λ (b : BuilderView). b.leaf) read)
     (ap (λ (b : BuilderView). b.blocks) read) c.requires.inside in
@@ -69,3 +108,45 @@ step_to-requires-2 c =
           c.in_ok-add_items.ensures.text (ap (λ (b : BuilderView). b.at) read) between.ordered between.start;
       white = inside_leaf _ _ begun;
     }
+
+pub add_inline-requires : goal.add_inline-requires
+add_inline-requires c =
+    let old = c.args.placing.now.builder in
+    let line = c.requires.line in
+    let between = break_of old.text c.text-text.result.now c.args.line c.line_break-between.result c.text-text.ensures
+    line c.line_break-between.ensures.value in
+    let read = c.in_ok-add_items.ensures.appends in
+    let stepped = c.step_to-2.ensures.steps in
+    record {
+      settled = c.line_break-between.ensures.settled;
+      inside = ap (λ (b : BuilderView). b.leaf) stepped
+          ∙ (ap (λ (b : BuilderView). b.leaf) read ∙ c.requires.inside.leaf);
+      ahead = ahead_of old.text c.line_break-between.result.start c.args.line.next c.step_to-2.new.self.builder
+          (c.step_to-2.ensures.text ∙ ap (λ (b : BuilderView). b.text) read) (ap (λ (b : BuilderView). b.at) stepped)
+          (omega (arith, between.high, line.ending)) line.next;
+    }
+
+pub returns-clause-text : goal.returns-clause-text
+returns-clause-text c =
+    IfOk-weaker c.add_inline.result _ _ (λ done text.
+    let read = c.in_ok-add_items.ensures.text in
+    text ∙ (c.step_to-2.ensures.text ∙ read)) c.add_inline.ensures.text
+
+pub returns-clause-goes_on : goal.returns-clause-goes_on
+returns-clause-goes_on c =
+    let old = c.args.placing.now.builder in
+    let filled = c.add_items.new.self.builder in
+    let stepped = c.step_to-2.new.self.builder in
+    let end = c.line_break-between.result.text_end in
+    let start = c.line_break-between.result.start in
+    IfOk-weaker c.add_inline.result _ _ (λ done appends.
+    let read : GoesOn old filled end = c.in_ok-add_items.ensures.appends in
+    let broken : GoesOn filled stepped start = rw c.step_to-2.ensures.steps in
+    let placed : GoesOn stepped c.add_inline.new.self.builder c.args.line.next = rw appends in
+    goes_on_twice old stepped c.add_inline.new.self.builder start c.args.line.next c.args.line.next
+    (goes_on_twice old filled stepped end start start read broken refl) placed refl) c.add_inline.ensures.appends
+
+pub returns-clause-over : goal.returns-clause-over
+returns-clause-over c =
+    IfOk-weaker c.add_inline.result _ _ (λ done appends run. ap (λ (b : BuilderView). b.run) appends)
+    c.add_inline.ensures.appends
