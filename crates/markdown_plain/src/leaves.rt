@@ -338,7 +338,6 @@ impl<'a> Pass<'a> {
 
     /// Opens an HTML block with a line whose rest begins at a place. The block starts at the line's first content byte;
     /// its first Html includes the spaces before that.
-    #[tactic(auto, using(crate::proofs::OpenBlocksLemmas::outer_of_opened))]
     pub fn open_html(
         &mut self,
         line: Line,
