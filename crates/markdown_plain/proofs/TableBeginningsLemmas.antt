@@ -43,6 +43,10 @@ pub begins_one : (s : Source) (before : List SourceLine) (from l : SourceLine) (
     → true ≡ is_some (alignments_for s l before from)
 begins_one s before from l found fits head = rw (sym head, sym fits) refl
 
+pub begins_not : (s : Source) (before : List SourceLine) (from l : SourceLine) → false ≡ may_be_head s before from
+    → false ≡ is_some (alignments_for s l before from)
+begins_not s before from l head = rw (sym head)
+
 -- two lines fit that are not the first: the last of them may be the last line
 or_last : (p q r : Bool) → (p || (q || r)) ≡ ((p || q) || r)
 or_last true q r = refl

@@ -1,6 +1,7 @@
 -- No delimiter row; no head; both.
-use Rattle.std.proofs.Common.{◌≡◌, ◌++◌, ◌∷◌, [], List, None, ap, arith, sym, ◌∙◌}
-use Rattle.std.specs.Option.{option_map}
+use Rattle.std.proofs.Common.{◌≡◌, ◌++◌, ◌∷◌, [], List, Option, None, ap, arith, subst, sym, ◌∙◌}
+use Rattle.std.specs.Str.{IsCharBoundary}
+use Rattle.std.specs.Option.{option_map, option_map_or}
 use Rattle.std.specs.declared.vec.Vec.{Vec}
 use Rattle.std.specs.declared.alloc.Global.{Global}
 use Rattle.markdown_base.specs.declared.tag.Alignment.{Alignment}
@@ -9,11 +10,13 @@ use Rattle.markdown_lines.specs.SourceLines.{SourceLine}
 use Rattle.markdown_lines.specs.declared.held_line.HeldLine.{HeldLine}
 use Rattle.markdown_block_rules.specs.TableLines.{fitting, further_line}
 use Rattle.markdown_plain.specs.declared.pass.Pass.{Pass}
+use Rattle.markdown_plain.specs.Closable.{HaveTask}
 use Rattle.markdown_plain.specs.Paragraphs.{source_of}
 use Rattle.markdown_plain.specs.TableHeads.{IsLastLine, IsRowRest, before_table, last_of}
 use Rattle.markdown_plain.proofs.BegunTablesLemmas.{ahead_tried, found_alignments, holds_tried}
 use Rattle.markdown_plain.proofs.BegunTablesLemmas.{table_stepped}
-use Rattle.markdown_plain.proofs.TableBeginningsLemmas.{ReadsRow, begins_none, begins_one, far_fits}
+use Rattle.markdown_plain.proofs.FittingLemmas.{may_step}
+use Rattle.markdown_plain.proofs.TableBeginningsLemmas.{ReadsRow, begins_none, begins_not, begins_one, far_fits}
 use Rattle.markdown_plain.proofs.TableBeginningsLemmas.{last_is, other_fits, read_fits, tried_none, tried_then}
 use Rattle.markdown_plain.proofs.pass.Pass.begin_table.Goals.{then-space-ge4-via-then-space-ge4}
 use Rattle.markdown_plain.proofs.pass.Pass.begin_table.Goals.{
@@ -91,6 +94,12 @@ returns-in_default-2-clause-tried c = λ (s : Source) (head : HeldLine) (before 
     tried_none s pass head before from (further_line s l) is (sym fits
     ∙ ap (option_map (λ (alignments : Vec Alignment Global). alignments.items)) c.in_default-2.is)
 
+pub returns-then-not-branch-clause-value : goal.returns-then-not-branch-clause-value
+returns-then-not-branch-clause-value c = λ s head before from l is rest.
+    let last = last_is s c.args.self.now head before from c.last_line.result c.in-Some.head is c.last_line.ensures
+    c.in-Some.is in
+    begins_not s before from l (sym c.if-not-branch.true ∙ c.in_ok-may_be_head.ensures.value s before from last)
+
 pub returns-then-not-branch-clause-tried : goal.returns-then-not-branch-clause-tried
 returns-then-not-branch-clause-tried c = λ (s : Source) (head : HeldLine) (before : List SourceLine)
     (from l : SourceLine) (is : IsLastLine s c.args.self.now head before from)
@@ -126,6 +135,31 @@ returns-clause-value c = λ (s : Source) (head : HeldLine) (before : List Source
     (sym (ap (option_map (λ (alignments : Vec Alignment Global). alignments.items)) c.in-Some-2.is) ∙ fits)
     (sym c.if-not-branch.false
     ∙ c.in_ok-may_be_head.ensures.value s before from last)
+
+pub open_table-requires : goal.open_table-requires
+open_table-requires c =
+    let pass = c.args.self.now in
+    let now = c.may_be_head.new.self in
+    let same = c.in_ok-may_be_head.ensures.same in
+    record {
+      outside = ap (λ (p : Pass). p.placing.builder.leaf) same ∙ c.requires.outside;
+      head = ap (λ (p : Pass). last_of p.lines.items) same ∙ (sym c.last_line.ensures ∙ c.in-Some.is);
+      ahead = ahead_tried pass now same c.requires.ahead;
+      task = subst (λ (p : Pass). HaveTask p.placing.builder.text p.task p.lines.items) (sym same) c.requires.task;
+    }
+
+-- the paragraph ends with the head, before the end of the delimiter row
+pub step_to-requires : goal.step_to-requires
+step_to-requires c =
+    let same = c.in_ok-may_be_head.ensures.same in
+    let text = c.in_ok-open_table.ensures.text in
+    let here = c.in_ok-open_table.ensures.here in
+    let last = sym c.last_line.ensures ∙ c.in-Some.is in
+    let end = ap (λ (line : Option HeldLine). option_map_or (λ (l : HeldLine). l.next) line 0) last in
+    may_step c.open_table.new.self.placing.builder c.args.line.next
+    (omega (arith, here.0, end, c.requires.before))
+    (subst (λ t. IsCharBoundary t c.args.line.next)
+    (sym (text ∙ ap (λ (p : Pass). p.placing.builder.text) same)) c.requires.next) here.1
 
 -- the table, open up to the end of the line
 pub returns-clause-frame : goal.returns-clause-frame
