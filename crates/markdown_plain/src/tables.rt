@@ -98,7 +98,6 @@ fn add_cell_items(
 }
 
 /// Places a cell of a row, in which a backslash may be where `escapes`.
-#[tactic(auto, using(crate::proofs::OpenBlocksLemmas::outer_of_opened))]
 #[inline(always)]
 fn place_cell(
     placing: &mut Placing<'_>,
