@@ -1,9 +1,11 @@
 -- A paragraph, or a heading that it turned out to be, that was opened, filled and closed.
-use Rattle.std.proofs.Common.{◌≡◌, ℕ, List, ◌∷◌, Option, Some, None, MatchOption, refl, sym, ap, ◌∙◌}
+use Rattle.std.proofs.Common.{◌≡◌, ℕ, List, ◌∷◌, ◌++◌, [], Option, Some, None, MatchOption, refl, sym, ap, ◌∙◌}
+use Rattle.std.proofs.Common.{true, false}
 use Rattle.markdown_base.specs.Forest.{nil, node}
 use Rattle.markdown_base.specs.declared.item.ItemBody.TheVariants as body
 use Rattle.markdown_base.specs.declared.tag.HeadingLevel.{HeadingLevel}
 use Rattle.markdown_builder.specs.BuilderView.{BuilderView, Opens, with_items}
+use Rattle.markdown_builder.specs.declared.open_block.OpenBlock.{OpenBlock}
 use Rattle.markdown_builder.specs.Shown.{chain_of, plain_item}
 use Rattle.markdown_builder.specs.TreeLevels.{with_trees}
 use Rattle.markdown_lines.specs.declared.braces.Braces.{Braces}
@@ -13,11 +15,12 @@ use Rattle.markdown_lines.specs.SourceLines.{SourceLine}
 use Rattle.markdown_block_rules.specs.BlockGrowth.{Block}
 use Rattle.markdown_block_rules.specs.BlockRules.{before_braces, last_braces, paragraph_items, shown_heading}
 use Rattle.markdown_plain.proofs.LeafTreesLemmas.{put_heading, put_opened}
+use Rattle.markdown_plain.proofs.OpenBlocksLemmas.{outer_of_opened}
 use Rattle.markdown_plain.proofs.ParagraphBracesLemmas.{heading_open, items_before_braces, not_cut}
-use Rattle.markdown_plain.specs.Fitting.{OpensHeading, OpensHeadingOf, PutsBlock, stepped}
+use Rattle.markdown_plain.specs.Fitting.{GoesOn, OpensHeading, OpensHeadingOf, PutsBlock, closed, stepped}
 use Rattle.markdown_plain.specs.LeafTrees.{HasTrees}
 use Rattle.markdown_plain.specs.ParagraphItems.{heading_braces, text_items}
-use Rattle.markdown_plain.specs.Paragraphs.{first_task, shown_ended}
+use Rattle.markdown_plain.specs.Paragraphs.{IsPlacedTo, first_task, shown_ended}
 
 -- what was opened, filled and closed is put into the innermost level as the definition says
 pub placed_tree : (s : Source) (old begun opened filled now new : BuilderView) (marked : ℕ) (b : Block)
@@ -92,3 +95,80 @@ moved_to filled now end e = record {
   headings = ap (λ (v : BuilderView). v.headings) e;
   levels = ap (λ (v : BuilderView). v.levels) e;
 }
+
+-- a text was opened in a block of its own
+pub record OpensText (old new : BuilderView) : Type 0 where
+  pub block : OpenBlock
+  pub same : new ≡ record old {
+    blocks = old.blocks ++ block ∷ [];
+    leaf = true;
+    run = None;
+    levels = old.levels ++ nil ∷ [];
+    headings = new.headings;
+  }
+
+pub opens_text : (old new : BuilderView) (heading : Option (HeadingLevel × Line))
+    → MatchOption heading (Opens old new body.Paragraph) (λ h. OpensHeading old new h.0) → OpensText old new
+opens_text old new None opens = record {
+  block = record { start = old.at; body = body.Paragraph };
+  same = rw opens;
+}
+opens_text old new (Some heading) opens = record {
+  block = record { start = old.at; body = body.Heading heading.0 opens.0 };
+  same = opens.1;
+}
+
+-- it was opened after a step, filled, and closed after another
+pub text_placed : (old begun opened filled now new : BuilderView) (start to end : ℕ) → begun ≡ stepped old start
+    → OpensText begun opened → GoesOn opened filled to → now ≡ stepped filled end → new ≡ closed now new.levels
+    → IsPlacedTo old new end
+text_placed old begun opened filled now new start to end begins opens goes ends closes =
+    let outer = outer_of_opened old.blocks opens.block in
+    let first : now ≡ record opened { at = end; run = filled.run; levels = filled.levels; texts = filled.texts } =
+    ends ∙ ap (λ v. stepped v end) goes in
+    let second = first
+    ∙ ap (λ (v : BuilderView). record v { at = end; run = filled.run; levels = filled.levels; texts = filled.texts })
+    opens.same in
+    let third : now ≡ record old {
+      at = end;
+      blocks = old.blocks ++ opens.block ∷ [];
+      leaf = true;
+      run = filled.run;
+      levels = filled.levels;
+      texts = filled.texts;
+      headings = opened.headings;
+    } = second ∙ ap (λ (v : BuilderView). record v {
+      at = end;
+      blocks = v.blocks ++ opens.block ∷ [];
+      leaf = true;
+      run = filled.run;
+      levels = filled.levels;
+      texts = filled.texts;
+      headings = opened.headings;
+    }) begins in
+    let made = closes ∙ ap (λ (v : BuilderView). closed v new.levels) third in
+    made ∙ (ap (λ blocks. record old {
+      at = end;
+      blocks = blocks;
+      leaf = false;
+      run = None;
+      levels = new.levels;
+      texts = filled.texts;
+      headings = opened.headings;
+    }) outer
+    ∙ (ap (λ texts. record old {
+      at = end;
+      leaf = false;
+      run = None;
+      levels = new.levels;
+      texts = texts;
+      headings = opened.headings;
+    }) (sym (ap (λ (v : BuilderView). v.texts) made))
+    ∙ ap (λ headings. record old {
+      at = end;
+      leaf = false;
+      run = None;
+      levels = new.levels;
+      texts = new.texts;
+      headings = headings;
+    }) (sym (ap (λ (v : BuilderView). v.headings) made))))

@@ -511,7 +511,6 @@ impl<'a> Pass<'a> {
 
     /// Places the lines from the number `from` on as a paragraph, or as a heading that ends with the line of its
     /// underline. Only the first of all lines may begin with a task marker.
-    #[tactic(auto, using(crate::proofs::OpenBlocksLemmas::outer_of_opened))]
     fn place_paragraph(
         &mut self,
         from: usize,

@@ -3,6 +3,7 @@ use Rattle.std.proofs.Common.{◌≡◌, ◌∙◌, ◌∷◌, ◌+◌, ◌<◌,
 use Rattle.std.proofs.Common.{drop}
 use Rattle.std.specs.Prelude.{get_or, ◌==◌, if◌then◌else◌}
 use Rattle.std.specs.Option.{IfSome}
+use Rattle.std.specs.Str.{IsCharBoundary}
 use Rattle.std.proofs.lemmas.Bool.Decides.{nat_tests}
 use Rattle.markdown_builder.specs.BuilderView.{BuilderView, with_items}
 use Rattle.markdown_lines.specs.SourceLines.{SourceLine}
@@ -10,7 +11,8 @@ use Rattle.markdown_lines.specs.declared.held_line.HeldLine.{HeldLine}
 use Rattle.markdown_block_rules.specs.BlockRules.{before_braces}
 use Rattle.markdown_plain.proofs.ParagraphBracesLemmas.{begin_first, heading_open}
 use Rattle.markdown_plain.proofs.ParagraphTreesLemmas.{any_default, takes_line}
-use Rattle.markdown_plain.proofs.PlacedParagraphsLemmas.{IsAtEnd, moved_to, none_run, opens_no_text, placed_tree}
+use Rattle.markdown_plain.proofs.PlacedParagraphsLemmas.{IsAtEnd, moved_to, none_run, opens_no_text, opens_text}
+use Rattle.markdown_plain.proofs.PlacedParagraphsLemmas.{placed_tree, text_placed}
 use Rattle.markdown_plain.specs.Fitting.{stepped}
 use Rattle.markdown_plain.specs.HeldSources.{AreTextLines}
 use Rattle.markdown_plain.specs.ParagraphItems.{HaveEnds, OpenInLast, heading_braces, text_items}
@@ -23,7 +25,8 @@ use Rattle.markdown_plain.proofs.LeafTreesLemmas.{no_text, texts_after}
 use Rattle.std.specs.Prelude.{ℕ}
 use Rattle.markdown_plain.proofs.ClosableLemmas.{IsTextOpened, first_line}
 use Rattle.markdown_plain.proofs.ClosableLemmas.{text_opened}
-use Rattle.markdown_plain.specs.Closable.{AreInText, HaveBraces, HaveTask}
+use Rattle.markdown_plain.proofs.FittingLemmas.{may_step}
+use Rattle.markdown_plain.specs.Closable.{AreInText, EndsHeading, HaveBraces, HaveTask}
 use Rattle.markdown_builder.specs.EvenRows.{is_in_row}
 use Rattle.markdown_plain.proofs.pass.Pass.place_paragraph.Goals.{After-last_braces, After-close-arg-1}
 use Rattle.markdown_plain.proofs.pass.Pass.place_paragraph.Goals as goal
@@ -64,28 +67,33 @@ task_is c =
 lines_are : (c : goal.After-close) → c.deref-2.result.now ≡ c.args.self.now.lines.items
 lines_are c = c.deref-2.ensures.value ∙ ap (λ (p : Pass). p.lines.items) (same c)
 
-ends : (c : goal.After-close) → c.args.from < length c.args.self.now.lines.items
-    → IsAtEnd c.add_lines.new.placing.builder c.match-heading.self.placing.builder
-    (paragraph_end c.args.self.now.lines.items c.args.heading)
-ends c less =
+ended : (c : goal.After-close) → c.args.from < length c.args.self.now.lines.items
+    → c.match-heading.self.placing.builder
+    ≡ stepped c.add_lines.new.placing.builder (paragraph_end c.args.self.now.lines.items c.args.heading)
+ended c less =
     elim c.match-heading.branch [
       | in-Some-heading w ↦
           let steps = w.step_to-in-Some-heading.ensures.steps
           in
-          moved_to c.add_lines.new.placing.builder c.match-heading.self.placing.builder _
-          (ap (λ (p : Pass). p.placing.builder) w.self-is
+          ap (λ (p : Pass). p.placing.builder) w.self-is
           ∙ (steps ∙ ap (λ heading. stepped c.add_lines.new.placing.builder
-          (paragraph_end c.args.self.now.lines.items heading)) (sym w.in-Some-heading.is)))
+          (paragraph_end c.args.self.now.lines.items heading)) (sym w.in-Some-heading.is))
       | in_default-heading w ↦
           let goes = c.in_ok-add_lines.ensures.goes_on
           (subst (λ (ls : List HeldLine). c.args.from < length ls) (sym (lines_are c)) less) in
           let at = ap (λ (v : BuilderView). v.at) goes
           ∙ (ap lines_end (lines_are c)
           ∙ sym (ap (paragraph_end c.args.self.now.lines.items) w.in_default-heading.is)) in
-          moved_to c.add_lines.new.placing.builder c.match-heading.self.placing.builder _
-          (ap (λ (p : Pass). p.placing.builder) w.self-is
-          ∙ ap (λ n. stepped c.add_lines.new.placing.builder n) at)
+          ap (λ (p : Pass). p.placing.builder) w.self-is
+          ∙ ap (λ n. stepped c.add_lines.new.placing.builder n) at
     ]
+
+ends : (c : goal.After-close) → c.args.from < length c.args.self.now.lines.items
+    → IsAtEnd c.add_lines.new.placing.builder c.match-heading.self.placing.builder
+    (paragraph_end c.args.self.now.lines.items c.args.heading)
+ends c less =
+    moved_to c.add_lines.new.placing.builder c.match-heading.self.placing.builder
+    (paragraph_end c.args.self.now.lines.items c.args.heading) (ended c less)
 
 pub returns-clause-tree : goal.returns-clause-tree
 returns-clause-tree c = λ sources marked b are less some first end.
@@ -234,6 +242,19 @@ at_first c =
       | in_default w ↦ absurd (search rules)
     ]
 
+pub step_to-requires : goal.step_to-requires
+step_to-requires c =
+    let line = c.in-Some.first.now in
+    let found = c.in-Some.ensures.lookup in
+    let held = found.1 ∙ ap (λ ls. get_or ls c.args.from line) c.deref.ensures.value in
+    let first = first_line c.args.self.now c.args.from c.args.heading line c.requires held in
+    record { ahead = first.ahead; white = first.white }
+
+pub open_text-requires : goal.open_text-requires
+open_text-requires c =
+    let first = at_first (goal.at.open_text-requires c).After-last_braces in
+    first.leaf ∙ c.requires.outside
+
 -- the lines are in the leaf
 pub add_lines-requires : goal.add_lines-requires
 add_lines-requires c =
@@ -297,3 +318,54 @@ close-requires-clause-some c = λ none.
     c.in_ok-open_text.ensures.opens in
     let last = at_last (goal.at.close-requires-clause-some c).After-close-arg-1 opened in
     opened.inside.some (sym last.blocks ∙ none)
+
+-- the underline ends after the lines
+pub step_to-requires-in-Some-heading : goal.step_to-requires-in-Some-heading
+step_to-requires-in-Some-heading c =
+    let old = c.args.self.now in
+    let filled = c.add_lines.new.placing.builder in
+    let next = c.in-Some-heading.underline.next in
+    let early = (goal.at.step_to-requires-in-Some-heading c).After-last_braces in
+    let first = at_first early in
+    let kept = same_early early in
+    let opened = text_opened c.match-get.self.placing.builder c.open_text.new.placing.builder c.args.heading
+    c.in_ok-open_text.ensures.opens in
+    let lines = c.deref-2.ensures.value ∙ ap (λ (p : Pass). p.lines.items) kept in
+    let goes = c.in_ok-add_lines.ensures.goes_on
+    (subst (λ (ls : List HeldLine). c.args.from < length ls) (sym lines) c.requires.some) in
+    let at = ap (λ (v : BuilderView). v.at) goes ∙ ap lines_end lines in
+    let text = ap (λ (v : BuilderView). v.text) goes ∙ (opened.text ∙ first.text) in
+    let end = subst (EndsHeading old.placing.builder.text old.lines.items) c.in-Some-heading.is
+    c.requires.heading_ends in
+    may_step filled next (omega (arith, at, end.0)) (subst (λ t. IsCharBoundary t next) (sym text) end.1)
+    (λ none. opened.inside.some (sym (ap (λ (v : BuilderView). v.blocks) goes) ∙ none))
+
+-- the builder has moved to the first line
+begun : (c : goal.After-close) → (start : ℕ)
+    × (c.match-get.self.placing.builder ≡ stepped c.args.self.now.placing.builder start)
+begun c =
+    elim c.match-get.branch [
+      | in-Some w ↦ (
+        w.in-Some.first.now.start,
+        ap (λ (p : Pass). p.placing.builder) w.self-is ∙ w.step_to.ensures.steps,
+      )
+      | in_default w ↦ (
+        c.args.self.now.placing.builder.at,
+        ap (λ (p : Pass). p.placing.builder) w.self-is,
+      )
+    ]
+
+pub returns-clause-placed : goal.returns-clause-placed
+returns-clause-placed c = λ less.
+    let first = begun c in
+    let goes = c.in_ok-add_lines.ensures.goes_on
+    (subst (λ (ls : List HeldLine). c.args.from < length ls) (sym (lines_are c)) less) in
+    let opens = opens_text c.match-get.self.placing.builder c.open_text.new.placing.builder c.args.heading
+    c.in_ok-open_text.ensures.opens in
+    text_placed c.args.self.now.placing.builder c.match-get.self.placing.builder c.open_text.new.placing.builder
+    c.add_lines.new.placing.builder c.match-heading.self.placing.builder c.close.new.self.builder first.0
+    (lines_end c.deref-2.result.now) (paragraph_end c.args.self.now.lines.items c.args.heading) first.1 opens goes
+    (ended c less) c.close.ensures.closes
+
+pub returns-clause-text : goal.returns-clause-text
+returns-clause-text c = ap (λ (v : BuilderView). v.text) (returns-clause-placed c c.requires.some)
