@@ -190,3 +190,38 @@ returns-clause-frame c = λ is s frames inside b head before from l holds last_l
       opened = table_stepped s c.open_table.new.self.placing.builder c.step_to.new.self.builder frames
           (before_table inside b before) from from.next c.args.line.next found moved opened;
     }
+
+-- what else the pass has stays
+pub returns-then-not-branch-clause-text : goal.returns-then-not-branch-clause-text
+returns-then-not-branch-clause-text c =
+    let same = c.in_ok-may_be_head.ensures.same in
+    ap (λ (p : Pass). p.placing.builder.text) same
+
+pub returns-then-not-branch-clause-keeps : goal.returns-then-not-branch-clause-keeps
+returns-then-not-branch-clause-keeps c =
+    let same = c.in_ok-may_be_head.ensures.same in
+    rw same
+
+pub returns-then-not-branch-clause-same : goal.returns-then-not-branch-clause-same
+returns-then-not-branch-clause-same c = λ is. c.in_ok-may_be_head.ensures.same
+
+pub returns-clause-text : goal.returns-clause-text
+returns-clause-text c =
+    let same = c.in_ok-may_be_head.ensures.same in
+    let text = c.in_ok-open_table.ensures.text in
+    c.step_to.ensures.text ∙ (text ∙ ap (λ (p : Pass). p.placing.builder.text) same)
+
+pub returns-clause-keeps : goal.returns-clause-keeps
+returns-clause-keeps c =
+    let pass = c.args.self.now in
+    let placing = c.step_to.new.self in
+    let lines = c.open_table.new.self.lines in
+    let same = c.in_ok-may_be_head.ensures.same in
+    let opened = c.in_ok-open_table.ensures.same in
+    ap (λ (p : Pass). record p { placing = placing }) opened
+    ∙ (ap (λ (p : Pass). record p { placing = placing; lines = lines }) same
+    ∙ ap (λ tried. record pass { placing = placing; lines = lines; tried = tried })
+    (sym (ap (λ (p : Pass). p.tried) opened)))
+
+pub returns-clause-ended : goal.returns-clause-ended
+returns-clause-ended c = λ is. c.in_ok-open_table.ensures.ended
