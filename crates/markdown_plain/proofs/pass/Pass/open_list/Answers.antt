@@ -1,11 +1,13 @@
 -- The list goes on, or is one more open container.
 use Rattle.std.proofs.Common.{append_assoc, ap, Bool, drop, if◌then◌else◌, length, take, ◌≡◌, ◌∙◌, ◌++◌, ◌∷◌, []}
-use Rattle.std.proofs.Common.{List, sym, subst, rules, true, false}
+use Rattle.std.proofs.Common.{List, Option, Some, None, refl, arith, sym, subst, rules, true, false}
+use Rattle.std.specs.Option.{option_map_or}
 use Rattle.std.proofs.lemmas.Bool.{true≢false}
 use Rattle.std.proofs.lemmas.Result.{IfOk-weaker}
+use Rattle.markdown_base.specs.declared.item.ItemBody.{ItemBody}
 use Rattle.markdown_base.specs.declared.item.ItemBody.TheVariants as body
 use Rattle.markdown_base.specs.Forest.{Forest, nil}
-use Rattle.markdown_builder.specs.BuilderView.{BuilderView, Opens}
+use Rattle.markdown_builder.specs.BuilderView.{BuilderView, Opens, innermost_block}
 use Rattle.markdown_builder.specs.declared.open_block.OpenBlock.{OpenBlock}
 use Rattle.markdown_lines.specs.BlockBeginnings.{Source}
 use Rattle.markdown_block_rules.specs.BlockGrowth.{Block, list_container}
@@ -13,17 +15,18 @@ use Rattle.markdown_plain.specs.Closing.{MayClose}
 use Rattle.markdown_plain.specs.Fitting.{stepped}
 use Rattle.markdown_plain.specs.Frames.{Frame, forgotten, is_list, rebuilt, room_depth}
 use Rattle.markdown_plain.specs.OpenedFrames.{is_list_for, with_frame, with_list}
-use Rattle.markdown_plain.specs.NewContainers.{is_list_of}
+use Rattle.markdown_plain.specs.NewContainers.{is_list_of, new_list}
 use Rattle.markdown_plain.specs.OpenBlocks as own
 use Rattle.markdown_plain.specs.declared.pass.Pass.{Pass}
 use Rattle.markdown_plain.specs.Settled.{AreOpen, BlanksKnown, IsLooseAs}
 use Rattle.markdown_plain.proofs.ClosedListsLemmas.{AddsBlock, AreClosedTo, IsRoom, room_left, room_made, room_there}
 use Rattle.markdown_plain.proofs.ClosedListsLemmas.{none_closed as none_closed_so_far}
+use Rattle.markdown_plain.proofs.FittingLemmas.{some_opened}
 use Rattle.markdown_plain.proofs.FramesInsideLemmas.{inner_last}
 use Rattle.markdown_plain.proofs.OpenedFramesLemmas.{as_many_containers, list_for_item, list_goes_on, list_innermost}
 use Rattle.markdown_plain.proofs.OpenedFramesLemmas.{list_is, list_outside, plain_is_built}
 use Rattle.markdown_plain.proofs.pass.Pass.open_list.Goals.{in-Some-List+else-character-marker}
-use Rattle.markdown_plain.proofs.pass.Pass.open_list.Goals.{in-Some+in-MaybeEmphasis-1, in-None-1}
+use Rattle.markdown_plain.proofs.pass.Pass.open_list.Goals.{After-add_block, in-Some+in-MaybeEmphasis-1, in-None-1}
 use Rattle.markdown_plain.proofs.pass.Pass.open_list.Goals as goal
 
 pub returns-then-character-marker-clause-begins : goal.returns-then-character-marker-clause-begins
@@ -41,6 +44,101 @@ returns-clause-continues c =
     IfOk-weaker c.open_list.result _ _ (λ done read s frames inside built goes_on.
     absurd (true≢false (sym goes_on ∙ (sym (list_goes_on c.args.marker s c.args.self.now.placing.builder frames inside
     built) ∙ begins c)))) c.open_list.ensures.read
+
+-- a list is no block quote
+no_quote : (found : Option OpenBlock) → option_map_or (λ (block : OpenBlock). own.is_list block.body) found false ≡ true
+    → option_map_or (λ (block : OpenBlock). own.is_quote block.body) found false ≡ false
+no_quote None list = refl
+no_quote (Some block) list = first block.body list
+  where
+    first : (b : ItemBody) → own.is_list b ≡ true → own.is_quote b ≡ false
+    first (body.List tight character number) list = refl
+    first b list = absurd (true≢false (sym list))
+
+-- a list in the way was closed
+record IsCleared (old now : Pass) : Type 0 where
+  text : now.placing.builder.text ≡ old.placing.builder.text
+  at : now.placing.builder.at ≡ old.placing.builder.at
+  blocks : now.placing.builder.blocks ≡ own.without_list old.placing.builder.blocks
+  leaf : now.placing.builder.leaf ≡ false
+  same : now ≡ record old { placing = now.placing; looseness = now.looseness }
+
+nothing_cleared : (old now : Pass) → old.placing.builder.leaf ≡ false
+    → own.innermost_is own.is_list old.placing.builder.blocks ≡ false → now ≡ old → IsCleared old now
+nothing_cleared old now outside other same =
+    let blocks = old.placing.builder.blocks in
+    subst (IsCleared old) (sym same) (record {
+      text = refl;
+      at = refl;
+      blocks = sym (ap (λ (test : Bool). if test then own.outer_of blocks else blocks) other);
+      leaf = outside;
+      same = refl;
+    })
+
+cleared : (c : After-add_block) → IsCleared c.args.self.now c.match-innermost.self
+cleared c =
+    let old = c.args.self.now in
+    let view = old.placing.builder in
+    elim c.match-innermost.branch [
+      | in-Some-List+else-character-marker w ↦
+          let shut = w.close_block.ensures.closes in
+          let list : own.innermost_is own.is_list view.blocks ≡ true = search rules in
+          subst (IsCleared old) (sym w.self-is) (record {
+            text = w.close_block.ensures.text;
+            at = ap (λ (v : BuilderView). v.at) shut
+                ∙ ap (λ (test : Bool). if test then old.placed else view.at)
+                (no_quote (innermost_block view.blocks) list);
+            blocks = ap (λ (v : BuilderView). v.blocks) shut
+                ∙ sym (ap (λ (test : Bool). if test then own.outer_of view.blocks else view.blocks) list);
+            leaf = ap (λ (v : BuilderView). v.leaf) shut;
+            same = w.close_block.ensures.same;
+          })
+      | in-Some+in-MaybeEmphasis-1 w ↦
+          let other : own.innermost_is own.is_list view.blocks ≡ false = search rules in
+          nothing_cleared old c.match-innermost.self c.requires.outside other w.self-is
+      | in-None-1 w ↦
+          let other : own.innermost_is own.is_list view.blocks ≡ false = search rules in
+          nothing_cleared old c.match-innermost.self c.requires.outside other w.self-is
+    ]
+
+pub step_to-requires : goal.step_to-requires
+step_to-requires c =
+    let is = cleared (goal.at.step_to-requires c).After-add_block in
+    record {
+      ahead = (rw is.at c.requires.ahead.0, rw is.text c.requires.ahead.1);
+      white = λ none. rw (is.text, is.at) (c.requires.white (sym is.blocks ∙ none));
+    }
+
+pub returns-clause-around : goal.returns-clause-around
+returns-clause-around c =
+    IfOk-weaker c.open_list.result _ _ (λ done read.
+    let blocks = c.args.self.now.placing.builder.blocks in
+    let list : ItemBody = body.List true c.args.marker.character c.args.marker.first in
+    let is = cleared (goal.at.returns-clause-around c).After-add_block in
+    let opens = c.in_ok-open_block.ensures.opens in
+    ap (λ (v : BuilderView). v.blocks) opens
+    ∙ (ap (λ (v : BuilderView). v.blocks ++ record { start = v.at; body = list } ∷ []) c.step_to.ensures.steps
+    ∙ (ap (λ (outer : List OpenBlock). outer ++ new_list c.args.at c.args.marker ∷ []) is.blocks
+    ∙ sym (ap (λ (test : Bool). if test then blocks
+    else own.without_list blocks ++ new_list c.args.at c.args.marker ∷ []) (begins c))))) c.open_list.ensures.read
+
+pub returns-clause-here : goal.returns-clause-here
+returns-clause-here c =
+    IfOk-weaker c.open_list.result _ _ (λ done read outside low.
+    let opens = c.in_ok-open_block.ensures.opens in
+    let at = ap (λ (v : BuilderView). v.at) c.step_to.ensures.steps in
+    let now = ap (λ (v : BuilderView). v.at) opens in
+    record {
+      outside = ap (λ (v : BuilderView). v.leaf) opens;
+      some = some_opened c.open_block.new.self.builder.blocks c.step_to.new.self.builder.blocks _
+          (ap (λ (v : BuilderView). v.blocks) opens);
+      low = omega (arith, at, now);
+    }) c.open_list.ensures.read
+
+pub returns-clause-same : goal.returns-clause-same
+returns-clause-same c =
+    let is = cleared (goal.at.returns-clause-same c).After-add_block in
+    ap (λ (p : Pass). record p { placing = c.open_block.new.self; looseness = c.open_list.new.self }) is.same
 
 -- no list is closed
 none_closed : (c : goal.After-open_list)
