@@ -1,5 +1,5 @@
 -- No delimiter row; no head; both.
-use Rattle.std.proofs.Common.{◌≡◌, ◌++◌, ◌∷◌, [], List, Option, None, ap, arith, subst, sym, ◌∙◌}
+use Rattle.std.proofs.Common.{◌≡◌, ◌++◌, ◌∷◌, [], List, Option, Some, None, ap, arith, subst, sym, ◌∙◌}
 use Rattle.std.specs.Str.{IsCharBoundary}
 use Rattle.std.specs.Option.{option_map, option_map_or}
 use Rattle.std.specs.declared.vec.Vec.{Vec}
@@ -61,6 +61,17 @@ returns-then-space-ge4-clause-tried c = λ (s : Source) (head : HeldLine) (befor
           w.if-not-begins_delimiter_row.true w.begins_delimiter_row.ensures
     ] in
     tried_none s pass head before from (further_line s l) is none
+
+-- there is a last line
+pub returns-in_default-clause-value : goal.returns-in_default-clause-value
+returns-in_default-clause-value c = λ s head before from l is rest.
+    let none : Some head ≡ None = sym is.there ∙ (sym c.last_line.ensures ∙ c.in_default.is) in
+    absurd (cc (none))
+
+pub returns-in_default-clause-tried : goal.returns-in_default-clause-tried
+returns-in_default-clause-tried c = λ s head before from l is rest same.
+    let none : Some head ≡ None = sym is.there ∙ (sym c.last_line.ensures ∙ c.in_default.is) in
+    absurd (cc (none))
 
 pub returns-in_default-2-clause-value : goal.returns-in_default-2-clause-value
 returns-in_default-2-clause-value c = λ (s : Source) (head : HeldLine) (before : List SourceLine)
