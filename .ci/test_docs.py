@@ -141,7 +141,7 @@ class DocsTest(MadeUpTree):
         "crates/markdown_base/README.md": "# Base\n\nIts `Kind` is in `markdown_base/src/kinds`.\n",
         "crates/markdown_c/src/lib.rt": 'pub const VERSION: &str = "1.2.3";\n',
         "crates/markdown_hello/src/main.rt": CODE_OF_HELLO,
-        "crates/markdown_html_rules/specs/HtmlOfLines.antt": "one = with_html (a)\ntwo = with_html (b)\n",
+        "crates/markdown_html_examples/specs/HtmlOfLines.antt": "one = with_html (a)\ntwo = with_html (b)\n",
         "crates/markdown_scan/src/lib.rt": "//! Scanners.\n",
         ".ci/entities": ENTITIES,
         "table": "amp\n",

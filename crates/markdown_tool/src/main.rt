@@ -4,7 +4,7 @@
 
 mod system;
 
-use markdown_output::run_tool;
+use markdown_tool_output::run_tool;
 use std::process::ExitCode;
 use system::{System, words_of};
 

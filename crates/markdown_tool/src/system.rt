@@ -1,5 +1,5 @@
 //! The files, the standard streams and the command line of the system.
-use markdown_output::Files;
+use markdown_tool_output::Files;
 use std::alloc::Global;
 use std::env::{self, Env};
 use std::fs;

@@ -1,5 +1,5 @@
 //! Files in memory, which stand in for those of a system, and runs over them.
-use markdown_output::{Files, run_tool};
+use markdown_tool_output::{Files, run_tool};
 use std::alloc::{AllocError, Global};
 use std::io::{self, ErrorKind};
 use std::test::Fail;

@@ -1,0 +1,97 @@
+-- The command line, in clap's words: the arguments that it takes, and what their words ask for.
+use Rattle.std.specs.Prelude.{◌≡◌, ◌⊎◌, ℕ, true, List, [], ◌∷◌, map, Some, codes}
+use Rattle.clap.specs.Simple.{on_top}
+use Rattle.clap.specs.Words.{App, HasKind, Rule, fault_of, kind_of, matches_of, new_app, new_rule, with_rule}
+use Rattle.clap.specs.declared.builder.action.ArgAction.TheVariants.{Append, SetTrue}
+use Rattle.clap.specs.declared.builder.value_parser.ValueParser.{ValueParser}
+use Rattle.clap.specs.declared.builder.value_parser.ValueParser.TheVariants as parser
+use Rattle.clap.specs.declared.error.Error.{Error}
+use Rattle.clap.specs.declared.error.kind.ErrorKind.TheVariants as kind
+use Rattle.markdown_tool_command.specs.Choices.{format_names}
+use Rattle.markdown_tool_command.specs.Extensions.{offered_names}
+use Rattle.markdown_tool_command.specs.Requests.{IsMisuse, IsRequestOf}
+use Rattle.markdown_tool_command.specs.declared.choices.Misuse.{Misuse}
+use Rattle.markdown_tool_command.specs.declared.request.Request.{Request}
+
+-- an argument with a value, by its name
+abbrev pub valued : List ℕ → Rule
+valued name = record (new_rule name) { long = Some name; value_names = 1 }
+
+-- an argument without a value
+abbrev pub flag : List ℕ → Rule
+flag name = record (new_rule name) { long = Some name; action = Some SetTrue }
+
+-- the files, in any number
+abbrev pub file_rule : Rule
+file_rule = record (new_rule (codes "file")) { value_names = 1; action = Some Append }
+
+-- the format: one of these
+abbrev pub to_rule : ValueParser → Rule
+to_rule formats =
+    record (valued (codes "to")) { short = Some 116; defaults = codes "html" ∷ []; parser = Some formats }
+
+-- an extension: one of these
+abbrev pub extension_rule : ValueParser → Rule
+extension_rule extensions =
+    record (valued (codes "extension")) { short = Some 101; action = Some Append; parser = Some extensions }
+
+-- the file to write
+abbrev pub output_rule : Rule
+output_rule = record (valued (codes "output")) { short = Some 111; defaults = codes "-" ∷ [] }
+
+-- the version is shown by a flag
+abbrev pub versioned : App → App
+versioned app = on_top (λ shape. record shape { has_version = true }) app
+
+-- a command with the arguments for extensions, each one of these
+abbrev pub with_extension_rules : ValueParser → App → App
+with_extension_rules extensions app = with_rule (with_rule (with_rule app
+    (extension_rule extensions))
+    (record (flag (codes "all-extensions")) { short = Some 97 }))
+    (flag (codes "gfm"))
+
+-- a command with those for a page
+abbrev pub with_page_rules : App → App
+with_page_rules app = with_rule (with_rule (with_rule app
+    (record (flag (codes "full-page")) { short = Some 102 }))
+    (valued (codes "title")))
+    (valued (codes "css"))
+
+-- a command with those for files
+abbrev pub with_file_rules : App → App
+with_file_rules app = with_rule (with_rule app output_rule) file_rule
+
+-- the command, with all arguments
+abbrev pub tool : (formats extensions : ValueParser) → App
+tool formats extensions = with_file_rules (with_page_rules (with_extension_rules extensions
+    (with_rule (with_rule (versioned (new_app (codes "markdown"))) (to_rule formats)) (flag (codes "safe")))))
+
+module _ (formats extensions : ValueParser) (words : List (List ℕ)) where
+  -- this is the request of the words, where these formats and extensions are offered
+  abbrev pub IsRequestBy : Request → Type 0
+  IsRequestBy request = IsRequestOf (matches_of (tool formats extensions) words) request
+
+  -- this is why they make none: what clap says of them, or choices that do not go together
+  pub record IsRefusedBy (error : Error) : Type 0 where
+    pub why : HasKind (fault_of (tool formats extensions) words) error
+        ⊎ ((kind_of error ≡ kind.ArgumentConflict)
+        × (misuse : Misuse) × IsMisuse (matches_of (tool formats extensions) words) misuse)
+
+-- exactly these names are values
+abbrev pub AreNames : ValueParser → List (List ℕ) → Type 0
+AreNames (parser.Names names) texts = map (λ name. name.now) names.now ≡ texts
+AreNames other texts = ⊥
+
+-- this is the request of the words of a command line
+pub record IsRequestFor (words : List (List ℕ)) (request : Request) : Type 0 where
+  pub formats : ValueParser
+  pub extensions : ValueParser
+  pub formats_offered : AreNames formats format_names
+  pub extensions_offered : AreNames extensions offered_names
+  pub asked : IsRequestBy formats extensions words request
+
+-- this is why they make none; an allocation may be refused before they are read
+abbrev pub IsRefusedFor : (words : List (List ℕ)) → Error → Type 0
+IsRefusedFor words error = (kind_of error ≡ kind.OutOfMemory)
+    ⊎ ((formats extensions : ValueParser) × AreNames formats format_names × AreNames extensions offered_names
+    × IsRefusedBy formats extensions words error)

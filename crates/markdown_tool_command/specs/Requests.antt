@@ -1,0 +1,84 @@
+-- The request of a command line, by the values of its words: for each argument a row, under its name.
+use Rattle.std.specs.Prelude.{◌≡◌, ◌⊎◌, ℕ, Bool, false, ◌||◌, List, [], ◌∷◌, map, Option, Some, None, is_some}
+use Rattle.std.specs.Prelude.{option_map}
+use Rattle.std.specs.Prelude.{Result, Ok, Err, if◌then◌else◌, codes, unwrap_or, string_bytes}
+use Rattle.std.specs.Option.{option_map_or}
+use Rattle.std.specs.Str.{bytes_eq}
+use Rattle.clap.specs.Words.{Row, all_of, first_of}
+use Rattle.markdown_base.specs.declared.options.Options.{Options}
+use Rattle.markdown_tool_command.specs.Choices.{checked_format, format_named}
+use Rattle.markdown_tool_command.specs.Extensions.{options_of}
+use Rattle.markdown_tool_command.specs.declared.choices.Format.{Format}
+use Rattle.markdown_tool_command.specs.declared.choices.Misuse.{Misuse}
+use Rattle.markdown_tool_command.specs.declared.choices.Misuse.TheVariants.{UnknownName}
+use Rattle.markdown_tool_command.specs.declared.request.Page.{Page}
+use Rattle.markdown_tool_command.specs.declared.request.Refusal.{Refusal}
+use Rattle.markdown_tool_command.specs.declared.request.Refusal.TheVariants as refusal
+use Rattle.markdown_tool_command.specs.declared.request.Request.{Request}
+
+-- the name of standard input, and of standard output
+abbrev pub standard : List ℕ
+standard = codes "-"
+
+-- whether a flag is given
+abbrev pub is_given : List ℕ → List Row → Bool
+is_given name rows = option_map_or (λ value. bytes_eq value (codes "true")) (first_of name rows) false
+
+-- the values of an argument, in order
+abbrev pub values_given : List ℕ → List Row → List (List ℕ)
+values_given name rows = unwrap_or (all_of name rows) []
+
+-- the options that are asked for; None where an extension is not offered
+abbrev pub options_asked : List Row → Option Options
+options_asked rows = options_of
+    (values_given (codes "extension") rows) (is_given (codes "all-extensions") rows) (is_given (codes "gfm") rows)
+
+-- a part of a page is asked for
+abbrev pub asks_part : List Row → Bool
+asks_part rows = is_some (first_of (codes "title") rows) || is_some (first_of (codes "css") rows)
+
+-- the format that is named; None where it is not offered
+abbrev pub named_format : List Row → Option Format
+named_format rows = format_named (unwrap_or (first_of (codes "to") rows) (codes "html"))
+
+-- the format that is asked for, or what does not go together with it
+abbrev pub checked_name : Option Format → List Row → Result Format Misuse
+checked_name None rows = Err UnknownName
+checked_name (Some named) rows =
+    checked_format named (is_given (codes "safe") rows) (is_given (codes "full-page") rows) (asks_part rows)
+
+abbrev pub format_asked : List Row → Result Format Misuse
+format_asked rows = checked_name (named_format rows) rows
+
+-- the title and the style sheet of a page
+abbrev pub page_texts : Page → Option (List ℕ) × Option (List ℕ)
+page_texts page = (option_map string_bytes page.title, option_map string_bytes page.style)
+
+-- the page that is asked for, if one is, by these two
+abbrev pub page_asked : List Row → Option (Option (List ℕ) × Option (List ℕ))
+page_asked rows =
+    if is_given (codes "full-page") rows then Some (first_of (codes "title") rows, first_of (codes "css") rows)
+    else None
+
+-- these names, or that of standard input where there is none
+abbrev pub or_standard : List (List ℕ) → List (List ℕ)
+or_standard [] = standard ∷ []
+or_standard (name ∷ names) = name ∷ names
+
+-- this is the request that these rows make
+pub record IsRequestOf (rows : List Row) (request : Request) : Type 0 where
+  pub format : format_asked rows ≡ Ok request.format
+  pub options : options_asked rows ≡ Some request.options
+  pub page : option_map page_texts request.page ≡ page_asked rows
+  pub output : string_bytes request.output ≡ unwrap_or (first_of (codes "output") rows) standard
+  pub inputs : map string_bytes request.inputs.items ≡ or_standard (values_given (codes "file") rows)
+
+-- this is why these rows make no request: choices that do not go together, or a name that is not offered
+abbrev pub IsMisuse : List Row → Misuse → Type 0
+IsMisuse rows misuse =
+    (format_asked rows ≡ Err misuse) ⊎ ((misuse ≡ UnknownName) × (options_asked rows ≡ None))
+
+-- the same, where an allocation may have been refused
+abbrev pub IsRefusal : List Row → Refusal → Type 0
+IsRefusal rows refusal.Memory = Unit {0}
+IsRefusal rows (refusal.Misuse misuse) = IsMisuse rows misuse

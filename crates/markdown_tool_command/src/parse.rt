@@ -1,0 +1,191 @@
+//! The words of the command line, parsed.
+ghost use Rattle.std.specs.Prelude.{◌≡◌, IfOk, IfErr, false, codes, map, string_bytes};
+ghost use Rattle.clap.specs.Words.{app_of, new_app, rule_of};
+ghost use Rattle.clap.specs.declared.builder.value_parser.ValueParser.TheVariants.{Names};
+ghost use Rattle.markdown_tool_command.specs.Choices.{format_names};
+ghost use Rattle.markdown_tool_command.specs.CommandLine.{IsRefusedBy, IsRequestBy, IsRefusedFor, IsRequestFor};
+ghost use Rattle.markdown_tool_command.specs.CommandLine.{flag, tool, valued, versioned};
+ghost use Rattle.markdown_tool_command.specs.CommandLine.{extension_rule, file_rule, output_rule, to_rule};
+ghost use Rattle.markdown_tool_command.specs.CommandLine.{with_extension_rules, with_page_rules, with_file_rules};
+
+use crate::choices::FORMATS;
+use crate::extensions::offered_names;
+use crate::request::{Refusal, Request, STANDARD, request_asked};
+use clap::error::ErrorKind;
+use clap::{Arg, ArgAction, Command, Error};
+use std::alloc::{AllocError, Global};
+
+/// The version of the program, which is that of the repository.
+pub const VERSION: &str = "0.10.0";
+
+/// Returns an argument with a value, by its name, where help calls the value `value`.
+fn valued<'a>(alloc: Global, name: &'a str, value: &'a str) -> Arg<'a>
+    ensures rule { rule_of result ≡ valued name.entry.now }
+    ensures local { result.global ≡ false }
+{
+    Arg::new(alloc, name).long(name).value_name(value)
+}
+
+/// Returns an argument without a value, by its name.
+fn flag<'a>(alloc: Global, name: &'a str) -> Arg<'a>
+    ensures rule { rule_of result ≡ flag name.entry.now }
+    ensures local { result.global ≡ false }
+{
+    Arg::new(alloc, name).long(name).action(ArgAction::SetTrue)
+}
+
+/// Returns the argument for the format, which is one of these names.
+fn to<'a>(alloc: Global, names: &'a [&'a str]) -> Arg<'a>
+    ensures rule { rule_of result ≡ to_rule (Names names.entry) }
+    ensures local { result.global ≡ false }
+{
+    valued(alloc, "to", "FORMAT")
+        .short('t')
+        .value_parser(names)
+        .default_value("html")
+        .help("What to write")
+}
+
+/// Returns the argument for an extension, which is one of these names.
+fn extension<'a>(alloc: Global, names: &'a [&'a str]) -> Arg<'a>
+    ensures rule { rule_of result ≡ extension_rule (Names names.entry) }
+    ensures local { result.global ≡ false }
+{
+    valued(alloc, "extension", "NAME")
+        .short('e')
+        .value_parser(names)
+        .action(ArgAction::Append)
+        .help("Enable an extension; may be repeated")
+}
+
+/// Returns the argument for the file that is written.
+fn output<'a>(alloc: Global) -> Arg<'a>
+    ensures rule { rule_of result ≡ output_rule }
+    ensures local { result.global ≡ false }
+{
+    valued(alloc, "output", "FILE")
+        .short('o')
+        .default_value(STANDARD)
+        .help("The file to write; - is standard output")
+}
+
+/// Returns the argument for the files that are read.
+fn file<'a>(alloc: Global) -> Arg<'a>
+    ensures rule { rule_of result ≡ file_rule }
+    ensures local { result.global ≡ false }
+{
+    Arg::new(alloc, "file")
+        .value_name("FILE")
+        .action(ArgAction::Append)
+        .help("The files to read; - or none is standard input")
+}
+
+/// Adds the arguments for extensions, each one of these names.
+fn with_extensions<'a>(
+    alloc: Global,
+    command: Command<'a>,
+    names: &'a [&'a str],
+) -> Result<Command<'a>, AllocError>
+    ensures { IfOk result (λ made. app_of made
+        ≡ with_extension_rules (Names names.entry) (app_of command.entry)) }
+{
+    let all = flag(alloc, "all-extensions")
+        .short('a')
+        .help("Enable all extensions but old-footnotes");
+    let gfm = flag(alloc, "gfm").help("Enable the extensions that GitHub has");
+    let named = command.arg(extension(alloc, names))?;
+    let with_all = named.arg(all)?;
+    with_all.arg(gfm)
+}
+
+/// Adds the arguments for a page.
+fn with_page<'a>(alloc: Global, command: Command<'a>) -> Result<Command<'a>, AllocError>
+    ensures { IfOk result (λ made. app_of made ≡ with_page_rules (app_of command.entry)) }
+{
+    let full_page = flag(alloc, "full-page")
+        .short('f')
+        .help("Write a whole page of HTML");
+    let title = valued(alloc, "title", "TITLE").help(
+        "The title of the page [default: the name of the first file]",
+    );
+    let css = valued(alloc, "css", "URL").help("The style sheet of the page");
+    let paged = command.arg(full_page)?;
+    let titled = paged.arg(title)?;
+    titled.arg(css)
+}
+
+/// Adds the arguments for files.
+fn with_files<'a>(alloc: Global, command: Command<'a>) -> Result<Command<'a>, AllocError>
+    ensures { IfOk result (λ made. app_of made ≡ with_file_rules (app_of command.entry)) }
+{
+    command.arg(output(alloc))?.arg(file(alloc))
+}
+
+/// The end of the help.
+const STATUSES: &str =
+    "Exit status: 0 if all was written, 1 if something failed, 2 if the command line is wrong.";
+
+/// Returns the command without its arguments.
+fn bare<'a>(alloc: Global) -> Result<Command<'a>, AllocError>
+    ensures { IfOk result (λ made. app_of made ≡ versioned (new_app (codes "markdown"))) }
+{
+    Command::new(alloc, "markdown")
+        .version(VERSION)
+        .about("Turn Markdown into HTML, events, an outline or a table of contents.")
+        .after_help(STATUSES)
+        .bin_name("markdown")
+}
+
+/// Returns the command, where these formats and these extensions are offered.
+fn command<'a>(
+    alloc: Global,
+    formats: &'a [&'a str],
+    extensions: &'a [&'a str],
+) -> Result<Command<'a>, AllocError>
+    ensures { IfOk result (λ made. app_of made
+        ≡ tool (Names formats.entry) (Names extensions.entry)) }
+{
+    let safe = flag(alloc, "safe").help("Write safe HTML, for untrusted input");
+    let bare = bare(alloc)?;
+    let with_formats = bare.arg(to(alloc, formats))?;
+    let with_safe = with_formats.arg(safe)?;
+    let extended = with_extensions(alloc, with_safe, extensions)?;
+    let paged = with_page(alloc, extended)?;
+    with_files(alloc, paged)
+}
+
+/// Returns the request of these words, where these formats and these extensions are offered.
+fn request_with<'a>(
+    alloc: Global,
+    formats: &'a [&'a str],
+    extensions: &'a [&'a str],
+    words: &'a [String],
+) -> Result<Request, Error>
+    ensures request { IfOk result (IsRequestBy (Names formats.entry) (Names extensions.entry)
+        (map string_bytes words.now)) }
+    ensures refused { IfErr result (IsRefusedBy (Names formats.entry) (Names extensions.entry)
+        (map string_bytes words.now)) }
+{
+    let mut command = command(alloc, formats, extensions)?;
+    let matches = command.try_get_matches_from_mut(words)?;
+    match request_asked(alloc, &matches) {
+        Ok(request) => Ok(request),
+        Err(Refusal::Memory) => Err(Error::from(AllocError)),
+        Err(Refusal::Misuse(misuse)) => {
+            Err(command.error(ErrorKind::ArgumentConflict, misuse.text())?)
+        }
+    }
+}
+
+/// Returns the request of the words of a command line, of which the first names the program.
+///
+/// # Errors
+///
+/// What is wrong with the words, or that help or the version is asked for, or that an allocation failed.
+pub fn request_of(alloc: Global, words: &[String]) -> Result<Request, Error>
+    ensures request { IfOk result (IsRequestFor (map string_bytes words.now)) }
+    ensures refused { IfErr result (IsRefusedFor (map string_bytes words.now)) }
+{
+    let extensions = offered_names(alloc)?;
+    request_with(alloc, FORMATS.as_slice(), extensions.as_slice(), words)
+}

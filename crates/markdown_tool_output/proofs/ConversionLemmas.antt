@@ -1,0 +1,36 @@
+-- All files of a request are read, and then its output is to be written; and the exit status.
+use Rattle.std.proofs.Common.{◌≡◌, ◌⊎◌, ℕ, List, [], ◌∷◌, Option, Result, Ok, Err, OnOk, OnErr, String, Global, map}
+use Rattle.std.proofs.Common.{inl, inr, string_bytes}
+use Rattle.markdown_tool_command.specs.declared.request.Request.{Request}
+use Rattle.markdown_tool_output.specs.Conversion.{Converts, EndsConversion, exit_status}
+use Rattle.markdown_tool_output.specs.Outputs.{IsOutputOf}
+use Rattle.markdown_tool_output.specs.Steps.{FileStep, ReadsAlone, Takes, all_read, writes}
+use Rattle.markdown_tool_output.proofs.StepsLemmas.{takes_more}
+
+module _ (request : Request) (old between new : Option (List FileStep)) where
+  converts : (texts : List (List ℕ)) (output : List ℕ) → IsOutputOf request texts output
+      → Takes old between (all_read (map string_bytes request.inputs.items) texts)
+      → Takes between new (writes (string_bytes request.output) output ∷ []) → Converts request old new
+  converts texts output is read written = record {
+    texts = texts;
+    output = output;
+    is = is;
+    steps = takes_more old between new (all_read (map string_bytes request.inputs.items) texts)
+        (writes (string_bytes request.output) output ∷ []) read written;
+  }
+
+  -- of names, texts and an output that are passed by reference
+  pub converts_by : (names texts given : List (String Global)) (output name text : List ℕ)
+      → names ≡ request.inputs.items → given ≡ texts → name ≡ string_bytes request.output → text ≡ output
+      → IsOutputOf request (map string_bytes given) output
+      → Takes old between (all_read (map string_bytes names) (map string_bytes texts))
+      → Takes between new (writes name text ∷ []) → Converts request old new
+  converts_by names texts given output name text are same named is of_texts read written =
+      converts (map string_bytes texts) output (rw same at of_texts) (rw are at read) (rw (named, is) at written)
+
+-- the exit status of an outcome
+pub ends : {A E : Type 0} (request : Request) (outcome : Result A E) (status : ℕ) (old new : Option (List FileStep))
+    → status ≡ exit_status outcome → OnOk outcome (Converts request old new)
+    → OnErr outcome (Converts request old new ⊎ ReadsAlone old new) → EndsConversion request status old new
+ends request (Ok done) status old new is ok err = inl (is, ok)
+ends request (Err failure) status old new is ok err = inr (is, err)

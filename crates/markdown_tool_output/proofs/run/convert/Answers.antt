@@ -1,0 +1,20 @@
+-- What was done to files where something failed.
+use Rattle.std.proofs.Common.{inl, inr, map, string_bytes}
+use Rattle.std.proofs.lemmas.Result.{err_from_is_err_and}
+use Rattle.markdown_tool_output.proofs.ConversionLemmas.{converts_by}
+use Rattle.markdown_tool_output.proofs.StepsLemmas.{reads_all}
+use Rattle.markdown_tool_output.proofs.run.convert.Goals as goal
+
+pub returns-in_err-output-clause-err : goal.returns-in_err-output-clause-err
+returns-in_err-output-clause-err g c =
+    let p = err_from_is_err_and c.from_residual-in_err-output.result c.from_residual-in_err-output.ensures.1 in
+    rw p.1
+    (inr (reads_all (map string_bytes c.as_slice.result.now) (map string_bytes c.in_ok-texts.texts.items) _ _
+    c.in_ok-texts.ensures.read))
+
+pub returns-clause-err : goal.returns-clause-err
+returns-clause-err g c =
+    inl (converts_by c.args.request.now _ _ _ c.as_slice.result.now c.in_ok-texts.texts.items c.as_slice-2.result.now
+    (string_bytes c.in_ok-output.output) _ _ c.as_slice.ensures.value c.as_slice-2.ensures.value
+    c.as_str.ensures.value c.as_str-2.ensures.value c.in_ok-output.ensures.output c.in_ok-texts.ensures.read
+    c.write.ensures.tried)
