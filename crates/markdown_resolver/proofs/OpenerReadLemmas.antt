@@ -24,7 +24,7 @@ use Rattle.markdown_resolver.specs.ReadsBracket.{CanReadNode, ReadsBracket, sett
 use Rattle.markdown_resolver.specs.declared.continuation.Continuation.{Continuation}
 use Rattle.markdown_resolver.specs.Rewritten.{Puts, literal}
 use Rattle.markdown_resolver.specs.declared.bracket_kind.BracketKind.{BracketKind}
-use Rattle.markdown_resolver.specs.declared.bracket_kind.BracketKind.TheVariants.{Opener, BracketReader}
+use Rattle.markdown_resolver.specs.declared.bracket_kind.BracketKind.TheVariants.{Opener, Closer}
 use Rattle.markdown_document.specs.declared.chain_place.ChainPlace.{ChainPlace}
 use Rattle.markdown_resolver.specs.declared.resolver.Resolver.{Resolver}
 use Rattle.markdown_resolver.proofs.OpenerOnLemmas.{reads_on_opener, literal_at}
@@ -42,7 +42,7 @@ pub opener_kind : (is_image : Bool) (b : ItemBody) → kind_of b ≡ Some (Opene
 opener_kind is_image body.MaybeLinkOpen e = let same : false ≡ is_image = opener_same false is_image e in rw (← same)
     refl
 opener_kind is_image body.MaybeImage e = let same : true ≡ is_image = opener_same true is_image e in rw (← same) refl
-opener_kind is_image (body.MaybeLinkClose could_be) e = let no : ◌≡◌ {A = Option BracketKind} (Some BracketReader)
+opener_kind is_image (body.MaybeLinkClose could_be) e = let no : ◌≡◌ {A = Option BracketKind} (Some Closer)
     (Some (Opener is_image)) = e
     in cc no
 opener_kind is_image other e = let no : ◌≡◌ {A = Option BracketKind} None (Some (Opener is_image)) = e in cc no
@@ -55,7 +55,7 @@ pub other_kind : (b : ItemBody) → kind_of b ≡ None → NoBracket b
 other_kind body.MaybeLinkOpen e = let no : ◌≡◌ {A = Option BracketKind} (Some (Opener false)) None = e in cc no
 other_kind body.MaybeImage e = let no : ◌≡◌ {A = Option BracketKind} (Some (Opener true)) None = e in cc no
 other_kind (body.MaybeLinkClose could_be) e = let no : ◌≡◌ {A = Option BracketKind}
-    (Some BracketReader) None = e in cc no
+    (Some Closer) None = e in cc no
 other_kind other e = refl
 
 -- what is true of an error if an allocation failed

@@ -9,8 +9,8 @@ use markdown_base::item::ItemBody;
 pub(crate) enum BracketKind {
     /// `[` or `![`, the opener of a link or of an image.
     Opener { is_image: bool },
-    /// `]`.
-    BracketReader,
+    /// `]`, the closer of one.
+    Closer,
 }
 
 /// Returns which bracket an item with this body is, or None.
@@ -20,7 +20,7 @@ pub(crate) fn kind_of(body: ItemBody) -> Option<BracketKind>
     match body {
         ItemBody::MaybeLinkOpen => Some(BracketKind::Opener { is_image: false }),
         ItemBody::MaybeImage => Some(BracketKind::Opener { is_image: true }),
-        ItemBody::MaybeLinkClose(_) => Some(BracketKind::BracketReader),
+        ItemBody::MaybeLinkClose(_) => Some(BracketKind::Closer),
         _ => None,
     }
 }

@@ -178,7 +178,7 @@ impl<'a, F: BrokenLinkCallback<'a>> Resolver<'a, F> {
             BracketKind::Opener { is_image } => {
                 open_bracket(tree, &mut self.waiting.openers, self.options, ix, is_image)
             }
-            BracketKind::BracketReader => self.close_bracket(tree, place, ix),
+            BracketKind::Closer => self.close_bracket(tree, place, ix),
         }
     }
 

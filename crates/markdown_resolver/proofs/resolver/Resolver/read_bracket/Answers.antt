@@ -27,8 +27,8 @@ returns-in-Opener g c =
       kept = record { kept = refl; footnotes = λ name. refl };
     }
 
-pub returns-in-BracketReader : goal.returns-in-BracketReader
-returns-in-BracketReader g c =
+pub returns-in-Closer : goal.returns-in-Closer
+returns-in-Closer g c =
     let closed = c.close_bracket.ensures in
     record {
       reads = closed.reads;
