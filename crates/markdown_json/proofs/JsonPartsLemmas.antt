@@ -16,7 +16,7 @@ use Rattle.markdown_json.specs.Json.{string, optional_value, array, after_comma,
 use Rattle.markdown_json.specs.Json.{level_json, tag_json, variant, event_json, line_json}
 use Rattle.markdown_json.specs.JsonParts.{text_json, pair_json, heading_of, code_block_json, range_json}
 use Rattle.markdown_json.specs.JsonPieces.{piece_json, spelled}
-use Rattle.markdown_json.specs.declared.heading.Heading.{Heading}
+use Rattle.markdown_json.specs.declared.heading.HeadingFields.{HeadingFields}
 use Rattle.markdown_json.specs.declared.pieces.Piece.{Piece}
 
 -- a prefix of what comes after bytes that were appended
@@ -61,7 +61,7 @@ attribute_appended old named valued new a name value end =
     ∙ ap (λ x. old ++ x) (sym (attribute_parts a))
 
 -- a heading, field by field
-pub heading_parts : (h : Heading) → heading_json (heading_of h)
+pub heading_parts : (h : HeadingFields) → heading_json (heading_of h)
     ≡ (codes "{\"level\":" ++ level_json h.level)
     ++ ((codes ",\"id\":" ++ optional_value text_json h.id.now)
     ++ ((codes ",\"classes\":" ++ array text_json h.classes.now.items)
@@ -74,7 +74,7 @@ heading_parts h =
     ) refl
 
 -- a heading whose fields were appended one after another
-pub heading_appended : (s0 s1 s2 s3 s4 new : List ℕ) (h : Heading)
+pub heading_appended : (s0 s1 s2 s3 s4 new : List ℕ) (h : HeadingFields)
     → s1 ≡ s0 ++ (codes "{\"level\":" ++ level_json h.level)
     → s2 ≡ s1 ++ (codes ",\"id\":" ++ optional_value text_json h.id.now)
     → s3 ≡ s2 ++ (codes ",\"classes\":" ++ array text_json h.classes.now.items)

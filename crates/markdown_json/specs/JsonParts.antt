@@ -10,8 +10,8 @@ use Rattle.markdown_base.specs.declared.tag.TagEnd.{TagEnd}
 use Rattle.markdown_base.specs.declared.tag.TagEnd.TheVariants as closes
 use Rattle.markdown_out.specs.ByteLists.{joined}
 use Rattle.markdown_json.specs.Json.{string, variant, attribute_json}
-use Rattle.markdown_json.specs.declared.heading.Heading.{Heading}
-use Rattle.markdown_json.specs.declared.link.Link.{Link}
+use Rattle.markdown_json.specs.declared.heading.HeadingFields.{HeadingFields}
+use Rattle.markdown_json.specs.declared.link.LinkFields.{LinkFields}
 
 -- a range, from the digits of its ends, and the end of the line
 abbrev pub range_json : List ℕ → List ℕ → List ℕ
@@ -32,7 +32,7 @@ code_block_json code_block.Indented = codes "\"Indented\""
 code_block_json (code_block.Fenced info) = variant (codes "Fenced") (text_json info)
 
 -- the fields of a heading, with the bytes of their texts
-abbrev pub heading_of : Heading → HeadingView
+abbrev pub heading_of : HeadingFields → HeadingView
 heading_of h = record {
   level = h.level;
   id = option_map text_of h.id.now;
@@ -41,7 +41,7 @@ heading_of h = record {
 }
 
 -- the fields of a link, with the bytes of their texts
-abbrev pub link_of : Link → LinkView
+abbrev pub link_of : LinkFields → LinkView
 link_of l = record {
   kind = l.link_type;
   destination = l.dest_url.now;

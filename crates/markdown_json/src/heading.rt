@@ -33,7 +33,7 @@ impl Value for (CowStr<'_>, Option<CowStr<'_>>) {
 
 /// The fields of a heading's Start.
 #[derive(Clone, Copy, Drop)]
-pub(crate) struct Heading<'x, 'a> {
+pub(crate) struct HeadingFields<'x, 'a> {
     pub level: HeadingLevel,
     pub id: &'x Option<CowStr<'a>>,
     pub classes: &'x Vec<CowStr<'a>>,
@@ -41,7 +41,7 @@ pub(crate) struct Heading<'x, 'a> {
 }
 
 /// Appends the fields of a heading's Start, as an object.
-fn push_heading(s: &mut String, heading: &Heading<'_, '_>) -> Result<(), AllocError>
+fn push_heading(s: &mut String, heading: &HeadingFields<'_, '_>) -> Result<(), AllocError>
     ensures ok { OnOk result (Appends s.old s.new (heading_json (heading_of heading.now))) }
     ensures err { OnErr result (AppendsPart s.old s.new (heading_json (heading_of heading.now))) }
 {
@@ -52,7 +52,7 @@ fn push_heading(s: &mut String, heading: &Heading<'_, '_>) -> Result<(), AllocEr
     push_raw(s, "}")
 }
 
-impl Value for Heading<'_, '_> {
+impl Value for HeadingFields<'_, '_> {
     ghost json = { λ heading. heading_json (heading_of heading) };
 
     fn push(&self, s: &mut String) -> Result<(), AllocError> {

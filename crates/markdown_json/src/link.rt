@@ -8,14 +8,14 @@ use std::alloc::AllocError;
 
 /// The fields of the Start of a link or an image.
 #[derive(Clone, Copy, Drop)]
-pub(crate) struct Link<'x> {
+pub(crate) struct LinkFields<'x> {
     pub link_type: LinkType,
     pub dest_url: &'x str,
     pub title: &'x str,
     pub id: &'x str,
 }
 
-impl<'x> Link<'x> {
+impl<'x> LinkFields<'x> {
     ghost use Rattle.std.specs.Prelude.{◌≡◌};
     ghost use Rattle.markdown_base.specs.CowText.{text_of};
     ghost use Rattle.markdown_json.specs.JsonParts.{link_of};
@@ -26,7 +26,7 @@ impl<'x> Link<'x> {
         dest_url: &'x CowStr<'_>,
         title: &'x CowStr<'_>,
         id: &'x CowStr<'_>,
-    ) -> Link<'x>
+    ) -> LinkFields<'x>
         ensures { link_of result ≡ record {
           kind = link_type;
           destination = text_of dest_url.now;
@@ -34,7 +34,7 @@ impl<'x> Link<'x> {
           label = text_of id.now;
         } }
     {
-        Link {
+        LinkFields {
             link_type,
             dest_url: dest_url.as_str(),
             title: title.as_str(),
@@ -43,7 +43,7 @@ impl<'x> Link<'x> {
     }
 }
 
-impl Value for Link<'_> {
+impl Value for LinkFields<'_> {
     ghost use Rattle.markdown_json.specs.Json.{link_json};
     ghost use Rattle.markdown_json.specs.JsonParts.{link_of};
 

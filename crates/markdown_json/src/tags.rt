@@ -2,8 +2,8 @@
 ghost use Rattle.markdown_base.specs.Event.{tag_view};
 ghost use Rattle.markdown_json.specs.Json.{tag_json};
 
-use crate::heading::Heading;
-use crate::link::Link;
+use crate::heading::HeadingFields;
+use crate::link::LinkFields;
 use crate::pieces::push_raw;
 use crate::value::{Value, push_variant};
 use markdown_base::tag::{CodeBlockKind, Tag};
@@ -34,7 +34,7 @@ impl Value for Tag<'_> {
                 classes,
                 attrs,
             } => {
-                let heading = Heading {
+                let heading = HeadingFields {
                     level: *level,
                     id,
                     classes,
@@ -51,13 +51,17 @@ impl Value for Tag<'_> {
                 dest_url,
                 title,
                 id,
-            } => push_variant(s, "Link", &Link::new(*link_type, dest_url, title, id)),
+            } => push_variant(s, "Link", &LinkFields::new(*link_type, dest_url, title, id)),
             Tag::Image {
                 link_type,
                 dest_url,
                 title,
                 id,
-            } => push_variant(s, "Image", &Link::new(*link_type, dest_url, title, id)),
+            } => push_variant(
+                s,
+                "Image",
+                &LinkFields::new(*link_type, dest_url, title, id),
+            ),
             told_by_its_end => told_by_its_end.to_end().push(s),
         }
     }
