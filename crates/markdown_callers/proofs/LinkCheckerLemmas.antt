@@ -14,17 +14,18 @@ use Rattle.markdown_callers.specs.LinkChecker.{CountsQuestion, CountsQuestions, 
 use Rattle.markdown_callers.specs.LinkChecker.{link_target}
 use Rattle.markdown_callers.specs.LinkChecker.{targets_of}
 use Rattle.markdown_callers.proofs.TextReadingLemmas.{are_questions}
-use Rattle.markdown_callers.specs.declared.link_checker.Link.{Link}
+use Rattle.markdown_callers.specs.declared.link_checker.FoundLink.{FoundLink}
 use Rattle.markdown_callers.specs.declared.link_checker.UndefinedLabels.{UndefinedLabels}
 
 -- what is found at an event is its link, if it begins one
-link_of_event : (e : Ranged) (found : Option Link) → option_map link_target found ≡ event_target e
+link_of_event : (e : Ranged) (found : Option FoundLink) → option_map link_target found ≡ event_target e
     → map link_target (option_to_list found) ≡ targets_of (e ∷ [])
 link_of_event e None is = rw (← is) refl
 link_of_event e (Some link) is = rw (← is) refl
 
 -- the links of some events, and what is found at the next, are those of all of them
-pub links-more : (given : List (Event × Range ℕ)) (e : Event × Range ℕ) (links : List Link) (found : Option Link)
+pub links-more : (given : List (Event × Range ℕ)) (e : Event × Range ℕ) (links : List FoundLink)
+    (found : Option FoundLink)
     → map link_target links ≡ targets_of (viewed given)
     → option_map link_target found ≡ event_target (event_view e.0, e.1)
     → map link_target (links ++ option_to_list found) ≡ targets_of (viewed (given ++ e ∷ []))

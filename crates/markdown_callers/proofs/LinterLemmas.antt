@@ -9,7 +9,7 @@ use Rattle.markdown.specs.EventWords.{Event, event_view}
 use Rattle.markdown.specs.ReadingWords.{Ranged, viewed}
 use Rattle.markdown_callers.specs.Linter.{bytes_before_in_line, ends_line_at, html_positions, is_html, lines_before}
 use Rattle.markdown_callers.specs.Linter.{offsets_before, position_at}
-use Rattle.markdown_callers.specs.declared.linter.Position.{Position}
+use Rattle.markdown_callers.specs.declared.linter.LineColumn.{LineColumn}
 
 -- the position after a byte, from the number of lines that end before it, and of the bytes of its line before it
 pub record ComesTo (text : List ℕ) (at line column : ℕ) : Type 0 where
@@ -44,7 +44,7 @@ html_if : (text : List ℕ) (es : List Ranged) (e x : Ranged) (b : Bool)
     ≡ map (λ (y : Ranged). position_at text y.1.start)
     (cond b (x ∷ filter (λ y. is_html y.0) es) (filter (λ y. is_html y.0) es))
     ++ html_positions text (e ∷ [])
-html_if text es e x true more = ap (λ (ps : List Position). position_at text x.1.start ∷ ps) more
+html_if text es e x true more = ap (λ (ps : List LineColumn). position_at text x.1.start ∷ ps) more
 html_if text es e x false more = more
 
 html_more : (text : List ℕ) (es : List Ranged) (e : Ranged)
@@ -63,7 +63,7 @@ see e = (event_view e.0, e.1)
 
 -- one more event adds its position, if it is raw HTML
 module _ (text : List ℕ) (items : List (Event × Range ℕ)) (i : ℕ) (x : Event × Range ℕ)
-    (positions : List Position) where
+    (positions : List LineColumn) where
   taken_one : i < length items → x ≡ get_or items i x → viewed (take (i + 1) items)
       ≡ viewed (take i items) ++ see x ∷ []
   taken_one l is = ap viewed (take_more items i x l) ∙ map-append see (take i items) (get_or items i x ∷ [])
@@ -74,9 +74,9 @@ module _ (text : List ℕ) (items : List (Event × Range ℕ)) (i : ℕ) (x : Ev
       → positions ++ map (λ (y : Ranged). position_at text y.1.start) (cond b (see x ∷ []) [])
       ≡ html_positions text (viewed (take (i + 1) items))
   added b l is html so_far =
-      ap (λ (ps : List Position). ps ++ map (λ (y : Ranged). position_at text y.1.start) (cond b (see x ∷ []) []))
+      ap (λ (ps : List LineColumn). ps ++ map (λ (y : Ranged). position_at text y.1.start) (cond b (see x ∷ []) []))
       so_far
-      ∙ ap (λ (ps : List Position). html_positions text (viewed (take i items)) ++ ps)
+      ∙ ap (λ (ps : List LineColumn). html_positions text (viewed (take i items)) ++ ps)
       (sym (html_one text (see x) b html))
       ∙ sym (html_more text (viewed (take i items)) (see x))
       ∙ ap (λ (es : List Ranged). html_positions text es) (sym (taken_one l is))

@@ -8,7 +8,7 @@ use Rattle.markdown.specs.DefsWords.{Answer, Question}
 use Rattle.markdown.specs.EventWords.{text_of, EventView, start, TagView, link, image}
 use Rattle.markdown.specs.ReadingWords.{Ranged}
 use Rattle.markdown_callers.specs.TextReading.{AreEventsOf, AreQuestionsOf}
-use Rattle.markdown_callers.specs.declared.link_checker.Link.{Link}
+use Rattle.markdown_callers.specs.declared.link_checker.FoundLink.{FoundLink}
 use Rattle.markdown_callers.specs.declared.link_checker.UndefinedLabels.{UndefinedLabels}
 
 -- the destination of a link or an image; other tags have none
@@ -34,8 +34,8 @@ event_target e = option_map (λ destination. (destination, e.1)) (event_destinat
 abbrev pub targets_of : List Ranged → List Target
 targets_of events = filter_map event_target events
 
--- the target that a `Link` holds, with its destination as bytes
-abbrev pub link_target : Link → Target
+-- the target that a `FoundLink` holds, with its destination as bytes
+abbrev pub link_target : FoundLink → Target
 link_target l = (text_of l.destination, l.range)
 
 -- these are the targets of a text

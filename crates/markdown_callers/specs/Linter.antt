@@ -6,7 +6,7 @@ use Rattle.markdown.specs.ByteWords.{carriage_return, line_feed}
 use Rattle.markdown.specs.EventWords.{EventView, html, inline_html}
 use Rattle.markdown.specs.ReadingWords.{Ranged}
 use Rattle.markdown_callers.specs.TextReading.{AreEventsOf}
-use Rattle.markdown_callers.specs.declared.linter.Position.{Position}
+use Rattle.markdown_callers.specs.declared.linter.LineColumn.{LineColumn}
 
 -- whether a line ends with the byte at an offset: a line feed, or a carriage return with no line feed
 -- after it
@@ -29,11 +29,11 @@ abbrev pub bytes_before_in_line : List ℕ → ℕ → ℕ
 bytes_before_in_line text at = prefix_len (λ k. not (ends_line_at text k)) (offsets_before at)
 
 -- the line and column of an offset within the text, both counted from 1, the column in bytes
-abbrev pub place_within : List ℕ → ℕ → Position
+abbrev pub place_within : List ℕ → ℕ → LineColumn
 place_within text at = record { line = lines_before text at + 1; column = bytes_before_in_line text at + 1 }
 
 -- the same for any offset; one past the end of the text has the position of its end
-abbrev pub position_at : List ℕ → ℕ → Position
+abbrev pub position_at : List ℕ → ℕ → LineColumn
 position_at text offset = place_within text (min offset (length text))
 
 -- whether an event is raw HTML: a tag or comment in a paragraph, or a line of an HTML block
@@ -43,11 +43,11 @@ is_html (inline_html bytes) = true
 is_html other = false
 
 -- the positions where the raw HTML among these events begins, in order
-abbrev pub html_positions : List ℕ → List Ranged → List Position
+abbrev pub html_positions : List ℕ → List Ranged → List LineColumn
 html_positions text events = map (λ e. position_at text e.1.start) (filter (λ e. is_html e.0) events)
 
 -- these are the positions of the raw HTML in the events of a text
-pub record AreHtmlPositionsOf (text : List ℕ) (positions : List Position) : Type 0 where
+pub record AreHtmlPositionsOf (text : List ℕ) (positions : List LineColumn) : Type 0 where
   pub events : List Ranged
   pub read : AreEventsOf text events
   pub are : positions ≡ html_positions text events

@@ -12,7 +12,7 @@ use std::ops::Range;
 
 /// A link or an image.
 #[derive(Debug, Drop)]
-pub struct Link<'a> {
+pub struct FoundLink<'a> {
     pub destination: CowStr<'a>,
     /// The source range.
     pub range: Range<usize>,
@@ -30,7 +30,7 @@ fn destination_of<'a>(tag: Tag<'a>) -> Option<CowStr<'a>>
 }
 
 /// Returns the link or image that begins with an event, if one does.
-fn link_at<'a>(event: Event<'a>, range: Range<usize>) -> Option<Link<'a>>
+fn link_at<'a>(event: Event<'a>, range: Range<usize>) -> Option<FoundLink<'a>>
     ensures { option_map link_target result ≡ event_target (event_view event.entry, range) }
 {
     let tag = match event {
@@ -38,14 +38,14 @@ fn link_at<'a>(event: Event<'a>, range: Range<usize>) -> Option<Link<'a>>
         _ => return None,
     };
     match destination_of(tag) {
-        Some(destination) => Some(Link { destination, range }),
+        Some(destination) => Some(FoundLink { destination, range }),
         None => None,
     }
 }
 
 /// Returns the links and images of a text, in the order in which they begin. The only error is
 /// `Fault::Memory`.
-pub fn links<'a>(alloc: Global, source: &'a str) -> Result<Vec<Link<'a>>, Fault>
+pub fn links<'a>(alloc: Global, source: &'a str) -> Result<Vec<FoundLink<'a>>, Fault>
     ensures links { IfOk result (λ links.
         AreLinksOf source.entry.now (map link_target links.items)) }
     ensures refused { IfErr result (λ fault. fault ≡ Fault.Memory) }

@@ -8,7 +8,7 @@ use std::alloc::Global;
 
 /// A position in a text. Lines and columns are counted from 1; columns are counted in bytes.
 #[derive(Clone, Copy, Debug, PartialEq, Eq, Drop)]
-pub struct Position {
+pub struct LineColumn {
     pub line: usize,
     pub column: usize,
 }
@@ -28,7 +28,7 @@ fn is_line_end(bytes: &[u8], at: usize) -> bool
 
 /// Returns the line and column of a byte offset. An offset past the end of the text has the position of
 /// its end.
-pub fn position_of(source: &str, offset: usize) -> Position
+pub fn position_of(source: &str, offset: usize) -> LineColumn
     ensures { result ≡ position_at source.now offset }
 {
     let bytes = source.as_bytes();
@@ -41,7 +41,7 @@ pub fn position_of(source: &str, offset: usize) -> Position
             line_start = at + 1;
         }
     }
-    Position {
+    LineColumn {
         line,
         column: end - line_start + 1,
     }
@@ -57,7 +57,7 @@ fn is_raw_html(event: &Event<'_>) -> bool
 
 /// Returns where the raw HTML of a text begins: each tag or comment in a paragraph, and each line of
 /// an HTML block. The only error is `Fault::Memory`.
-pub fn raw_html(alloc: Global, source: &str) -> Result<Vec<Position>, Fault>
+pub fn raw_html(alloc: Global, source: &str) -> Result<Vec<LineColumn>, Fault>
     ensures positions { IfOk result (λ positions. AreHtmlPositionsOf source.now positions.items) }
     ensures refused { IfErr result (λ fault. fault ≡ Fault.Memory) }
 {

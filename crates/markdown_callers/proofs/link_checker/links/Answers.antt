@@ -6,7 +6,7 @@ use Rattle.std.specs.declared.ops.Range.{Range}
 use Rattle.markdown.specs.EventWords.{Event}
 use Rattle.markdown.specs.ReadingWords.{viewed}
 use Rattle.markdown_callers.specs.LinkChecker.{link_target, targets_of}
-use Rattle.markdown_callers.specs.declared.link_checker.Link.{Link}
+use Rattle.markdown_callers.specs.declared.link_checker.FoundLink.{FoundLink}
 use Rattle.markdown_callers.proofs.LinkCheckerLemmas.{links-more, none_left, one_less, taken-more}
 use Rattle.markdown_callers.proofs.TextReadingLemmas.{are_events}
 use Rattle.markdown_callers.proofs.link_checker.links.Goals as goal
@@ -15,7 +15,7 @@ pub loop-event-preserved-in-Continue-branch-3 : goal.loop-event-preserved-in-Con
 loop-event-preserved-in-Continue-branch-3 c =
     let i = c.loop-event.invariant in
     record {
-      found = ap (λ (links : List Link). map link_target links) c.in_ok-push.ensures.items
+      found = ap (λ (links : List FoundLink). map link_target links) c.in_ok-push.ensures.items
           ∙ links-more c.loop-event.yielded (c.in-Some.event, c.in-Some.range) c.loop-event.links.items
           (Some c.in-Some-link_at.link)
           i.found c.in-Some-link_at.ensures;
@@ -30,7 +30,7 @@ pub loop-event-preserved : goal.loop-event-preserved
 loop-event-preserved c =
     let i = c.loop-event.invariant in
     record {
-      found = ap (λ (links : List Link). map link_target links) (sym (append-nil c.loop-event.links.items))
+      found = ap (λ (links : List FoundLink). map link_target links) (sym (append-nil c.loop-event.links.items))
           ∙ links-more c.loop-event.yielded (c.in-Some.event, c.in-Some.range) c.loop-event.links.items None i.found
           c.in_default.ensures;
       taken = taken-more c.loop-event.yielded (into_iter_items c.loop-event.event-iterator)

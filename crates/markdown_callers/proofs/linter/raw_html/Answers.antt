@@ -5,7 +5,7 @@ use Rattle.std.specs.declared.ops.Range.{Range}
 use Rattle.markdown.specs.EventWords.{Event}
 use Rattle.markdown.specs.ReadingWords.{viewed}
 use Rattle.markdown_callers.specs.Linter.{html_positions}
-use Rattle.markdown_callers.specs.declared.linter.Position.{Position}
+use Rattle.markdown_callers.specs.declared.linter.LineColumn.{LineColumn}
 use Rattle.markdown_callers.proofs.LinterLemmas.{positions-more, positions-same}
 use Rattle.markdown_callers.proofs.TextReadingLemmas.{are_events}
 use Rattle.markdown_callers.proofs.linter.raw_html.Goals as goal
@@ -15,7 +15,7 @@ pub loop-event-preserved : goal.loop-event-preserved
 loop-event-preserved c =
     elim c.if-is_raw_html.branch [
       | then-is_raw_html+in_ok-push w ↦ rw w.positions-is (w.in_ok-push.ensures.items
-          ∙ ap (λ (p : Position). c.loop-event.positions.items ++ p ∷ []) w.position_of.ensures
+          ∙ ap (λ (p : LineColumn). c.loop-event.positions.items ++ p ∷ []) w.position_of.ensures
           ∙ positions-more c.args.source.now c.deref-event-items.result.now c.loop-event.event-index
           c.loop-event-item.result c.loop-event.positions.items c.loop-event-test.true c.loop-event-item.is
           w.if-is_raw_html.ensures
