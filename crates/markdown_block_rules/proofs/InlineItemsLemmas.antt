@@ -21,7 +21,7 @@ use Rattle.markdown_items.specs.FoundView.{FoundView}
 use Rattle.markdown_items.specs.LineItems.{is_after_backslash, is_special, math_mark, quote_mark, run_end, run_flags}
 use Rattle.markdown_items.specs.declared.extensions.Extensions.{Extensions}
 use Rattle.markdown_items.specs.declared.flanking.Flags.{Flags}
-use Rattle.markdown_items.specs.declared.found.Line.{Line}
+use Rattle.markdown_items.specs.declared.found.LineRange.{LineRange}
 use Rattle.markdown_lines.specs.LineBreaks.{break_after}
 use Rattle.markdown_lines.specs.LineBytes.{without_end}
 use Rattle.markdown_lines.specs.Lines.{is_space_or_tab}
@@ -57,7 +57,7 @@ AreUnmarked items = AllByRecursion (λ (a : Shown). is_marked a.item.body ≡ fa
 joined : (xs ys : List Shown) → AreUnmarked xs → AreUnmarked ys → AreUnmarked (xs ++ ys)
 joined xs ys first second = All-append (λ (a : Shown). is_marked a.item.body ≡ false) xs ys first second
 
-between_unmarked : (text : List ℕ) (line : Line) (from to : ℕ) → AreUnmarked (text_between text line from to)
+between_unmarked : (text : List ℕ) (line : LineRange) (from to : ℕ) → AreUnmarked (text_between text line from to)
 between_unmarked text line from to =
     either AreUnmarked (nat_lt from to)
     (plain_item from to (body.Text (is_after_backslash text line.start from)) ∷ []) [] (refl, tt) tt
@@ -71,7 +71,7 @@ abbrev IsUnmarked : FoundView → Type 0
 IsUnmarked (found.Mark mark) = is_marked mark ≡ false
 IsUnmarked other = ⊤
 
-put_unmarked : (text : List ℕ) (line : Line) (more : ℕ → ℕ → List Shown) (from at : ℕ)
+put_unmarked : (text : List ℕ) (line : LineRange) (more : ℕ → ℕ → List Shown) (from at : ℕ)
     → ((from at : ℕ) → AreUnmarked (more from at)) → (here : FoundView) → IsUnmarked here
     → AreUnmarked (put_found text line more from at here)
 put_unmarked text line more from at rest (found.Text next) is = rest from next
@@ -126,7 +126,7 @@ run_found_unmarked : (stop : ℕ) (flags : Option Flags) → IsUnmarked (run_fou
 run_found_unmarked stop None = tt
 run_found_unmarked stop (Some flags) = tt
 
-mark_unmarked : (line : Line) (text : List ℕ) (at : ℕ) → IsUnmarked (mark_at line text at)
+mark_unmarked : (line : LineRange) (text : List ℕ) (at : ℕ) → IsUnmarked (mark_at line text at)
 unfolding mark_at
 mark_unmarked line text at =
     let byte = slice_index text at in
@@ -137,7 +137,7 @@ mark_unmarked line text at =
     (if quotes then found.Mark (quote_mark byte before after) else found.Text (at + 1)) refl
     (either IsUnmarked quotes (found.Mark (quote_mark byte before after)) (found.Text (at + 1)) refl tt)
 
-found_unmarked : (line : Line) (text : List ℕ) (at : ℕ) → IsUnmarked (found_at line text at)
+found_unmarked : (line : LineRange) (text : List ℕ) (at : ℕ) → IsUnmarked (found_at line text at)
 unfolding found_at entity_at image_at run_at hyphens_at dots_at
 found_unmarked line text at =
     let byte = slice_index text at in
@@ -161,7 +161,7 @@ found_unmarked line text at =
     (mark_unmarked line text at))))))))))
 
 -- the items of a line's content
-items_unmarked : (n : ℕ) (text : List ℕ) (line : Line) (from at : ℕ)
+items_unmarked : (n : ℕ) (text : List ℕ) (line : LineRange) (from at : ℕ)
     → AreUnmarked (items_read_from n text line from at)
 unfolding items_read_from
 items_unmarked zero text line from at = tt

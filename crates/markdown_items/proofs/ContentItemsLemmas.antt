@@ -6,7 +6,7 @@ use Rattle.std.specs.Prelude.{slice_index}
 use Rattle.std.proofs.lemmas.Bool.Decides.{nat_tests}
 use Rattle.std.proofs.lemmas.List.{append_assoc}
 use Rattle.markdown_builder.specs.Shown.{Shown}
-use Rattle.markdown_items.specs.declared.found.Line.{Line}
+use Rattle.markdown_items.specs.declared.found.LineRange.{LineRange}
 use Rattle.markdown_items.specs.ContentItems.{items_read_from, put_found, text_between}
 use Rattle.markdown_items.specs.Found.{found_at}
 use Rattle.markdown_items.specs.FoundItems.{found_items, items_at, text_from, read_on}
@@ -15,7 +15,7 @@ use Rattle.markdown_items.specs.FoundView.{FoundView}
 use Rattle.markdown_items.specs.LineItems.{is_special}
 
 -- one plain byte
-plain_byte : (n : ℕ) (text : List ℕ) (line : Line) (from at : ℕ) → at < line.end
+plain_byte : (n : ℕ) (text : List ℕ) (line : LineRange) (from at : ℕ) → at < line.end
     → is_special line.extensions.dashes (slice_index text at) ≡ false
     → items_read_from (suc n) text line from at ≡ items_read_from n text line from (at + 1)
 unfolding items_read_from
@@ -23,7 +23,7 @@ plain_byte n text line from at more plain =
     let test : nat_le line.end at ≡ false = grind (arith, nat_tests) in rw (test, plain) refl
 
 -- as many plain bytes as there are
-pub plain_bytes : (count n : ℕ) (text : List ℕ) (line : Line) (from at : ℕ) → at + count ≤ line.end
+pub plain_bytes : (count n : ℕ) (text : List ℕ) (line : LineRange) (from at : ℕ) → at + count ≤ line.end
     → ((i : ℕ) → at ≤ i → i < at + count → is_special line.extensions.dashes (slice_index text i) ≡ false)
     → items_read_from (count + n) text line from at ≡ items_read_from n text line from (at + count)
 plain_bytes zero n text line from at within plain =
@@ -40,7 +40,7 @@ plain_bytes (suc count) n text line from at within plain =
     ∙ ap (λ i. items_read_from n text line from i) next))
 
 -- what is found, before what follows it
-put_before : (text : List ℕ) (line : Line) (more : ℕ → ℕ → List Shown) (from at : ℕ) (f : FoundView)
+put_before : (text : List ℕ) (line : LineRange) (more : ℕ → ℕ → List Shown) (from at : ℕ) (f : FoundView)
     → put_found text line more from at f
     ≡ found_items text line from at f ++ more (text_from from at f) (read_on at f)
 put_before text line more from at (view.Text next) = refl
@@ -63,7 +63,7 @@ put_before text line more from at view.Ellipsis =
     sym (append_assoc (text_between text line from at) (items_at at view.Ellipsis) (more (at + 3) (at + 3)))
 
 -- a special byte
-pub special_byte : (n : ℕ) (text : List ℕ) (line : Line) (from at : ℕ) → at < line.end
+pub special_byte : (n : ℕ) (text : List ℕ) (line : LineRange) (from at : ℕ) → at < line.end
     → is_special line.extensions.dashes (slice_index text at) ≡ true
     → items_read_from (suc n) text line from at
     ≡ found_items text line from at (found_at line text at)
@@ -74,7 +74,7 @@ special_byte n text line from at more special =
     rw (test, special) (put_before text line (items_read_from n text line) from at (found_at line text at))
 
 -- the end
-pub no_byte : (n : ℕ) (text : List ℕ) (line : Line) (from : ℕ)
+pub no_byte : (n : ℕ) (text : List ℕ) (line : LineRange) (from : ℕ)
     → items_read_from (suc n) text line from line.end ≡ text_between text line from line.end
 unfolding items_read_from
 no_byte n text line from = let test : nat_le line.end line.end ≡ true = grind (arith, nat_tests) in rw test refl

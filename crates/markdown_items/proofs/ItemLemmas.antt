@@ -22,14 +22,14 @@ use Rattle.markdown_items.specs.FoundFits.{IsAtSpecial, FoundFits, LiesFurther, 
 use Rattle.markdown_items.specs.LineItems.{is_special, IsMaximalRun, run_end}
 use Rattle.markdown_items.specs.declared.found.Found.{Found}
 use Rattle.markdown_items.specs.declared.found.Found.TheVariants as found
-use Rattle.markdown_items.specs.declared.found.Line.{Line}
+use Rattle.markdown_items.specs.declared.found.LineRange.{LineRange}
 
 -- a special byte is ASCII
 pub special_ascii : (dashes : Bool) (byte : ℕ) → is_special dashes byte ≡ true → byte < 128
 special_ascii dashes byte h = grind (arith, nat_tests)
 
 -- after a special byte the text may be cut
-pub past_special : (text : List ℕ) (line : Line) (at : ℕ) → IsUtf8 text → IsAtSpecial text line at
+pub past_special : (text : List ℕ) (line : LineRange) (at : ℕ) → IsUtf8 text → IsAtSpecial text line at
     → IsCharBoundary text (at + 1)
 past_special text line at u here =
     let within = here.end in
@@ -37,7 +37,7 @@ past_special text line at u here =
     IsCharBoundary-after_ascii text at u (omega (arith, within.0, more)) (special_ascii _ _ here.special)
 
 -- and after a run of one
-pub past_run : (text : List ℕ) (line : Line) (at stop : ℕ) → IsUtf8 text → IsAtSpecial text line at
+pub past_run : (text : List ℕ) (line : LineRange) (at stop : ℕ) → IsUtf8 text → IsAtSpecial text line at
     → IsMaximalRun text at line.end stop → IsCharBoundary text stop
 past_run text line at stop u here whole =
     let run = whole.run in
@@ -51,7 +51,7 @@ past_run text line at stop u here whole =
     rw n at cut
 
 -- after three dots the text may be cut
-pub past_dots : (text : List ℕ) (line : Line) (at : ℕ) → IsUtf8 text → IsAtSpecial text line at
+pub past_dots : (text : List ℕ) (line : LineRange) (at : ℕ) → IsUtf8 text → IsAtSpecial text line at
     → begins_with (codes "...") (slice_range text at line.end) ≡ true
     → (at + 3 ≤ line.end) × IsCharBoundary text (at + 3)
 past_dots text line at u here dots =
@@ -85,7 +85,7 @@ past_entity text at end count u more within between le =
     (some, rw n at cut)
 
 -- an entity that was read fits the line's content
-pub entity_fits : (names : EntityNames) (text : List ℕ) (line : Line) (at count : ℕ) (characters : List ℕ)
+pub entity_fits : (names : EntityNames) (text : List ℕ) (line : LineRange) (at count : ℕ) (characters : List ℕ)
     → IsUtf8 text → IsAtSpecial text line at → EntityBeginsAndEnds names (slice_range text at line.end)
     → Some (count, characters) ≡ option_map in_utf8 (entity names (slice_range text at line.end))
     → count ≤ length (slice_range text at line.end)

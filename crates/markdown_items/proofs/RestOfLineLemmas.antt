@@ -12,7 +12,7 @@ use Rattle.markdown_builder.proofs.LaidLemmas.{followed_by-assoc, followed_by-ni
 use Rattle.markdown_items.specs.declared.extensions.Extensions.{Extensions}
 use Rattle.markdown_items.specs.declared.found.Found.{Found}
 use Rattle.markdown_items.specs.declared.found.Found.TheVariants as found
-use Rattle.markdown_items.specs.declared.found.Line.{Line}
+use Rattle.markdown_items.specs.declared.found.LineRange.{LineRange}
 use Rattle.markdown_items.specs.ContentItems.{AddsItems, AddsTexts, content_items, items_read_from, text_between}
 use Rattle.markdown_items.specs.Found.{found_at}
 use Rattle.markdown_items.specs.FoundFits.{FoundFits, levels_after, next_after, run_after_text}
@@ -62,7 +62,7 @@ divides : (count n : ℕ) → count ≤ n → Divides count n
 divides count n le = record { left = n - count; sum = omega (arith, le) }
 
 -- plain bytes are passed over
-pub past_plain : (line : Line) (all : List (Forest Shown)) (view : BuilderView) (from at : ℕ) → view.at ≤ from
+pub past_plain : (line : LineRange) (all : List (Forest Shown)) (view : BuilderView) (from at : ℕ) → view.at ≤ from
     → IsFirstSpecial line.extensions.dashes view.text from line.end at → AwaitsRest line all view from
     → AwaitsRest line all view at
 past_plain line all view from at placed first awaits =
@@ -98,7 +98,7 @@ is_more zero k lt = absurd (omega (arith, lt))
 is_more (suc n) k lt = record { before = n; is = refl }
 
 -- at the end only a text is left
-pub at_end : (line : Line) (all : List (Forest Shown)) (view : BuilderView) → AwaitsRest line all view line.end
+pub at_end : (line : LineRange) (all : List (Forest Shown)) (view : BuilderView) → AwaitsRest line all view line.end
     → with_items view.levels (text_between view.text line view.at line.end) ≡ all
 at_end line all view awaits =
     let m = is_more awaits.steps (line.end - line.end) awaits.enough in
@@ -120,7 +120,7 @@ at_start options view end over = record {
 -- ---- what is found at a special byte
 
 -- the run appended last is not continued there
-not_continued : (line : Line) (view : BuilderView) (at : ℕ) → view.at ≤ at → at < line.end
+not_continued : (line : LineRange) (view : BuilderView) (at : ℕ) → view.at ≤ at → at < line.end
     → RunIsOver line.end view at
     → follows_run (run_after_text view at) (slice_index view.text at) ≡ false
 not_continued line view at placed less over = by_place (nat_lt view.at at) refl
@@ -138,14 +138,14 @@ not_continued line view at placed less over = by_place (nat_lt view.at at) refl
         rw is (told view.run (λ byte some. over byte some same less))
 
 -- a builder after what is found at a byte offset
-record IsAfter (line : Line) (view new : BuilderView) (at : ℕ) (f : Found) : Type 0 where
+record IsAfter (line : LineRange) (view new : BuilderView) (at : ℕ) (f : Found) : Type 0 where
   text : new.text ≡ view.text
   levels : new.levels ≡ levels_after view line at f
   begins : new.at ≡ text_from view.at at (found_view f)
   next : next_after at f ≡ read_on at (found_view f)
   over : RunIsOver line.end new (next_after at f)
 
-after_found : (line : Line) (all : List (Forest Shown)) (view new : BuilderView) (at : ℕ) (f : Found) → at < line.end
+after_found : (line : LineRange) (all : List (Forest Shown)) (view new : BuilderView) (at : ℕ) (f : Found) → at < line.end
     → is_special line.extensions.dashes (slice_index view.text at) ≡ true
     → FoundFits view.text line.end at f → found_view f ≡ found_at line view.text at
     → AwaitsRest line all view at → IsAfter line view new at f → AwaitsRest line all new (next_after at f)
@@ -182,7 +182,7 @@ after_found line all view new at f less special fits value awaits after =
 pub no_run : (end : ℕ) (view : BuilderView) (at : ℕ) → view.run ≡ None → RunIsOver end view at
 no_run end view at none byte some here less = cc (none, some)
 
-pub at_found : (line : Line) (all : List (Forest Shown)) (view : BuilderView) (at : ℕ) (f : Found)
+pub at_found : (line : LineRange) (all : List (Forest Shown)) (view : BuilderView) (at : ℕ) (f : Found)
     → view.at ≤ at → at < line.end
     → is_special line.extensions.dashes (slice_index view.text at) ≡ true
     → FoundFits view.text line.end at f → found_view f ≡ found_at line view.text at
@@ -230,7 +230,7 @@ at_found line all view at f placed less special fits value awaits =
         record { text = refl; levels = refl; begins = refl; next = refl; over = λ byte some. cc (some) }
 
 -- the text after what is found does not begin after where reading goes on
-pub placed_after : (line : Line) (view : BuilderView) (at : ℕ) (f : Found) → view.at ≤ at → at < line.end
+pub placed_after : (line : LineRange) (view : BuilderView) (at : ℕ) (f : Found) → view.at ≤ at → at < line.end
     → FoundFits view.text line.end at f → (view_after view line at f).at ≤ next_after at f
 placed_after line view at f placed less fits = by_case f fits
   where
@@ -256,7 +256,7 @@ placed_after line view at f placed less fits = by_case f fits
     by_case found.Ellipsis fits = omega arith
 
 -- and it does not begin before where text began
-pub begun_after : (line : Line) (view : BuilderView) (at : ℕ) (f : Found) → view.at ≤ at → at < line.end
+pub begun_after : (line : LineRange) (view : BuilderView) (at : ℕ) (f : Found) → view.at ≤ at → at < line.end
     → FoundFits view.text line.end at f → view.at ≤ (view_after view line at f).at
 begun_after line view at f placed less fits = by_case f fits
   where
@@ -284,7 +284,7 @@ begun_after line view at f placed less fits = by_case f fits
     by_case found.Ellipsis fits = omega (arith, placed)
 
 -- the text is the same
-pub text_after : (line : Line) (view : BuilderView) (at : ℕ) (f : Found) → (view_after view line at f).text ≡ view.text
+pub text_after : (line : LineRange) (view : BuilderView) (at : ℕ) (f : Found) → (view_after view line at f).text ≡ view.text
 text_after line view at (found.Run stop flags) =
     either (follows_run (run_after_text view at) (slice_index view.text at))
   where
@@ -302,7 +302,7 @@ text_after line view at other = refl
 abbrev pub IsSame : (old new : BuilderView) → Type 0
 IsSame old new = new ≡ record old { at = new.at; run = new.run; levels = new.levels; texts = new.texts }
 
-pub same_found : (old view : BuilderView) (line : Line) (at : ℕ) (f : Found) → IsSame old view
+pub same_found : (old view : BuilderView) (line : LineRange) (at : ℕ) (f : Found) → IsSame old view
     → IsSame old (view_after view line at f)
 same_found old view line at f same = there f ∙ ap (λ (v : BuilderView). record v {
   at = (view_after view line at f).at;
@@ -334,7 +334,7 @@ adds_more old view new before after = (
       ∙ more_items old.levels before.0 after.0),
 )
 
-pub adds_found : (view : BuilderView) (line : Line) (at : ℕ) (f : Found) → AddsItems view (view_after view line at f)
+pub adds_found : (view : BuilderView) (line : LineRange) (at : ℕ) (f : Found) → AddsItems view (view_after view line at f)
 adds_found view line at (found.Text next) = adds_none view
 adds_found view line at found.Escape = (_, refl)
 adds_found view line at (found.Mark body) = (_, refl)
@@ -363,7 +363,7 @@ more_texts old view new before after = (
   after.1 ∙ (ap (λ (texts : List (List ℕ)). texts ++ after.0) before.1 ∙ append_assoc old.texts before.0 after.0),
 )
 
-pub texts_found : (view : BuilderView) (line : Line) (at : ℕ) (f : Found) → AddsTexts view (view_after view line at f)
+pub texts_found : (view : BuilderView) (line : LineRange) (at : ℕ) (f : Found) → AddsTexts view (view_after view line at f)
 texts_found view line at (found.Entity stop characters) = (_, refl)
 texts_found view line at (found.Dashes stop) = (_, refl)
 texts_found view line at found.Ellipsis = (_, refl)
@@ -389,7 +389,7 @@ run_before_text extensions view to byte special = by_place (nat_lt view.at to) r
     by_place false is some = special byte (rw is at some)
 
 -- what is found leaves one of a special byte, or none
-pub run_found : (view : BuilderView) (line : Line) (at : ℕ) (f : Found)
+pub run_found : (view : BuilderView) (line : LineRange) (at : ℕ) (f : Found)
     → is_special line.extensions.dashes (slice_index view.text at) ≡ true → HasSpecialRun line.extensions view
     → HasSpecialRun line.extensions (view_after view line at f)
 run_found view line at (found.Text next) here special = special

@@ -5,7 +5,7 @@ use Rattle.markdown_base.specs.declared.item.ItemBody.TheVariants as body
 use Rattle.markdown_builder.specs.BuilderView.{BuilderView, with_items}
 use Rattle.markdown_builder.specs.Shown.{Shown, plain_item, run_items, synthesized_item}
 use Rattle.markdown_items.specs.declared.extensions.Extensions.{Extensions}
-use Rattle.markdown_items.specs.declared.found.Line.{Line}
+use Rattle.markdown_items.specs.declared.found.LineRange.{LineRange}
 use Rattle.markdown_items.specs.Dashes.{dashes_for, dashes_in_utf8, ellipsis}
 use Rattle.markdown_items.specs.Found.{found_at}
 use Rattle.markdown_items.specs.FoundView as found
@@ -13,13 +13,13 @@ use Rattle.markdown_items.specs.FoundView.{FoundView}
 use Rattle.markdown_items.specs.LineItems.{is_after_backslash, is_special}
 
 -- the text from one byte offset up to another, if there is any
-abbrev pub text_between : List ℕ → Line → ℕ → ℕ → List Shown
+abbrev pub text_between : List ℕ → LineRange → ℕ → ℕ → List Shown
 text_between text line from to =
     if nat_lt from to then plain_item from to (body.Text (is_after_backslash text line.start from)) ∷ [] else []
 
 -- What is found at a byte offset, after the text that began at `from`; `more` is what follows, from where its text
 -- begins and from where it is read on. A backslash that escapes is in no item.
-abbrev pub put_found : List ℕ → Line → (ℕ → ℕ → List Shown) → (from at : ℕ) → FoundView → List Shown
+abbrev pub put_found : List ℕ → LineRange → (ℕ → ℕ → List Shown) → (from at : ℕ) → FoundView → List Shown
 put_found text line more from at (found.Text next) = more from next
 put_found text line more from at found.Escape = text_between text line from at ++ more (at + 1) (at + 2)
 put_found text line more from at (found.Mark mark) =
@@ -43,7 +43,7 @@ put_found text line more from at found.Ellipsis =
     ++ synthesized_item at (at + 3) (encode_utf8 ellipsis) ∷ more (at + 3) (at + 3)
 
 -- the items of a line's content from byte offset `at` on, in at most `n` steps, where a text began at `from`
-unfoldable pub items_read_from : ℕ → List ℕ → Line → (from at : ℕ) → List Shown
+unfoldable pub items_read_from : ℕ → List ℕ → LineRange → (from at : ℕ) → List Shown
 items_read_from zero text line from at = []
 items_read_from (suc n) text line from at =
     if nat_le line.end at then text_between text line from line.end

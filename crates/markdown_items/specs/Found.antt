@@ -12,7 +12,7 @@ use Rattle.markdown_scan.specs.declared.entity.EntityNames.{EntityNames}
 use Rattle.markdown_items.specs.declared.flanking.Flags.{Flags}
 use Rattle.markdown_items.specs.FoundView as found
 use Rattle.markdown_items.specs.FoundView.{FoundView}
-use Rattle.markdown_items.specs.declared.found.Line.{Line}
+use Rattle.markdown_items.specs.declared.found.LineRange.{LineRange}
 use Rattle.markdown_items.specs.Flanking.{character_before, character_after}
 use Rattle.markdown_items.specs.LineItems.{run_end, run_flags, math_mark, quote_mark}
 
@@ -44,14 +44,14 @@ run_found stop None = found.Text stop
 run_found stop (Some flags) = found.DelimiterRun stop flags
 
 -- the whole run at an offset, a delimiter run or text
-unfoldable pub run_at : Line → List ℕ → ℕ → FoundView
+unfoldable pub run_at : LineRange → List ℕ → ℕ → FoundView
 run_at line text at =
     let stop = run_end text at line.end in
     run_found stop (run_flags line.extensions (slice_index text at) (stop - at)
     (character_before text line.start at) (character_after text stop))
 
 -- a `$` or a quotation mark, as a mark if its extension is enabled, and otherwise as text
-unfoldable pub mark_at : Line → List ℕ → ℕ → FoundView
+unfoldable pub mark_at : LineRange → List ℕ → ℕ → FoundView
 mark_at line text at =
     let byte = slice_index text at in
     let before = character_before text line.start at in
@@ -72,7 +72,7 @@ dots_at text end at =
     if begins_with (codes "...") (slice_range text at end) then found.Ellipsis else found.Text (at + 1)
 
 -- what begins at an offset in a line's content, by its byte, which is special
-unfoldable pub found_at : Line → List ℕ → ℕ → FoundView
+unfoldable pub found_at : LineRange → List ℕ → ℕ → FoundView
 found_at line text at =
     let byte = slice_index text at in
     if byte == backslash then escape_at text line.end at

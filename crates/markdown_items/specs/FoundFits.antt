@@ -11,7 +11,7 @@ use Rattle.markdown_builder.specs.Shown.{Shown}
 use Rattle.markdown_items.specs.Dashes.{dashes_for, dashes_in_utf8, ellipsis}
 use Rattle.markdown_items.specs.declared.found.Found.{Found}
 use Rattle.markdown_items.specs.declared.found.Found.TheVariants as found
-use Rattle.markdown_items.specs.declared.found.Line.{Line}
+use Rattle.markdown_items.specs.declared.found.LineRange.{LineRange}
 use Rattle.markdown_items.specs.Found.{found_at}
 use Rattle.markdown_items.specs.FoundItems.{found_items}
 use Rattle.markdown_items.specs.FoundView.{found_view}
@@ -19,7 +19,7 @@ use Rattle.markdown_items.specs.LineItems.{is_special}
 use Rattle.markdown_scan.specs.Entity.{text_in_utf8}
 
 -- there is a special byte at an offset in a line's content
-pub record IsAtSpecial (text : List ℕ) (line : Line) (at : ℕ) : Type 0 where
+pub record IsAtSpecial (text : List ℕ) (line : LineRange) (at : ℕ) : Type 0 where
   pub start : IsCharBoundary text line.start
   pub begun : line.start ≤ at
   pub more : at < line.end
@@ -27,7 +27,7 @@ pub record IsAtSpecial (text : List ℕ) (line : Line) (at : ℕ) : Type 0 where
   pub special : is_special line.extensions.dashes (slice_index text at) ≡ true
 
 -- an item may be appended at an offset: a leaf is open, what was appended ends before it, and a special byte is there
-pub record MayAppendAt (view : BuilderView) (line : Line) (at : ℕ) : Type 0 where
+pub record MayAppendAt (view : BuilderView) (line : LineRange) (at : ℕ) : Type 0 where
   pub inside : view.leaf ≡ true
   pub placed : view.at ≤ at
   pub here : IsAtSpecial view.text line at
@@ -74,12 +74,12 @@ abbrev pub run_after_text : BuilderView → ℕ → Option ℕ
 run_after_text view to = if nat_lt view.at to then None else view.run
 
 -- the levels after the text before an offset and the item found there are appended
-abbrev pub levels_after : BuilderView → Line → ℕ → Found → List (Forest Shown)
+abbrev pub levels_after : BuilderView → LineRange → ℕ → Found → List (Forest Shown)
 levels_after view line at f = with_items view.levels (found_items view.text line view.at at (found_view f))
 
 -- the builder after the text before an offset and the item found there are appended; a run that directly continues the
 -- one appended last becomes text
-abbrev pub view_after : BuilderView → Line → ℕ → Found → BuilderView
+abbrev pub view_after : BuilderView → LineRange → ℕ → Found → BuilderView
 view_after view line at (found.Text next) = view
 view_after view line at found.Escape =
     record view { at = at + 1; run = run_after_text view at; levels = levels_after view line at found.Escape }
@@ -118,7 +118,7 @@ view_after view line at found.Ellipsis = record view {
 }
 
 -- what begins at a byte offset is appended, after the text before it, and reading goes on after it
-pub record AppendsFound (old : BuilderView) (line : Line) (at : ℕ) (new : BuilderView) (next : ℕ) : Type 0 where
+pub record AppendsFound (old : BuilderView) (line : LineRange) (at : ℕ) (new : BuilderView) (next : ℕ) : Type 0 where
   pub found : Found
   pub value : found_view found ≡ found_at line old.text at
   pub fits : FoundFits old.text line.end at found

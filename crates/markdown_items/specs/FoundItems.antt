@@ -2,7 +2,7 @@
 use Rattle.std.specs.Prelude.{ℕ, ◌+◌, ◌-◌, true, false, List, [], ◌∷◌, ◌++◌, encode_utf8}
 use Rattle.markdown_base.specs.declared.item.ItemBody.TheVariants as body
 use Rattle.markdown_builder.specs.Shown.{Shown, plain_item, run_items, synthesized_item}
-use Rattle.markdown_items.specs.declared.found.Line.{Line}
+use Rattle.markdown_items.specs.declared.found.LineRange.{LineRange}
 use Rattle.markdown_items.specs.ContentItems.{text_between}
 use Rattle.markdown_items.specs.Dashes.{dashes_for, dashes_in_utf8, ellipsis}
 use Rattle.markdown_items.specs.FoundView as found
@@ -22,7 +22,7 @@ items_at at (found.Dashes stop) = synthesized_item at stop (dashes_in_utf8 (dash
 items_at at found.Ellipsis = synthesized_item at (at + 3) (encode_utf8 ellipsis) ∷ []
 
 -- the items that are appended for what is found, after the text that began at `from`; text goes on
-abbrev pub found_items : List ℕ → Line → (from at : ℕ) → FoundView → List Shown
+abbrev pub found_items : List ℕ → LineRange → (from at : ℕ) → FoundView → List Shown
 found_items text line from at (found.Text next) = []
 found_items text line from at f = text_between text line from at ++ items_at at f
 

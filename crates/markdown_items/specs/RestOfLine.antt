@@ -3,7 +3,7 @@ use Rattle.std.specs.Prelude.{◌≡◌, ◌≢◌, ℕ, ◌-◌, ◌<◌, List,
 use Rattle.markdown_base.specs.Forest.{Forest}
 use Rattle.markdown_builder.specs.BuilderView.{BuilderView, with_items}
 use Rattle.markdown_builder.specs.Shown.{Shown}
-use Rattle.markdown_items.specs.declared.found.Line.{Line}
+use Rattle.markdown_items.specs.declared.found.LineRange.{LineRange}
 use Rattle.markdown_items.specs.declared.extensions.Extensions.{Extensions}
 use Rattle.markdown_items.specs.ContentItems.{items_read_from}
 use Rattle.markdown_items.specs.LineItems.{is_special}
@@ -19,7 +19,7 @@ HasSpecialRun extensions view =
     (byte : ℕ) → view.run ≡ Some byte → is_special extensions.dashes byte ≡ true
 
 -- with the items that are read from a byte offset on, all of a line's items are made
-pub record AwaitsRest (line : Line) (all : List (Forest Shown)) (view : BuilderView) (at : ℕ) : Type 0 where
+pub record AwaitsRest (line : LineRange) (all : List (Forest Shown)) (view : BuilderView) (at : ℕ) : Type 0 where
   pub steps : ℕ
   pub enough : line.end - at < steps
   pub rest : with_items view.levels (items_read_from steps view.text line view.at at) ≡ all

@@ -16,7 +16,7 @@ use markdown_scan::laws::entity_begins_and_ends;
 
 /// A line's content, the bytes from `start` up to, but not including, `end`, with the extensions that are read in it.
 #[derive(Clone, Copy)]
-pub struct Line {
+pub struct LineRange {
     pub start: usize,
     pub end: usize,
     pub extensions: Extensions,
@@ -69,7 +69,7 @@ impl Found {
 
 /// Returns what begins at a backslash.
 #[tactic(auto, unfolding(crate::specs::Found::escape_at))]
-pub fn find_escape(text: &str, line: Line, at: usize) -> Found
+pub fn find_escape(text: &str, line: LineRange, at: usize) -> Found
     requires { IsAtSpecial text.now line at }
     ensures value { found_view result ≡ escape_at text.now line.end at }
     ensures fits { FoundFits text.now line.end at result }
@@ -86,7 +86,7 @@ pub fn find_escape(text: &str, line: Line, at: usize) -> Found
 
 /// Returns what begins at a `&`.
 #[tactic(auto, unfolding(crate::specs::Found::entity_at))]
-pub fn find_entity(text: &str, line: Line, at: usize) -> Found
+pub fn find_entity(text: &str, line: LineRange, at: usize) -> Found
     requires { IsAtSpecial text.now line at }
     ensures value { found_view result ≡ entity_at line.extensions.names text.now line.end at }
     ensures fits { FoundFits text.now line.end at result }
@@ -102,7 +102,7 @@ pub fn find_entity(text: &str, line: Line, at: usize) -> Found
 
 /// Returns what begins at a `!`.
 #[tactic(auto, unfolding(crate::specs::Found::image_at))]
-pub fn find_image(text: &str, line: Line, at: usize) -> Found
+pub fn find_image(text: &str, line: LineRange, at: usize) -> Found
     requires here { IsAtSpecial text.now line at }
     requires byte { slice_index text.now at ≡ 33 }
     ensures value { found_view result ≡ image_at text.now line.end at }
@@ -117,7 +117,7 @@ pub fn find_image(text: &str, line: Line, at: usize) -> Found
 
 /// Returns what the run at `at` is: a delimiter run, or text.
 #[tactic(auto, using(crate::proofs::ItemLemmas::past_run), unfolding(crate::specs::Found::run_at))]
-pub fn find_run(text: &str, line: Line, at: usize) -> Found
+pub fn find_run(text: &str, line: LineRange, at: usize) -> Found
     requires here { IsAtSpecial text.now line at }
     requires byte { is_delimiter (slice_index text.now at) ≡ true }
     ensures value { found_view result ≡ run_at line text.now at }
@@ -135,7 +135,7 @@ pub fn find_run(text: &str, line: Line, at: usize) -> Found
 
 /// Returns what begins at a `$` or a quotation mark.
 #[tactic(auto, using(crate::proofs::ItemLemmas::past_special), unfolding(crate::specs::Found::mark_at))]
-pub fn find_mark(text: &str, line: Line, at: usize) -> Found
+pub fn find_mark(text: &str, line: LineRange, at: usize) -> Found
     requires { IsAtSpecial text.now line at }
     ensures value { found_view result ≡ mark_at line text.now at }
     ensures fits { FoundFits text.now line.end at result }
@@ -157,7 +157,7 @@ pub fn find_mark(text: &str, line: Line, at: usize) -> Found
 
 /// Returns what the hyphens at `at` are: dashes, or text if there is one.
 #[tactic(auto, using(crate::proofs::ItemLemmas::past_run), unfolding(crate::specs::Found::hyphens_at))]
-pub fn find_dashes(text: &str, line: Line, at: usize) -> Found
+pub fn find_dashes(text: &str, line: LineRange, at: usize) -> Found
     requires { IsAtSpecial text.now line at }
     ensures value { found_view result ≡ hyphens_at text.now line.end at }
     ensures fits { FoundFits text.now line.end at result }
@@ -172,7 +172,7 @@ pub fn find_dashes(text: &str, line: Line, at: usize) -> Found
 
 /// Returns what the dots at `at` are: an ellipsis, or text if there are fewer than three.
 #[tactic(auto, unfolding(crate::specs::Found::dots_at))]
-pub fn find_ellipsis(text: &str, line: Line, at: usize) -> Found
+pub fn find_ellipsis(text: &str, line: LineRange, at: usize) -> Found
     requires { IsAtSpecial text.now line at }
     ensures value { found_view result ≡ dots_at text.now line.end at }
     ensures fits { FoundFits text.now line.end at result }

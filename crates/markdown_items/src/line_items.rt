@@ -17,7 +17,7 @@ use crate::delimiter_run::run_end;
 use crate::extensions::Extensions;
 use crate::flanking::Flags;
 use crate::found::{
-    Found, Line, find_dashes, find_ellipsis, find_entity, find_escape, find_image, find_mark,
+    Found, LineRange, find_dashes, find_ellipsis, find_entity, find_escape, find_image, find_mark,
     find_run,
 };
 use crate::special::first_special;
@@ -40,7 +40,7 @@ fn is_after_backslash(bytes: &[u8], start: usize, at: usize) -> bool
 // inlined: it is called before each item, and most items are Texts
 #[inline(always)]
 #[tactic(auto, using(crate::proofs::RestOfLineLemmas::no_items))]
-fn append_text(builder: &mut Builder<'_>, line: Line, to: usize) -> Result<(), AllocError>
+fn append_text(builder: &mut Builder<'_>, line: LineRange, to: usize) -> Result<(), AllocError>
     requires inside { builder.old.leaf ≡ true }
     requires low { builder.old.at ≤ to }
     requires boundary { IsCharBoundary builder.old.text to }
@@ -63,7 +63,7 @@ fn append_text(builder: &mut Builder<'_>, line: Line, to: usize) -> Result<(), A
 #[tactic(auto, using(crate::proofs::RestOfLineLemmas::more_items))]
 fn append_run(
     builder: &mut Builder<'_>,
-    line: Line,
+    line: LineRange,
     at: usize,
     stop: usize,
     flags: Flags,
@@ -148,7 +148,7 @@ fn append_ellipsis(builder: &mut Builder<'_>, stop: usize) -> Result<(), AllocEr
 fn append_found(
     builder: &mut Builder<'_>,
     alloc: Global,
-    line: Line,
+    line: LineRange,
     at: usize,
     found: Found,
 ) -> Result<(), AllocError>
@@ -187,7 +187,7 @@ fn append_found(
 fn take_found(
     builder: &mut Builder<'_>,
     alloc: Global,
-    line: Line,
+    line: LineRange,
     at: usize,
     found: Found,
 ) -> Result<usize, AllocError>
@@ -208,7 +208,7 @@ fn take_found(
 fn append_special(
     builder: &mut Builder<'_>,
     alloc: Global,
-    line: Line,
+    line: LineRange,
     at: usize,
 ) -> Result<usize, AllocError>
     requires { MayAppendAt builder.old line at }
@@ -274,7 +274,7 @@ pub fn items(
     ensures inside { IfOk result (λ _. AddsItems builder.old builder.new) }
     ensures texts { IfOk result (λ _. AddsTexts builder.old builder.new) }
 {
-    let line = Line {
+    let line = LineRange {
         start: builder.at(),
         end,
         extensions: Extensions::of(options),

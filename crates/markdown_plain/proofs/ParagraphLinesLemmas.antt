@@ -18,7 +18,7 @@ use Rattle.markdown_items.proofs.RestOfLineLemmas.{more_items, no_items}
 use Rattle.markdown_items.specs.ContentItems.{content_items}
 use Rattle.markdown_items.specs.LineItems.{item_extensions}
 use Rattle.markdown_items.specs.declared.extensions.Extensions.{Extensions}
-use Rattle.markdown_items.specs.declared.found.Line.{Line}
+use Rattle.markdown_items.specs.declared.found.LineRange.{LineRange}
 use Rattle.markdown_lines.proofs.LineBytesLemmas.{trimmed_is}
 use Rattle.markdown_lines.specs.BlockBeginnings.{Source}
 use Rattle.markdown_lines.specs.HeadingAttributes.{open_brace}
@@ -98,7 +98,7 @@ on_false test x y fails = ap (λ b. if b then x else y) fails
 pub no_content : (text : List ℕ) (extensions : Extensions) (at : ℕ) → content_items text extensions at at ≡ []
 no_content text extensions at =
     let none : nat_lt at at ≡ false = grind (arith, nat_tests) in
-    let line : Line = record { start = at; end = at; extensions = extensions } in
+    let line : LineRange = record { start = at; end = at; extensions = extensions } in
     no_byte (at - at) text line at ∙ on_false (nat_lt at at) _ [] none
 
 pub none_left : (s : Source) (source : SourceLine) → length source.left.bytes ≡ 0 → line_or_nothing s source ≡ []

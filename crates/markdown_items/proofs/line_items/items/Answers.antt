@@ -7,7 +7,7 @@ use Rattle.markdown_base.specs.Forest.{Forest}
 use Rattle.markdown_builder.specs.BuilderView.{BuilderView, with_items}
 use Rattle.markdown_builder.specs.Shown.{Shown}
 use Rattle.markdown_items.specs.declared.extensions.Extensions.{Extensions}
-use Rattle.markdown_items.specs.declared.found.Line.{Line}
+use Rattle.markdown_items.specs.declared.found.LineRange.{LineRange}
 use Rattle.markdown_items.specs.ContentItems.{AddsItems, AddsTexts, content_items}
 use Rattle.markdown_items.specs.FoundFits.{AppendsFound, next_after, view_after}
 use Rattle.markdown_items.specs.LineItems.{is_special, IsFirstSpecial}
@@ -66,7 +66,7 @@ append_special-requires c =
 
 pub line-smaller : goal.line-smaller
 line-smaller c =
-    let line : Line = record { start = c.at.result; end = c.args.end; extensions = c.of.result } in
+    let line : LineRange = record { start = c.at.result; end = c.args.end; extensions = c.of.result } in
     let appends : AppendsFound c.line.builder line c.line.at c.append_special.new.builder c.in_ok-next.next =
     c.in_ok-next.ensures in
     let further = goes_on c.line.builder.text c.args.end c.line.at appends.found c.line-test.true appends.fits in
@@ -77,7 +77,7 @@ pub line-preserved : goal.line-preserved
 line-preserved c =
     let old : BuilderView = c.args.builder.now in
     let view : BuilderView = c.line.builder in
-    let line : Line = record { start = c.at.result; end = c.args.end; extensions = c.of.result } in
+    let line : LineRange = record { start = c.at.result; end = c.args.end; extensions = c.of.result } in
     let all : List (Forest Shown) =
     with_items old.levels (content_items old.text c.of.result old.at c.args.end) in
     let at = c.line.at in
@@ -132,7 +132,7 @@ pub returns-clause-further : goal.returns-clause-further
 returns-clause-further c = λ over.
     let old : BuilderView = c.args.builder.now in
     let view : BuilderView = c.line.builder in
-    let line : Line = record { start = c.at.result; end = c.args.end; extensions = c.of.result } in
+    let line : LineRange = record { start = c.at.result; end = c.args.end; extensions = c.of.result } in
     let all : List (Forest Shown) =
     with_items old.levels (content_items old.text c.of.result old.at c.args.end) in
     let last : c.line.at ≡ c.args.end = grind (arith, nat_tests, c.line.invariant.within, c.line-test.false) in
