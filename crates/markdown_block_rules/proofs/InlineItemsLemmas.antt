@@ -19,7 +19,7 @@ use Rattle.markdown_items.specs.Found.{run_at, run_found}
 use Rattle.markdown_items.specs.FoundView as found
 use Rattle.markdown_items.specs.FoundView.{FoundView}
 use Rattle.markdown_items.specs.LineItems.{is_after_backslash, is_special, math_mark, quote_mark, run_end, run_flags}
-use Rattle.markdown_items.specs.declared.extensions.Extensions.{Extensions}
+use Rattle.markdown_items.specs.declared.extensions.ItemSyntax.{ItemSyntax}
 use Rattle.markdown_items.specs.declared.flanking.Flags.{Flags}
 use Rattle.markdown_items.specs.declared.found.LineRange.{LineRange}
 use Rattle.markdown_lines.specs.LineBreaks.{break_after}
@@ -176,12 +176,12 @@ items_unmarked (suc n) text line from at =
     (put_unmarked text line (items_read_from n text line) from at (λ from at. items_unmarked n text line from at)
     (found_at line text at) (found_unmarked line text at)))
 
-pub content_unmarked : (text : List ℕ) (extensions : Extensions) (start end : ℕ)
+pub content_unmarked : (text : List ℕ) (extensions : ItemSyntax) (start end : ℕ)
     → AreUnmarked (content_items text extensions start end)
 content_unmarked text extensions start end =
     items_unmarked (suc (end - start)) text (record { start = start; end = end; extensions = extensions }) start start
 
-pieces_unmarked : (n : ℕ) (text : List ℕ) (extensions : Extensions) (start end : ℕ)
+pieces_unmarked : (n : ℕ) (text : List ℕ) (extensions : ItemSyntax) (start end : ℕ)
     → AreUnmarked (pieces_items n text extensions start end)
 unfolding pieces_items
 pieces_unmarked zero text extensions start end = tt
@@ -192,7 +192,7 @@ pieces_unmarked (suc n) text extensions start end =
     (either AreUnmarked (nat_lt stop end) (pieces_items n text extensions (stop + 2) end) []
     (pieces_unmarked n text extensions (stop + 2) end) tt)
 
-pub cell_unmarked : (text : List ℕ) (extensions : Extensions) (start end : ℕ)
+pub cell_unmarked : (text : List ℕ) (extensions : ItemSyntax) (start end : ℕ)
     → AreUnmarked (cell_items text extensions start end)
 cell_unmarked text extensions start end = pieces_unmarked (suc (end - start)) text extensions start end
 
@@ -207,7 +207,7 @@ break_unmarked stop backslashes spaces content =
     either unmarked ((stop - backslashes) % 2 == 1) hard (if nat_lt (stop - spaces) 2 then soft else spaced) refl
     (either unmarked (nat_lt (stop - spaces) 2) soft spaced refl refl)
 
-broken_unmarked : (text : List ℕ) (extensions : Extensions) (l : SourceLine)
+broken_unmarked : (text : List ℕ) (extensions : ItemSyntax) (l : SourceLine)
     → AreUnmarked (broken_line text extensions l)
 broken_unmarked text extensions l =
     let start = l.left.scanned in
@@ -221,7 +221,7 @@ broken_unmarked text extensions l =
       tt,
     )
 
-pub lines_unmarked : (text : List ℕ) (extensions : Extensions) (lines : List SourceLine)
+pub lines_unmarked : (text : List ℕ) (extensions : ItemSyntax) (lines : List SourceLine)
     → AreUnmarked (lines_items text extensions lines)
 lines_unmarked text extensions [] = tt
 lines_unmarked text extensions (l ∷ []) =

@@ -4,7 +4,7 @@ use Rattle.std.specs.Prelude.{◌++◌, length, slice_range, replicate, if◌the
 use Rattle.markdown_base.specs.Bytes.{backslash, space}
 use Rattle.markdown_base.specs.declared.item.ItemBody.{ItemBody}
 use Rattle.markdown_builder.specs.Shown.{Shown, plain_item, synthesized_item}
-use Rattle.markdown_items.specs.declared.extensions.Extensions.{Extensions}
+use Rattle.markdown_items.specs.declared.extensions.ItemSyntax.{ItemSyntax}
 use Rattle.markdown_items.specs.ContentItems.{content_items}
 use Rattle.markdown_lines.specs.declared.line_break.LineBreak.{LineBreak}
 use Rattle.markdown_lines.specs.LineBreaks.{break_after}
@@ -15,7 +15,7 @@ use Rattle.markdown_lines.specs.TableRows.{piece_length}
 
 -- The items of a cell's content, read in at most `n` pieces. Between two pieces there are two backslashes that are in
 -- no item, since a `|` is directly after them.
-unfoldable pub pieces_items : ℕ → List ℕ → Extensions → (start end : ℕ) → List Shown
+unfoldable pub pieces_items : ℕ → List ℕ → ItemSyntax → (start end : ℕ) → List Shown
 pieces_items zero text extensions start end = []
 pieces_items (suc n) text extensions start end =
     let stop = start + piece_length (slice_range text start end) in
@@ -23,7 +23,7 @@ pieces_items (suc n) text extensions start end =
     ++ (if nat_lt stop end then pieces_items n text extensions (stop + 2) end else [])
 
 -- the items of a cell's content
-abbrev pub cell_items : List ℕ → Extensions → (start end : ℕ) → List Shown
+abbrev pub cell_items : List ℕ → ItemSyntax → (start end : ℕ) → List Shown
 cell_items text extensions start end = pieces_items (suc (end - start)) text extensions start end
 
 -- the break after a line whose content begins at a byte offset and has these bytes
@@ -34,14 +34,14 @@ break_between start bytes =
     (start + length unspaced) (start + length (without_end is_space_or_tab unspaced))
 
 -- a line that another line follows, with its break
-abbrev pub broken_line : List ℕ → Extensions → SourceLine → List Shown
+abbrev pub broken_line : List ℕ → ItemSyntax → SourceLine → List Shown
 broken_line text extensions l =
     let between = break_between l.left.scanned l.left.bytes in
     content_items text extensions l.left.scanned between.text_end
     ++ plain_item between.start l.next between.body ∷ []
 
 -- the lines of a paragraph or of a heading, without white space at the end
-abbrev pub lines_items : List ℕ → Extensions → List SourceLine → List Shown
+abbrev pub lines_items : List ℕ → ItemSyntax → List SourceLine → List Shown
 lines_items text extensions [] = []
 lines_items text extensions (l ∷ []) =
     content_items text extensions l.left.scanned

@@ -9,7 +9,7 @@ use Rattle.markdown_builder.specs.BuilderView.{BuilderView, follows_run, with_it
 use Rattle.markdown_builder.specs.Shown.{Shown, chain_of}
 use Rattle.markdown_builder.specs.TreeLevels.{followed_by, with_trees}
 use Rattle.markdown_builder.proofs.LaidLemmas.{followed_by-assoc, followed_by-nil}
-use Rattle.markdown_items.specs.declared.extensions.Extensions.{Extensions}
+use Rattle.markdown_items.specs.declared.extensions.ItemSyntax.{ItemSyntax}
 use Rattle.markdown_items.specs.declared.found.Found.{Found}
 use Rattle.markdown_items.specs.declared.found.Found.TheVariants as found
 use Rattle.markdown_items.specs.declared.found.LineRange.{LineRange}
@@ -107,7 +107,7 @@ at_end line all view awaits =
     ∙ awaits.rest
 
 -- at the beginning all is left
-pub at_start : (options : Extensions) (view : BuilderView) (end : ℕ) → RunIsOver end view view.at
+pub at_start : (options : ItemSyntax) (view : BuilderView) (end : ℕ) → RunIsOver end view view.at
     → AwaitsRest (record { start = view.at; end = end; extensions = options })
     (with_items view.levels (content_items view.text options view.at end)) view view.at
 at_start options view end over = record {
@@ -145,7 +145,8 @@ record IsAfter (line : LineRange) (view new : BuilderView) (at : ℕ) (f : Found
   next : next_after at f ≡ read_on at (found_view f)
   over : RunIsOver line.end new (next_after at f)
 
-after_found : (line : LineRange) (all : List (Forest Shown)) (view new : BuilderView) (at : ℕ) (f : Found) → at < line.end
+after_found : (line : LineRange) (all : List (Forest Shown)) (view new : BuilderView) (at : ℕ) (f : Found)
+    → at < line.end
     → is_special line.extensions.dashes (slice_index view.text at) ≡ true
     → FoundFits view.text line.end at f → found_view f ≡ found_at line view.text at
     → AwaitsRest line all view at → IsAfter line view new at f → AwaitsRest line all new (next_after at f)
@@ -284,7 +285,8 @@ begun_after line view at f placed less fits = by_case f fits
     by_case found.Ellipsis fits = omega (arith, placed)
 
 -- the text is the same
-pub text_after : (line : LineRange) (view : BuilderView) (at : ℕ) (f : Found) → (view_after view line at f).text ≡ view.text
+pub text_after : (line : LineRange) (view : BuilderView) (at : ℕ) (f : Found)
+    → (view_after view line at f).text ≡ view.text
 text_after line view at (found.Run stop flags) =
     either (follows_run (run_after_text view at) (slice_index view.text at))
   where
@@ -334,7 +336,8 @@ adds_more old view new before after = (
       ∙ more_items old.levels before.0 after.0),
 )
 
-pub adds_found : (view : BuilderView) (line : LineRange) (at : ℕ) (f : Found) → AddsItems view (view_after view line at f)
+pub adds_found : (view : BuilderView) (line : LineRange) (at : ℕ) (f : Found)
+    → AddsItems view (view_after view line at f)
 adds_found view line at (found.Text next) = adds_none view
 adds_found view line at found.Escape = (_, refl)
 adds_found view line at (found.Mark body) = (_, refl)
@@ -363,7 +366,8 @@ more_texts old view new before after = (
   after.1 ∙ (ap (λ (texts : List (List ℕ)). texts ++ after.0) before.1 ∙ append_assoc old.texts before.0 after.0),
 )
 
-pub texts_found : (view : BuilderView) (line : LineRange) (at : ℕ) (f : Found) → AddsTexts view (view_after view line at f)
+pub texts_found : (view : BuilderView) (line : LineRange) (at : ℕ) (f : Found)
+    → AddsTexts view (view_after view line at f)
 texts_found view line at (found.Entity stop characters) = (_, refl)
 texts_found view line at (found.Dashes stop) = (_, refl)
 texts_found view line at found.Ellipsis = (_, refl)
@@ -379,7 +383,7 @@ texts_found view line at other = ([], sym (append-nil view.texts))
 -- ---- the run that was appended last
 
 -- text may follow it
-pub run_before_text : (extensions : Extensions) (view : BuilderView) (to byte : ℕ) → HasSpecialRun extensions view
+pub run_before_text : (extensions : ItemSyntax) (view : BuilderView) (to byte : ℕ) → HasSpecialRun extensions view
     → run_after_text view to ≡ Some byte → is_special extensions.dashes byte ≡ true
 run_before_text extensions view to byte special = by_place (nat_lt view.at to) refl
   where

@@ -4,7 +4,7 @@ use Rattle.std.specs.Prelude.{slice_index, encode_utf8, if◌then◌else◌}
 use Rattle.markdown_base.specs.declared.item.ItemBody.TheVariants as body
 use Rattle.markdown_builder.specs.BuilderView.{BuilderView, with_items}
 use Rattle.markdown_builder.specs.Shown.{Shown, plain_item, run_items, synthesized_item}
-use Rattle.markdown_items.specs.declared.extensions.Extensions.{Extensions}
+use Rattle.markdown_items.specs.declared.extensions.ItemSyntax.{ItemSyntax}
 use Rattle.markdown_items.specs.declared.found.LineRange.{LineRange}
 use Rattle.markdown_items.specs.Dashes.{dashes_for, dashes_in_utf8, ellipsis}
 use Rattle.markdown_items.specs.Found.{found_at}
@@ -51,7 +51,7 @@ items_read_from (suc n) text line from at =
     else put_found text line (items_read_from n text line) from at (found_at line text at)
 
 -- the items of a line's content
-abbrev pub content_items : List ℕ → Extensions → (start end : ℕ) → List Shown
+abbrev pub content_items : List ℕ → ItemSyntax → (start end : ℕ) → List Shown
 content_items text extensions start end =
     items_read_from (suc (end - start)) text (record { start = start; end = end; extensions = extensions }) start start
 

@@ -11,13 +11,13 @@ use Rattle.markdown_base.specs.declared.item.ItemBody.{ItemBody}
 use Rattle.markdown_base.specs.declared.item.ItemBody.TheVariants as body
 use Rattle.markdown_builder.specs.BuilderView.{IsRunOf}
 use Rattle.markdown_scan.specs.Entity.{entity_names}
-use Rattle.markdown_items.specs.declared.extensions.Extensions.{Extensions}
+use Rattle.markdown_items.specs.declared.extensions.ItemSyntax.{ItemSyntax}
 use Rattle.markdown_items.specs.declared.flanking.Flags.{Flags}
 use Rattle.markdown_items.specs.Flanking.{is_white, flags_of}
 
 -- what the options enable: `~` with strikethrough or subscript, `^` with superscript, quotation marks with smart
 -- punctuation, and dashes with it in the full reading, `$` with math; and the names of entities that count
-abbrev pub item_extensions : Options → Extensions
+abbrev pub item_extensions : Options → ItemSyntax
 item_extensions options = record {
   tildes = strikethrough_on options || subscript_on options;
   carets = superscript_on options;
@@ -70,7 +70,7 @@ pub record IsMaximalRun (text : List ℕ) (at end stop : ℕ) : Type 0 where
 -- `count` of a character can be a delimiter run, regardless of the characters around them: any number of `*` or `_`
 -- (CommonMark 6.2), one or two `~`, any number of `^`. Another character of `is_delimiter` has its case here, and
 -- remains text without it.
-abbrev pub makes_run : Extensions → ℕ → ℕ → Bool
+abbrev pub makes_run : ItemSyntax → ℕ → ℕ → Bool
 makes_run extensions byte count =
     if (byte == asterisk) || (byte == underscore) then true
     else if byte == tilde then extensions.tildes && nat_le count 2
@@ -78,7 +78,7 @@ makes_run extensions byte count =
     else false
 
 -- the flags of a delimiter run between two characters, if it is one: a run that can neither open nor close is text
-abbrev pub run_flags : Extensions → ℕ → ℕ → Option ℕ → Option ℕ → Option Flags
+abbrev pub run_flags : ItemSyntax → ℕ → ℕ → Option ℕ → Option ℕ → Option Flags
 run_flags extensions byte count before after =
     let flags = flags_of byte before after in
     if makes_run extensions byte count && (flags.opens || flags.closes) then Some flags else None

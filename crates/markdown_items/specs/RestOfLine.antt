@@ -4,7 +4,7 @@ use Rattle.markdown_base.specs.Forest.{Forest}
 use Rattle.markdown_builder.specs.BuilderView.{BuilderView, with_items}
 use Rattle.markdown_builder.specs.Shown.{Shown}
 use Rattle.markdown_items.specs.declared.found.LineRange.{LineRange}
-use Rattle.markdown_items.specs.declared.extensions.Extensions.{Extensions}
+use Rattle.markdown_items.specs.declared.extensions.ItemSyntax.{ItemSyntax}
 use Rattle.markdown_items.specs.ContentItems.{items_read_from}
 use Rattle.markdown_items.specs.LineItems.{is_special}
 
@@ -14,7 +14,7 @@ RunIsOver end view at =
     (byte : ℕ) → view.run ≡ Some byte → view.at ≡ at → at < end → slice_index view.text at ≢ byte
 
 -- the run appended last, if no item followed it, is of a special byte
-abbrev pub HasSpecialRun : Extensions → BuilderView → Type 0
+abbrev pub HasSpecialRun : ItemSyntax → BuilderView → Type 0
 HasSpecialRun extensions view =
     (byte : ℕ) → view.run ≡ Some byte → is_special extensions.dashes byte ≡ true
 

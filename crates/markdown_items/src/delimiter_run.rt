@@ -2,7 +2,7 @@
 ghost use Rattle.std.specs.Prelude.{◌≡◌, ◌<◌, ◌≤◌, length};
 ghost use Rattle.markdown_items.specs.LineItems.{IsMaximalRun, run_end, makes_run, run_flags};
 
-use crate::extensions::Extensions;
+use crate::extensions::ItemSyntax;
 use crate::flanking::{Flags, flags_of};
 
 /// Returns the byte offset after the run of the byte at `at`, in a line's content that ends at `end`.
@@ -22,7 +22,7 @@ pub fn run_end(text: &str, at: usize, end: usize) -> usize
 }
 
 /// Returns whether `count` of the character can be a delimiter run, regardless of the characters around them.
-fn makes_run(extensions: Extensions, byte: u8, count: usize) -> bool
+fn makes_run(extensions: ItemSyntax, byte: u8, count: usize) -> bool
     ensures { result ≡ makes_run extensions byte count }
 {
     match byte {
@@ -36,7 +36,7 @@ fn makes_run(extensions: Extensions, byte: u8, count: usize) -> bool
 /// Returns the flags of a run between two characters; `None` if it is text, either because these are no delimiters or
 /// because it can neither open nor close.
 pub fn run_flags(
-    extensions: Extensions,
+    extensions: ItemSyntax,
     byte: u8,
     count: usize,
     before: Option<char>,

@@ -7,7 +7,7 @@ use markdown_scan::entity::{EntityNames, entity_names};
 
 /// The extensions of CommonMark that are read.
 #[derive(Clone, Copy)]
-pub struct Extensions {
+pub struct ItemSyntax {
     /// One or two `~` are a delimiter run.
     pub tildes: bool,
     /// `^` makes delimiter runs.
@@ -22,14 +22,14 @@ pub struct Extensions {
     pub names: EntityNames,
 }
 
-impl Extensions {
+impl ItemSyntax {
     /// Returns what a set of options enables: `~` with strikethrough or subscript, `^` with superscript, quotation
     /// marks with smart punctuation, and dashes with it in the full reading, `$` with math; and the names of entities
     /// that count.
-    pub fn of(options: Options) -> Extensions
+    pub fn of(options: Options) -> ItemSyntax
         ensures { result ≡ item_extensions options }
     {
-        Extensions {
+        ItemSyntax {
             tildes: options.contains(Options::ENABLE_STRIKETHROUGH)
                 || options.contains(Options::ENABLE_SUBSCRIPT),
             carets: options.contains(Options::ENABLE_SUPERSCRIPT),

@@ -7,7 +7,7 @@ ghost use Rattle.markdown_items.specs.FoundView.{found_view};
 
 use crate::around::{character_after, character_before};
 use crate::delimiter_run::{run_end, run_flags};
-use crate::extensions::Extensions;
+use crate::extensions::ItemSyntax;
 use crate::flanking::Flags;
 use crate::marks::{math_mark, quote_mark};
 use markdown_base::item::ItemBody;
@@ -19,7 +19,7 @@ use markdown_scan::laws::entity_begins_and_ends;
 pub struct LineRange {
     pub start: usize,
     pub end: usize,
-    pub extensions: Extensions,
+    pub extensions: ItemSyntax,
 }
 
 /// What begins at a special byte. Ends are byte offsets in the text.

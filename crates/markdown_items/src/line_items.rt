@@ -14,7 +14,7 @@ ghost use Rattle.markdown_items.specs.FoundFits.{MayAppendAt, FoundFits, Appends
 
 use crate::dashes::dashes_for;
 use crate::delimiter_run::run_end;
-use crate::extensions::Extensions;
+use crate::extensions::ItemSyntax;
 use crate::flanking::Flags;
 use crate::found::{
     Found, LineRange, find_dashes, find_ellipsis, find_entity, find_escape, find_image, find_mark,
@@ -277,7 +277,7 @@ pub fn items(
     let line = LineRange {
         start: builder.at(),
         end,
-        extensions: Extensions::of(options),
+        extensions: ItemSyntax::of(options),
     };
     let bytes = builder.text().as_bytes();
     let dashes = line.extensions.dashes;

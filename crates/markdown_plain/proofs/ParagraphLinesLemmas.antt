@@ -17,7 +17,7 @@ use Rattle.markdown_items.proofs.ContentItemsLemmas.{no_byte}
 use Rattle.markdown_items.proofs.RestOfLineLemmas.{more_items, no_items}
 use Rattle.markdown_items.specs.ContentItems.{content_items}
 use Rattle.markdown_items.specs.LineItems.{item_extensions}
-use Rattle.markdown_items.specs.declared.extensions.Extensions.{Extensions}
+use Rattle.markdown_items.specs.declared.extensions.ItemSyntax.{ItemSyntax}
 use Rattle.markdown_items.specs.declared.found.LineRange.{LineRange}
 use Rattle.markdown_lines.proofs.LineBytesLemmas.{trimmed_is}
 use Rattle.markdown_lines.specs.BlockBeginnings.{Source}
@@ -95,7 +95,7 @@ pub on_false : {A : Type 0} (test : Bool) (x y : A) → test ≡ false → (if t
 on_false test x y fails = ap (λ b. if b then x else y) fails
 
 -- there are no items in nothing
-pub no_content : (text : List ℕ) (extensions : Extensions) (at : ℕ) → content_items text extensions at at ≡ []
+pub no_content : (text : List ℕ) (extensions : ItemSyntax) (at : ℕ) → content_items text extensions at at ≡ []
 no_content text extensions at =
     let none : nat_lt at at ≡ false = grind (arith, nat_tests) in
     let line : LineRange = record { start = at; end = at; extensions = extensions } in

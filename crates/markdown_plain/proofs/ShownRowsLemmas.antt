@@ -25,7 +25,7 @@ use Rattle.markdown_builder.specs.EvenRows.{is_table_row}
 use Rattle.markdown_builder.specs.Shown.{Shown, chain_of, plain_item, settled_below, shown_item, with_block}
 use Rattle.markdown_builder.specs.TreeLevels.{followed_by, with_trees}
 use Rattle.markdown_builder.proofs.LaidLemmas.{followed_by-assoc, followed_by-nil}
-use Rattle.markdown_items.specs.declared.extensions.Extensions.{Extensions}
+use Rattle.markdown_items.specs.declared.extensions.ItemSyntax.{ItemSyntax}
 use Rattle.markdown_items.specs.ContentItems.{content_items}
 use Rattle.markdown_items.specs.LineItems.{is_special, item_extensions}
 use Rattle.markdown_items.specs.RestOfLine.{HasSpecialRun, RunIsOver}
@@ -199,13 +199,13 @@ piece_in text from to ordered within = by_end (piece_ends bytes)
 -- ---- the items of the pieces
 
 -- where there is no byte, there is no item
-no_content : (text : List ℕ) (extensions : Extensions) (start : ℕ) → content_items text extensions start start ≡ []
+no_content : (text : List ℕ) (extensions : ItemSyntax) (start : ℕ) → content_items text extensions start start ≡ []
 no_content text extensions start =
     let none : nat_lt start start ≡ false = grind (arith, nat_tests) in
     no_byte (start - start) text (record { start = start; end = start; extensions = extensions }) start ∙ rw none refl
 
 -- nothing is read where nothing is left
-pub no_pieces : (n : ℕ) (text : List ℕ) (extensions : Extensions) (start end : ℕ) → end ≤ start
+pub no_pieces : (n : ℕ) (text : List ℕ) (extensions : ItemSyntax) (start end : ℕ) → end ≤ start
     → pieces_items n text extensions start end ≡ []
 unfolding pieces_items
 no_pieces zero text extensions start end low = refl
@@ -218,7 +218,7 @@ no_pieces (suc n) text extensions start end low =
     rw (stop, over) (ap (λ items. items ++ []) (no_content text extensions start))
 
 -- the items of the first piece, and of those after it
-one_piece : (n : ℕ) (text : List ℕ) (extensions : Extensions) (start end : ℕ)
+one_piece : (n : ℕ) (text : List ℕ) (extensions : ItemSyntax) (start end : ℕ)
     → pieces_items (suc n) text extensions start end
     ≡ content_items text extensions start (start + piece_length (slice_range text start end))
     ++ (if nat_lt (start + piece_length (slice_range text start end)) end
@@ -227,7 +227,7 @@ unfolding pieces_items
 one_piece n text extensions start end = refl
 
 -- with the pieces that are read from a byte offset on, all items of a cell's content are made
-pub record AwaitsPieces (extensions : Extensions) (end : ℕ) (all : List (Forest Shown)) (view : BuilderView) (from : ℕ)
+pub record AwaitsPieces (extensions : ItemSyntax) (end : ℕ) (all : List (Forest Shown)) (view : BuilderView) (from : ℕ)
     : Type 0 where
   pub steps : ℕ
   pub enough : end - from < steps
@@ -236,7 +236,7 @@ pub record AwaitsPieces (extensions : Extensions) (end : ℕ) (all : List (Fores
   pub special : HasSpecialRun extensions view
 
 -- before the first piece
-pub pieces_start : (extensions : Extensions) (view : BuilderView) (from end : ℕ) → view.run ≡ None
+pub pieces_start : (extensions : ItemSyntax) (view : BuilderView) (from end : ℕ) → view.run ≡ None
     → AwaitsPieces extensions end
     (with_items view.levels (cell_items view.text extensions from end)) view from
 pieces_start extensions view from end none = record {
@@ -248,7 +248,7 @@ pieces_start extensions view from end none = record {
 }
 
 -- after the last one
-pub pieces_done : (extensions : Extensions) (end : ℕ) (all : List (Forest Shown)) (view : BuilderView) (from : ℕ)
+pub pieces_done : (extensions : ItemSyntax) (end : ℕ) (all : List (Forest Shown)) (view : BuilderView) (from : ℕ)
     → end ≤ from → AwaitsPieces extensions end all view from → view.levels ≡ all
 pieces_done extensions end all view from low awaits =
     sym (no_items view.levels)
@@ -270,7 +270,7 @@ has_step zero k less = absurd (omega (arith, less))
 has_step (suc n) k less = record { before = n; is = refl }
 
 -- a piece was placed
-pub record PlacesPiece (extensions : Extensions) (view new : BuilderView) (from to stop next : ℕ) : Type 0 where
+pub record PlacesPiece (extensions : ItemSyntax) (view new : BuilderView) (from to stop next : ℕ) : Type 0 where
   pub text : new.text ≡ view.text
   pub further : RunIsOver stop (stepped view from) from
       → new.levels ≡ with_items view.levels (content_items view.text extensions from stop)
@@ -280,7 +280,7 @@ pub record PlacesPiece (extensions : Extensions) (view new : BuilderView) (from 
   pub past : to ≤ stop → to ≤ next
 
 -- then the pieces after it make the other items
-pub piece_placed : (extensions : Extensions) (all : List (Forest Shown)) (view new : BuilderView)
+pub piece_placed : (extensions : ItemSyntax) (all : List (Forest Shown)) (view new : BuilderView)
     (from to stop next : ℕ) → from < to → to ≤ length view.text → AwaitsPieces extensions to all view from
     → PlacesPiece extensions view new from to stop next → AwaitsPieces extensions to all new next
 piece_placed extensions all view new from to stop next less within awaits places =
@@ -347,7 +347,7 @@ piece_placed extensions all view new from to stop next less within awaits places
         }
 
 -- that is what the calls for a piece do
-pub places_piece : (extensions : Extensions) (view moved new : BuilderView) (from to stop next : ℕ)
+pub places_piece : (extensions : ItemSyntax) (view moved new : BuilderView) (from to stop next : ℕ)
     → moved ≡ stepped view from → GoesOn moved new stop
     → (RunIsOver stop moved moved.at
     → new.levels ≡ with_items moved.levels (content_items moved.text extensions moved.at stop))

@@ -6,7 +6,7 @@ use Rattle.std.specs.Str.{IsCharBoundary}
 use Rattle.markdown_base.specs.Forest.{Forest}
 use Rattle.markdown_builder.specs.BuilderView.{BuilderView, with_items}
 use Rattle.markdown_builder.specs.Shown.{Shown}
-use Rattle.markdown_items.specs.declared.extensions.Extensions.{Extensions}
+use Rattle.markdown_items.specs.declared.extensions.ItemSyntax.{ItemSyntax}
 use Rattle.markdown_items.specs.declared.found.LineRange.{LineRange}
 use Rattle.markdown_items.specs.ContentItems.{AddsItems, AddsTexts, content_items}
 use Rattle.markdown_items.specs.FoundFits.{AppendsFound, next_after, view_after}
@@ -160,6 +160,6 @@ pub returns-clause-over : goal.returns-clause-over
 returns-clause-over c = λ special byte some.
     let kept : (b : ℕ) → c.line.builder.run ≡ Some b → is_special c.of.result.dashes b ≡ true =
     c.line.invariant.over (subst (λ e. HasSpecialRun e c.args.builder.now) (sym c.of.ensures) special) in
-    subst (λ (e : Extensions). is_special e.dashes byte ≡ true) c.of.ensures
+    subst (λ (e : ItemSyntax). is_special e.dashes byte ≡ true) c.of.ensures
     (run_before_text c.of.result c.line.builder c.args.end byte kept
     (sym (ap (λ (v : BuilderView). v.run) c.in_ok-append_text.ensures) ∙ some))
