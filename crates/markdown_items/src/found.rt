@@ -11,7 +11,7 @@ use crate::extensions::ItemSyntax;
 use crate::flanking::Flags;
 use crate::marks::{math_mark, quote_mark};
 use markdown_base::item::ItemBody;
-use markdown_scan::entity::{Characters, scan_entity};
+use markdown_scan::entity::{EntityText, scan_entity};
 use markdown_scan::laws::entity_begins_and_ends;
 
 /// A line's content, the bytes from `start` up to, but not including, `end`, with the extensions that are read in it.
@@ -40,7 +40,7 @@ pub enum Found {
     /// A delimiter run up to this offset, and its flags.
     Run(usize, Flags),
     /// An entity up to this offset, and its characters (CommonMark 2.5).
-    Entity(usize, Characters),
+    Entity(usize, EntityText),
     /// Hyphens up to this offset, at least two.
     Dashes(usize),
     /// Three dots.

@@ -25,7 +25,7 @@ use markdown_base::cow_str::CowStr;
 use markdown_base::item::ItemBody;
 use markdown_base::options::Options;
 use markdown_builder::builder::Builder;
-use markdown_scan::entity::Characters;
+use markdown_scan::entity::EntityText;
 use std::alloc::{AllocError, Global};
 
 /// Returns whether a backslash escapes the byte at `at`, at which a text of the line's content begins.
@@ -88,7 +88,7 @@ fn append_run(
 fn append_entity(
     builder: &mut Builder<'_>,
     stop: usize,
-    characters: Characters,
+    characters: EntityText,
 ) -> Result<(), AllocError>
     requires inside { builder.old.leaf ≡ true }
     requires low { builder.old.at ≤ stop }

@@ -8,8 +8,8 @@ use Rattle.markdown_base.specs.ExtendedOptions.{is_extended}
 use Rattle.markdown_base.specs.declared.options.Options.{Options}
 use Rattle.markdown_entities.specs.NamedEntity.{named_entity}
 use Rattle.markdown_scan.specs.Beginnings.{begins_with}
-use Rattle.markdown_scan.specs.declared.entity.Characters.{Characters}
-use Rattle.markdown_scan.specs.declared.entity.Characters.TheVariants.{One, Named}
+use Rattle.markdown_scan.specs.declared.entity.EntityText.{EntityText}
+use Rattle.markdown_scan.specs.declared.entity.EntityText.TheVariants.{One, Named}
 use Rattle.markdown_scan.specs.declared.entity.EntityNames.{EntityNames}
 use Rattle.markdown_scan.specs.declared.entity.EntityNames.TheVariants.{Basic, Html}
 
@@ -74,6 +74,6 @@ abbrev pub entity : EntityNames → List ℕ → Option (ℕ × List ℕ)
 entity names bytes = option_or (entity_by_name names bytes) (option_map with_one (numbered_entity bytes))
 
 -- characters in UTF-8
-abbrev pub text_in_utf8 : Characters → List ℕ
+abbrev pub text_in_utf8 : EntityText → List ℕ
 text_in_utf8 (One character) = encode_utf8 character
 text_in_utf8 (Named characters) = characters.now

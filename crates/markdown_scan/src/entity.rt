@@ -33,13 +33,13 @@ pub fn entity_names(options: Options) -> EntityNames
 
 /// The characters that an entity or a numeric reference stands for.
 #[derive(Clone, Copy)]
-pub enum Characters {
+pub enum EntityText {
     One(char),
     /// Those of a named entity, one or two.
     Named(&'static str),
 }
 
-impl Characters {
+impl EntityText {
     ghost use Rattle.std.specs.Prelude.{◌≡◌, ◌≤◌, ◌++◌, IfOk, length, string_bytes};
     ghost use Rattle.markdown_base.specs.CowText.{text_of, IsInlined};
     ghost use Rattle.markdown_scan.specs.Entity.{text_in_utf8};
@@ -51,8 +51,8 @@ impl Characters {
         ensures inlined { IsInlined result }
     {
         match self {
-            Characters::One(character) => CowStr::from(character),
-            Characters::Named(text) => CowStr::Inlined(InlineStr::new(text).unwrap()),
+            EntityText::One(character) => CowStr::from(character),
+            EntityText::Named(text) => CowStr::Inlined(InlineStr::new(text).unwrap()),
         }
     }
 
@@ -62,8 +62,8 @@ impl Characters {
             ≡ string_bytes text.old ++ text_in_utf8 self) }
     {
         match self {
-            Characters::One(character) => text.push(character),
-            Characters::Named(characters) => text.push_str(characters),
+            EntityText::One(character) => text.push(character),
+            EntityText::Named(characters) => text.push_str(characters),
         }
     }
 }
@@ -176,7 +176,7 @@ fn scan_numbered_entity(bytes: &[u8]) -> Option<(usize, char)>
 }
 
 /// Reads the entity with one of these names that the bytes begin with. Returns its length in bytes and its characters.
-fn scan_entity_by_name(bytes: &[u8], names: EntityNames) -> Option<(usize, Characters)>
+fn scan_entity_by_name(bytes: &[u8], names: EntityNames) -> Option<(usize, EntityText)>
     ensures value { option_map (λ found. (found.0, text_in_utf8 found.1)) result
         ≡ option_map in_utf8 (entity_by_name names bytes.now) }
     ensures within { IfSome result (λ found. found.0 ≤ length bytes.now) }
@@ -185,18 +185,18 @@ fn scan_entity_by_name(bytes: &[u8], names: EntityNames) -> Option<(usize, Chara
     match names {
         EntityNames::Basic => {
             let (length, character) = scan_basic_entity(bytes)?;
-            Some((length, Characters::One(character)))
+            Some((length, EntityText::One(character)))
         }
         EntityNames::Html => {
             let (length, characters) = scan_named_entity(bytes)?;
-            Some((length, Characters::Named(characters)))
+            Some((length, EntityText::Named(characters)))
         }
     }
 }
 
 /// Reads the entity with one of these names, or the numeric character reference, that the bytes begin with, from its
 /// `&` on. Returns its length in bytes and its characters.
-pub fn scan_entity(bytes: &[u8], names: EntityNames) -> Option<(usize, Characters)>
+pub fn scan_entity(bytes: &[u8], names: EntityNames) -> Option<(usize, EntityText)>
     ensures value { option_map (λ found. (found.0, text_in_utf8 found.1)) result
         ≡ option_map in_utf8 (entity names bytes.now) }
     ensures within { IfSome result (λ found. found.0 ≤ length bytes.now) }
@@ -206,7 +206,7 @@ pub fn scan_entity(bytes: &[u8], names: EntityNames) -> Option<(usize, Character
         Some((length, characters)) => Some((length, characters)),
         None => {
             let (length, character) = scan_numbered_entity(bytes)?;
-            Some((length, Characters::One(character)))
+            Some((length, EntityText::One(character)))
         }
     }
 }

@@ -10,7 +10,7 @@ ghost use Rattle.markdown_scan.specs.Entity.{text_in_utf8};
 ghost use Rattle.markdown_scan.specs.Unescape.{escape, escape_or_entity, unescaped};
 ghost use Rattle.markdown_scan.specs.Together.{may_begin_reference, IsPast};
 
-use crate::entity::{Characters, EntityNames, scan_entity};
+use crate::entity::{EntityNames, EntityText, scan_entity};
 use markdown_base::byte_tests::holds;
 use markdown_base::cow_str::CowStr;
 use std::alloc::{AllocError, Global};
@@ -33,14 +33,14 @@ fn scan_escape(bytes: &[u8], in_table: bool) -> Option<(usize, char)>
 /// Reads the escape or entity that the bytes begin with, and returns its length in bytes and its characters. The first
 /// byte tells that most bytes begin none.
 #[inline]
-fn scan_reference(bytes: &[u8], in_table: bool, names: EntityNames) -> Option<(usize, Characters)>
+fn scan_reference(bytes: &[u8], in_table: bool, names: EntityNames) -> Option<(usize, EntityText)>
     ensures value { option_map (λ found. (found.0, text_in_utf8 found.1)) result
         ≡ option_map in_utf8 (escape_or_entity names in_table bytes.now) }
     ensures within { IfSome result (λ found. found.0 ≤ length bytes.now) }
 {
     if bytes.starts_with(b"\\") {
         let (length, character) = scan_escape(bytes, in_table)?;
-        Some((length, Characters::One(character)))
+        Some((length, EntityText::One(character)))
     } else if bytes.starts_with(b"&") {
         scan_entity(bytes, names)
     } else {
@@ -86,7 +86,7 @@ fn split_at_reference<'t>(
     text: &'t str,
     in_table: bool,
     names: EntityNames,
-) -> Option<(&'t str, Characters, &'t str)>
+) -> Option<(&'t str, EntityText, &'t str)>
     ensures none { IfNone result (unescaped names in_table text.now ≡ text.now) }
     ensures some { IfSome result (λ parts. unescaped names in_table text.now
         ≡ parts.0.now ++ (text_in_utf8 parts.1 ++ unescaped names in_table parts.2.now)) }

@@ -1,5 +1,5 @@
 //! Entities: the examples of CommonMark 2.5 that one reference decides, and the boundaries; with either set of names.
-use markdown_scan::entity::{Characters, EntityNames, scan_entity};
+use markdown_scan::entity::{EntityNames, EntityText, scan_entity};
 use markdown_test_helpers::rows::Rows;
 use std::test::Fail;
 
@@ -102,17 +102,17 @@ static NAMES: [(&str, Option<(usize, &str)>); 22] = [
 ];
 
 /// Returns the character where what was read has one by its number or as one of the four names.
-fn one(found: Option<(usize, Characters)>) -> Option<(usize, char)> {
+fn one(found: Option<(usize, EntityText)>) -> Option<(usize, char)> {
     match found {
-        Some((length, Characters::One(character))) => Some((length, character)),
+        Some((length, EntityText::One(character))) => Some((length, character)),
         _ => None,
     }
 }
 
 /// Returns the characters where what was read is a name of HTML.
-fn named(found: Option<(usize, Characters)>) -> Option<(usize, &'static str)> {
+fn named(found: Option<(usize, EntityText)>) -> Option<(usize, &'static str)> {
     match found {
-        Some((length, Characters::Named(characters))) => Some((length, characters)),
+        Some((length, EntityText::Named(characters))) => Some((length, characters)),
         _ => None,
     }
 }
