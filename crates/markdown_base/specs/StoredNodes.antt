@@ -1,7 +1,7 @@
 -- The nodes that a tree stores, as the nodes that contracts describe: a fact about the representation.
 use Rattle.std.specs.Prelude.{ℕ, zero, suc, List, Option, Some, None, map}
 use Rattle.markdown_base.specs.declared.node.Node.{Node}
-use Rattle.markdown_base.specs.declared.stored_node.Link.{Link}
+use Rattle.markdown_base.specs.declared.stored_node.NodeLink.{NodeLink}
 use Rattle.markdown_base.specs.declared.stored_node.StoredNode.{StoredNode}
 
 -- the predecessor of a number, if there is one
@@ -10,7 +10,7 @@ number_before zero = None
 number_before (suc ix) = Some ix
 
 -- the number of the node that a link leads to
-abbrev pub target_of : Link → Option ℕ
+abbrev pub target_of : NodeLink → Option ℕ
 target_of link = number_before link.past
 
 -- the node that a stored node represents

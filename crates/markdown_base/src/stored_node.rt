@@ -5,21 +5,21 @@ ghost use Rattle.markdown_base.specs.StoredNodes.{target_of};
 
 /// A link to a node, stored as the node's number plus one; 0 leads to no node.
 #[derive(Clone, Copy, Drop)]
-pub struct Link {
+pub struct NodeLink {
     past: u32,
 }
 
-impl Link {
+impl NodeLink {
     /// Returns the link to a node, or to none.
-    pub fn to(target: Option<usize>) -> Link
+    pub fn to(target: Option<usize>) -> NodeLink
         requires { IfSome target (λ ix. ix < node_limit) }
         ensures { target_of result ≡ target }
     {
         match target {
-            Some(ix) => Link {
+            Some(ix) => NodeLink {
                 past: ix as u32 + 1,
             },
-            None => Link { past: 0 },
+            None => NodeLink { past: 0 },
         }
     }
 
@@ -38,6 +38,6 @@ impl Link {
 #[derive(Drop)]
 pub struct StoredNode<T> {
     pub item: T,
-    pub child: Link,
-    pub next: Link,
+    pub child: NodeLink,
+    pub next: NodeLink,
 }

@@ -9,7 +9,7 @@ ghost use Rattle.markdown_base.specs.StoredNodes.{target_of, nodes_of};
 ghost use Rattle.markdown_base.specs.declared.item.ItemBody.TheVariants as body;
 
 use crate::item::{Item, ItemBody};
-use crate::stored_node::{Link, StoredNode};
+use crate::stored_node::{NodeLink, StoredNode};
 use std::alloc::{AllocError, Global};
 use std::marker::Model;
 use std::mem;
@@ -63,8 +63,8 @@ impl Tree<Item> {
         let mut nodes = Vec::new(alloc);
         nodes.push(StoredNode {
             item,
-            child: Link::to(None),
-            next: Link::to(None),
+            child: NodeLink::to(None),
+            next: NodeLink::to(None),
         })?;
         Ok(Tree {
             nodes,
@@ -158,7 +158,7 @@ impl<T: Drop> Tree<T> {
             } }
     {
         let node = &mut self.nodes[ix];
-        node.child = Link::to(child);
+        node.child = NodeLink::to(child);
     }
 
     /// Sets the next sibling of a node.
@@ -172,7 +172,7 @@ impl<T: Drop> Tree<T> {
             } }
     {
         let node = &mut self.nodes[ix];
-        node.next = Link::to(next);
+        node.next = NodeLink::to(next);
     }
 
     /// Adds a node that no link leads to, and returns its number. A node beyond the limit is refused, as an allocation is.
@@ -189,8 +189,8 @@ impl<T: Drop> Tree<T> {
         }
         self.nodes.push(StoredNode {
             item,
-            child: Link::to(None),
-            next: Link::to(None),
+            child: NodeLink::to(None),
+            next: NodeLink::to(None),
         })?;
         Ok(ix)
     }
@@ -213,7 +213,7 @@ impl<T: Drop> Tree<T> {
         let next = redirect(&mut self.nodes, &self.spine, self.cur, ix);
         self.nodes.push_reserved(StoredNode {
             item,
-            child: Link::to(None),
+            child: NodeLink::to(None),
             next,
         });
         self.cur = Some(ix);
@@ -282,7 +282,12 @@ impl<T: Drop> Tree<T> {
 /// Makes the link at the cursor's position lead to a node that is about to be added, and returns the link that was there.
 // inlined: it is a step of `append`
 #[inline(always)]
-fn redirect<T>(nodes: &mut [StoredNode<T>], spine: &[usize], cur: Option<usize>, ix: usize) -> Link
+fn redirect<T>(
+    nodes: &mut [StoredNode<T>],
+    spine: &[usize],
+    cur: Option<usize>,
+    ix: usize,
+) -> NodeLink
     requires within { IsWithin (record {
       nodes = nodes_of nodes.old;
       spine = spine.now;
@@ -292,7 +297,7 @@ fn redirect<T>(nodes: &mut [StoredNode<T>], spine: &[usize], cur: Option<usize>,
     ensures before { target_of result ≡ follower (nodes_of nodes.old) spine.now cur }
     ensures led { nodes_of nodes.new ≡ led_to ix spine.now cur (nodes_of nodes.old) }
 {
-    let link = Link::to(Some(ix));
+    let link = NodeLink::to(Some(ix));
     match cur {
         Some(before) => mem::replace(&mut nodes[before].next, link),
         None => mem::replace(&mut nodes[parent(spine)].child, link),
