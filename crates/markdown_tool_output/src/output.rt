@@ -11,9 +11,9 @@ use markdown::extended::{render_extended, safe_html_extended};
 use markdown::laws::headings_of_texts_are_apart;
 use markdown::outline::outline_of;
 use markdown::{DefaultBrokenLinkCallback, Fault, Options};
-use markdown_tool_command::{Format, Request, STANDARD};
 use markdown_contents::list_of;
 use markdown_text_json::{outline_json_extended, text_json_extended};
+use markdown_tool_command::{Format, Request, STANDARD};
 use std::alloc::Global;
 
 /// Returns the table of contents of a text, by the full reading.
