@@ -1,6 +1,6 @@
 //! Copies of the parts of events and definitions, and forms of them that do not borrow from the source. Slices of the
 //! source are copied as slices. The only error is `Fault::Memory`.
-ghost use Rattle.std.specs.Prelude.{◌≡◌, ◌≤◌, length, map, flat_map, IfOk, IfErr, IfSome, IsOk};
+ghost use Rattle.std.specs.Prelude.{◌≡◌, ◌≤◌, [], ◌∷◌, length, map, flat_map, IfOk, IfErr, IfSome, IsOk};
 ghost use Rattle.std.specs.Option.{option_map, option_to_list};
 ghost use Rattle.markdown_base.specs.CopiedTexts.{KeepsSlices, texts_of_attribute};
 ghost use Rattle.markdown_base.specs.CowText.{text_of};
@@ -132,4 +132,41 @@ pub fn static_attributes(
         made.push(static_attribute(attribute, alloc)?)?;
     }
     Ok(made)
+}
+
+/// Returns copies of the destination, the title and the label of a link or an image.
+pub fn clone_link_texts<'a>(
+    dest_url: &CowStr<'a>,
+    title: &CowStr<'a>,
+    id: &CowStr<'a>,
+    alloc: Global,
+) -> Result<(CowStr<'a>, CowStr<'a>, CowStr<'a>), Fault>
+    ensures same { IfOk result (λ copies. (text_of copies.0 ≡ text_of dest_url.now)
+        × (text_of copies.1 ≡ text_of title.now) × (text_of copies.2 ≡ text_of id.now)) }
+    ensures slices { IfOk result
+        (λ copies. KeepsSlices (dest_url.now ∷ title.now ∷ id.now ∷ [])
+        (copies.0 ∷ copies.1 ∷ copies.2 ∷ [])) }
+    ensures refused { IfErr result (λ fault. fault ≡ Fault.Memory) }
+{
+    let dest_url = dest_url.try_clone(alloc)?;
+    let title = title.try_clone(alloc)?;
+    let id = id.try_clone(alloc)?;
+    Ok((dest_url, title, id))
+}
+
+/// Returns the same texts of a link or an image without borrowing from the source. The only error is `Fault::Memory`.
+pub fn static_link_texts(
+    dest_url: CowStr<'_>,
+    title: CowStr<'_>,
+    id: CowStr<'_>,
+    alloc: Global,
+) -> Result<(CowStr<'static>, CowStr<'static>, CowStr<'static>), Fault>
+    ensures same { IfOk result (λ made. (text_of made.0 ≡ text_of dest_url.entry)
+        × (text_of made.1 ≡ text_of title.entry) × (text_of made.2 ≡ text_of id.entry)) }
+    ensures refused { IfErr result (λ fault. fault ≡ Fault.Memory) }
+{
+    let dest_url = dest_url.into_static(alloc)?;
+    let title = title.into_static(alloc)?;
+    let id = id.into_static(alloc)?;
+    Ok((dest_url, title, id))
 }

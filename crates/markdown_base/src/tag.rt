@@ -1,18 +1,14 @@
 //! Tags: what `Start` events open and `End` events close.
-ghost use Rattle.std.specs.Prelude.{◌≡◌, [], ◌∷◌, map, IfOk, IfErr};
+ghost use Rattle.std.specs.Prelude.{◌≡◌, map, IfOk, IfErr};
 ghost use Rattle.std.specs.Option.{option_map};
-ghost use Rattle.markdown_base.specs.CopiedTexts.{
-  KeepsSlices,
-  texts_of_code_block,
-  texts_of_heading,
-  texts_of_tag,
-};
+ghost use Rattle.markdown_base.specs.CopiedTexts.{KeepsSlices, texts_of_code_block, texts_of_heading, texts_of_tag};
 ghost use Rattle.markdown_base.specs.CowText.{text_of};
 ghost use Rattle.markdown_base.specs.Event.{attribute_view, code_block_view, heading, tag_view};
 ghost use Rattle.markdown_base.specs.declared.fault.Fault.{Fault};
 
 use crate::copies::{
-    clone_attributes, clone_optional, clone_texts, static_attributes, static_optional, static_texts,
+    clone_attributes, clone_link_texts, clone_optional, clone_texts, static_attributes,
+    static_link_texts, static_optional, static_texts,
 };
 use crate::cow_str::CowStr;
 use crate::fault::Fault;
@@ -295,26 +291,6 @@ fn clone_heading<'a>(
     })
 }
 
-/// Returns copies of the destination, the title and the label of a link or an image.
-fn clone_link_texts<'a>(
-    dest_url: &CowStr<'a>,
-    title: &CowStr<'a>,
-    id: &CowStr<'a>,
-    alloc: Global,
-) -> Result<(CowStr<'a>, CowStr<'a>, CowStr<'a>), Fault>
-    ensures same { IfOk result (λ copies. (text_of copies.0 ≡ text_of dest_url.now)
-        × (text_of copies.1 ≡ text_of title.now) × (text_of copies.2 ≡ text_of id.now)) }
-    ensures slices { IfOk result
-        (λ copies. KeepsSlices (dest_url.now ∷ title.now ∷ id.now ∷ [])
-        (copies.0 ∷ copies.1 ∷ copies.2 ∷ [])) }
-    ensures refused { IfErr result (λ fault. fault ≡ Fault.Memory) }
-{
-    let dest_url = dest_url.try_clone(alloc)?;
-    let title = title.try_clone(alloc)?;
-    let id = id.try_clone(alloc)?;
-    Ok((dest_url, title, id))
-}
-
 /// Returns a heading's tag without borrowing from the source, from the parts of one that may borrow. The only error is
 /// `Fault::Memory`.
 fn static_heading(
@@ -341,23 +317,6 @@ fn static_heading(
         classes,
         attrs,
     })
-}
-
-/// Returns the same texts of a link or an image without borrowing from the source. The only error is `Fault::Memory`.
-fn static_link_texts(
-    dest_url: CowStr<'_>,
-    title: CowStr<'_>,
-    id: CowStr<'_>,
-    alloc: Global,
-) -> Result<(CowStr<'static>, CowStr<'static>, CowStr<'static>), Fault>
-    ensures same { IfOk result (λ made. (text_of made.0 ≡ text_of dest_url.entry)
-        × (text_of made.1 ≡ text_of title.entry) × (text_of made.2 ≡ text_of id.entry)) }
-    ensures refused { IfErr result (λ fault. fault ≡ Fault.Memory) }
-{
-    let dest_url = dest_url.into_static(alloc)?;
-    let title = title.into_static(alloc)?;
-    let id = id.into_static(alloc)?;
-    Ok((dest_url, title, id))
 }
 
 impl<'a> From<Tag<'a>> for TagEnd {
