@@ -6,4 +6,3 @@ pub mod ArenaForestLemmas
 pub mod ForestLemmas
 pub mod WellFormedLemmas
 pub mod ArenaRulesLemmas
-pub mod ExtendedOptionsLemmas

@@ -17,9 +17,8 @@ pub mod Questions
 pub mod FaultText
 pub mod Bytes
 pub mod EnabledOptions
-pub mod MarkOptions
-pub mod ExtendedOptions
-pub mod ExtendedOptionsLaws
+pub mod Syntax
+pub mod Source
 -- facts about the representation
 pub mod InlineText
 pub mod ArenaBounds

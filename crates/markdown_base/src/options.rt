@@ -49,7 +49,6 @@ bitflag_items! {
 impl Options {
     ghost use Rattle.std.specs.Prelude.{◌≡◌};
     ghost use Rattle.markdown_base.specs.EnabledOptions.{both_options, is_on, no_options};
-    ghost use Rattle.markdown_base.specs.ExtendedOptions.{is_extended, with_extended};
 
     /// Returns the empty set.
     pub fn empty() -> Options
@@ -71,29 +70,6 @@ impl Options {
     {
         Options(self.0 | other.0)
     }
-
-    /// Returns these options for one of the two entries, the extended or the present one: the highest bit, which has no
-    /// name, tells the lower layers which entry reads. Each entry sets or clears it, so that no set that a caller makes
-    /// has another meaning for it.
-    pub fn with_extended(self, extended: bool) -> Options
-        ensures { result ≡ with_extended extended self }
-    {
-        if extended {
-            Options(self.0 | Options::EXTENDED)
-        } else {
-            Options(self.0 & !Options::EXTENDED)
-        }
-    }
-
-    /// Returns whether these are options of the full reading.
-    pub fn is_extended(self) -> bool
-        ensures { result ≡ is_extended self }
-    {
-        self.0 & Options::EXTENDED != 0
-    }
-
-    /// The bit that tells the two entries apart.
-    const EXTENDED: u32 = 1 << 31;
 }
 
 impl Flags for Options {
