@@ -7,7 +7,7 @@ use Rattle.std.proofs.lemmas.List.Sums.{sum_by-append}
 use Rattle.std.specs.Prelude.{⊤, if◌then◌else◌}
 use Rattle.markdown_base.specs.Forest.{Forest, nil, node, preorder}
 use Rattle.markdown_base.specs.declared.tag.Alignment.{Alignment}
-use Rattle.markdown_lines.specs.BlockBeginnings.{Source}
+use Rattle.markdown_base.specs.Source.{Source}
 use Rattle.markdown_lines.specs.SourceLines.{SourceLine, lines_of_text}
 use Rattle.markdown_lines.specs.TableRows.{has_cut}
 use Rattle.markdown_block_rules.specs.BlockGrowth as was
@@ -36,7 +36,9 @@ ended_ends (node b below (node c others (node d inner after))) = ended_ends (nod
 next_few : (s : Source) → reads_tables s ≡ true → (blocks : Forest Block) (l : SourceLine)
     → added_in blocks ≤ most_added s.text → added_in (with_next_line s blocks l) ≤ most_added s.text
 next_few s reads blocks l few =
-    rw reads (decided (nat_le (added_in (with_line s blocks l)) (most_added s.text)) refl)
+    subst (λ on. added_in (if on then within_limit s l blocks (with_line s blocks l) else with_line s blocks l)
+    ≤ most_added s.text) (sym reads)
+    (decided (nat_le (added_in (with_line s blocks l)) (most_added s.text)) refl)
   where
     decided : (test : Bool) → nat_le (added_in (with_line s blocks l)) (most_added s.text) ≡ test
         → added_in (if test then with_line s blocks l else with_line s (with_ended_table blocks) l)

@@ -7,7 +7,8 @@ use Rattle.std.specs.Prelude.{unwrap_or, if◌then◌else◌}
 use Rattle.std.specs.Option.{option_map}
 use Rattle.markdown_base.specs.Forest.{Forest, nil, node}
 use Rattle.markdown_lines.specs.declared.block_start.Before.TheVariants as paragraph
-use Rattle.markdown_lines.specs.BlockBeginnings.{Source, begins}
+use Rattle.markdown_base.specs.Source.{Source}
+use Rattle.markdown_lines.specs.BlockBeginnings.{begins}
 use Rattle.markdown_block_rules.specs.BlockGrowth.{Block, Kind, block_with, goes_on, is_nil, is_text}
 use Rattle.markdown_block_rules.specs.BlockGrowth.{lazily, line_block, paragraph_leaf}
 use Rattle.markdown_block_rules.specs.BlockGrowth.{with_lazy, with_line, with_lazy_text}

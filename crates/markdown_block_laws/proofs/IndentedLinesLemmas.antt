@@ -7,7 +7,8 @@ use Rattle.markdown_base.specs.Forest.{Forest, nil, node}
 use Rattle.markdown_base.specs.declared.tag.Alignment.{Alignment}
 use Rattle.markdown_lines.specs.declared.block_start.Before.TheVariants as paragraph
 use Rattle.markdown_lines.specs.BlockBeginnings as line
-use Rattle.markdown_lines.specs.BlockBeginnings.{Source, begins}
+use Rattle.markdown_base.specs.Source.{Source}
+use Rattle.markdown_lines.specs.BlockBeginnings.{begins}
 use Rattle.markdown_block_rules.specs.BlockGrowth.{Block, begun_in, block_with, container_with}
 use Rattle.markdown_block_rules.specs.BlockGrowth.{goes_on, inside_of, is_nil}
 use Rattle.markdown_block_rules.specs.BlockGrowth.{item_container, list_container, leaf_with}

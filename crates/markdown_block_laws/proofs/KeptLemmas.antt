@@ -6,7 +6,7 @@ use Rattle.std.specs.Prelude.{if◌then◌else◌}
 use Rattle.std.specs.List.{AllByRecursion, prefix_len}
 use Rattle.markdown_base.specs.Forest.{Forest, nil, node}
 use Rattle.markdown_base.specs.declared.tag.Alignment.{Alignment}
-use Rattle.markdown_lines.specs.BlockBeginnings.{Source}
+use Rattle.markdown_base.specs.Source.{Source}
 use Rattle.markdown_lines.specs.Lines.{ending_length, is_line_ending, length_of_ending}
 use Rattle.markdown_lines.specs.SourceLines.{SourceLine, first_line, lines_from, lines_of_text}
 use Rattle.markdown_scan.specs.LineEnd.{begins_line_feed}

@@ -2,7 +2,7 @@
 use Rattle.std.proofs.Common.{◌≡◌, None, true, refl}
 use Rattle.std.specs.Prelude.{Option}
 use Rattle.markdown_base.specs.Forest.{Forest, nil}
-use Rattle.markdown_lines.specs.BlockBeginnings.{Source}
+use Rattle.markdown_base.specs.Source.{Source}
 use Rattle.markdown_lines.specs.SourceLines.{SourceLine}
 use Rattle.markdown_block_rules.specs.BlockGrowth as was
 use Rattle.markdown_block_rules.specs.BlockGrowth.{Block, Kind, container_with, goes_on, leaf_with, table_with}

@@ -10,8 +10,8 @@ use Rattle.markdown_base.specs.declared.item.ItemBody.{ItemBody}
 use Rattle.markdown_base.specs.declared.item.ItemBody.TheVariants as body
 use Rattle.markdown_base.specs.declared.tag.Alignment.{Alignment}
 use Rattle.markdown_base.specs.declared.tag.HeadingLevel.{HeadingLevel}
-use Rattle.markdown_items.specs.LineItems.{item_extensions}
-use Rattle.markdown_lines.specs.BlockBeginnings.{Source}
+use Rattle.markdown_items.specs.LineItems.{item_syntax}
+use Rattle.markdown_base.specs.Source.{Source}
 use Rattle.markdown_lines.specs.DefinitionRules.{divided}
 use Rattle.markdown_lines.specs.HeadingAttributes.{heading_of_words, words_in}
 use Rattle.markdown_lines.specs.SourceLines.{SourceLine, without_empty}
@@ -111,19 +111,19 @@ inline_kept top a items other each =
 task_other : (s : Source) (l : SourceLine) (lines : List SourceLine) (task : Option Bool)
     → AreOther (items_after_task s l lines task)
 task_other s l lines None =
-    others (lines_items s.text (item_extensions s.options) (l ∷ lines))
-    (lines_unmarked s.text (item_extensions s.options) (l ∷ lines))
+    others (lines_items s.text (item_syntax s.syntax) (l ∷ lines))
+    (lines_unmarked s.text (item_syntax s.syntax) (l ∷ lines))
 task_other s l lines (Some done) =
     let rest = without_empty (past_task l ∷ lines) in (
       refl,
-      others (lines_items s.text (item_extensions s.options) rest)
-          (lines_unmarked s.text (item_extensions s.options) rest),
+      others (lines_items s.text (item_syntax s.syntax) rest)
+          (lines_unmarked s.text (item_syntax s.syntax) rest),
     )
 
 items_other : (s : Source) (marked : ℕ) (lines : List SourceLine) → AreOther (paragraph_items s marked lines)
 items_other s marked [] = tt
 items_other s marked (l ∷ lines) =
-    task_other s l lines (if l.next == marked then task_read s.options l.left.bytes else None)
+    task_other s l lines (if l.next == marked then task_read s.syntax l.left.bytes else None)
 
 -- blocks of text
 paragraph_kept : (s : Source) (top : Bool) (around : Around) (b : Block) (lines : List SourceLine)
@@ -153,7 +153,7 @@ setext_kept : (s : Source) (top : Bool) (marked : ℕ) (b : Block) (level : Head
     → Keeps top (shown_setext s marked b level lines)
 setext_kept s top marked b level [] = none_kept top
 setext_kept s top marked b level (l ∷ lines) =
-    let braces = last_braces s.options (l ∷ lines) in
+    let braces = last_braces s.syntax (l ∷ lines) in
     let rest = before_braces braces (l ∷ lines) in
     heading_kept s top l.left.scanned b.last level braces (paragraph_items s marked rest) (items_other s marked rest)
 
@@ -161,9 +161,9 @@ setext_kept s top marked b level (l ∷ lines) =
 cells_kept : (s : Source) (cells : List Cell) → Keeps false (shown_cells s cells)
 cells_kept s [] = none_kept false
 cells_kept s (cell ∷ cells) =
-    let items = cell_items s.text (item_extensions s.options) cell.from cell.to in
+    let items = cell_items s.text (item_syntax s.syntax) cell.from cell.to in
     one_around false (plain_item cell.start cell.end body.TableCell) (chain_of items) (shown_cells s cells) refl
-    (chain_kept false items (others items (cell_unmarked s.text (item_extensions s.options) cell.from cell.to)))
+    (chain_kept false items (others items (cell_unmarked s.text (item_syntax s.syntax) cell.from cell.to)))
     (cells_kept s cells)
 
 empty_kept : (count at : ℕ) → Keeps false (empty_cells count at)
@@ -247,13 +247,13 @@ block_kept : (s : Source) (top : Bool) (around : Around) (b : Block) (end : ℕ)
     → IsOutermost top kind → Keeps top (shown_block s around b end below inside kind)
 block_kept s top around b end below inside kept was.blank_line is = none_kept top
 block_kept s top around b end below inside kept (was.paragraph_leaf lines) is =
-    paragraph_kept s top around b (divided (entity_names s.options) s.text lines).lines
+    paragraph_kept s top around b (divided (entity_names s.syntax) s.text lines).lines
 block_kept s top around b end below inside kept (was.underlined_leaf level lines) is =
-    setext_kept s top around.marked b level (divided (entity_names s.options) s.text lines).lines
+    setext_kept s top around.marked b level (divided (entity_names s.syntax) s.text lines).lines
 block_kept s top around b end below inside kept (was.heading_leaf found) is =
-    let items = content_items s.text (item_extensions s.options) found.from found.to in
+    let items = content_items s.text (item_syntax s.syntax) found.from found.to in
     heading_kept s top b.start end found.level found.braces items
-    (others items (content_unmarked s.text (item_extensions s.options) found.from found.to))
+    (others items (content_unmarked s.text (item_syntax s.syntax) found.from found.to))
 block_kept s top around b end below inside kept was.break_leaf is =
     one_around top (plain_item b.start end body.Rule) nil nil refl (none_kept false) (none_kept top)
 block_kept s top around b end below inside kept (was.indented_leaf lines) is =

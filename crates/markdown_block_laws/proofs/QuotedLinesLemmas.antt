@@ -17,7 +17,8 @@ use Rattle.markdown_lines.specs.declared.block_start.Before.{Before}
 use Rattle.markdown_lines.specs.declared.block_start.Before.TheVariants as paragraph
 use Rattle.markdown_lines.specs.Alerts.{alert_read}
 use Rattle.markdown_lines.specs.BlockBeginnings as line
-use Rattle.markdown_lines.specs.BlockBeginnings.{Source, Beginning, begins, begins_after, metadata_in_line}
+use Rattle.markdown_base.specs.Source.{Source}
+use Rattle.markdown_lines.specs.BlockBeginnings.{Beginning, begins, begins_after, metadata_in_line}
 use Rattle.markdown_lines.specs.BlockBeginnings.{quote_in_line}
 use Rattle.markdown_lines.specs.MetadataBlocks.{line_opens}
 use Rattle.markdown_block_rules.specs.BlockGrowth.{Block, begun_in, goes_on, line_block}
@@ -104,7 +105,7 @@ no_metadata s before l none = rw none (either_same l.outermost None)
 
 -- a line with a marker that names no alert begins a quote, whatever precedes it
 quote_begins : (s : Source) (before : Before) (l : SourceLine) (rest : LineLeft) → past_quote l.left ≡ Some rest
-    → alert_read s.options rest ≡ None → begins s before l ≡ line.begins_quote rest
+    → alert_read s.syntax rest ≡ None → begins s before l ≡ line.begins_quote rest
 quote_begins s before l rest marker plain =
     let space = leading_space 4 l.left in
     let near = nat_lt space.columns 4 in
@@ -115,7 +116,7 @@ quote_begins s before l rest marker plain =
       not_four space.columns (both_left near marked found.0),
       no_metadata s before l (quote_opens l.left l.left.bytes refl there),
       there,
-    ) (ap (line.quote_of s.options) found.1 ∙ ap (line.quote_or_alert rest) plain)
+    ) (ap (line.quote_of s.syntax) found.1 ∙ ap (line.quote_or_alert rest) plain)
 
 -- only white space follows some space
 abbrev LeavesWhite : Space → Type 0
@@ -174,7 +175,7 @@ quote_not_blank l rest marker = decided (is_blank_rest l) refl
 
 -- the first line of a quote
 first_line_quoted : (s : Source) (l : SourceLine) (rest : LineLeft) → past_quote l.left ≡ Some rest
-    → alert_read s.options rest ≡ None → is_blank_rest (rest_of l rest) ≡ false
+    → alert_read s.syntax rest ≡ None → is_blank_rest (rest_of l rest) ≡ false
     → line_block s l ≡ lone (quote_from l) (line_block s (rest_of l rest))
 unfolding begun_in
 first_line_quoted s l rest marker plain full =

@@ -9,8 +9,8 @@ use Rattle.markdown_base.specs.declared.item.ItemBody.TheVariants as body
 use Rattle.markdown_base.specs.declared.tag.Alignment.{Alignment}
 use Rattle.markdown_base.specs.declared.tag.HeadingLevel.{HeadingLevel}
 use Rattle.markdown_items.specs.ContentItems.{content_items}
-use Rattle.markdown_items.specs.LineItems.{item_extensions}
-use Rattle.markdown_lines.specs.BlockBeginnings.{Source}
+use Rattle.markdown_items.specs.LineItems.{item_syntax}
+use Rattle.markdown_base.specs.Source.{Source}
 use Rattle.markdown_lines.specs.DefinitionRules.{divided}
 use Rattle.markdown_lines.specs.HeadingAttributes.{heading_of_words, words_in}
 use Rattle.markdown_lines.specs.SourceLines.{SourceLine, without_empty}
@@ -70,10 +70,10 @@ inline_kept a items other none = one_more a (chain_of items) nil other (chain_ke
 task_kept : (s : Source) (l : SourceLine) (lines : List SourceLine) (task : Option Bool)
     → Keep (chain_of (items_after_task s l lines task))
 task_kept s l lines None =
-    let extensions = item_extensions s.options in
+    let extensions = item_syntax s.syntax in
     chain_kept (lines_items s.text extensions (l ∷ lines)) (lines_unmarked s.text extensions (l ∷ lines))
 task_kept s l lines (Some done) =
-    let extensions = item_extensions s.options in
+    let extensions = item_syntax s.syntax in
     let rest = without_empty (past_task l ∷ lines) in
     one_more (plain_item l.left.scanned (l.left.scanned + 3) (body.TaskListMarker done)) nil
     (chain_of (lines_items s.text extensions rest)) refl tt
@@ -82,7 +82,7 @@ task_kept s l lines (Some done) =
 items_kept : (s : Source) (marked : ℕ) (lines : List SourceLine) → Keep (chain_of (paragraph_items s marked lines))
 items_kept s marked [] = tt
 items_kept s marked (l ∷ lines) =
-    task_kept s l lines (if l.next == marked then task_read s.options l.left.bytes else None)
+    task_kept s l lines (if l.next == marked then task_read s.syntax l.left.bytes else None)
 
 -- blocks of text
 paragraph_kept : (s : Source) (around : Around) (b : Block) (lines : List SourceLine)
@@ -113,7 +113,7 @@ setext_kept : (s : Source) (marked : ℕ) (b : Block) (level : HeadingLevel) (li
     → Keep (shown_setext s marked b level lines)
 setext_kept s marked b level [] = tt
 setext_kept s marked b level (l ∷ lines) =
-    let braces = last_braces s.options (l ∷ lines) in
+    let braces = last_braces s.syntax (l ∷ lines) in
     let rest = before_braces braces (l ∷ lines) in
     heading_kept s l.left.scanned b.last level braces (chain_of (paragraph_items s marked rest))
     (items_kept s marked rest)
@@ -122,7 +122,7 @@ setext_kept s marked b level (l ∷ lines) =
 cells_kept : (s : Source) (cells : List Cell) → Keep (shown_cells s cells)
 cells_kept s [] = tt
 cells_kept s (cell ∷ cells) =
-    let extensions = item_extensions s.options in
+    let extensions = item_syntax s.syntax in
     let items = cell_items s.text extensions cell.from cell.to in
     one_more (plain_item cell.start cell.end body.TableCell) (chain_of items) (shown_cells s cells) refl
     (chain_kept items (cell_unmarked s.text extensions cell.from cell.to)) (cells_kept s cells)
@@ -219,11 +219,11 @@ block_kept : (s : Source) (around : Around) (b : Block) (end : ℕ) (below : For
     → Keep (shown_block s around b end below inside kind)
 block_kept s around b end below inside kept was.blank_line = tt
 block_kept s around b end below inside kept (was.paragraph_leaf lines) =
-    paragraph_kept s around b (divided (entity_names s.options) s.text lines).lines
+    paragraph_kept s around b (divided (entity_names s.syntax) s.text lines).lines
 block_kept s around b end below inside kept (was.underlined_leaf level lines) =
-    setext_kept s around.marked b level (divided (entity_names s.options) s.text lines).lines
+    setext_kept s around.marked b level (divided (entity_names s.syntax) s.text lines).lines
 block_kept s around b end below inside kept (was.heading_leaf found) =
-    let extensions = item_extensions s.options in
+    let extensions = item_syntax s.syntax in
     let items = content_items s.text extensions found.from found.to in
     heading_kept s b.start end found.level found.braces (chain_of items)
     (chain_kept items (content_unmarked s.text extensions found.from found.to))

@@ -11,8 +11,8 @@ use Rattle.markdown_base.specs.declared.item.ItemBody.{ItemBody}
 use Rattle.markdown_base.specs.declared.item.ItemBody.TheVariants as body
 use Rattle.markdown_base.specs.declared.tag.Alignment.{Alignment}
 use Rattle.markdown_base.specs.declared.tag.HeadingLevel.{HeadingLevel}
-use Rattle.markdown_items.specs.LineItems.{item_extensions}
-use Rattle.markdown_lines.specs.BlockBeginnings.{Source}
+use Rattle.markdown_items.specs.LineItems.{item_syntax}
+use Rattle.markdown_base.specs.Source.{Source}
 use Rattle.markdown_lines.specs.DefinitionRules.{Defined, Divided, definition_in, divided, divided_in, lines_behind}
 use Rattle.markdown_lines.specs.DefinitionRules.{more_definitions, text_of_lines}
 use Rattle.markdown_lines.specs.HeadingAttributes.{heading_of_words, words_in}
@@ -162,15 +162,15 @@ ArePositive lines = AllByRecursion (λ (l : SourceLine). 0 < l.next) lines
 task_later : (s : Source) (l : SourceLine) (lines : List SourceLine) (task : Option Bool)
     → AreUnmarkedLater (items_after_task s l lines task)
 task_later s l lines None =
-    later_unmarked (lines_items s.text (item_extensions s.options) (l ∷ lines))
-    (lines_unmarked s.text (item_extensions s.options) (l ∷ lines))
+    later_unmarked (lines_items s.text (item_syntax s.syntax) (l ∷ lines))
+    (lines_unmarked s.text (item_syntax s.syntax) (l ∷ lines))
 task_later s l lines (Some done) =
-    lines_unmarked s.text (item_extensions s.options) (without_empty (past_task l ∷ lines))
+    lines_unmarked s.text (item_syntax s.syntax) (without_empty (past_task l ∷ lines))
 
 items_later : (s : Source) (marked : ℕ) (lines : List SourceLine) → AreUnmarkedLater (paragraph_items s marked lines)
 items_later s marked [] = tt
 items_later s marked (l ∷ lines) =
-    task_later s l lines (if l.next == marked then task_read s.options l.left.bytes else None)
+    task_later s l lines (if l.next == marked then task_read s.syntax l.left.bytes else None)
 
 not_zero : (n m : ℕ) → 0 < n → m ≡ 0 → (n == m) ≡ false
 not_zero n m some none = grind (arith, nat_tests)
@@ -179,7 +179,7 @@ items_unmarked : (s : Source) (marked : ℕ) (lines : List SourceLine) → ArePo
     → AreUnmarked (paragraph_items s marked lines)
 items_unmarked s marked [] each none = tt
 items_unmarked s marked (l ∷ lines) each none =
-    rw (not_zero l.next marked each.0 none) (lines_unmarked s.text (item_extensions s.options) (l ∷ lines))
+    rw (not_zero l.next marked each.0 none) (lines_unmarked s.text (item_syntax s.syntax) (l ∷ lines))
 
 -- the lines after the definitions of a paragraph
 behind_positive : (lines : List SourceLine) (count : ℕ) → ArePositive lines → ArePositive (lines_behind lines count)
@@ -210,9 +210,9 @@ nonempty_positive (l ∷ lines) each =
     either ArePositive (length l.left.bytes == 0) lines (l ∷ lines) each.1 each
 
 rest_positive : (s : Source) (lines : List SourceLine) → ArePositive lines
-    → ArePositive (divided (entity_names s.options) s.text lines).lines
+    → ArePositive (divided (entity_names s.syntax) s.text lines).lines
 rest_positive s lines each =
-    divided_positive (entity_names s.options) (length lines) s.text (without_empty lines)
+    divided_positive (entity_names s.syntax) (length lines) s.text (without_empty lines)
     (nonempty_positive lines each)
 
 -- blocks of text
@@ -260,7 +260,7 @@ setext_kept : (s : Source) (marked : ℕ) (b : Block) (level : HeadingLevel) (li
     → ArePositive lines → Keeps marked (shown_setext s marked b level lines)
 setext_kept s marked b level [] each = none_kept marked
 setext_kept s marked b level (l ∷ lines) each =
-    let braces = last_braces s.options (l ∷ lines) in
+    let braces = last_braces s.syntax (l ∷ lines) in
     let rest = before_braces braces (l ∷ lines) in
     heading_kept s marked l.left.scanned b.last level braces (paragraph_items s marked rest)
     (items_later s marked rest) (items_unmarked s marked rest (before_positive braces (l ∷ lines) each))
@@ -269,9 +269,9 @@ setext_kept s marked b level (l ∷ lines) each =
 cells_kept : (s : Source) (cells : List Cell) → Keeps 0 (shown_cells s cells)
 cells_kept s [] = none_kept 0
 cells_kept s (cell ∷ cells) =
-    let items = cell_items s.text (item_extensions s.options) cell.from cell.to in
+    let items = cell_items s.text (item_syntax s.syntax) cell.from cell.to in
     one_around 0 (plain_item cell.start cell.end body.TableCell) (chain_of items) (shown_cells s cells) refl
-    (chain_kept items (cell_unmarked s.text (item_extensions s.options) cell.from cell.to) 0) (cells_kept s cells)
+    (chain_kept items (cell_unmarked s.text (item_syntax s.syntax) cell.from cell.to) 0) (cells_kept s cells)
 
 empty_kept : (count at : ℕ) → Keeps 0 (empty_cells count at)
 empty_kept zero at = none_kept 0
@@ -318,13 +318,13 @@ block_kept : (s : Source) (around : Around) (b : Block) (end : ℕ) (below : For
     → ArePositive (paragraph_lines kind) → Keeps around.marked (shown_block s around b end below inside kind)
 block_kept s around b end below inside kept was.blank_line each = none_kept around.marked
 block_kept s around b end below inside kept (was.paragraph_leaf lines) each =
-    paragraph_kept s around b (divided (entity_names s.options) s.text lines).lines (rest_positive s lines each)
+    paragraph_kept s around b (divided (entity_names s.syntax) s.text lines).lines (rest_positive s lines each)
 block_kept s around b end below inside kept (was.underlined_leaf level lines) each =
-    setext_kept s around.marked b level (divided (entity_names s.options) s.text lines).lines
+    setext_kept s around.marked b level (divided (entity_names s.syntax) s.text lines).lines
     (rest_positive s lines each)
 block_kept s around b end below inside kept (was.heading_leaf found) each =
-    let items = content_items s.text (item_extensions s.options) found.from found.to in
-    let none = content_unmarked s.text (item_extensions s.options) found.from found.to in
+    let items = content_items s.text (item_syntax s.syntax) found.from found.to in
+    let none = content_unmarked s.text (item_syntax s.syntax) found.from found.to in
     heading_kept s around.marked b.start end found.level found.braces items (later_unmarked items none)
     (λ outside. none)
 block_kept s around b end below inside kept was.break_leaf each =

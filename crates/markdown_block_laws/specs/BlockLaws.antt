@@ -5,7 +5,8 @@ use Rattle.markdown_base.specs.Forest.{Forest, nil, node}
 use Rattle.markdown_lines.specs.declared.block_start.Before.TheVariants as paragraph
 use Rattle.markdown_lines.specs.Alerts.{alert_read}
 use Rattle.markdown_lines.specs.BlockBeginnings as line
-use Rattle.markdown_lines.specs.BlockBeginnings.{Source, begins}
+use Rattle.markdown_base.specs.Source.{Source}
+use Rattle.markdown_lines.specs.BlockBeginnings.{begins}
 use Rattle.markdown_block_rules.specs.BlockGrowth.{Block, Kind, content_of, goes_on, is_nil, is_text, item_container}
 use Rattle.markdown_block_rules.specs.BlockGrowth.{list_container}
 use Rattle.markdown_block_rules.specs.BlockGrowth.{line_block, paragraph_leaf}
@@ -65,7 +66,7 @@ quote_from l = record { start = content_of l; first = l.next; last = l.next; kin
 abbrev pub QuotedLinesMakeQuote : Type 0
 QuotedLinesMakeQuote =
     (s : Source) (l : SourceLine) (rest : LineLeft) (lines rests : List SourceLine)
-    → past_quote l.left ≡ Some rest → alert_read s.options rest ≡ None → is_blank_rest (rest_of l rest) ≡ false
+    → past_quote l.left ≡ Some rest → alert_read s.syntax rest ≡ None → is_blank_rest (rest_of l rest) ≡ false
     → AreQuoted lines rests
     → with_lines s nil (l ∷ lines) ≡ lone (to_lines lines (quote_from l)) (with_lines s nil (rest_of l rest ∷ rests))
 

@@ -1,13 +1,13 @@
 -- Examples: a text, the tree of its blocks, and its link reference definitions.
 use Rattle.std.specs.Prelude.{◌≡◌, ℕ, ◌+◌, List, [], ◌∷◌, ◌++◌, Option, Some, None, map, ⊤}
-use Rattle.markdown_base.specs.EnabledOptions.{no_options}
 use Rattle.markdown_base.specs.Forest.{Forest, nil, node}
 use Rattle.markdown_base.specs.declared.block_parts.BlockParts.{BlockParts}
 use Rattle.markdown_base.specs.declared.index.CowIndex.{CowIndex}
 use Rattle.markdown_base.specs.declared.item.Item.{Item}
 use Rattle.markdown_base.specs.declared.item.ItemBody.{ItemBody}
 use Rattle.markdown_base.specs.declared.node.Node.{Node}
-use Rattle.markdown_lines.specs.BlockBeginnings.{Source}
+use Rattle.markdown_base.specs.Source.{source_as}
+use Rattle.markdown_base.specs.Syntax.{commonmark}
 use Rattle.markdown_builder.specs.BuilderView.{Definition, stored_definition}
 use Rattle.markdown_block_rules.specs.BlockResults.{IsBlockResult}
 use Rattle.markdown_block_rules.specs.BlockRules.{block_definitions, block_tree}
@@ -52,14 +52,10 @@ defined start end label destination title = record {
 abbrev pub example : List ℕ → List (ℕ × Shown) → List Definition → Example
 example text tree definitions = record { text = text; tree = tree; definitions = definitions }
 
--- a text without extensions
-abbrev pub commonmark : List ℕ → Source
-commonmark text = record { text = text; options = no_options }
-
 -- a text with the tree and the definitions that it has
 abbrev pub blocks_as_defined : List ℕ → Example
 blocks_as_defined text =
-    example text (with_depths 0 (block_tree (commonmark text))) (block_definitions (commonmark text))
+    let s = source_as commonmark text in example text (with_depths 0 (block_tree s)) (block_definitions s)
 
 -- the examples have the blocks that are written with them
 abbrev pub HaveTrees : List Example → Type 0
@@ -73,7 +69,7 @@ pub record AreAsWritten (e : Example) (nodes : List (Node Item)) (parts : BlockP
 -- a block result of an example's text, whatever it is, is as written with the example
 abbrev pub HasResult : Example → Type 0
 HasResult e = (nodes : List (Node Item)) (parts : BlockParts)
-    → IsBlockResult (commonmark e.text) nodes parts → AreAsWritten e nodes parts
+    → IsBlockResult (source_as commonmark e.text) nodes parts → AreAsWritten e nodes parts
 
 -- that holds for each of them
 abbrev pub HaveResults : List Example → Type 0

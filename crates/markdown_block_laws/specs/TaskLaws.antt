@@ -4,7 +4,7 @@ use Rattle.std.specs.List.{list_any}
 use Rattle.markdown_base.specs.Forest.{Forest, Throughout, nil, node, roots}
 use Rattle.markdown_base.specs.declared.item.ItemBody.{ItemBody}
 use Rattle.markdown_base.specs.declared.item.ItemBody.TheVariants as body
-use Rattle.markdown_lines.specs.BlockBeginnings.{Source}
+use Rattle.markdown_base.specs.Source.{Source}
 use Rattle.markdown_block_rules.specs.BlockRules.{block_tree}
 use Rattle.markdown_builder.specs.Shown.{Shown}
 

@@ -8,7 +8,6 @@ use Rattle.std.specs.Prelude.{⊤, if◌then◌else◌, slice_range, slice_index
 use Rattle.std.specs.Option.{option_and_then, option_map}
 use Rattle.std.proofs.lemmas.List.{length-drop}
 use Rattle.markdown_scan.specs.Beginnings.{begins_with}
-use Rattle.markdown_base.specs.EnabledOptions.{footnotes_on}
 use Rattle.markdown_lines.specs.HtmlBeginnings.{html_kind_of, in_one_line}
 use Rattle.markdown_scan.specs.Label.{link_label}
 use Rattle.std.specs.Char.{is_ascii_digit}
@@ -23,7 +22,8 @@ use Rattle.markdown_base.specs.declared.tag.MetadataBlockKind.TheVariants as met
 use Rattle.markdown_lines.specs.declared.block_start.Before.{Before}
 use Rattle.markdown_lines.specs.declared.block_start.Before.TheVariants as paragraph
 use Rattle.markdown_lines.specs.BlockBeginnings as line
-use Rattle.markdown_lines.specs.BlockBeginnings.{Source, Beginning, begins, begins_after, first_found}
+use Rattle.markdown_base.specs.Source.{Source}
+use Rattle.markdown_lines.specs.BlockBeginnings.{Beginning, begins, begins_after, first_found}
 use Rattle.markdown_lines.specs.BlockBeginnings.{past_bytes, quote_of, quote_or_alert}
 use Rattle.markdown_lines.specs.Alerts.{alert_read}
 use Rattle.markdown_base.specs.declared.tag.BlockQuoteKind.{BlockQuoteKind}
@@ -121,8 +121,8 @@ quote_less s scanned owed column (b ∷ bytes) =
     let here : LineLeft = record { scanned = scanned; owed = owed; column = column; bytes = b ∷ bytes } in
     let rest = past_marker here in
     either (IfHoldsLess (suc (length bytes))) (begins_with (codes ">") (b ∷ bytes))
-    (Some (quote_of s.options rest)) None
-    (quote_holds (suc (length bytes)) rest (alert_read s.options rest) (marker_left b bytes scanned owed column)) tt
+    (Some (quote_of s.syntax rest)) None
+    (quote_holds (suc (length bytes)) rest (alert_read s.syntax rest) (marker_left b bytes scanned owed column)) tt
 
 -- some bytes fewer
 dropped_less : (n : ℕ) (b : ℕ) (bytes : List ℕ) → 0 < n → length (drop n (b ∷ bytes)) < suc (length bytes)
@@ -149,15 +149,15 @@ marker_less here n bytes less =
 
 footnote_less : (s : Source) (scanned owed column : ℕ) (bytes : List ℕ)
     → IfHoldsLess (length bytes)
-    (footnote_in_line s.options (record { scanned = scanned; owed = owed; column = column; bytes = bytes }))
-footnote_less s scanned owed column [] = no_footnote (footnotes_on s.options)
+    (footnote_in_line s.syntax (record { scanned = scanned; owed = owed; column = column; bytes = bytes }))
+footnote_less s scanned owed column [] = no_footnote s.syntax.footnotes
   where
     no_footnote : (test : Bool) → IfHoldsLess 0 (if test then None else None)
     no_footnote true = tt
     no_footnote false = tt
 footnote_less s scanned owed column (b ∷ bytes) =
     let here : LineLeft = record { scanned = scanned; owed = owed; column = column; bytes = b ∷ bytes } in
-    either (IfHoldsLess (suc (length bytes))) (footnotes_on s.options)
+    either (IfHoldsLess (suc (length bytes))) s.syntax.footnotes
     (option_map (λ marker. line.begins_footnote marker.0 (past_bytes marker.1 here)) (footnote_marker here.bytes)) None
     (marker_less here (suc (length bytes)) (b ∷ bytes) (λ k some. dropped_less k b bytes some)) tt
 
@@ -260,11 +260,11 @@ after_less s before columns here =
     let n = length here.bytes in
     first_less n (quote_in_line s here ∷ heading_in_line s here ∷ fence_in_line s columns here ∷ html_in_line before
     here ∷
-    footnote_in_line s.options here ∷ underline_in_line before here ∷ break_in_line here ∷ item_in_line s before
+    footnote_in_line s.syntax here ∷ underline_in_line before here ∷ break_in_line here ∷ item_in_line s before
     columns here ∷ []) (
       quote_less s here.scanned here.owed here.column here.bytes,
       (
-        leaf_less n (λ heading. line.begins_heading (whole_heading s.options here heading))
+        leaf_less n (λ heading. line.begins_heading (whole_heading s.syntax here heading))
             (atx_heading_at s.text here.scanned (here.scanned + length here.bytes)) (λ a. tt),
         (
           fence_less s columns here,
@@ -322,8 +322,8 @@ begins_less s before l =
     (found_or_less (length l.left.bytes) (metadata_in_line s before l)
     (begins_after s before space.columns space.after)
     (either (IfHoldsLess (length l.left.bytes)) l.outermost
-    (option_and_then (metadata_begun before) (metadata_opened s.options s.text l.left.bytes l.next)) None
-    (opened_less (length l.left.bytes) before (metadata_opened s.options s.text l.left.bytes l.next)) tt)
+    (option_and_then (metadata_begun before) (metadata_opened s.syntax s.text l.left.bytes l.next)) None
+    (opened_less (length l.left.bytes) before (metadata_opened s.syntax s.text l.left.bytes l.next)) tt)
     (more_holds (length space.after.bytes) (length l.left.bytes) (begins_after s before space.columns space.after)
     (space_left 4 l.left) (after_less s before space.columns space.after)))
 

@@ -15,7 +15,8 @@ use Rattle.markdown_lines.specs.declared.fence.OpeningFence.{OpeningFence}
 use Rattle.markdown_lines.specs.declared.html_kind.HtmlKind.{HtmlKind}
 use Rattle.markdown_lines.specs.declared.list_marker.ListMarker.{ListMarker}
 use Rattle.markdown_lines.specs.BlockBeginnings as line
-use Rattle.markdown_lines.specs.BlockBeginnings.{Beginning, Source, begins}
+use Rattle.markdown_base.specs.Source.{Source}
+use Rattle.markdown_lines.specs.BlockBeginnings.{Beginning, begins}
 use Rattle.markdown_lines.specs.DefinitionRules.{divided}
 use Rattle.markdown_lines.specs.HtmlKinds.{ends_at_blank}
 use Rattle.markdown_lines.specs.MetadataBlocks.{closes_metadata}
@@ -195,7 +196,7 @@ further_grows s l m top lines next other = tt
 text_grows : (s : Source) (l m : SourceLine) (top : Bool) (lines : List SourceLine) → m.next ≡ l.next → (b : Beginning)
     → IfSome (paragraph_with s m lines b) (KindGrows l top (was.paragraph_leaf lines))
 text_grows s l m top lines next (line.begins_underline level) =
-    let rest = (divided (entity_names s.options) s.text lines).lines in
+    let rest = (divided (entity_names s.syntax) s.text lines).lines in
     chosen (KindGrows l top (was.paragraph_leaf lines)) (length rest == 0)
     (paragraph_with_text s m lines (begins_but_underline s m)) (Some (was.underlined_leaf level lines))
     (further_grows s l m top lines next (begins_but_underline s m)) (underlined level lines)

@@ -5,12 +5,12 @@ use Rattle.std.proofs.lemmas.Bool.{true≢false}
 use Rattle.std.specs.Prelude.{⊤, if◌then◌else◌, slice_index, unwrap_or}
 use Rattle.std.specs.Option.{option_and_then, option_map}
 use Rattle.markdown_base.specs.Bytes.{backtick, tilde}
-use Rattle.markdown_base.specs.EnabledOptions.{footnotes_on}
 use Rattle.markdown_base.specs.declared.tag.BlockQuoteKind.{BlockQuoteKind}
 use Rattle.markdown_lines.specs.Alerts.{alert_read}
 use Rattle.markdown_lines.specs.AtxHeadings.{atx_heading_at}
 use Rattle.markdown_lines.specs.BlockBeginnings as line
-use Rattle.markdown_lines.specs.BlockBeginnings.{Beginning, Source, begins, begins_after, break_in_line, fence_in_line}
+use Rattle.markdown_base.specs.Source.{Source}
+use Rattle.markdown_lines.specs.BlockBeginnings.{Beginning, begins, begins_after, break_in_line, fence_in_line}
 use Rattle.markdown_lines.specs.BlockBeginnings.{first_found, footnote_in_line, footnote_marker, heading_in_line}
 use Rattle.markdown_lines.specs.BlockBeginnings.{html_in_line, is_paragraph, is_reached, item_in_line, item_of}
 use Rattle.markdown_lines.specs.BlockBeginnings.{metadata_begun, metadata_in_line, past_bytes, quote_in_line, quote_of}
@@ -64,12 +64,12 @@ after_none s before columns here =
     let byte = slice_index here.bytes 0 in
     first_none
     (quote_in_line s here ∷ heading_in_line s here ∷ fence_in_line s columns here ∷ html_in_line before here ∷
-    footnote_in_line s.options here ∷ underline_in_line before here ∷ break_in_line here ∷
+    footnote_in_line s.syntax here ∷ underline_in_line before here ∷ break_in_line here ∷
     item_in_line s before columns here ∷ []) (
-      either IfOpensNone (begins_with (codes ">") here.bytes) (Some (quote_of s.options (past_marker here))) None
-          (quote_none (past_marker here) (alert_read s.options (past_marker here))) tt,
+      either IfOpensNone (begins_with (codes ">") here.bytes) (Some (quote_of s.syntax (past_marker here))) None
+          (quote_none (past_marker here) (alert_read s.syntax (past_marker here))) tt,
       (
-        mapped_none (λ heading. line.begins_heading (whole_heading s.options here heading))
+        mapped_none (λ heading. line.begins_heading (whole_heading s.syntax here heading))
             (atx_heading_at s.text here.scanned stop) (λ a opens. opens),
         (
           either IfOpensNone ((byte == backtick) || (byte == tilde))
@@ -81,7 +81,7 @@ after_none s before columns here =
                 (option_map line.begins_html (html_kind_of here.bytes (is_paragraph before))) None
                 (mapped_none line.begins_html (html_kind_of here.bytes (is_paragraph before)) (λ a opens. opens)) tt,
             (
-              either IfOpensNone (footnotes_on s.options)
+              either IfOpensNone s.syntax.footnotes
                   (option_map (λ marker. line.begins_footnote marker.0 (past_bytes marker.1 here))
                   (footnote_marker here.bytes)) None
                   (mapped_none (λ (marker : List ℕ × ℕ). line.begins_footnote marker.0 (past_bytes marker.1 here))
@@ -127,5 +127,5 @@ begins_inside s before l inner =
     (λ opens. opens))
     (found_or_none (metadata_in_line s before l) (begins_after s before space.columns space.after)
     (none_there l.outermost
-    (option_and_then (metadata_begun before) (metadata_opened s.options s.text l.left.bytes l.next)) inner)
+    (option_and_then (metadata_begun before) (metadata_opened s.syntax s.text l.left.bytes l.next)) inner)
     (after_none s before space.columns space.after))

@@ -6,7 +6,6 @@ use Rattle.std.specs.Prelude.{◌+◌, ◌++◌, nat_le, Option, Some, None, len
 use Rattle.std.specs.List.{fold}
 use Rattle.std.specs.Option.{option_map, option_or}
 use Rattle.markdown_base.specs.Forest.{Forest, nil, node}
-use Rattle.markdown_base.specs.EnabledOptions.{old_footnotes_on}
 use Rattle.markdown_lines.specs.declared.atx_heading.AtxHeading.{AtxHeading}
 use Rattle.markdown_lines.specs.declared.fence.Fence.{Fence}
 use Rattle.markdown_lines.specs.declared.fence.OpeningFence.{OpeningFence}
@@ -19,7 +18,8 @@ use Rattle.markdown_base.specs.declared.tag.MetadataBlockKind.{MetadataBlockKind
 use Rattle.markdown_scan.specs.Beginnings.{begins_with}
 use Rattle.markdown_lines.specs.declared.block_start.Before.TheVariants as paragraph
 use Rattle.markdown_lines.specs.BlockBeginnings as line
-use Rattle.markdown_lines.specs.BlockBeginnings.{Source, Beginning, begins, break_in_line, first_found, item_in_line}
+use Rattle.markdown_base.specs.Source.{Source}
+use Rattle.markdown_lines.specs.BlockBeginnings.{Beginning, begins, break_in_line, first_found, item_in_line}
 use Rattle.markdown_lines.specs.CodeFences.{closes_fence}
 use Rattle.markdown_lines.specs.DefinitionRules.{divided}
 use Rattle.markdown_scan.specs.Entity.{entity_names}
@@ -142,7 +142,7 @@ begins_but_underline s l =
 -- of it. Where the paragraph holds definitions only, there is nothing that a line could underline.
 abbrev pub paragraph_with : Source → SourceLine → List SourceLine → Beginning → Option Kind
 paragraph_with s l lines (line.begins_underline level) =
-    if length (divided (entity_names s.options) s.text lines).lines == 0
+    if length (divided (entity_names s.syntax) s.text lines).lines == 0
     then paragraph_with_text s l lines (begins_but_underline s l) else Some (underlined_leaf level lines)
 paragraph_with s l lines other = paragraph_with_text s l lines other
 
@@ -215,7 +215,7 @@ past_indentation indent l =
 -- in the old style a footnote definition ends at a blank line, and has no prefix
 abbrev pub past_footnote : Source → SourceLine → Option LineLeft
 past_footnote s l =
-    if not (old_footnotes_on s.options) then past_indentation 4 l else if is_blank_rest l then None else Some l.left
+    if not s.syntax.old_footnotes then past_indentation 4 l else if is_blank_rest l then None else Some l.left
 
 abbrev pub with_lazy_text : SourceLine → Block → Forest Block → Kind → Option (Forest Block)
 with_lazy_text l b below (paragraph_leaf lines) =

@@ -8,21 +8,21 @@ use Rattle.markdown_lines.specs.declared.braces.Braces.{Braces}
 use Rattle.markdown_lines.specs.declared.fence.OpeningFence.{OpeningFence}
 use Rattle.markdown_base.specs.declared.item.ItemBody.{ItemBody}
 use Rattle.markdown_base.specs.declared.item.ItemBody.TheVariants as body
-use Rattle.markdown_base.specs.declared.options.Options.{Options}
+use Rattle.markdown_base.specs.declared.syntax.Syntax.{Syntax}
 use Rattle.markdown_base.specs.declared.tag.Alignment.{Alignment}
 use Rattle.markdown_base.specs.declared.tag.HeadingLevel.{HeadingLevel}
 use Rattle.markdown_lines.specs.declared.table_row.Cell.{Cell}
-use Rattle.markdown_lines.specs.BlockBeginnings.{Source}
+use Rattle.markdown_base.specs.Source.{Source}
 use Rattle.markdown_block_rules.specs.BlockGrowth as was
 use Rattle.markdown_block_rules.specs.BlockGrowth.{Block, Kind, blocks_of}
 use Rattle.markdown_builder.specs.BuilderView.{Definition}
 use Rattle.markdown_lines.specs.DefinitionRules.{divided}
-use Rattle.markdown_lines.specs.HeadingAttributes.{attributes_read, braces_from, braces_in, heading_of_words, words_in}
+use Rattle.markdown_lines.specs.HeadingAttributes.{braces_from, braces_in, heading_of_words, words_in}
 use Rattle.markdown_block_rules.specs.LineContents.{cell_items, lines_items, source_lines}
 use Rattle.markdown_builder.specs.Shown.{Shown, chain_of, plain_item}
 use Rattle.markdown_items.specs.ContentItems.{content_items}
 use Rattle.markdown_block_rules.specs.TableLines.{cells_added, cells_of}
-use Rattle.markdown_items.specs.LineItems.{item_extensions}
+use Rattle.markdown_items.specs.LineItems.{item_syntax}
 use Rattle.markdown_lines.specs.SourceLines.{SourceLine, is_blank_rest, without_empty}
 use Rattle.markdown_lines.specs.TaskMarkers.{past_task, task_read}
 use Rattle.markdown_scan.specs.Entity.{entity_names}
@@ -117,7 +117,7 @@ abbrev pub shown_cells : Source → List Cell → Forest Shown
 shown_cells s [] = nil
 shown_cells s (cell ∷ cells) =
     node (plain_item cell.start cell.end body.TableCell)
-    (chain_of (cell_items s.text (item_extensions s.options) cell.from cell.to)) (shown_cells s cells)
+    (chain_of (cell_items s.text (item_syntax s.syntax) cell.from cell.to)) (shown_cells s cells)
 
 -- empty cells at a byte offset
 abbrev pub empty_cells : ℕ → ℕ → Forest Shown
@@ -159,16 +159,16 @@ in_no_item = record { tight = false; marked = 0 }
 
 -- the items of a paragraph's lines, of which the first is `l`, after its task marker where it has one
 abbrev pub items_after_task : Source → SourceLine → List SourceLine → Option Bool → List Shown
-items_after_task s l lines None = lines_items s.text (item_extensions s.options) (l ∷ lines)
+items_after_task s l lines None = lines_items s.text (item_syntax s.syntax) (l ∷ lines)
 items_after_task s l lines (Some done) =
     plain_item l.left.scanned (l.left.scanned + 3) (body.TaskListMarker done)
-    ∷ lines_items s.text (item_extensions s.options) (without_empty (past_task l ∷ lines))
+    ∷ lines_items s.text (item_syntax s.syntax) (without_empty (past_task l ∷ lines))
 
 -- the same; only on the line of an item's marker may there be a task marker
 abbrev pub paragraph_items : Source → (marked : ℕ) → List SourceLine → List Shown
 paragraph_items s marked [] = []
 paragraph_items s marked (l ∷ lines) =
-    items_after_task s l lines (if l.next == marked then task_read s.options l.left.bytes else None)
+    items_after_task s l lines (if l.next == marked then task_read s.syntax l.left.bytes else None)
 
 -- a paragraph, without the definitions at its beginning; nothing where there is nothing else
 abbrev pub shown_text : Source → (marked : ℕ) → Block → ItemBody → List SourceLine → Forest Shown
@@ -188,11 +188,11 @@ shown_heading s start end level (Some braces) below =
     }) below nil
 
 -- the braces at the end of the last line of a setext heading, where attributes are read, by byte offsets
-abbrev pub last_braces : Options → List SourceLine → Option Braces
-last_braces options [] = None
-last_braces options (l ∷ []) =
-    if attributes_read options then option_map (braces_from l.left.scanned) (braces_in l.left.bytes) else None
-last_braces options (l ∷ m ∷ lines) = last_braces options (m ∷ lines)
+abbrev pub last_braces : Syntax → List SourceLine → Option Braces
+last_braces syntax [] = None
+last_braces syntax (l ∷ []) =
+    if syntax.attributes then option_map (braces_from l.left.scanned) (braces_in l.left.bytes) else None
+last_braces syntax (l ∷ m ∷ lines) = last_braces syntax (m ∷ lines)
 
 -- lines, of which the last is cut off at the `{`
 abbrev pub cut_before_braces : Option Braces → SourceLine → SourceLine
@@ -209,7 +209,7 @@ before_braces braces (l ∷ m ∷ lines) = l ∷ before_braces braces (m ∷ lin
 abbrev pub shown_setext : Source → (marked : ℕ) → Block → HeadingLevel → List SourceLine → Forest Shown
 shown_setext s marked b level [] = nil
 shown_setext s marked b level (l ∷ lines) =
-    let braces = last_braces s.options (l ∷ lines) in
+    let braces = last_braces s.syntax (l ∷ lines) in
     shown_heading s l.left.scanned b.last level braces
     (chain_of (paragraph_items s marked (before_braces braces (l ∷ lines))))
 
@@ -219,19 +219,19 @@ paragraph_body tight = if tight then body.TightParagraph else body.Paragraph
 -- an info string, with escapes and entities replaced (4.5)
 abbrev pub info_of : Source → OpeningFence → List ℕ
 info_of s opening =
-    unescaped (entity_names s.options) false (slice_range s.text opening.from opening.to)
+    unescaped (entity_names s.syntax) false (slice_range s.text opening.from opening.to)
 
 -- One block; `below` are the blocks in it, `inside` what they become by what is around them, `end` where it ends, and
 -- `around` what is around it.
 abbrev pub shown_block : Source → Around → Block → ℕ → Forest Block → (Around → Forest Shown) → Kind → Forest Shown
 shown_block s around b end below inside was.blank_line = nil
 shown_block s around b end below inside (was.paragraph_leaf lines) =
-    shown_text s around.marked b (paragraph_body around.tight) (divided (entity_names s.options) s.text lines).lines
+    shown_text s around.marked b (paragraph_body around.tight) (divided (entity_names s.syntax) s.text lines).lines
 shown_block s around b end below inside (was.underlined_leaf level lines) =
-    shown_setext s around.marked b level (divided (entity_names s.options) s.text lines).lines
+    shown_setext s around.marked b level (divided (entity_names s.syntax) s.text lines).lines
 shown_block s around b end below inside (was.heading_leaf found) =
     shown_heading s b.start end found.level found.braces
-    (chain_of (content_items s.text (item_extensions s.options) found.from found.to))
+    (chain_of (content_items s.text (item_syntax s.syntax) found.from found.to))
 shown_block s around b end below inside was.break_leaf = shown_over b.start end body.Rule None nil
 shown_block s around b end below inside (was.indented_leaf lines) =
     shown_over b.start end body.IndentCodeBlock None (chain_of (source_lines (body.Text false) (code_lines lines)))
@@ -273,7 +273,7 @@ paragraph_lines other = []
 unfoldable pub definitions_in : Source → Forest Block → List Definition
 definitions_in s nil = []
 definitions_in s (node b below after) =
-    (divided (entity_names s.options) s.text (paragraph_lines b.kind)).definitions
+    (divided (entity_names s.syntax) s.text (paragraph_lines b.kind)).definitions
     ++ (definitions_in s below ++ definitions_in s after)
 
 abbrev pub label_of : Kind → List (List ℕ)

@@ -4,7 +4,7 @@ use Rattle.markdown_base.specs.Forest.{Each}
 use Rattle.markdown_base.specs.declared.item.ItemBody.{ItemBody}
 use Rattle.markdown_base.specs.declared.item.ItemBody.TheVariants as body
 use Rattle.markdown_block_rules.specs.BlockRules.{block_tree}
-use Rattle.markdown_lines.specs.BlockBeginnings.{Source}
+use Rattle.markdown_base.specs.Source.{Source}
 
 -- the body refers to what only resolving makes: the bytes of code, math or HTML, a link, or the name of a footnote
 abbrev pub is_made_later : ItemBody → Bool

@@ -4,14 +4,13 @@ use Rattle.std.specs.Prelude.{◌++◌, Option}
 use Rattle.std.specs.Prelude.{Some, None, length, max, codes, if◌then◌else◌}
 use Rattle.std.specs.List.{list_all}
 use Rattle.std.specs.Option.{is_some}
-use Rattle.markdown_base.specs.declared.options.TheConstants.Options.{ENABLE_TABLES}
 use Rattle.markdown_base.specs.declared.tag.Alignment.{Alignment}
 use Rattle.markdown_lines.specs.declared.block_start.Before.TheVariants as paragraph
 use Rattle.markdown_lines.specs.declared.table_row.Cell.{Cell}
 use Rattle.markdown_lines.specs.BlockBeginnings as line
-use Rattle.markdown_lines.specs.BlockBeginnings.{Beginning, Source, begins}
+use Rattle.markdown_base.specs.Source.{Source}
+use Rattle.markdown_lines.specs.BlockBeginnings.{Beginning, begins}
 use Rattle.markdown_lines.specs.DefinitionRules.{divided}
-use Rattle.markdown_lines.specs.ExtendedOnly.{is_read}
 use Rattle.markdown_lines.specs.SourceLines.{SourceLine, stop_of, text_line}
 use Rattle.markdown_lines.specs.TableRows.{delimiter_row_at, has_cut, row_cells}
 use Rattle.markdown_scan.specs.Beginnings.{begins_with}
@@ -20,7 +19,7 @@ use Rattle.markdown_scan.specs.LineStart.{leading_space}
 
 -- tables are read
 abbrev pub reads_tables : Source → Bool
-reads_tables s = is_read ENABLE_TABLES s.options
+reads_tables s = s.syntax.tables
 
 -- a further line of a paragraph that it reaches, with its indentation where tables are read
 abbrev pub further_line : Source → SourceLine → SourceLine
@@ -68,7 +67,7 @@ is_led l = is_near l.indent && begins_with (codes "|") l.left.bytes
 abbrev pub is_after_definitions : Source → List SourceLine → SourceLine → Bool
 is_after_definitions s before head =
     not (hold_fitting s (before ++ head ∷ []))
-    && (length (divided (entity_names s.options) s.text before).lines == 0)
+    && (length (divided (entity_names s.syntax) s.text before).lines == 0)
 
 -- a line of a paragraph may be a table's head, after these lines of it
 abbrev pub may_be_head : Source → List SourceLine → SourceLine → Bool

@@ -4,4 +4,3 @@ pub mod NameLemmas
 pub mod NodeLemmas
 pub mod NodeRulesLemmas
 pub mod ReachLemmas
-pub mod EntryLemmas

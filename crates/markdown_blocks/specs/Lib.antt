@@ -6,4 +6,5 @@ pub mod NodeRules
 pub use Rattle.markdown_base.specs.Arena
 pub use Rattle.markdown_base.specs.Coverage
 pub use Rattle.markdown_base.specs.WellFormed
-pub use Rattle.markdown_builder.specs.HeadingsHoldInline
+pub use Rattle.markdown_base.specs.Source
+pub use Rattle.markdown_base.specs.Syntax

@@ -1,7 +1,9 @@
 //! Well-formed block results: a text with its tree of items, and the parts that the items refer to.
-ghost use Rattle.std.specs.Prelude.{◌≡◌, ◌≢◌, true, false, IfOk, IfErr, MatchResult};
+ghost use Rattle.std.specs.Prelude.{◌≡◌, ◌≢◌, IfOk, IfErr};
 ghost use Rattle.markdown_base.specs.declared.fault.Fault.{Fault};
 ghost use Rattle.markdown_base.specs.OneWay.{IsWellFormed-prop};
+ghost use Rattle.markdown_base.specs.Source.{source_as};
+ghost use Rattle.markdown_base.specs.Syntax.{full_syntax, profile_syntax};
 ghost use Rattle.markdown_base.specs.WellFormed.{IsWellFormed};
 
 use super::reach::reached_once;
@@ -10,19 +12,20 @@ use markdown_base::block_parts::BlockParts;
 use markdown_base::fault::Fault;
 use markdown_base::item::Item;
 use markdown_base::options::Options;
+use markdown_base::syntax::Syntax;
 use markdown_base::tree::Tree;
 use std::alloc::Global;
 use std::fmt;
 
-/// A well-formed block result: a text with its options, its tree of items, and the parts that the items refer to. It is
-/// that of one of two entries, whose rules also decide how a parser resolves its chains of inline items.
+/// A well-formed block result: a text with what is read of it, its tree of items, and the parts that the items refer to.
+/// What is read also decides how a parser resolves its chains of inline items.
 #[derive(Drop)]
 pub struct Blocks<'a> {
     text: &'a str,
     /// As the caller gave them.
     options: Options,
-    /// Whether this is of the full reading.
-    extended: bool,
+    /// What is read of the text.
+    syntax: Syntax,
     tree: Tree<Item>,
     parts: BlockParts<'a>,
     pub ghost well_formed: { IsWellFormed text.now tree.nodes parts } by { IsWellFormed-prop
@@ -30,8 +33,8 @@ pub struct Blocks<'a> {
 }
 
 impl<'a> Blocks<'a> {
-    ghost use Rattle.markdown_blocks.specs.Blocks.{text_of_blocks, block_options, block_extended, block_arena, block_parts};
-    ghost use Rattle.markdown_blocks.specs.Blocks.{IsOfEntry, IsOfText, IsOfExtended};
+    ghost use Rattle.markdown_blocks.specs.Blocks.{text_of_blocks, block_options, block_source, block_arena, block_parts};
+    ghost use Rattle.markdown_blocks.specs.Blocks.{IsBlocksOf};
 
     /// Returns the block result that is passed in, for the port's profile, if it is well formed: if it keeps nine rules.
     ///
@@ -64,9 +67,9 @@ impl<'a> Blocks<'a> {
         parts: BlockParts<'a>,
     ) -> Result<Blocks<'a>, Fault>
         ensures holds { IfOk result (λ b.
-            (text_of_blocks b ≡ text.now) × (block_options b ≡ options)
+            (block_source b ≡ source_as (profile_syntax options) text.now)
+            × (block_options b ≡ options)
             × (block_arena b ≡ tree) × (block_parts b ≡ parts.entry)) }
-        ensures entry { IfOk result (λ b. block_extended b ≡ false) }
         ensures rules { IfOk result (λ b.
             IsWellFormed (text_of_blocks b) (block_arena b).nodes (block_parts b)) }
 
@@ -81,7 +84,7 @@ impl<'a> Blocks<'a> {
                     Ok(Blocks {
                         text,
                         options,
-                        extended: false,
+                        syntax: Syntax::profile(options),
                         tree,
                         parts,
                     })
@@ -105,9 +108,9 @@ impl<'a> Blocks<'a> {
         parts: BlockParts<'a>,
     ) -> Result<Blocks<'a>, Fault>
         ensures holds { IfOk result (λ b.
-            (text_of_blocks b ≡ text.now) × (block_options b ≡ options)
+            (block_source b ≡ source_as (full_syntax options) text.now)
+            × (block_options b ≡ options)
             × (block_arena b ≡ tree) × (block_parts b ≡ parts.entry)) }
-        ensures entry { IfOk result (λ b. block_extended b ≡ true) }
         ensures rules { IfOk result (λ b.
             IsWellFormed (text_of_blocks b) (block_arena b).nodes (block_parts b)) }
 
@@ -120,17 +123,17 @@ impl<'a> Blocks<'a> {
         Ok(Blocks {
             text,
             options,
-            extended: true,
+            syntax: Syntax::full(options),
             tree,
             parts,
         })
     }
 
-    /// Returns whether this is a block result of the full reading.
-    pub fn is_extended(&self) -> bool
-        ensures { result ≡ block_extended self.now }
+    /// Returns what is read of the text.
+    pub fn syntax(&self) -> Syntax
+        ensures { result ≡ (block_source self.now).syntax }
     {
-        self.extended
+        self.syntax
     }
 
     /// Returns the text, the options, the tree and the parts. Allocates nothing.
@@ -143,47 +146,55 @@ impl<'a> Blocks<'a> {
         (self.text, self.options, self.tree, self.parts)
     }
 
-    /// Returns the block result of a text: the one that the rules of blocks give (CommonMark, chapters 4 and 5, and
-    /// footnotes). It is well formed, covers the text, and has inline items alone in its headings.
+    /// Returns the block result of a text, by the port's profile: the one that the rules of blocks give (CommonMark,
+    /// chapters 4 and 5, and footnotes). It is well formed, covers the text, and has inline items alone in its headings.
     ///
     /// # Errors
     ///
     /// `Fault::Memory` if an allocation fails.
     pub fn of_text(alloc: Global, text: &'a str, options: Options) -> Result<Blocks<'a>, Fault>
-        ensures { MatchResult result (IsOfText text.now options) (λ fault. fault ≡ Fault.Memory) }
+        ensures blocks { IfOk result (IsBlocksOf (source_as (profile_syntax options) text.now)) }
+        ensures options { IfOk result (λ b. block_options b ≡ options) }
+        ensures refused { IfErr result (λ fault. fault ≡ Fault.Memory) }
     {
-        Blocks::of_entry(alloc, text, options, false)
+        Blocks::of_source(alloc, text, options, Syntax::profile(options))
     }
 
-    /// Returns the block result of a text, by the full reading: the same is true of it. The rows of a table
-    /// have as many cells as the table has alignments.
+    /// Returns the block result of a text, by the full reading: the same is true of it.
     ///
     /// # Errors
     ///
     /// `Fault::Memory` if an allocation fails.
     pub fn of_extended(alloc: Global, text: &'a str, options: Options) -> Result<Blocks<'a>, Fault>
-        ensures { MatchResult result (IsOfExtended text.now options) (λ fault. fault
-            ≡ Fault.Memory) }
+        ensures blocks { IfOk result (IsBlocksOf (source_as (full_syntax options) text.now)) }
+        ensures options { IfOk result (λ b. block_options b ≡ options) }
+        ensures refused { IfErr result (λ fault. fault ≡ Fault.Memory) }
     {
-        Blocks::of_entry(alloc, text, options, true)
+        Blocks::of_source(alloc, text, options, Syntax::full(options))
     }
 
-    /// Returns the block result of a text for one of the entries.
-    fn of_entry(
+    /// Returns the block result of a text of which `syntax` is read: the same is true of it. `options` are kept for
+    /// `into_parts`, and decide nothing.
+    ///
+    /// # Errors
+    ///
+    /// `Fault::Memory` if an allocation fails.
+    pub fn of_source(
         alloc: Global,
         text: &'a str,
         options: Options,
-        extended: bool,
+        syntax: Syntax,
     ) -> Result<Blocks<'a>, Fault>
-        ensures { MatchResult result (IsOfEntry extended text.now options) (λ fault. fault
-            ≡ Fault.Memory) }
+        ensures blocks { IfOk result (IsBlocksOf (source_as syntax text.now)) }
+        ensures options { IfOk result (λ b. block_options b ≡ options) }
+        ensures refused { IfErr result (λ fault. fault ≡ Fault.Memory) }
     {
         // well formed by the contract of the block pass, so that nothing is left to check
-        let (tree, parts) = markdown_plain::blocks(alloc, text, options.with_extended(extended))?;
+        let (tree, parts) = markdown_plain::blocks(alloc, text, syntax)?;
         Ok(Blocks {
             text,
             options,
-            extended,
+            syntax,
             tree,
             parts,
         })

@@ -107,10 +107,10 @@ at_end line all view awaits =
     ∙ awaits.rest
 
 -- at the beginning all is left
-pub at_start : (options : ItemSyntax) (view : BuilderView) (end : ℕ) → RunIsOver end view view.at
-    → AwaitsRest (record { start = view.at; end = end; extensions = options })
-    (with_items view.levels (content_items view.text options view.at end)) view view.at
-at_start options view end over = record {
+pub at_start : (syntax : ItemSyntax) (view : BuilderView) (end : ℕ) → RunIsOver end view view.at
+    → AwaitsRest (record { start = view.at; end = end; extensions = syntax })
+    (with_items view.levels (content_items view.text syntax view.at end)) view view.at
+at_start syntax view end over = record {
   steps = suc (end - view.at);
   enough = omega arith;
   rest = refl;

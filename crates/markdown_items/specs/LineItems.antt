@@ -1,10 +1,7 @@
 -- What the bytes of a line's content can be other than text.
 use Rattle.std.specs.Prelude.{◌≡◌, ◌≢◌, ℕ, ◌<◌, ◌≤◌, Bool, true, false, not, ◌==◌, ◌&&◌, ◌||◌, nat_le, nat_lt, ◌+◌}
 use Rattle.std.specs.Prelude.{◌-◌, List, Option, Some, None, slice_index, slice_range, codes, if◌then◌else◌}
-use Rattle.markdown_base.specs.EnabledOptions.{strikethrough_on, subscript_on, superscript_on}
-use Rattle.markdown_base.specs.ExtendedOptions.{is_extended}
-use Rattle.markdown_base.specs.MarkOptions.{math_on, smart_punctuation_on}
-use Rattle.markdown_base.specs.declared.options.Options.{Options}
+use Rattle.markdown_base.specs.declared.syntax.Syntax.{Syntax}
 use Rattle.std.specs.List.{list_any, prefix_len}
 use Rattle.markdown_base.specs.Bytes.{asterisk, backslash, caret, less_than, plus_sign, space, tilde, underscore}
 use Rattle.markdown_base.specs.declared.item.ItemBody.{ItemBody}
@@ -15,16 +12,16 @@ use Rattle.markdown_items.specs.declared.extensions.ItemSyntax.{ItemSyntax}
 use Rattle.markdown_items.specs.declared.flanking.Flags.{Flags}
 use Rattle.markdown_items.specs.Flanking.{is_white, flags_of}
 
--- what the options enable: `~` with strikethrough or subscript, `^` with superscript, quotation marks with smart
--- punctuation, and dashes with it in the full reading, `$` with math; and the names of entities that count
-abbrev pub item_extensions : Options → ItemSyntax
-item_extensions options = record {
-  tildes = strikethrough_on options || subscript_on options;
-  carets = superscript_on options;
-  quotes = smart_punctuation_on options;
-  dashes = is_extended options && smart_punctuation_on options;
-  math = math_on options;
-  names = entity_names options;
+-- what a syntax has of a line's items: `~` with strikethrough or subscript, `^` with superscript, quotation marks,
+-- dashes, `$` with math; and the names by which entities are read
+abbrev pub item_syntax : Syntax → ItemSyntax
+item_syntax syntax = record {
+  tildes = syntax.strikethrough || syntax.subscript;
+  carets = syntax.superscript;
+  quotes = syntax.quotes;
+  dashes = syntax.dashes;
+  math = syntax.math;
+  names = entity_names syntax;
 }
 
 -- a backslash precedes an offset at which a text begins, in a line's content that begins at `start`

@@ -1,8 +1,8 @@
-//! The options that affect which items a line consists of.
+//! What of a syntax decides which items a line consists of.
 ghost use Rattle.std.specs.Prelude.{◌≡◌};
-ghost use Rattle.markdown_items.specs.LineItems.{item_extensions};
+ghost use Rattle.markdown_items.specs.LineItems.{item_syntax};
 
-use markdown_base::options::Options;
+use markdown_base::syntax::Syntax;
 use markdown_scan::entity::{EntityNames, entity_names};
 
 /// The extensions of CommonMark that are read.
@@ -23,20 +23,18 @@ pub struct ItemSyntax {
 }
 
 impl ItemSyntax {
-    /// Returns what a set of options enables: `~` with strikethrough or subscript, `^` with superscript, quotation
-    /// marks with smart punctuation, and dashes with it in the full reading, `$` with math; and the names of entities
-    /// that count.
-    pub fn of(options: Options) -> ItemSyntax
-        ensures { result ≡ item_extensions options }
+    /// Returns what a syntax has of a line's items: `~` with strikethrough or subscript, `^` with superscript, quotation
+    /// marks, dashes, `$` with math; and the names by which entities are read.
+    pub fn of(syntax: Syntax) -> ItemSyntax
+        ensures { result ≡ item_syntax syntax }
     {
         ItemSyntax {
-            tildes: options.contains(Options::ENABLE_STRIKETHROUGH)
-                || options.contains(Options::ENABLE_SUBSCRIPT),
-            carets: options.contains(Options::ENABLE_SUPERSCRIPT),
-            quotes: options.contains(Options::ENABLE_SMART_PUNCTUATION),
-            dashes: options.is_extended() && options.contains(Options::ENABLE_SMART_PUNCTUATION),
-            math: options.contains(Options::ENABLE_MATH),
-            names: entity_names(options),
+            tildes: syntax.strikethrough || syntax.subscript,
+            carets: syntax.superscript,
+            quotes: syntax.quotes,
+            dashes: syntax.dashes,
+            math: syntax.math,
+            names: entity_names(syntax),
         }
     }
 }

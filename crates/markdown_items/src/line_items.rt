@@ -6,7 +6,7 @@ ghost use Rattle.markdown_items.specs.Dashes.{dashes_for, dashes_in_utf8, ellips
 ghost use Rattle.markdown_builder.specs.BuilderView.{with_items};
 ghost use Rattle.markdown_builder.specs.Shown.{synthesized_item};
 ghost use Rattle.markdown_items.specs.ContentItems.{AddsItems, AddsTexts, content_items, text_between};
-ghost use Rattle.markdown_items.specs.LineItems.{is_after_backslash, item_extensions};
+ghost use Rattle.markdown_items.specs.LineItems.{is_after_backslash, item_syntax};
 ghost use Rattle.markdown_items.specs.RestOfLine.{HasSpecialRun, RunIsOver};
 ghost use Rattle.markdown_items.specs.Found.{found_at};
 ghost use Rattle.markdown_items.specs.FoundView.{found_view};
@@ -23,7 +23,7 @@ use crate::found::{
 use crate::special::first_special;
 use markdown_base::cow_str::CowStr;
 use markdown_base::item::ItemBody;
-use markdown_base::options::Options;
+use markdown_base::syntax::Syntax;
 use markdown_builder::builder::Builder;
 use markdown_scan::entity::EntityText;
 use std::alloc::{AllocError, Global};
@@ -252,7 +252,7 @@ pub fn items(
     builder: &mut Builder<'_>,
     alloc: Global,
     end: usize,
-    options: Options,
+    syntax: Syntax,
 ) -> Result<(), AllocError>
     requires inside { builder.old.leaf ≡ true }
     requires low { builder.old.at ≤ end }
@@ -265,19 +265,19 @@ pub fn items(
     }) }
     ensures items { IfOk result (λ _. builder.old.run ≡ None → builder.new.levels
         ≡ with_items builder.old.levels
-        (content_items builder.old.text (item_extensions options) builder.old.at end)) }
+        (content_items builder.old.text (item_syntax syntax) builder.old.at end)) }
     ensures further { IfOk result (λ _. RunIsOver end builder.old builder.old.at
         → builder.new.levels ≡ with_items builder.old.levels
-        (content_items builder.old.text (item_extensions options) builder.old.at end)) }
-    ensures over { IfOk result (λ _. HasSpecialRun (item_extensions options) builder.old
-        → HasSpecialRun (item_extensions options) builder.new) }
+        (content_items builder.old.text (item_syntax syntax) builder.old.at end)) }
+    ensures over { IfOk result (λ _. HasSpecialRun (item_syntax syntax) builder.old
+        → HasSpecialRun (item_syntax syntax) builder.new) }
     ensures inside { IfOk result (λ _. AddsItems builder.old builder.new) }
     ensures texts { IfOk result (λ _. AddsTexts builder.old builder.new) }
 {
     let line = LineRange {
         start: builder.at(),
         end,
-        extensions: ItemSyntax::of(options),
+        extensions: ItemSyntax::of(syntax),
     };
     let bytes = builder.text().as_bytes();
     let dashes = line.extensions.dashes;

@@ -10,8 +10,7 @@ use Rattle.std.specs.List.{prefix_len, list_all}
 use Rattle.std.specs.Option.{option_map}
 use Rattle.std.specs.Str.{IsCharBoundary}
 use Rattle.std.proofs.lemmas.Str.{IsCharBoundary-before_ascii}
-use Rattle.markdown_base.specs.EnabledOptions.{footnotes_on}
-use Rattle.markdown_base.specs.declared.options.Options.{Options}
+use Rattle.markdown_base.specs.declared.syntax.Syntax.{Syntax}
 use Rattle.markdown_lines.specs.declared.block_start.Before.{Before}
 use Rattle.markdown_lines.specs.declared.fence.OpeningFence.{OpeningFence}
 use Rattle.markdown_lines.specs.declared.list_marker.ListMarker.{ListMarker}
@@ -20,7 +19,8 @@ use Rattle.markdown_lines.specs.declared.space.Space.{Space}
 use Rattle.markdown_lines.specs.declared.atx_heading.AtxHeading.{AtxHeading}
 use Rattle.markdown_lines.specs.AtxHeadings.{atx_heading_at, is_hash}
 use Rattle.markdown_lines.specs.BlockBeginnings as line
-use Rattle.markdown_lines.specs.BlockBeginnings.{Source, Beginning, begins, begins_after, first_found, is_paragraph}
+use Rattle.markdown_base.specs.Source.{Source}
+use Rattle.markdown_lines.specs.BlockBeginnings.{Beginning, begins, begins_after, first_found, is_paragraph}
 use Rattle.markdown_lines.specs.BlockBeginnings.{is_reached}
 use Rattle.markdown_lines.specs.BlockBeginnings.{quote_in_line, heading_in_line, fence_in_line, html_in_line}
 use Rattle.markdown_lines.specs.BlockBeginnings.{footnote_in_line, underline_in_line, break_in_line, item_in_line}
@@ -90,10 +90,10 @@ no_html : (before : Before) (here : LineLeft) → (slice_index here.bytes 0 == 6
     → html_in_line before here ≡ None
 no_html before here other = rw (not_begins 60 [] here.bytes other) refl
 
-no_footnote : (options : Options) (here : LineLeft) → (slice_index here.bytes 0 == 91) ≡ false
-    → footnote_in_line options here ≡ None
-no_footnote options here other =
-    rw (not_begins 91 (94 ∷ []) here.bytes other) (both_none None None (footnotes_on options) refl refl)
+no_footnote : (syntax : Syntax) (here : LineLeft) → (slice_index here.bytes 0 == 91) ≡ false
+    → footnote_in_line syntax here ≡ None
+no_footnote syntax here other =
+    rw (not_begins 91 (94 ∷ []) here.bytes other) (both_none None None syntax.footnotes refl refl)
 
 no_setext : (bytes : List ℕ) → (slice_index bytes 0 == 61) ≡ false → (slice_index bytes 0 == 45) ≡ false
     → setext_level bytes ≡ None
@@ -231,7 +231,7 @@ module _ (s : Source) (before : Before) (columns : ℕ) (here : LineLeft)
     (own : slice_range s.text here.scanned (here.scanned + length here.bytes) ≡ here.bytes) where
   no_heading : (slice_index here.bytes 0 == 35) ≡ false → heading_in_line s here ≡ None
   no_heading other =
-      ap (λ (found : Option AtxHeading). option_map (λ h. line.begins_heading (whole_heading s.options here h)) found)
+      ap (λ (found : Option AtxHeading). option_map (λ h. line.begins_heading (whole_heading s.syntax here h)) found)
       (no_heading_at s.text here.scanned (here.scanned + length here.bytes)
       (ap (λ (bytes : List ℕ). slice_index bytes 0 == 35) own ∙ other))
 
@@ -258,7 +258,7 @@ module _ (s : Source) (before : Before) (columns : ℕ) (here : LineLeft)
 
   no_first : BeginsNoFirst (slice_index here.bytes 0)
       → AllNone (quote_in_line s here ∷ heading_in_line s here ∷ fence_in_line s columns here ∷
-      html_in_line before here ∷ footnote_in_line s.options here ∷ [])
+      html_in_line before here ∷ footnote_in_line s.syntax here ∷ [])
   unfolding AllNone
   no_first none = (
     no_quote s here none.quote,
@@ -269,14 +269,14 @@ module _ (s : Source) (before : Before) (columns : ℕ) (here : LineLeft)
         (
           no_html
               before here none.html,
-          (no_footnote s.options here none.footnote, tt),
+          (no_footnote s.syntax here none.footnote, tt),
         ),
       ),
     ),
   )
 
   pub after_greater_than : slice_index here.bytes 0 ≡ 62
-      → begins_after s before columns here ≡ line.quote_of s.options (past_marker here)
+      → begins_after s before columns here ≡ line.quote_of s.syntax (past_marker here)
   after_greater_than is = rw (does_begin here.bytes is) refl
 
   pub after_hash : slice_index here.bytes 0 ≡ 35
@@ -292,7 +292,7 @@ module _ (s : Source) (before : Before) (columns : ℕ) (here : LineLeft)
         (
           no_html before here
               (by (λ b. b == 60) refl),
-          (no_footnote s.options here (by (λ b. b == 91) refl), last),
+          (no_footnote s.syntax here (by (λ b. b == 91) refl), last),
         ),
       )
 
@@ -304,7 +304,7 @@ module _ (s : Source) (before : Before) (columns : ℕ) (here : LineLeft)
       let other = fence_is_other b is in
       found_among (quote_in_line s here ∷ heading_in_line s here ∷ []) (fence_in_line s columns here ∷ []) _
       (no_quote s here other.quote, (no_heading other.heading, tt))
-      (no_html before here other.html, (no_footnote s.options here other.footnote, no_last (fence_is_no_last b is)))
+      (no_html before here other.html, (no_footnote s.syntax here other.footnote, no_last (fence_is_no_last b is)))
 
   pub after_less_than : slice_index here.bytes 0 ≡ 60
       → begins_after s before columns here ≡ first_found (html_in_line before here ∷ [])
@@ -324,17 +324,17 @@ module _ (s : Source) (before : Before) (columns : ℕ) (here : LineLeft)
           ),
         ),
       )
-      (no_footnote s.options here (by (λ b. b == 91) refl), no_last (subst BeginsNoLast (sym is) less_is_no_last))
+      (no_footnote s.syntax here (by (λ b. b == 91) refl), no_last (subst BeginsNoLast (sym is) less_is_no_last))
 
   pub after_bracket : slice_index here.bytes 0 ≡ 91
-      → begins_after s before columns here ≡ first_found (footnote_in_line s.options here ∷ [])
+      → begins_after s before columns here ≡ first_found (footnote_in_line s.syntax here ∷ [])
   unfolding AllNone
   after_bracket is =
       let by : (test : ℕ → Bool) → test 91 ≡ false → test (slice_index here.bytes 0) ≡ false =
       none_by (slice_index here.bytes 0) 91 is in
       found_among
       (quote_in_line s here ∷ heading_in_line s here ∷ fence_in_line s columns here ∷ html_in_line before here ∷ [])
-      (footnote_in_line s.options here ∷ []) _ (
+      (footnote_in_line s.syntax here ∷ []) _ (
         no_quote s here (by (λ b. b == 62) refl),
         (
           no_heading (by (λ b. b == 35) refl),
@@ -354,7 +354,7 @@ module _ (s : Source) (before : Before) (columns : ℕ) (here : LineLeft)
   after_mark is =
       found_among
       (quote_in_line s here ∷ heading_in_line s here ∷ fence_in_line s columns here ∷ html_in_line before here ∷
-      footnote_in_line s.options here ∷ [])
+      footnote_in_line s.syntax here ∷ [])
       (underline_in_line before here ∷ break_in_line here ∷ item_in_line s before columns here ∷ []) []
       (no_first (mark_is_no_first (slice_index here.bytes 0) is)) tt
 
@@ -366,7 +366,7 @@ module _ (s : Source) (before : Before) (columns : ℕ) (here : LineLeft)
       let other = digit_is_no_mark b digit in
       found_among
       (quote_in_line s here ∷ heading_in_line s here ∷ fence_in_line s columns here ∷ html_in_line before here ∷
-      footnote_in_line s.options here ∷ underline_in_line before here ∷ break_in_line here ∷ [])
+      footnote_in_line s.syntax here ∷ underline_in_line before here ∷ break_in_line here ∷ [])
       (item_in_line s before columns here ∷ []) []
       (all_seven (no_first (digit_is_no_first b digit)) (no_underline before here other.0 other.1)
       (no_break here other.2)) tt
@@ -389,18 +389,18 @@ module _ (s : Source) (before : Before) (columns : ℕ) (here : LineLeft)
       } in
       found_among
       (quote_in_line s here ∷ heading_in_line s here ∷ fence_in_line s columns here ∷ html_in_line before here ∷
-      footnote_in_line s.options here ∷ []) []
+      footnote_in_line s.syntax here ∷ []) []
       (underline_in_line before here ∷ break_in_line here ∷ item_in_line s before columns here ∷ [])
       (no_first (subst BeginsNoFirst is first)) (no_last (subst BeginsNoLast is last))
 
 -- what was found at a byte offset was found in the line
 pub heading_read : (s : Source) (position : Position) (stop : ℕ) (found : Option AtxHeading)
     → found ≡ atx_heading_at s.text position.at stop
-    → option_map (λ h. line.begins_heading (whole_heading s.options (left_from s.text position stop) h)) found
+    → option_map (λ h. line.begins_heading (whole_heading s.syntax (left_from s.text position stop) h)) found
     ≡ heading_in_line s (left_from s.text position stop)
 heading_read s position stop found is =
     ap (λ (found : Option AtxHeading).
-    option_map (λ h. line.begins_heading (whole_heading s.options (left_from s.text position stop) h)) found)
+    option_map (λ h. line.begins_heading (whole_heading s.syntax (left_from s.text position stop) h)) found)
     (is ∙ sym (again s.text position.at stop))
   where
     again : (text : List ℕ) (at stop : ℕ)
@@ -436,12 +436,12 @@ item_found s before columns position after stop marker content is past same_colu
     (item_space left).after)) past
     ∙ item_read s before columns position stop (Some marker) is))
 
-pub footnote_found : (options : Options) (text : List ℕ) (position inside : Position) (stop width : ℕ) (label : List ℕ)
-    → footnotes_on options ≡ true → footnote_marker (slice_range text position.at stop) ≡ Some (label, width)
+pub footnote_found : (syntax : Syntax) (text : List ℕ) (position inside : Position) (stop width : ℕ) (label : List ℕ)
+    → syntax.footnotes ≡ true → footnote_marker (slice_range text position.at stop) ≡ Some (label, width)
     → left_from text inside stop ≡ past_bytes width (left_from text position stop)
     → Some (line.begins_footnote label (left_from text inside stop))
-    ≡ footnote_in_line options (left_from text position stop)
-footnote_found options text position inside stop width label on marker past = rw (on, marker, past) refl
+    ≡ footnote_in_line syntax (left_from text position stop)
+footnote_found syntax text position inside stop width label on marker past = rw (on, marker, past) refl
 
 -- a text may be cut before an ASCII byte with which a line goes on
 pub cut_before : (text : List ℕ) (at stop byte : ℕ) → slice_index (slice_range text at stop) 0 ≡ suc byte

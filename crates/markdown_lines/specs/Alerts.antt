@@ -2,11 +2,9 @@
 use Rattle.std.specs.Prelude.{ℕ, Bool, ◌==◌, ◌&&◌, List, Option, Some, None, codes, drop, length}
 use Rattle.std.specs.Prelude.{if◌then◌else◌}
 use Rattle.std.specs.List.{list_all}
-use Rattle.markdown_base.specs.declared.options.Options.{Options}
-use Rattle.markdown_base.specs.declared.options.TheConstants.Options.{ENABLE_GFM}
+use Rattle.markdown_base.specs.declared.syntax.Syntax.{Syntax}
 use Rattle.markdown_base.specs.declared.tag.BlockQuoteKind.{BlockQuoteKind}
 use Rattle.markdown_base.specs.declared.tag.BlockQuoteKind.TheVariants as kind
-use Rattle.markdown_lines.specs.ExtendedOnly.{is_read}
 use Rattle.markdown_lines.specs.HtmlKinds.{begins_ignoring_case}
 use Rattle.markdown_lines.specs.Lines.{is_space_or_tab}
 use Rattle.markdown_scan.specs.LineStart.{LineLeft}
@@ -28,6 +26,6 @@ alert_kind bytes =
 
 -- The kind of the alert that a block quote is, from what is left of its line after its marker and at most one column of
 -- space, where alerts are read. Columns that a tab owes are more space than that.
-abbrev pub alert_read : Options → LineLeft → Option BlockQuoteKind
-alert_read options rest =
-    if is_read ENABLE_GFM options && (rest.owed == 0) then alert_kind rest.bytes else None
+abbrev pub alert_read : Syntax → LineLeft → Option BlockQuoteKind
+alert_read syntax rest =
+    if syntax.alerts && (rest.owed == 0) then alert_kind rest.bytes else None

@@ -4,14 +4,14 @@ use Rattle.std.specs.Prelude.{ℕ, ◌+◌, ◌-◌, ◌%◌, Bool, true, false,
 use Rattle.std.specs.Prelude.{Some, None, length, drop, slice_index, unwrap_or, codes, if◌then◌else◌}
 use Rattle.std.specs.Option.{option_and_then, option_map}
 use Rattle.markdown_base.specs.Bytes.{backtick, colon, tilde}
-use Rattle.markdown_base.specs.EnabledOptions.{footnotes_on}
+use Rattle.markdown_base.specs.Source.{Source}
 use Rattle.markdown_lines.specs.declared.atx_heading.AtxHeading.{AtxHeading}
 use Rattle.markdown_lines.specs.declared.block_start.Before.{Before}
 use Rattle.markdown_lines.specs.declared.block_start.Before.TheVariants as paragraph
 use Rattle.markdown_lines.specs.declared.fence.OpeningFence.{OpeningFence}
 use Rattle.markdown_lines.specs.declared.html_kind.HtmlKind.{HtmlKind}
 use Rattle.markdown_lines.specs.declared.list_marker.ListMarker.{ListMarker}
-use Rattle.markdown_base.specs.declared.options.Options.{Options}
+use Rattle.markdown_base.specs.declared.syntax.Syntax.{Syntax}
 use Rattle.markdown_base.specs.declared.tag.BlockQuoteKind.{BlockQuoteKind}
 use Rattle.markdown_base.specs.declared.tag.HeadingLevel.{HeadingLevel}
 use Rattle.markdown_base.specs.declared.tag.MetadataBlockKind.{MetadataBlockKind}
@@ -20,7 +20,7 @@ use Rattle.markdown_lines.specs.Alerts.{alert_read}
 use Rattle.markdown_lines.specs.AtxHeadings.{atx_heading_at}
 use Rattle.markdown_scan.specs.Beginnings.{begins_with}
 use Rattle.markdown_lines.specs.CodeFences.{opening_fence_at}
-use Rattle.markdown_lines.specs.HeadingAttributes.{attributed, attributes_read}
+use Rattle.markdown_lines.specs.HeadingAttributes.{attributed}
 use Rattle.markdown_lines.specs.HtmlBeginnings.{html_kind_of, in_one_line}
 use Rattle.markdown_scan.specs.Label.{link_label}
 use Rattle.markdown_scan.specs.LineStart.{LineLeft, Space, leading_space, past_marker}
@@ -28,11 +28,6 @@ use Rattle.markdown_lines.specs.ListMarkers.{list_marker_at}
 use Rattle.markdown_lines.specs.MetadataBlocks.{metadata_opened}
 use Rattle.markdown_lines.specs.SourceLines.{SourceLine}
 use Rattle.markdown_lines.specs.ThematicBreaks.{is_thematic_break, setext_level}
-
--- a text and its options
-pub record Source : Type 0 where
-  pub text : List ℕ
-  pub options : Options
 
 -- the line may go on with a paragraph: one that it reaches, or one that it could continue lazily
 abbrev pub is_paragraph : Before → Bool
@@ -78,22 +73,22 @@ quote_or_alert rest None = begins_quote rest
 quote_or_alert rest (Some kind) = begins_alert kind
 
 -- the same, from what is left of the line after its marker
-abbrev pub quote_of : Options → LineLeft → Beginning
-quote_of options rest = quote_or_alert rest (alert_read options rest)
+abbrev pub quote_of : Syntax → LineLeft → Beginning
+quote_of syntax rest = quote_or_alert rest (alert_read syntax rest)
 
 -- 5.1: a `>`, and at most one column of space
 abbrev pub quote_in_line : Source → LineLeft → Option Beginning
 quote_in_line s here =
-    if begins_with (codes ">") here.bytes then Some (quote_of s.options (past_marker here)) else None
+    if begins_with (codes ">") here.bytes then Some (quote_of s.syntax (past_marker here)) else None
 
 -- an ATX heading with what is read of attributes at the end of its line
-abbrev pub whole_heading : Options → LineLeft → AtxHeading → AtxHeading
-whole_heading options here heading =
-    if attributes_read options then attributed (drop (heading.from - here.scanned) here.bytes) heading else heading
+abbrev pub whole_heading : Syntax → LineLeft → AtxHeading → AtxHeading
+whole_heading syntax here heading =
+    if syntax.attributes then attributed (drop (heading.from - here.scanned) here.bytes) heading else heading
 
 -- 4.2: one to six `#`
 abbrev pub heading_in_line : Source → LineLeft → Option Beginning
-heading_in_line s here = option_map (λ heading. begins_heading (whole_heading s.options here heading))
+heading_in_line s here = option_map (λ heading. begins_heading (whole_heading s.syntax here heading))
     (atx_heading_at s.text here.scanned (here.scanned + length here.bytes))
 
 -- 4.5: three or more backticks or tildes
@@ -123,9 +118,9 @@ footnote_marker bytes =
     else None
 
 -- a footnote definition, where footnotes are enabled
-abbrev pub footnote_in_line : Options → LineLeft → Option Beginning
-footnote_in_line options here =
-    if footnotes_on options
+abbrev pub footnote_in_line : Syntax → LineLeft → Option Beginning
+footnote_in_line syntax here =
+    if syntax.footnotes
     then option_map (λ marker. begins_footnote marker.0 (past_bytes marker.1 here)) (footnote_marker here.bytes)
     else None
 
@@ -169,7 +164,7 @@ metadata_begun before metadata.PlusesStyle =
 abbrev pub metadata_in_line : Source → Before → SourceLine → Option Beginning
 metadata_in_line s before l =
     if l.outermost
-    then option_and_then (metadata_begun before) (metadata_opened s.options s.text l.left.bytes l.next) else None
+    then option_and_then (metadata_begun before) (metadata_opened s.syntax s.text l.left.bytes l.next) else None
 
 -- the first that is there, and otherwise text
 abbrev pub first_found : List (Option Beginning) → Beginning
@@ -181,7 +176,7 @@ first_found (Some found ∷ others) = found
 abbrev pub begins_after : Source → Before → ℕ → LineLeft → Beginning
 begins_after s before columns here =
     first_found (quote_in_line s here ∷ heading_in_line s here ∷ fence_in_line s columns here ∷
-    html_in_line before here ∷ footnote_in_line s.options here ∷ underline_in_line before here ∷ break_in_line here ∷
+    html_in_line before here ∷ footnote_in_line s.syntax here ∷ underline_in_line before here ∷ break_in_line here ∷
     item_in_line s before columns here ∷ [])
 
 -- What a line begins that is not blank. Four columns of space begin code, which does not interrupt a paragraph (4.4).

@@ -8,14 +8,15 @@ use Rattle.markdown_lines.specs.declared.block_start.BlockStart.TheVariants as s
 use Rattle.markdown_lines.specs.declared.line_reader.LineReader.{LineReader}
 use Rattle.markdown_lines.specs.declared.position.Position.{Position}
 use Rattle.markdown_lines.specs.BlockBeginnings as line
-use Rattle.markdown_lines.specs.BlockBeginnings.{Source, Beginning, begins, first_found}
+use Rattle.markdown_base.specs.Source.{Source}
+use Rattle.markdown_lines.specs.BlockBeginnings.{Beginning, begins, first_found}
 use Rattle.markdown_lines.specs.Positions.{left_from}
 use Rattle.markdown_lines.specs.SourceLines.{SourceLine, is_blank_rest}
 use Rattle.markdown_scan.specs.LineStart.{LineLeft}
 
--- the text that is read, and its options
+-- the text that is read, and its syntax
 abbrev pub source_read : LineReader → Source
-source_read reader = record { text = reader.text.now; options = reader.options }
+source_read reader = record { text = reader.text.now; syntax = reader.syntax }
 
 -- what is left of the line from a place on
 abbrev pub left_at : LineReader → Position → LineLeft
@@ -59,7 +60,7 @@ IsFirstOf reader beginnings found = beginning_found reader found ≡ Some (first
 -- the same line is read
 pub record IsSameLine (old new : LineReader) : Type 0 where
   pub text : new.text.now ≡ old.text.now
-  pub options : new.options ≡ old.options
+  pub syntax : new.syntax ≡ old.syntax
   pub start : new.start ≡ old.start
   pub stop : new.stop ≡ old.stop
   pub next : new.next ≡ old.next

@@ -9,13 +9,10 @@ use Rattle.markdown_base.specs.Bytes.{number_sign}
 use Rattle.markdown_base.specs.CowText.{text_of}
 use Rattle.markdown_base.specs.Event.{HeadingView, attribute_view}
 use Rattle.markdown_base.specs.declared.block_parts.HeadingAttributes.{HeadingAttributes}
-use Rattle.markdown_base.specs.declared.options.Options.{Options}
-use Rattle.markdown_base.specs.declared.options.TheConstants.Options.{ENABLE_HEADING_ATTRIBUTES}
 use Rattle.markdown_base.specs.declared.tag.HeadingLevel.{HeadingLevel}
 use Rattle.markdown_lines.specs.declared.atx_heading.AtxHeading.{AtxHeading}
 use Rattle.markdown_lines.specs.declared.braces.Braces.{Braces}
 use Rattle.markdown_lines.specs.AtxHeadings.{heading_content}
-use Rattle.markdown_lines.specs.ExtendedOnly.{is_read}
 use Rattle.markdown_lines.specs.LineBytes.{without_end}
 use Rattle.markdown_lines.specs.Lines.{is_space_or_tab}
 
@@ -26,10 +23,6 @@ open_brace = 123
 -- `}`
 abbrev pub close_brace : ℕ
 close_brace = 125
-
--- attributes are read
-abbrev pub attributes_read : Options → Bool
-attributes_read = is_read ENABLE_HEADING_ATTRIBUTES
 
 -- a byte that may stand between the braces: no brace, no angle bracket, and no backslash
 abbrev pub is_enclosed : ℕ → Bool

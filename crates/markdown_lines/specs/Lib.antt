@@ -12,7 +12,6 @@ pub mod ListMarkers
 pub mod TableRows
 pub mod ThematicBreaks
 -- which extensions are read
-pub mod ExtendedOnly
 -- what only they read
 pub mod Alerts
 pub mod HeadingAttributes

@@ -4,12 +4,10 @@ use Rattle.std.specs.Prelude.{if◌then◌else◌}
 use Rattle.std.specs.List.{list_all, list_any, prefix_len}
 use Rattle.std.specs.Option.{option_and_then}
 use Rattle.markdown_base.specs.Bytes.{full_stop, hyphen, plus_sign}
-use Rattle.markdown_base.specs.declared.options.Options.{Options}
-use Rattle.markdown_base.specs.declared.options.TheConstants.Options.{ENABLE_YAML_STYLE_METADATA_BLOCKS}
-use Rattle.markdown_base.specs.declared.options.TheConstants.Options.{ENABLE_PLUSES_DELIMITED_METADATA_BLOCKS}
+use Rattle.markdown_base.specs.declared.syntax.Syntax.{Syntax}
+use Rattle.markdown_base.specs.Syntax.{reads_metadata}
 use Rattle.markdown_base.specs.declared.tag.MetadataBlockKind.{MetadataBlockKind}
 use Rattle.markdown_base.specs.declared.tag.MetadataBlockKind.TheVariants as kind
-use Rattle.markdown_lines.specs.ExtendedOnly.{is_read}
 use Rattle.markdown_lines.specs.Lines.{is_space_or_tab}
 use Rattle.markdown_lines.specs.SourceLines.{SourceLine, is_blank_rest, lines_from}
 
@@ -30,11 +28,6 @@ abbrev pub closes_metadata : MetadataBlockKind → List ℕ → Bool
 closes_metadata kind.YamlStyle content = is_three_of hyphen content || is_three_of full_stop content
 closes_metadata kind.PlusesStyle content = is_three_of plus_sign content
 
--- the option that enables a kind
-abbrev pub metadata_option : MetadataBlockKind → Options
-metadata_option kind.YamlStyle = ENABLE_YAML_STYLE_METADATA_BLOCKS
-metadata_option kind.PlusesStyle = ENABLE_PLUSES_DELIMITED_METADATA_BLOCKS
-
 -- the lines of a text from a byte offset on
 abbrev pub lines_at : List ℕ → ℕ → List SourceLine
 lines_at text at = lines_from (length (drop at text)) at (drop at text)
@@ -49,11 +42,11 @@ are_of_metadata kind [] = false
 are_of_metadata kind (l ∷ lines) =
     not (is_blank_rest l) && not (closes_metadata kind l.left.bytes) && one_closes kind lines
 
--- metadata of a kind, where it is enabled, and lines that begin at a byte offset are its lines
-abbrev pub opened_before : Options → List ℕ → ℕ → MetadataBlockKind → Option MetadataBlockKind
-opened_before options text next kind =
-    if is_read (metadata_option kind) options && are_of_metadata kind (lines_at text next) then Some kind else None
+-- metadata of a kind, where it is read, and lines that begin at a byte offset are its lines
+abbrev pub opened_before : Syntax → List ℕ → ℕ → MetadataBlockKind → Option MetadataBlockKind
+opened_before syntax text next kind =
+    if reads_metadata syntax kind && are_of_metadata kind (lines_at text next) then Some kind else None
 
 -- the metadata that a line of this content opens, after which the next line begins at `next`
-abbrev pub metadata_opened : Options → List ℕ → List ℕ → ℕ → Option MetadataBlockKind
-metadata_opened options text content next = option_and_then (opened_before options text next) (line_opens content)
+abbrev pub metadata_opened : Syntax → List ℕ → List ℕ → ℕ → Option MetadataBlockKind
+metadata_opened syntax text content next = option_and_then (opened_before syntax text next) (line_opens content)

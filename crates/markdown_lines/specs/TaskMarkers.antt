@@ -3,9 +3,7 @@ use Rattle.std.specs.Prelude.{ℕ, ◌+◌, Bool, true, false, ◌==◌, ◌&&�
 use Rattle.std.specs.Prelude.{drop, slice_index, if◌then◌else◌}
 use Rattle.std.specs.List.{prefix_len}
 use Rattle.markdown_base.specs.Bytes.{close_bracket, form_feed, line_tabulation, open_bracket}
-use Rattle.markdown_base.specs.declared.options.Options.{Options}
-use Rattle.markdown_base.specs.declared.options.TheConstants.Options.{ENABLE_TASKLISTS}
-use Rattle.markdown_lines.specs.ExtendedOnly.{is_read}
+use Rattle.markdown_base.specs.declared.syntax.Syntax.{Syntax}
 use Rattle.markdown_lines.specs.Lines.{is_space_or_tab}
 use Rattle.markdown_lines.specs.SourceLines.{SourceLine}
 
@@ -42,5 +40,5 @@ past_task l = record l {
 }
 
 -- the task marker that bytes begin with, where task lists are read
-abbrev pub task_read : Options → List ℕ → Option Bool
-task_read options bytes = if is_read ENABLE_TASKLISTS options then task_marker bytes else None
+abbrev pub task_read : Syntax → List ℕ → Option Bool
+task_read syntax bytes = if syntax.tasks then task_marker bytes else None

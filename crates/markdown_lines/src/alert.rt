@@ -4,10 +4,9 @@ ghost use Rattle.markdown_lines.specs.Alerts.{alert_kind, alert_read, is_alert_m
 ghost use Rattle.markdown_lines.specs.Positions.{left_from};
 
 use crate::bytes::{bytes_from, bytes_of, is_white};
-use crate::extended_only::is_read;
 use crate::html_kind::begins_with;
 use crate::position::Position;
-use markdown_base::options::Options;
+use markdown_base::syntax::Syntax;
 use markdown_base::tag::BlockQuoteKind;
 
 /// Returns whether bytes are an alert's marker, in either case, and then spaces and tabs alone.
@@ -42,11 +41,11 @@ pub fn alert_read(
     text: &str,
     inside: Position,
     stop: usize,
-    options: Options,
+    syntax: Syntax,
 ) -> Option<BlockQuoteKind>
-    ensures { result ≡ alert_read options (left_from text.now inside stop) }
+    ensures { result ≡ alert_read syntax (left_from text.now inside stop) }
 {
-    if is_read(Options::ENABLE_GFM, options) && inside.owed == 0 {
+    if syntax.alerts && inside.owed == 0 {
         alert_kind(bytes_of(text, inside.at, stop))
     } else {
         None

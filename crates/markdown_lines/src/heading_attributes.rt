@@ -7,7 +7,7 @@ ghost use Rattle.std.specs.Option.{option_map, option_or};
 ghost use Rattle.std.specs.Str.{IsCharBoundary};
 ghost use Rattle.markdown_base.specs.CowText.{text_of};
 ghost use Rattle.markdown_base.specs.Event.{attribute_view};
-ghost use Rattle.markdown_lines.specs.HeadingAttributes.{AddsWord, attributed, attributes_read, braces_from};
+ghost use Rattle.markdown_lines.specs.HeadingAttributes.{AddsWord, attributed, braces_from};
 ghost use Rattle.markdown_lines.specs.HeadingAttributes.{braces_in, braces_to};
 ghost use Rattle.markdown_lines.specs.HeadingAttributes.{is_enclosed, name_and_value};
 ghost use Rattle.markdown_lines.specs.HeadingAttributes.{parts_words, words_in, AreAttributes};
@@ -15,19 +15,10 @@ ghost use Rattle.markdown_lines.specs.HeadingAttributes.{parts_words, words_in, 
 use crate::atx_heading::{AtxHeading, content_length, trimmed_length};
 use crate::braces::Braces;
 use crate::bytes::{bytes_of, part_of};
-use crate::extended_only::is_read;
 use crate::line::is_space_or_tab;
 use markdown_base::block_parts::HeadingAttributes;
 use markdown_base::cow_str::CowStr;
-use markdown_base::options::Options;
 use std::alloc::{AllocError, Global};
-
-/// Returns whether attributes are read.
-pub fn attributes_read(options: Options) -> bool
-    ensures { result ≡ attributes_read options }
-{
-    is_read(Options::ENABLE_HEADING_ATTRIBUTES, options)
-}
 
 /// Returns whether a byte may stand between the braces.
 fn is_enclosed(byte: u8) -> bool

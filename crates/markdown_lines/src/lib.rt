@@ -8,7 +8,6 @@ pub mod block_start;
 pub mod braces;
 pub mod bytes;
 pub mod definition;
-pub mod extended_only;
 pub mod fence;
 pub mod heading_attributes;
 pub mod held_line;

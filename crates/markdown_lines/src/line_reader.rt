@@ -17,7 +17,7 @@ use crate::atx_heading::{AtxHeading, atx_heading};
 use crate::block_start::{Before, Begun, BlockStart, ItemStart};
 use crate::bytes::{byte_or_zero, bytes_of, part_of, white_length};
 use crate::fence::opening_fence;
-use crate::heading_attributes::{attributed, attributes_read};
+use crate::heading_attributes::attributed;
 use crate::html_kind::html_kind;
 use crate::line::Line;
 use crate::lines_ahead::LinesAhead;
@@ -26,7 +26,7 @@ use crate::position::Position;
 use crate::space::{Space, read_space};
 use crate::thematic_break::{setext_underline, thematic_break};
 use markdown_base::cow_str::CowStr;
-use markdown_base::options::Options;
+use markdown_base::syntax::Syntax;
 use markdown_base::tag::MetadataBlockKind;
 use markdown_scan::label::scan_link_label;
 use markdown_scan::line_rule::OneLine;
@@ -39,7 +39,7 @@ use std::alloc::{AllocError, Global};
 pub struct LineReader<'a> {
     pub alloc: Global,
     pub text: &'a str,
-    pub options: Options,
+    pub syntax: Syntax,
     /// the byte offset at which the line begins
     pub start: usize,
     pub stop: usize,
@@ -54,7 +54,7 @@ pub struct LineReader<'a> {
     ghost boundary: { IsCharBoundary text.now stop },
     ghost unbroken: { IsUnbroken text.now stop unbroken_from unbroken_to },
     ghost opens: { outermost ≡ true
-        → opening ≡ metadata_opened options text.now (slice_range text.now start stop) next },
+        → opening ≡ metadata_opened syntax text.now (slice_range text.now start stop) next },
 }
 
 /// Returns whether a line may go on with a paragraph.
@@ -150,13 +150,13 @@ impl<'a> LineReader<'a> {
     pub fn new(
         alloc: Global,
         ahead: &mut LinesAhead<'a>,
-        options: Options,
+        syntax: Syntax,
         line: Line,
         outermost: bool,
     ) -> LineReader<'a>
         requires { IsCharBoundary ahead.old.text.now line.stop }
         ensures text { result.text.now ≡ ahead.old.text.now }
-        ensures options { result.options ≡ options }
+        ensures syntax { result.syntax ≡ syntax }
         ensures start { result.start ≡ line.start }
         ensures stop { result.stop ≡ line.stop }
         ensures next { result.next ≡ line.next }
@@ -164,14 +164,14 @@ impl<'a> LineReader<'a> {
         ensures same { ahead.new.text.now ≡ ahead.old.text.now }
     {
         let opening = if outermost {
-            ahead.opened(line, options)
+            ahead.opened(line, syntax)
         } else {
             None
         };
         LineReader {
             alloc,
             text: ahead.text,
-            options,
+            syntax,
             start: line.start,
             stop: line.stop,
             next: line.next,
@@ -287,10 +287,10 @@ impl<'a> LineReader<'a> {
     fn quote(&self, here: Position) -> BlockStart<'a>
         requires { here.at < self.now.stop }
         ensures { beginning_found self.now result
-            ≡ Some (line.quote_of self.now.options (past_marker (left_at self.now here))) }
+            ≡ Some (line.quote_of self.now.syntax (past_marker (left_at self.now here))) }
     {
         let inside = self.past_quote_marker(here);
-        match alert_read(self.text, inside, self.stop, self.options) {
+        match alert_read(self.text, inside, self.stop, self.syntax) {
             Some(kind) => BlockStart::Alert(kind),
             None => BlockStart::Quote(inside),
         }
@@ -323,9 +323,9 @@ impl<'a> LineReader<'a> {
     fn whole_heading(&self, here: Position, heading: AtxHeading) -> AtxHeading
         requires { here.at ≤ heading.from }
         ensures { result
-            ≡ line.whole_heading self.now.options (left_at self.now here) heading }
+            ≡ line.whole_heading self.now.syntax (left_at self.now here) heading }
     {
-        if attributes_read(self.options) {
+        if self.syntax.attributes {
             attributed(self.text, heading, self.stop)
         } else {
             heading
@@ -369,9 +369,9 @@ impl<'a> LineReader<'a> {
     fn footnote(&self, here: Position) -> Result<BlockStart<'a>, AllocError>
         requires { slice_index (left_at self.now here).bytes 0 ≡ open_bracket }
         ensures { IfOk result (λ start. IsFirstOf self.now
-            (line.footnote_in_line self.now.options (left_at self.now here) ∷ []) start) }
+            (line.footnote_in_line self.now.syntax (left_at self.now here) ∷ []) start) }
     {
-        if !self.options.contains(Options::ENABLE_FOOTNOTES) {
+        if !self.syntax.footnotes {
             return Ok(BlockStart::Text);
         }
         let content = part_of(self.text, here.at, self.stop);

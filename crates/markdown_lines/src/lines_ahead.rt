@@ -5,10 +5,9 @@ ghost use Rattle.markdown_lines.specs.MetadataBlocks.{lines_at, one_closes};
 ghost use Rattle.markdown_lines.specs.UnclosedMetadata.{IsUnclosed};
 
 use crate::bytes::{bytes_of, is_white};
-use crate::extended_only::is_read;
 use crate::line::{Line, line_from};
-use crate::metadata_block::{closes_metadata, line_opens, metadata_option};
-use markdown_base::options::Options;
+use crate::metadata_block::{closes_metadata, line_opens};
+use markdown_base::syntax::Syntax;
 use markdown_base::tag::MetadataBlockKind;
 
 /// Returns whether a line closes metadata of a kind that begins at byte offset `from` or after it.
@@ -113,13 +112,13 @@ impl<'a> LinesAhead<'a> {
     }
 
     /// Returns the metadata that a line opens where it is directly under the root.
-    pub fn opened(&mut self, line: Line, options: Options) -> Option<MetadataBlockKind>
-        ensures value { result ≡ metadata_opened options self.old.text.now
+    pub fn opened(&mut self, line: Line, syntax: Syntax) -> Option<MetadataBlockKind>
+        ensures value { result ≡ metadata_opened syntax self.old.text.now
             (slice_range self.old.text.now line.start line.stop) line.next }
         ensures same { self.new.text.now ≡ self.old.text.now }
     {
         let kind = line_opens(bytes_of(self.text, line.start, line.stop))?;
-        if is_read(metadata_option(kind), options) && self.are_of_metadata(kind, line.next) {
+        if syntax.reads_metadata(kind) && self.are_of_metadata(kind, line.next) {
             Some(kind)
         } else {
             None

@@ -1,9 +1,8 @@
 //! Metadata blocks: the lines that open them, and the lines that close them.
 ghost use Rattle.std.specs.Prelude.{◌≡◌, ◌==◌, true, Some, IfSome, if◌then◌else◌, None};
-ghost use Rattle.markdown_lines.specs.MetadataBlocks.{closes_metadata, is_three_of, line_opens, metadata_option};
+ghost use Rattle.markdown_lines.specs.MetadataBlocks.{closes_metadata, is_three_of, line_opens};
 
 use crate::bytes::{bytes_from, is_white, run_length};
-use markdown_base::options::Options;
 use markdown_base::tag::MetadataBlockKind;
 
 /// Returns whether a line's content is exactly three times a byte, and then spaces and tabs.
@@ -33,15 +32,5 @@ pub fn closes_metadata(kind: MetadataBlockKind, content: &[u8]) -> bool
     match kind {
         MetadataBlockKind::YamlStyle => is_three_of(content, b'-') || is_three_of(content, b'.'),
         MetadataBlockKind::PlusesStyle => is_three_of(content, b'+'),
-    }
-}
-
-/// Returns the option that enables metadata of a kind.
-pub fn metadata_option(kind: MetadataBlockKind) -> Options
-    ensures { result ≡ metadata_option kind }
-{
-    match kind {
-        MetadataBlockKind::YamlStyle => Options::ENABLE_YAML_STYLE_METADATA_BLOCKS,
-        MetadataBlockKind::PlusesStyle => Options::ENABLE_PLUSES_DELIMITED_METADATA_BLOCKS,
     }
 }

@@ -4,9 +4,8 @@ ghost use Rattle.std.specs.List.{prefix_len};
 ghost use Rattle.markdown_lines.specs.TaskMarkers as spec;
 
 use crate::bytes::{byte_or_zero, bytes_from, bytes_of};
-use crate::extended_only::is_read;
 use crate::line::is_space_or_tab;
-use markdown_base::options::Options;
+use markdown_base::syntax::Syntax;
 
 /// Returns whether a byte is white space in a task marker, and after it.
 fn is_task_space(byte: u8) -> bool
@@ -57,10 +56,10 @@ fn task_space(bytes: &[u8]) -> usize
 
 /// Returns whether the task is done whose marker is at byte offset `start` in a line whose content ends before `stop`;
 /// `None` where there is none, or task lists are not read.
-pub fn task_read(text: &str, start: usize, stop: usize, options: Options) -> Option<bool>
-    ensures { result ≡ spec.task_read options (slice_range text.now start stop) }
+pub fn task_read(text: &str, start: usize, stop: usize, syntax: Syntax) -> Option<bool>
+    ensures { result ≡ spec.task_read syntax (slice_range text.now start stop) }
 {
-    if is_read(Options::ENABLE_TASKLISTS, options) {
+    if syntax.tasks {
         task_marker(bytes_of(text, start, stop))
     } else {
         None

@@ -9,7 +9,7 @@ use Rattle.markdown_base.specs.Forest.{Forest}
 use Rattle.markdown_base.specs.declared.item.ItemBody.{ItemBody}
 use Rattle.markdown_builder.specs.declared.open_block.OpenBlock.{OpenBlock}
 use Rattle.markdown_builder.specs.BuilderView.{innermost_block}
-use Rattle.markdown_lines.specs.BlockBeginnings.{Source}
+use Rattle.markdown_base.specs.Source.{Source}
 use Rattle.markdown_lines.specs.HeldLines.{AreHeldFrom, IsHeldLine}
 use Rattle.markdown_lines.specs.SourceLines.{SourceLine}
 use Rattle.markdown_lines.specs.TaskMarkers.{task_read}
@@ -180,16 +180,16 @@ marked_before line (f ∷ g ∷ frames) opened = marked_before line (g ∷ frame
 pub paragraph_begun : (s : Source) (new : Pass) (frames : List Frame) (inside : Forest Block) (b : Block) (line : Line)
     (held : HeldLine) (source : SourceLine) → held.stop ≡ line.stop → held.next ≡ line.next
     → new.lines.items ≡ held ∷ [] → new.task ≡ task_at new line held.start
-    → IsBuilt s new.placing.builder frames inside → s.options ≡ new.options
+    → IsBuilt s new.placing.builder frames inside → s.syntax ≡ new.syntax
     → BeginsText new.placing.builder.text held source b → AreItemsOpenedIn line frames
     → HoldsParagraph s new frames inside b (source ∷ [])
-paragraph_begun s new frames inside b line held source stop next lines task built options begins opened =
+paragraph_begun s new frames inside b line held source stop next lines task built syntax begins opened =
     let view = new.placing.builder in
     let marked = (around_innermost in_no_item frames).marked in
     let ends : line.next ≡ source.next = sym next ∙ begins.is.next in
     let some : 0 < line.next = subst (λ n. 0 < n) next begins.some in
     let bytes = slice_range view.text held.start line.stop in
-    let read = λ (test : Bool). if test then task_read new.options bytes else None in
+    let read = λ (test : Bool). if test then task_read new.syntax bytes else None in
     record {
       built = built;
       some = subst (λ (ls : List HeldLine). 0 < length ls) (sym lines) (omega arith);
@@ -198,9 +198,9 @@ paragraph_begun s new frames inside b line held source stop next lines task buil
           (record { inside = begins.inside; are = (begins.is, tt) });
       task = task ∙ (ap read (innermost_is_marked view.texts line view.blocks frames built.blocks opened some)
           ∙ (ap (λ n. read (n == marked)) ends
-          ∙ (ap (λ bytes. if source.next == marked then task_read new.options bytes else None)
+          ∙ (ap (λ bytes. if source.next == marked then task_read new.syntax bytes else None)
           (ap (slice_range view.text held.start) (sym stop) ∙ begins.is.bytes)
-          ∙ ap (λ o. if source.next == marked then task_read o source.left.bytes else None) (sym options))));
+          ∙ ap (λ o. if source.next == marked then task_read o source.left.bytes else None) (sym syntax))));
       from = subst (λ n. marked ≤ n) ends (marked_before line frames opened);
       last = begins.last ∙ (sym begins.is.next ∙ sym (ap lines_end lines));
     }

@@ -11,7 +11,8 @@ use Rattle.markdown_builder.specs.TreeLevels.{followed_by}
 use Rattle.markdown_builder.specs.declared.open_block.OpenBlock.{OpenBlock}
 use Rattle.markdown_lines.specs.declared.block_start.Before.TheVariants as paragraph
 use Rattle.markdown_lines.specs.declared.line.Line.{Line}
-use Rattle.markdown_lines.specs.BlockBeginnings.{Source, begins}
+use Rattle.markdown_base.specs.Source.{Source}
+use Rattle.markdown_lines.specs.BlockBeginnings.{begins}
 use Rattle.markdown_lines.specs.SourceLines.{SourceLine, is_blank_rest, text_line}
 use Rattle.markdown_lines.specs.TableRows.{row_cells_at}
 use Rattle.markdown_block_rules.specs.BlockGrowth as was

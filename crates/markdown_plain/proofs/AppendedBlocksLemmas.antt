@@ -9,7 +9,7 @@ use Rattle.markdown_builder.specs.declared.open_block.OpenBlock.{OpenBlock}
 use Rattle.markdown_builder.specs.BuilderView.{BuilderView}
 use Rattle.markdown_builder.specs.TreeLevels.{followed_by, with_trees}
 use Rattle.markdown_builder.proofs.LaidLemmas.{followed_by-nil}
-use Rattle.markdown_lines.specs.BlockBeginnings.{Source}
+use Rattle.markdown_base.specs.Source.{Source}
 use Rattle.markdown_lines.specs.DefinitionRules.{divided, divided_in}
 use Rattle.markdown_scan.specs.Entity.{entity_names}
 use Rattle.markdown_block_rules.specs.BlockGrowth as was
@@ -74,7 +74,7 @@ gathered_appended own all is (f ∷ frames) inside new =
     ∙ ap (λ xs. xs ++ all new) (sym (gathered_around own all is f (rebuilt frames inside)))))
 
 pub definitions_gathered : (s : Source)
-    → IsGathered (λ b. (divided (entity_names s.options) s.text (paragraph_lines b.kind)).definitions)
+    → IsGathered (λ b. (divided (entity_names s.syntax) s.text (paragraph_lines b.kind)).definitions)
     (definitions_in s)
 unfolding definitions_in
 definitions_gathered s = record { none = refl; block = λ b below after. refl }
@@ -169,7 +169,7 @@ nothing_shown s around b blank =
 nothing_defined : (s : Source) (b : Block) → b.kind ≡ was.blank_line → definitions_in s (node b nil nil) ≡ []
 unfolding definitions_in divided_in
 nothing_defined s b blank =
-    ap (λ kind. (divided (entity_names s.options) s.text (paragraph_lines kind)).definitions ++ ([] ++ [])) blank
+    ap (λ kind. (divided (entity_names s.syntax) s.text (paragraph_lines kind)).definitions ++ ([] ++ [])) blank
 
 nothing_named : (b : Block) → b.kind ≡ was.blank_line → footnotes_in (node b nil nil) ≡ []
 unfolding footnotes_in

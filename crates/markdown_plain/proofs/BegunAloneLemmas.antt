@@ -8,8 +8,9 @@ use Rattle.std.proofs.lemmas.Option.{none-some}
 use Rattle.std.specs.Prelude.{unwrap_or, if◌then◌else◌, slice_index}
 use Rattle.std.specs.List.{prefix_len, list_all}
 use Rattle.std.specs.Option.{option_and_then, option_map}
+use Rattle.markdown_base.specs.Syntax.{reads_metadata}
 use Rattle.markdown_base.specs.Bytes.{hyphen, plus_sign}
-use Rattle.markdown_base.specs.declared.options.Options.{Options}
+use Rattle.markdown_base.specs.declared.syntax.Syntax.{Syntax}
 use Rattle.markdown_base.specs.declared.tag.HeadingLevel.{HeadingLevel}
 use Rattle.markdown_base.specs.declared.tag.HeadingLevel.TheVariants as level
 use Rattle.markdown_base.specs.declared.tag.MetadataBlockKind.{MetadataBlockKind}
@@ -19,7 +20,8 @@ use Rattle.markdown_lines.specs.declared.block_start.Before.{Before}
 use Rattle.markdown_lines.specs.declared.block_start.Before.TheVariants as paragraph
 use Rattle.markdown_lines.specs.declared.list_marker.ListMarker.{ListMarker}
 use Rattle.markdown_lines.specs.BlockBeginnings as line
-use Rattle.markdown_lines.specs.BlockBeginnings.{Beginning, Source, begins, begins_after, break_in_line}
+use Rattle.markdown_base.specs.Source.{Source}
+use Rattle.markdown_lines.specs.BlockBeginnings.{Beginning, begins, begins_after, break_in_line}
 use Rattle.markdown_lines.specs.BlockBeginnings.{fence_in_line, first_found, footnote_in_line, heading_in_line}
 use Rattle.markdown_lines.specs.BlockBeginnings.{html_in_line, item_in_line, item_of, metadata_begun}
 use Rattle.markdown_lines.specs.BlockBeginnings.{metadata_in_line, quote_in_line, underline_in_line}
@@ -27,8 +29,7 @@ use Rattle.markdown_lines.specs.LineBytes.{is_parted}
 use Rattle.markdown_lines.specs.Lines.{is_space_or_tab}
 use Rattle.markdown_lines.specs.ListMarkers.{if_it_stands, list_marker_at, marker_of, may_interrupt}
 use Rattle.markdown_lines.specs.MetadataBlocks.{are_of_metadata, is_three_of, lines_at, metadata_opened}
-use Rattle.markdown_lines.specs.MetadataBlocks.{metadata_option, opened_before}
-use Rattle.markdown_lines.specs.ExtendedOnly.{is_read}
+use Rattle.markdown_lines.specs.MetadataBlocks.{opened_before}
 use Rattle.markdown_lines.specs.SourceLines.{SourceLine}
 use Rattle.markdown_lines.specs.ThematicBreaks.{setext_level, underline_level}
 use Rattle.markdown_lines.proofs.BlockStartsLemmas.{after_mark, is_mark}
@@ -99,7 +100,7 @@ after_alone s columns here b block is =
     let content = slice_range s.text here.scanned stop in
     first_alone b
     (quote_in_line s here ∷ heading_in_line s here ∷ fence_in_line s columns here ∷
-    html_in_line paragraph.Lazy here ∷ footnote_in_line s.options here ∷ [])
+    html_in_line paragraph.Lazy here ∷ footnote_in_line s.syntax here ∷ [])
     (underline_in_line paragraph.Reached here ∷ break_in_line here ∷ item_in_line s paragraph.Reached columns here ∷ [])
     (underline_in_line paragraph.Lazy here ∷ break_in_line here ∷ item_in_line s paragraph.Lazy columns here ∷ [])
     (last_alone b block (setext_level here.bytes) (break_in_line here)
@@ -166,9 +167,9 @@ hyphens_underline s columns here more own are count white =
     item_in_line s paragraph.Reached columns here ∷ [])) (ap setext_level are ∙ level)
 
 -- a line that opens metadata between hyphens is three of them
-opened_by_hyphens : (options : Options) (text content : List ℕ) (next : ℕ)
-    → metadata_opened options text content next ≡ Some metadata.YamlStyle → is_three_of hyphen content ≡ true
-opened_by_hyphens options text content next opened =
+opened_by_hyphens : (syntax : Syntax) (text content : List ℕ) (next : ℕ)
+    → metadata_opened syntax text content next ≡ Some metadata.YamlStyle → is_three_of hyphen content ≡ true
+opened_by_hyphens syntax text content next opened =
     decided (is_three_of hyphen content) (is_three_of plus_sign content) opened
   where
     IsYaml : Option MetadataBlockKind → Type 0
@@ -180,12 +181,12 @@ opened_by_hyphens options text content next opened =
     of_pluses false is = subst IsYaml (sym is) tt
 
     decided : (hyphens pluses : Bool)
-        → option_and_then (opened_before options text next)
+        → option_and_then (opened_before syntax text next)
         (if hyphens then Some metadata.YamlStyle else if pluses then Some metadata.PlusesStyle else None)
         ≡ Some metadata.YamlStyle → hyphens ≡ true
     decided true pluses is = refl
     decided false true is =
-        absurd (of_pluses (is_read (metadata_option metadata.PlusesStyle) options
+        absurd (of_pluses (reads_metadata syntax metadata.PlusesStyle
         && are_of_metadata metadata.PlusesStyle (lines_at text next)) is)
     decided false false is = absurd (none-some metadata.YamlStyle is)
 
@@ -213,7 +214,7 @@ reached_alone s l b own is block = by_columns ((leading_space 4 l.left).columns 
         three.white
 
     by_metadata : (outermost : Bool) (opened : Option MetadataBlockKind)
-        → metadata_opened s.options s.text l.left.bytes l.next ≡ opened
+        → metadata_opened s.syntax s.text l.left.bytes l.next ≡ opened
         → unwrap_or (if outermost then option_and_then (metadata_begun paragraph.Reached) opened else None)
         (after paragraph.Reached) ≡ b
         → unwrap_or (if outermost then option_and_then (metadata_begun paragraph.Lazy) opened else None)
@@ -223,7 +224,7 @@ reached_alone s l b own is block = by_columns ((leading_space 4 l.left).columns 
     by_metadata true (Some metadata.PlusesStyle) found is = alone is
     by_metadata true (Some metadata.YamlStyle) found is =
         absurd (subst BeginsBlock (sym is ∙ hyphens
-        (three_hyphens l.left.bytes (opened_by_hyphens s.options s.text l.left.bytes l.next found))) block)
+        (three_hyphens l.left.bytes (opened_by_hyphens s.syntax s.text l.left.bytes l.next found))) block)
 
     by_columns : (full : Bool)
         → (if full then line.begins_text else unwrap_or (metadata_in_line s paragraph.Reached l)
@@ -232,7 +233,7 @@ reached_alone s l b own is block = by_columns ((leading_space 4 l.left).columns 
         ≡ b
     by_columns true is = is
     by_columns false is =
-        by_metadata l.outermost (metadata_opened s.options s.text l.left.bytes l.next) refl is
+        by_metadata l.outermost (metadata_opened s.syntax s.text l.left.bytes l.next) refl is
 
 -- what begins a block where it could only continue a paragraph lazily, begins that where there is none
 lazily_alone : (s : Source) (l : SourceLine) (b : Beginning) → IsLeftOf s.text l.left → begins s paragraph.Lazy l ≡ b

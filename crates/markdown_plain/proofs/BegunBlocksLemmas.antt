@@ -2,7 +2,8 @@
 use Rattle.std.proofs.Common.{◌≡◌, List, sym, ap, ◌∙◌, subst}
 use Rattle.markdown_base.specs.Forest.{Forest}
 use Rattle.markdown_builder.specs.TreeLevels.{followed_by}
-use Rattle.markdown_lines.specs.BlockBeginnings.{Beginning, Source}
+use Rattle.markdown_base.specs.Source.{Source}
+use Rattle.markdown_lines.specs.BlockBeginnings.{Beginning}
 use Rattle.markdown_lines.specs.SourceLines.{SourceLine}
 use Rattle.markdown_lines.specs.declared.line.Line.{Line}
 use Rattle.markdown_block_rules.specs.BlockGrowth.{Block, Kind, begun_by, content_of, inside_of, new_blocks}
@@ -20,7 +21,7 @@ use Rattle.markdown_plain.proofs.BegunLemmas.{begun_once}
 -- beside what is built, a pass is the same
 pub record KeepsRest (old now : Pass) : Type 0 where
   pub text : now.placing.builder.text ≡ old.placing.builder.text
-  pub options : now.options ≡ old.options
+  pub syntax : now.syntax ≡ old.syntax
   pub lines : now.lines.items ≡ old.lines.items
   pub blanks : now.blanks.items ≡ old.blanks.items
   pub looseness : now.looseness ≡ old.looseness
@@ -29,7 +30,7 @@ pub keeps_rest : (old now : Pass) → now ≡ record old { placing = now.placing
     → now.placing.builder.text ≡ old.placing.builder.text → KeepsRest old now
 keeps_rest old now same text = record {
   text = text;
-  options = ap (λ (p : Pass). p.options) same;
+  syntax = ap (λ (p : Pass). p.syntax) same;
   lines = ap (λ (p : Pass). p.lines.items) same;
   blanks = ap (λ (p : Pass). p.blanks.items) same;
   looseness = ap (λ (p : Pass). p.looseness) same;
@@ -41,16 +42,16 @@ keeps_leaf old now same text =
     keeps_rest old now (same ∙ ap (λ leaf. record old { placing = now.placing; leaf = leaf })
     (sym (ap (λ (p : Pass). p.leaf) same))) text
 
--- the text and its options stay
+-- the text and its syntax stay
 pub source_kept : (s : Source) (old now : Pass) → now.placing.builder.text ≡ old.placing.builder.text
-    → now.options ≡ old.options → source_of old ≡ s → source_of now ≡ s
-source_kept s old now text options source = rw (text, options) source
+    → now.syntax ≡ old.syntax → source_of old ≡ s → source_of now ≡ s
+source_kept s old now text syntax source = rw (text, syntax) source
 
 -- a block may still begin once it was made
 pub still_may : (s : Source) (room now : Pass) (line : Line) (frames : List Frame) (inside : Forest Block)
     → MayBegin s room line frames inside → KeepsRest room now → MayBegin s now line frames inside
 still_may s room now line frames inside may keeps = record {
-  source = source_kept s room now keeps.text keeps.options may.source;
+  source = source_kept s room now keeps.text keeps.syntax may.source;
   lines = keeps.lines ∙ may.lines;
   blanks = keeps.blanks ∙ may.blanks;
   loose = subst (λ (n : Looseness). IsLooseBefore n frames inside) (sym keeps.looseness) may.loose;

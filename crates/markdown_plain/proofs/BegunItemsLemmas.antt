@@ -8,7 +8,8 @@ use Rattle.markdown_base.specs.Forest.{Forest, nil, node}
 use Rattle.markdown_builder.specs.TreeLevels.{followed_by}
 use Rattle.markdown_scan.specs.LineStart.{LineLeft}
 use Rattle.markdown_lines.specs.BlockBeginnings as line
-use Rattle.markdown_lines.specs.BlockBeginnings.{Source, begins}
+use Rattle.markdown_base.specs.Source.{Source}
+use Rattle.markdown_lines.specs.BlockBeginnings.{begins}
 use Rattle.markdown_lines.specs.BlockStarts.{left_at}
 use Rattle.markdown_lines.specs.SourceLines.{SourceLine, is_blank_rest, rest_inside}
 use Rattle.markdown_lines.specs.declared.block_start.Before.TheVariants as paragraph
@@ -165,7 +166,7 @@ line_touched to l frames next after earlier = record {
 -- an item, and a list unless one continues, was opened inside the outermost `depth` of the open blocks
 pub record OpensItem (old new : Pass) (item : ItemStart) (at depth : ℕ) : Type 0 where
   pub text : new.placing.builder.text ≡ old.placing.builder.text
-  pub options : new.options ≡ old.options
+  pub syntax : new.syntax ≡ old.syntax
   pub here : new.placing.builder.at ≡ at
   pub ended : new.lines.items ≡ []
   pub dropped : old.placing.builder.leaf ≡ true → new.blanks.items ≡ []
@@ -320,7 +321,7 @@ module _ (s : Source) (old now : Pass) (rest next : LineRest) (before : Before) 
       → IsBuilt s now.placing.builder fs nil → IsLooseAs now.looseness fs nil → ReadsOn s now rest next blocks =
       λ fs outer inner same in_line makes built loose.
       item_inside s now rest next source blocks item outer inner state.left begins_it boundary goes
-      (source_kept s old now opens.text opens.options holds.source) opens.ended
+      (source_kept s old now opens.text opens.syntax holds.source) opens.ended
       (none_kept old now item at n opens old.placing.builder.leaf refl holds.unheld)
       (opens.here ∙ found.begins)
       (subst (AreItemsInLists false) (sym state.whole) (line_keeps s (rebuilt frames inside) l around.items))
@@ -382,7 +383,7 @@ item_later s old now rest next frames source blocks item at state found boundary
     let built = opens.begins s frames nil list b opened.free state.depth (sym found.begins) refl (sym found.begins)
     refl in
     item_inside s now rest next source blocks item (with_frame frames nil list) nil state.left begins boundary goes
-    (source_kept s old now opens.text opens.options opened.source) opens.ended (opens.unheld opened.blanks)
+    (source_kept s old now opens.text opens.syntax opened.source) opens.ended (opens.unheld opened.blanks)
     (opens.here ∙ found.begins) state.items
     (in_line_more s rest source (was.list_container item.marker) frames nil state.left begins.filled
     (record { quotes = opened.quotes; items = opened.items; earlier = opened.earlier }))

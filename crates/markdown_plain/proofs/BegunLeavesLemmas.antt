@@ -7,7 +7,8 @@ use Rattle.markdown_builder.specs.BuilderView.{BuilderView}
 use Rattle.std.proofs.lemmas.Option.{none-some}
 use Rattle.std.specs.Prelude.{if◌then◌else◌, slice_index}
 use Rattle.markdown_lines.specs.BlockBeginnings as line
-use Rattle.markdown_lines.specs.BlockBeginnings.{Beginning, Source, begins}
+use Rattle.markdown_base.specs.Source.{Source}
+use Rattle.markdown_lines.specs.BlockBeginnings.{Beginning, begins}
 use Rattle.markdown_lines.specs.BlockStarts.{begins_unless_blank, left_at}
 use Rattle.markdown_lines.specs.SourceLines.{SourceLine, is_blank_rest}
 use Rattle.markdown_lines.specs.declared.block_start.Before.{Before}
@@ -200,7 +201,7 @@ nothing_inside s old now rest frames source at blocks state found same steps =
     let whole : blocks ≡ rebuilt frames nil =
     state.whole ∙ ap (rebuilt frames) (blank_begins s source (is_blank_rest source)
     (found.is ∙ ap (λ p. begins_unless_blank s p source) state.before)) in
-    let source_is = source_kept s old now (ap (λ (v : BuilderView). v.text) steps) (ap (λ (p : Pass). p.options) same)
+    let source_is = source_kept s old now (ap (λ (v : BuilderView). v.text) steps) (ap (λ (p : Pass). p.syntax) same)
     opened.source in
     let blanks : now.blanks.items ≡ [] = ap (λ (p : Pass). p.blanks.items) same ∙ opened.blanks in
     let placed : PlacesLast s now frames nil None = (

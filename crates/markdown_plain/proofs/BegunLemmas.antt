@@ -9,9 +9,10 @@ use Rattle.std.proofs.lemmas.Option.{none-some}
 use Rattle.std.specs.Prelude.{unwrap_or, if◌then◌else◌, slice_index}
 use Rattle.std.specs.List.{prefix_len, list_all}
 use Rattle.std.specs.Option.{option_and_then, option_map, option_or}
+use Rattle.markdown_base.specs.Syntax.{reads_metadata}
 use Rattle.markdown_base.specs.Bytes.{hyphen, plus_sign}
 use Rattle.markdown_base.specs.Forest.{Forest, nil}
-use Rattle.markdown_base.specs.declared.options.Options.{Options}
+use Rattle.markdown_base.specs.declared.syntax.Syntax.{Syntax}
 use Rattle.markdown_base.specs.declared.tag.MetadataBlockKind.{MetadataBlockKind}
 use Rattle.markdown_base.specs.declared.tag.MetadataBlockKind.TheVariants as metadata
 use Rattle.markdown_scan.specs.Beginnings.{begins_with}
@@ -24,14 +25,14 @@ use Rattle.markdown_lines.specs.declared.html_kind.HtmlKind.TheVariants as html
 use Rattle.markdown_lines.specs.declared.list_marker.ListMarker.{ListMarker}
 use Rattle.markdown_lines.specs.declared.position.Position.{Position}
 use Rattle.markdown_lines.specs.BlockBeginnings as line
-use Rattle.markdown_lines.specs.BlockBeginnings.{Beginning, Source, begins, begins_after, first_found, item_in_line}
+use Rattle.markdown_base.specs.Source.{Source}
+use Rattle.markdown_lines.specs.BlockBeginnings.{Beginning, begins, begins_after, first_found, item_in_line}
 use Rattle.markdown_lines.specs.BlockBeginnings.{item_of, metadata_begun, metadata_in_line}
 use Rattle.markdown_lines.specs.HtmlBeginnings.{is_lone_tag, known_kind}
 use Rattle.markdown_lines.specs.Lines.{is_space_or_tab}
 use Rattle.markdown_lines.specs.ListMarkers.{if_it_stands, marker_of}
 use Rattle.markdown_lines.specs.MetadataBlocks.{are_of_metadata, is_three_of, lines_at, metadata_opened}
-use Rattle.markdown_lines.specs.MetadataBlocks.{metadata_option, opened_before}
-use Rattle.markdown_lines.specs.ExtendedOnly.{is_read}
+use Rattle.markdown_lines.specs.MetadataBlocks.{opened_before}
 use Rattle.markdown_lines.specs.Positions.{left_from}
 use Rattle.markdown_lines.specs.SourceLines.{SourceLine, is_blank_rest, rest_inside}
 use Rattle.markdown_lines.specs.ThematicBreaks.{is_thematic_break}
@@ -143,9 +144,9 @@ pluses_are_text s columns here more own are =
     (if_it_stands (marker_of content) content false) ∷ [])) (own ∙ are))
 
 -- a line that opens metadata of pluses is three of them
-opened_by_pluses : (options : Options) (text content : List ℕ) (next : ℕ)
-    → metadata_opened options text content next ≡ Some metadata.PlusesStyle → is_three_of plus_sign content ≡ true
-opened_by_pluses options text content next opened =
+opened_by_pluses : (syntax : Syntax) (text content : List ℕ) (next : ℕ)
+    → metadata_opened syntax text content next ≡ Some metadata.PlusesStyle → is_three_of plus_sign content ≡ true
+opened_by_pluses syntax text content next opened =
     decided (is_three_of hyphen content) (is_three_of plus_sign content) opened
   where
     IsPluses : Option MetadataBlockKind → Type 0
@@ -157,11 +158,11 @@ opened_by_pluses options text content next opened =
     of_hyphens false is = subst IsPluses (sym is) tt
 
     decided : (hyphens pluses : Bool)
-        → option_and_then (opened_before options text next)
+        → option_and_then (opened_before syntax text next)
         (if hyphens then Some metadata.YamlStyle else if pluses then Some metadata.PlusesStyle else None)
         ≡ Some metadata.PlusesStyle → pluses ≡ true
     decided true pluses is =
-        absurd (of_hyphens (is_read (metadata_option metadata.YamlStyle) options
+        absurd (of_hyphens (reads_metadata syntax metadata.YamlStyle
         && are_of_metadata metadata.YamlStyle (lines_at text next)) is)
     decided false true is = refl
     decided false false is = absurd (none-some metadata.PlusesStyle is)
@@ -224,7 +225,7 @@ begins_alike s l own = by_columns ((leading_space 4 l.left).columns == 4)
         pluses_are_text s space.columns space.after two.more (space_is_of s.text 4 l.left own) stay
 
     by_metadata : (outermost : Bool) (opened : Option MetadataBlockKind)
-        → metadata_opened s.options s.text l.left.bytes l.next ≡ opened
+        → metadata_opened s.syntax s.text l.left.bytes l.next ≡ opened
         → Alike (unwrap_or (if outermost then option_and_then (metadata_begun paragraph.Lazy) opened else None)
         (after paragraph.Lazy))
         (unwrap_or (if outermost then option_and_then (metadata_begun paragraph.NoParagraph) opened else None)
@@ -233,7 +234,7 @@ begins_alike s l own = by_columns ((leading_space 4 l.left).columns == 4)
     by_metadata true None is = alike
     by_metadata true (Some metadata.YamlStyle) is = inl refl
     by_metadata true (Some metadata.PlusesStyle) is =
-        inr (pluses (two_pluses l.left.bytes (opened_by_pluses s.options s.text l.left.bytes l.next is)), tt)
+        inr (pluses (two_pluses l.left.bytes (opened_by_pluses s.syntax s.text l.left.bytes l.next is)), tt)
 
     by_columns : (full : Bool)
         → Alike (if full then line.begins_text else unwrap_or (metadata_in_line s paragraph.Lazy l)
@@ -241,7 +242,7 @@ begins_alike s l own = by_columns ((leading_space 4 l.left).columns == 4)
         (if full then line.begins_indented space.after else unwrap_or (metadata_in_line s paragraph.NoParagraph l)
         (after paragraph.NoParagraph))
     by_columns true = inr (refl, tt)
-    by_columns false = by_metadata l.outermost (metadata_opened s.options s.text l.left.bytes l.next) refl
+    by_columns false = by_metadata l.outermost (metadata_opened s.syntax s.text l.left.bytes l.next) refl
 
 -- a line that begins no text where it could continue a paragraph begins the same where there is none
 pub begins_same : (s : Source) (l : SourceLine) → IsLeftOf s.text l.left

@@ -9,7 +9,6 @@ use Rattle.std.specs.Prelude.{slice_index, slice_range}
 use Rattle.std.specs.Char.{is_ascii_digit}
 use Rattle.std.specs.List.{list_all, prefix_len}
 use Rattle.std.specs.Option.{option_map}
-use Rattle.markdown_base.specs.EnabledOptions.{footnotes_on}
 use Rattle.markdown_base.specs.declared.tag.BlockQuoteKind.{BlockQuoteKind}
 use Rattle.markdown_scan.specs.Beginnings.{begins_with}
 use Rattle.markdown_scan.specs.LineStart.{LineLeft, Space, leading_space, past_marker, past_one_byte}
@@ -19,7 +18,8 @@ use Rattle.markdown_lines.specs.declared.block_start.Before.{Before}
 use Rattle.markdown_lines.specs.declared.list_marker.ListMarker.{ListMarker}
 use Rattle.markdown_lines.specs.Alerts.{alert_read}
 use Rattle.markdown_lines.specs.BlockBeginnings as line
-use Rattle.markdown_lines.specs.BlockBeginnings.{Beginning, Source, begins, footnote_in_line, footnote_marker}
+use Rattle.markdown_base.specs.Source.{Source}
+use Rattle.markdown_lines.specs.BlockBeginnings.{Beginning, begins, footnote_in_line, footnote_marker}
 use Rattle.markdown_lines.specs.BlockBeginnings.{is_reached, item_in_line, item_of, label_before_colon, past_bytes}
 use Rattle.markdown_lines.specs.BlockBeginnings.{quote_in_line, quote_of, quote_or_alert}
 use Rattle.markdown_lines.specs.HtmlBeginnings.{in_one_line}
@@ -75,8 +75,8 @@ in_quote : (s : Source) (whole : LineLeft) (here : LineLeft) → EndsAt whole he
     → IfFound (HoldsTo whole) (quote_in_line s here)
 in_quote s whole here ends =
     on_test (IfFound (HoldsTo whole)) (begins_with (codes ">") here.bytes)
-    (Some (quote_of s.options (past_marker here))) None
-    (λ marker. quote_ends whole (past_marker here) (alert_read s.options (past_marker here))
+    (Some (quote_of s.syntax (past_marker here))) None
+    (λ marker. quote_ends whole (past_marker here) (alert_read s.syntax (past_marker here))
     (marker_ends whole here marker ends)) (λ none. tt)
 
 -- ---- a footnote definition
@@ -100,12 +100,12 @@ label_ends whole here (Some label) ends =
     (omega (arith, colon_there here.bytes (label.0 + 2) is)) ends) (λ none. tt)
 
 in_footnote : (s : Source) (whole : LineLeft) (here : LineLeft) → EndsAt whole here
-    → IfFound (HoldsTo whole) (footnote_in_line s.options here)
+    → IfFound (HoldsTo whole) (footnote_in_line s.syntax here)
 in_footnote s whole here ends =
     let label = link_label in_one_line false (drop 2 here.bytes) in
     let found : Option (List ℕ × ℕ) → Option Beginning =
     option_map (λ marker. line.begins_footnote marker.0 (past_bytes marker.1 here)) in
-    either (IfFound (HoldsTo whole)) (footnotes_on s.options) (found (footnote_marker here.bytes)) None
+    either (IfFound (HoldsTo whole)) s.syntax.footnotes (found (footnote_marker here.bytes)) None
     (either (λ o. IfFound (HoldsTo whole) (found o)) (begins_with (codes "[^") here.bytes)
     (label_before_colon here.bytes label)
     None (label_ends whole here label ends) tt) tt

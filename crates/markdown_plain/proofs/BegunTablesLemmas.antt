@@ -12,7 +12,7 @@ use Rattle.markdown_builder.specs.Shown.{Shown, alignments_shown}
 use Rattle.markdown_builder.specs.TreeLevels.{with_trees}
 use Rattle.markdown_builder.specs.declared.open_block.OpenBlock.{OpenBlock}
 use Rattle.markdown_items.proofs.RestOfLineLemmas.{no_items}
-use Rattle.markdown_lines.specs.BlockBeginnings.{Source}
+use Rattle.markdown_base.specs.Source.{Source}
 use Rattle.markdown_lines.specs.SourceLines.{SourceLine}
 use Rattle.markdown_lines.specs.declared.held_line.HeldLine.{HeldLine}
 use Rattle.markdown_block_rules.specs.BlockGrowth as was

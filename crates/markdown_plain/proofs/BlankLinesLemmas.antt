@@ -7,12 +7,11 @@ use Rattle.std.proofs.lemmas.Option.{none-some, same_Some}
 use Rattle.std.specs.Prelude.{◌==◌, codes, nat_le, nat_lt, if◌then◌else◌}
 use Rattle.std.specs.List.{list_all}
 use Rattle.std.specs.Option.{option_map}
-use Rattle.markdown_base.specs.EnabledOptions.{old_footnotes_on}
 use Rattle.markdown_base.specs.Forest.{Forest, nil}
 use Rattle.markdown_builder.specs.TreeLevels.{followed_by}
 use Rattle.markdown_scan.specs.Beginnings.{begins_with}
 use Rattle.markdown_scan.specs.LineStart.{LineLeft, leading_space, past_marker}
-use Rattle.markdown_lines.specs.BlockBeginnings.{Source}
+use Rattle.markdown_base.specs.Source.{Source}
 use Rattle.markdown_lines.specs.Lines.{is_space_or_tab}
 use Rattle.markdown_lines.specs.SourceLines.{SourceLine, is_blank_rest, rest_inside}
 use Rattle.markdown_block_rules.specs.BlockGrowth as was
@@ -96,7 +95,7 @@ blank_taken s l m empty (was.item_container indent) blank takes =
     by_test true takes = absurd (none-some m takes)
     by_test false takes = indented_alike l m indent takes ∙ blank
 blank_taken s l m empty (was.footnote_container label) blank takes =
-    record { plain = refl; blank = by_style (old_footnotes_on s.options) takes }
+    record { plain = refl; blank = by_style s.syntax.old_footnotes takes }
   where
     left_whole : (white : Bool) → option_map (λ rest. rest_inside rest l) (if white then None else Some l.left) ≡ Some m
         → is_blank_rest m ≡ true

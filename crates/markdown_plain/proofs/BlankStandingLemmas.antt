@@ -10,7 +10,7 @@ use Rattle.markdown_base.specs.Forest.{Forest, nil}
 use Rattle.markdown_builder.specs.TreeLevels.{followed_by}
 use Rattle.markdown_builder.specs.declared.open_block.OpenBlock.{OpenBlock}
 use Rattle.markdown_scan.specs.LineStart.{LineLeft}
-use Rattle.markdown_lines.specs.BlockBeginnings.{Source}
+use Rattle.markdown_base.specs.Source.{Source}
 use Rattle.markdown_lines.specs.SourceLines.{SourceLine, cut, is_blank_rest}
 use Rattle.markdown_lines.specs.declared.held_line.HeldLine.{HeldLine}
 use Rattle.markdown_lines.specs.declared.line.Line.{Line}
@@ -356,7 +356,7 @@ code_stands_for s old mid line found frames inside b source lines placed by none
                   (blank_held s old.placing.builder frames inside b lines r.rest
                   (in_leaf_open s old frames inside b may open_leaf) held.kind held.blank),
             );
-            options = may.options;
+            syntax = may.syntax;
             quotes = subst (λ (fs : List Frame). QuotesEnd placed (map (touched source) fs)) all quotes;
             items = subst (AreItemsInLists false) whole
                 (line_keeps s (blocks_before before) source may.items);

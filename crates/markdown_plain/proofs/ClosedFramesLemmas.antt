@@ -14,7 +14,7 @@ use Rattle.markdown_builder.specs.BuilderView.{BuilderView, innermost_block, par
 use Rattle.markdown_builder.specs.Shown.{Parts, Shown, plain_item, settled_below, shown_item, with_block}
 use Rattle.markdown_builder.specs.TreeLevels.{followed_by, with_trees}
 use Rattle.markdown_builder.proofs.LaidLemmas.{followed_by-assoc}
-use Rattle.markdown_lines.specs.BlockBeginnings.{Source}
+use Rattle.markdown_base.specs.Source.{Source}
 use Rattle.markdown_block_rules.specs.BlockGrowth as was
 use Rattle.markdown_block_rules.specs.BlockGrowth.{Block, Kind}
 use Rattle.markdown_block_rules.specs.BlockRules.{Around, block_end, in_no_item, is_blank_block, is_loose, last_end}

@@ -26,7 +26,7 @@ use Rattle.markdown_scan.specs.LineStart.{LineLeft, Space, column_after, leading
 use Rattle.markdown_scan.specs.LineStart.{space_width}
 use Rattle.markdown_lines.specs.Lines.{is_space_or_tab}
 use Rattle.markdown_plain.proofs.LeafTreesLemmas.{on_test}
-use Rattle.markdown_lines.specs.BlockBeginnings.{Source}
+use Rattle.markdown_base.specs.Source.{Source}
 use Rattle.markdown_lines.specs.Positions.{IsSpaceAt, left_from}
 use Rattle.markdown_lines.specs.declared.line.Line.{Line}
 use Rattle.markdown_block_rules.specs.TableLines.{is_near}

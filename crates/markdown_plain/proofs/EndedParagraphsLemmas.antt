@@ -9,7 +9,7 @@ use Rattle.markdown_base.specs.declared.tag.HeadingLevel.{HeadingLevel}
 use Rattle.markdown_builder.specs.Shown.{Shown}
 use Rattle.markdown_builder.specs.TreeLevels.{with_trees}
 use Rattle.markdown_items.proofs.RestOfLineLemmas.{no_items}
-use Rattle.markdown_lines.specs.BlockBeginnings.{Source}
+use Rattle.markdown_base.specs.Source.{Source}
 use Rattle.markdown_lines.specs.DefinitionRules.{Defined, definition_in, divided, divided_in, lines_behind}
 use Rattle.markdown_lines.specs.DefinitionRules.{more_definitions, text_of_lines}
 use Rattle.markdown_lines.specs.HeldLines.{AreHeldFrom, IsHeldLine}
@@ -131,7 +131,7 @@ no_later_task s marked from (line ∷ lines) (source ∷ sources) zero are there
     let next = there.0.next in
     let after : marked < source.next = omega (arith, some, ends, start, next, low) in
     let other : (source.next == marked) ≡ false = grind (arith, nat_tests, after) in
-    sym (on_false (source.next == marked) (task_read s.options source.left.bytes) None other)
+    sym (on_false (source.next == marked) (task_read s.syntax source.left.bytes) None other)
 no_later_task s marked from (line ∷ lines) (source ∷ sources) (suc taken) are there low =
     let some = are.1.0.some in
     let ends = are.1.0.ends in

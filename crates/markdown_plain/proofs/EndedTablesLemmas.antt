@@ -6,7 +6,7 @@ use Rattle.markdown_base.specs.Forest.{Forest, nil, node}
 use Rattle.markdown_base.specs.declared.tag.Alignment.{Alignment}
 use Rattle.markdown_builder.specs.BuilderView.{BuilderView}
 use Rattle.markdown_builder.specs.TreeLevels.{followed_by}
-use Rattle.markdown_lines.specs.BlockBeginnings.{Source}
+use Rattle.markdown_base.specs.Source.{Source}
 use Rattle.markdown_lines.specs.SourceLines.{SourceLine}
 use Rattle.markdown_lines.specs.declared.line.Line.{Line}
 use Rattle.markdown_block_rules.specs.BlockGrowth as was
@@ -158,7 +158,7 @@ module _ (b : Block) (head : SourceLine) (alignments : List Alignment) (rows : L
     ended_may : MayEnd s pass frames inside ended_now None
     ended_may = record {
       unended = (refl, ended_open s pass.placing.builder frames inside may.unended.0 may.unended.1);
-      options = may.options;
+      syntax = may.syntax;
       quotes = may.quotes;
       items = subst (AreItemsInLists false)
           (ended_blocks frames inside b (was.table_leaf true head alignments rows) are (ap table_ended kind))

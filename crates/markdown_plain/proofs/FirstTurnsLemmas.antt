@@ -4,10 +4,11 @@ use Rattle.std.proofs.Common.{Some, None, length, length-append, take, arith, re
 use Rattle.std.specs.List.{list_all}
 use Rattle.std.specs.Str.{IsCharBoundary, IsUtf8}
 use Rattle.std.proofs.lemmas.Bool.Decides.{nat_tests}
+use Rattle.markdown_base.specs.Syntax.{any_metadata}
 use Rattle.markdown_base.specs.Forest.{Forest}
 use Rattle.markdown_builder.specs.declared.open_block.OpenBlock.{OpenBlock}
 use Rattle.markdown_scan.specs.LineStart.{LineLeft}
-use Rattle.markdown_lines.specs.BlockBeginnings.{Source}
+use Rattle.markdown_base.specs.Source.{Source}
 use Rattle.markdown_lines.specs.Lines.{IsLineFrom}
 use Rattle.markdown_lines.specs.SourceLines.{SourceLine, is_blank_rest}
 use Rattle.markdown_lines.specs.declared.position.Position.{Position}
@@ -17,7 +18,7 @@ use Rattle.markdown_plain.specs.TableHeads.{IfParagraphLast, IsUntabled}
 use Rattle.markdown_plain.specs.declared.beginnings.LineRest.{LineRest}
 use Rattle.markdown_plain.specs.declared.containers.Reached as code
 use Rattle.markdown_plain.specs.declared.pass.Pass.{Pass}
-use Rattle.markdown_plain.specs.Beginning.{IsFirst, IsLeft, IsMadeOf, reads_metadata}
+use Rattle.markdown_plain.specs.Beginning.{IsFirst, IsLeft, IsMadeOf}
 use Rattle.markdown_plain.specs.Frames.{Frame, inside_container, is_list, reached, reached_past, rebuilt}
 use Rattle.markdown_plain.specs.HeldSources.{IsRest}
 use Rattle.markdown_plain.specs.OpenBlocks as by_body
@@ -108,7 +109,7 @@ first_left : (s : Source) (pass : Pass) (found : code.Reached) (before : Before)
 first_left s pass found before source rest utf8 by made =
     let r = reached_of s before source in
     let same : pass.placing.builder.text ≡ s.text = ap (λ (s : Source). s.text) by.stands.source in
-    let options : pass.options ≡ s.options = ap (λ (s : Source). s.options) by.stands.source in
+    let syntax : pass.syntax ≡ s.syntax = ap (λ (s : Source). s.syntax) by.stands.source in
     let within = reached_within pass.placing.builder.text rest.line.start utf8 s before.frames (blocks_in before) source
     (whole_within pass rest.line source by.is) in
     let place : rest.position.at ≡ r.rest.left.scanned =
@@ -121,13 +122,13 @@ first_left s pass found before source rest utf8 by made =
         stop = by.reaches.stop;
         ends = let ends = by.is.from.ends in omega (arith, ends);
       };
-      text = ap (λ (text : List ℕ). record { text = text; options = rest.reader.options }) made.text
-          ∙ ap (λ options. record { text = s.text; options = options }) (made.options ∙ options);
+      text = ap (λ (text : List ℕ). record { text = text; syntax = rest.reader.syntax }) made.text
+          ∙ ap (λ syntax. record { text = s.text; syntax = syntax }) (made.syntax ∙ syntax);
       stop = made.stop;
       start = made.start;
       next = made.next ∙ by.reaches.rest.next;
       indent = by.reaches.indent ∙ by.is.indent;
-      outermost = λ reads. outermost (subst (λ o. reads_metadata o ≡ true) (sym options) reads);
+      outermost = λ reads. outermost (subst (λ o. any_metadata o ≡ true) (sym syntax) reads);
       after = subst (λ n. rest.line.start ≤ n) (sym place) within.low;
       boundary = subst (IsCharBoundary s.text) (sym place)
           (subst (λ (text : List ℕ). IsCharBoundary text r.rest.left.scanned) same within.boundary);
@@ -138,7 +139,7 @@ first_left s pass found before source rest utf8 by made =
     lists : Bool
     lists = list_all (λ f. is_list f.block.kind) (reached_of s before source).outer
 
-    reader_outermost : reads_metadata pass.options ≡ true → rest.reader.outermost ≡ lists
+    reader_outermost : any_metadata pass.syntax ≡ true → rest.reader.outermost ≡ lists
     reader_outermost reads =
         let r = reached_of s before source in
         let parts = open_parts s pass before.frames before.inside before.last by.stands.unended by.stands.loose in
@@ -167,7 +168,7 @@ first_left s pass found before source rest utf8 by made =
         grind (arith, nat_tests, here)
     by_lists false some = refl
 
-    outermost : reads_metadata pass.options ≡ true
+    outermost : any_metadata pass.syntax ≡ true
         → (rest.reader.outermost && (rest.position.at == rest.reader.start))
         ≡ (reached_of s before source).rest.outermost
     outermost reads =

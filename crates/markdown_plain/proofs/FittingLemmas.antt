@@ -17,13 +17,13 @@ use Rattle.markdown_builder.specs.declared.open_block.OpenBlock.{OpenBlock}
 use Rattle.markdown_builder.specs.Shown.{Shown, chain_of, unnumbered}
 use Rattle.markdown_builder.specs.TreeLevels.{followed_by}
 use Rattle.markdown_items.specs.ContentItems.{content_items}
-use Rattle.markdown_items.specs.LineItems.{item_extensions}
+use Rattle.markdown_items.specs.LineItems.{item_syntax}
 use Rattle.markdown_scan.specs.LineStart.{LineLeft, leading_space}
 use Rattle.markdown_lines.specs.declared.held_line.HeldLine.{HeldLine}
 use Rattle.markdown_lines.specs.declared.position.Position.{Position}
 use Rattle.markdown_lines.specs.declared.space.Space.{Space}
 use Rattle.markdown_lines.specs.Positions.{IsSpaceAt, left_from}
-use Rattle.markdown_lines.specs.BlockBeginnings.{Source}
+use Rattle.markdown_base.specs.Source.{Source}
 use Rattle.markdown_lines.specs.SourceLines.{SourceLine}
 use Rattle.markdown_lines.specs.declared.braces.Braces.{Braces}
 use Rattle.markdown_block_rules.specs.BlockGrowth as was
@@ -263,7 +263,7 @@ block_is_no_row : (s : Source) (around : Around) (b : Block) (end : ℕ) (below 
 unfolding first_is_row
 block_is_no_row s around b end below inside (was.heading_leaf found) leaf =
     heading_is_no_row s b.start end found.level found.braces
-    (chain_of (content_items s.text (item_extensions s.options) found.from found.to))
+    (chain_of (content_items s.text (item_syntax s.syntax) found.from found.to))
 block_is_no_row s around b end below inside was.break_leaf leaf = refl
 block_is_no_row s around b end below inside (was.indented_leaf lines) leaf = refl
 block_is_no_row s around b end below inside (was.fenced_leaf opening closed lines) leaf = refl

@@ -6,19 +6,18 @@ use Rattle.std.specs.Prelude.{if◌then◌else◌, unwrap_or}
 use Rattle.std.specs.List.{list_all, prefix_len}
 use Rattle.std.specs.Option.{option_and_then}
 use Rattle.std.proofs.lemmas.Bool.{true≢false}
+use Rattle.markdown_base.specs.Syntax.{any_metadata}
 use Rattle.markdown_base.specs.Forest.{Forest}
-use Rattle.markdown_base.specs.declared.options.Options.{Options}
-use Rattle.markdown_base.specs.declared.options.TheConstants.Options.{ENABLE_YAML_STYLE_METADATA_BLOCKS}
-use Rattle.markdown_base.specs.declared.options.TheConstants.Options.{ENABLE_PLUSES_DELIMITED_METADATA_BLOCKS}
+use Rattle.markdown_base.specs.declared.syntax.Syntax.{Syntax}
 use Rattle.markdown_base.specs.declared.tag.MetadataBlockKind.{MetadataBlockKind}
 use Rattle.markdown_base.specs.declared.tag.MetadataBlockKind.TheVariants as metadata
 use Rattle.markdown_scan.specs.LineStart.{LineLeft, leading_space}
 use Rattle.markdown_lines.specs.BlockBeginnings as beginning
-use Rattle.markdown_lines.specs.BlockBeginnings.{Beginning, Source, begins, begins_after, is_paragraph}
+use Rattle.markdown_base.specs.Source.{Source}
+use Rattle.markdown_lines.specs.BlockBeginnings.{Beginning, begins, begins_after, is_paragraph}
 use Rattle.markdown_lines.specs.BlockBeginnings.{metadata_begun, metadata_in_line}
 use Rattle.markdown_lines.specs.BlockStarts.{IsSameLine, begins_unless_blank, beginning_found, left_at, line_at}
 use Rattle.markdown_lines.specs.BlockStarts.{source_read}
-use Rattle.markdown_lines.specs.ExtendedOnly.{is_read}
 use Rattle.markdown_lines.specs.Lines.{is_space_or_tab}
 use Rattle.markdown_lines.specs.MetadataBlocks.{are_of_metadata, line_opens, lines_at, metadata_opened}
 use Rattle.markdown_lines.specs.MetadataBlocks.{opened_before}
@@ -32,7 +31,6 @@ use Rattle.markdown_block_rules.specs.BlockGrowth.{Block}
 use Rattle.markdown_plain.specs.declared.beginnings.LineRest.{LineRest}
 use Rattle.markdown_plain.specs.declared.pass.Pass.{Pass}
 use Rattle.markdown_plain.specs.Beginning.{IsFirst, IsFound, IsHere, IsInside, IsLeft, Turn, first, later}
-use Rattle.markdown_plain.specs.Beginning.{reads_metadata}
 use Rattle.markdown_plain.specs.Frames.{Frame}
 use Rattle.markdown_plain.specs.ReachedLines.{Before as LineBefore}
 
@@ -50,7 +48,7 @@ left_same : (s : Source) (rest : LineRest) (new : LineReader) (source : SourceLi
     → IsLeft s rest source → IsLeft s (record rest { reader = new }) source
 left_same s rest new source same left = record {
   is = left.is;
-  text = rw (same.text, same.options) left.text;
+  text = rw (same.text, same.syntax) left.text;
   stop = same.stop ∙ left.stop;
   start = same.start ∙ left.start;
   next = same.next ∙ left.next;
@@ -120,19 +118,19 @@ neither true other none = absurd (true≢false none)
 neither false other none = (refl, none)
 
 -- where no metadata is read, a line opens none
-none_opens : (options : Options) (text : List ℕ) (next : ℕ) (opens : Option MetadataBlockKind)
-    → reads_metadata options ≡ false → option_and_then (opened_before options text next) opens ≡ None
-none_opens options text next None none = refl
-none_opens options text next (Some metadata.YamlStyle) none =
-    not_read (is_read ENABLE_YAML_STYLE_METADATA_BLOCKS options)
+none_opens : (syntax : Syntax) (text : List ℕ) (next : ℕ) (opens : Option MetadataBlockKind)
+    → any_metadata syntax ≡ false → option_and_then (opened_before syntax text next) opens ≡ None
+none_opens syntax text next None none = refl
+none_opens syntax text next (Some metadata.YamlStyle) none =
+    not_read (syntax.yaml)
     (are_of_metadata metadata.YamlStyle (lines_at text next)) metadata.YamlStyle
-    (neither (is_read ENABLE_YAML_STYLE_METADATA_BLOCKS options)
-    (is_read ENABLE_PLUSES_DELIMITED_METADATA_BLOCKS options) none).0
-none_opens options text next (Some metadata.PlusesStyle) none =
-    not_read (is_read ENABLE_PLUSES_DELIMITED_METADATA_BLOCKS options)
+    (neither (syntax.yaml)
+    (syntax.pluses) none).0
+none_opens syntax text next (Some metadata.PlusesStyle) none =
+    not_read (syntax.pluses)
     (are_of_metadata metadata.PlusesStyle (lines_at text next)) metadata.PlusesStyle
-    (neither (is_read ENABLE_YAML_STYLE_METADATA_BLOCKS options)
-    (is_read ENABLE_PLUSES_DELIMITED_METADATA_BLOCKS options) none).1
+    (neither (syntax.yaml)
+    (syntax.pluses) none).1
 
 -- so whether it is directly under the root is not asked
 either_outermost : (before : Before) (opened : Option MetadataBlockKind) (one other : Bool) → opened ≡ None
@@ -145,15 +143,15 @@ either_outermost before opened one other none = none_of one ∙ sym (none_of oth
     none_of false = refl
 
 same_metadata : (s : Source) (before : Before) (left : LineLeft) (next : ℕ) (one other reads : Bool)
-    → reads_metadata s.options ≡ reads → (reads ≡ true → one ≡ other)
+    → any_metadata s.syntax ≡ reads → (reads ≡ true → one ≡ other)
     → metadata_in_line s before (record { left = left; next = next; outermost = one; indent = None })
     ≡ metadata_in_line s before (record { left = left; next = next; outermost = other; indent = None })
 same_metadata s before left next one other true reads same =
     ap (λ outermost. metadata_in_line s before
     (record { left = left; next = next; outermost = outermost; indent = None })) (same refl)
 same_metadata s before left next one other false reads same =
-    either_outermost before (metadata_opened s.options s.text left.bytes next) one other
-    (none_opens s.options s.text next (line_opens left.bytes) reads)
+    either_outermost before (metadata_opened s.syntax s.text left.bytes next) one other
+    (none_opens s.syntax s.text next (line_opens left.bytes) reads)
 
 -- what a line begins, where this is what it opens of metadata
 abbrev begins_or : Source → Before → LineLeft → Option Beginning → Beginning
@@ -165,7 +163,7 @@ begins_or s before left opens =
 
 -- what two lines begin of which the same is left
 same_begins : (s : Source) (before : Before) (one other : SourceLine) → one.left ≡ other.left → one.next ≡ other.next
-    → (reads_metadata s.options ≡ true → one.outermost ≡ other.outermost)
+    → (any_metadata s.syntax ≡ true → one.outermost ≡ other.outermost)
     → begins s before one ≡ begins s before other
 same_begins s before one other left next outermost =
     ap (λ (l : LineLeft). begins s before
@@ -173,7 +171,7 @@ same_begins s before one other left next outermost =
     ∙ (ap (λ n. begins s before
     (record { left = other.left; next = n; outermost = one.outermost; indent = None })) next
     ∙ ap (begins_or s before other.left)
-    (same_metadata s before other.left other.next one.outermost other.outermost (reads_metadata s.options) refl
+    (same_metadata s before other.left other.next one.outermost other.outermost (any_metadata s.syntax) refl
     outermost))
 
 -- the line as the reader has it

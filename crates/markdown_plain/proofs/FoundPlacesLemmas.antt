@@ -12,9 +12,8 @@ use Rattle.std.proofs.lemmas.Bool.Decides.{eqb_tells, nat_tests}
 use Rattle.std.proofs.lemmas.List.{get_or-drop, get_or-reverse, get_or-take, length-drop, length-take}
 use Rattle.std.proofs.lemmas.List.Sums.{prefix_len-le-length, prefix_len_passes, suffix_len-le-length}
 use Rattle.std.proofs.lemmas.Str.{IsCharBoundary-after_ascii, IsCharBoundary-before_ascii}
-use Rattle.markdown_base.specs.EnabledOptions.{footnotes_on}
 use Rattle.markdown_base.specs.Forest.{Forest}
-use Rattle.markdown_base.specs.declared.options.Options.{Options}
+use Rattle.markdown_base.specs.declared.syntax.Syntax.{Syntax}
 use Rattle.markdown_base.specs.declared.tag.BlockQuoteKind.{BlockQuoteKind}
 use Rattle.markdown_base.specs.declared.tag.HeadingLevel.{HeadingLevel}
 use Rattle.markdown_base.specs.declared.tag.MetadataBlockKind.{MetadataBlockKind}
@@ -26,7 +25,8 @@ use Rattle.markdown_scan.specs.LineStart.{LineLeft, Space, leading_space, past_m
 use Rattle.markdown_lines.specs.Alerts.{alert_read}
 use Rattle.markdown_lines.specs.AtxHeadings.{atx_heading_at, heading_content, heading_from, is_hash}
 use Rattle.markdown_lines.specs.BlockBeginnings as line
-use Rattle.markdown_lines.specs.BlockBeginnings.{Beginning, Source, begins, begins_after, break_in_line}
+use Rattle.markdown_base.specs.Source.{Source}
+use Rattle.markdown_lines.specs.BlockBeginnings.{Beginning, begins, begins_after, break_in_line}
 use Rattle.markdown_lines.specs.BlockBeginnings.{fence_in_line, first_found, footnote_in_line, footnote_marker}
 use Rattle.markdown_lines.specs.BlockBeginnings.{heading_in_line, html_in_line, is_paragraph, is_reached}
 use Rattle.markdown_lines.specs.BlockBeginnings.{item_in_line, item_of, label_before_colon, metadata_begun}
@@ -35,7 +35,7 @@ use Rattle.markdown_lines.specs.BlockBeginnings.{quote_or_alert, underline_in_li
 use Rattle.markdown_lines.specs.BlockStarts.{IsSameLine, beginning_found, begins_unless_blank, left_at, line_at}
 use Rattle.markdown_lines.specs.BlockStarts.{source_read}
 use Rattle.markdown_lines.specs.CodeFences.{opening_fence_at, opens_fence, run_length}
-use Rattle.markdown_lines.specs.HeadingAttributes.{attributed, attributed_by, attributes_read, braces_in, braces_to}
+use Rattle.markdown_lines.specs.HeadingAttributes.{attributed, attributed_by, braces_in, braces_to}
 use Rattle.markdown_lines.specs.HeadingAttributes.{is_enclosed}
 use Rattle.markdown_lines.specs.HtmlBeginnings.{html_kind_of, in_one_line}
 use Rattle.markdown_lines.specs.LineBytes.{is_parted, without_end}
@@ -382,8 +382,8 @@ module _ (text : List ℕ) (from : ℕ) (utf8 : IsUtf8 text) (whole : Line) (at 
       (quote_in_line s here)
   quote_within s here is =
       on_test (IfWithin text whole at) (begins_with (codes ">") here.bytes)
-      (Some (quote_of s.options (past_marker here))) None
-      (λ marker. of_alert (past_marker here) (alert_read s.options (past_marker here))
+      (Some (quote_of s.syntax (past_marker here))) None
+      (λ marker. of_alert (past_marker here) (alert_read s.syntax (past_marker here))
       (marker_within text from utf8 here.scanned here.owed here.column here.bytes marker
       (record { own = is.own; boundary = is.boundary; low = is.low })).boundary) (λ none. tt)
     where
@@ -408,12 +408,12 @@ module _ (text : List ℕ) (from : ℕ) (utf8 : IsUtf8 text) (whole : Line) (at 
       (omega (arith, byte)))) (λ none. tt)
 
   footnote_within : (s : Source) (here : LineLeft) → IsWithin text from here
-      → IfWithin text whole at (footnote_in_line s.options here)
+      → IfWithin text whole at (footnote_in_line s.syntax here)
   footnote_within s here is =
       let label = link_label in_one_line false (drop 2 here.bytes) in
       let found : Option (List ℕ × ℕ) → Option Beginning =
       option_map (λ marker. line.begins_footnote marker.0 (past_bytes marker.1 here)) in
-      either (IfWithin text whole at) (footnotes_on s.options) (found (footnote_marker here.bytes)) None
+      either (IfWithin text whole at) s.syntax.footnotes (found (footnote_marker here.bytes)) None
       (either (λ o. IfWithin text whole at (found o)) (begins_with (codes "[^") here.bytes)
       (label_before_colon here.bytes label) None (label_within here label is) tt) tt
 
@@ -588,19 +588,19 @@ module _ (text : List ℕ) (from : ℕ) (utf8 : IsUtf8 text) (whole : Line) (at 
         within = omega (arith, high, size, few, stop, low);
       }
 
-  whole_within : (options : Options) (here : LineLeft) (found : Option AtxHeading) → IsWithin text from here
+  whole_within : (syntax : Syntax) (here : LineLeft) (found : Option AtxHeading) → IsWithin text from here
       → whole.stop ≡ here.scanned + length here.bytes → IsCharBoundary text (here.scanned + length here.bytes)
       → HeadsIn here found
       → IfWithin text whole at
-      (option_map (λ heading. line.begins_heading (whole_heading options here heading)) found)
-  whole_within options here None is stop end heads = tt
-  whole_within options here (Some heading) is stop end heads =
+      (option_map (λ heading. line.begins_heading (whole_heading syntax here heading)) found)
+  whole_within syntax here None is stop end heads = tt
+  whole_within syntax here (Some heading) is stop end heads =
       let content = drop (heading.from - here.scanned) here.bytes in
       let there = braces_there content in (
-        either (λ (h : AtxHeading). BracesStand text h.braces) (attributes_read options) (attributed content heading)
+        either (λ (h : AtxHeading). BracesStand text h.braces) syntax.attributes (attributed content heading)
             heading (braces_within here heading (braces_in content) is heads.0 heads.1 there)
             (subst (BracesStand text) (sym heads.1) tt),
-        either (IsHeadingIn text whole at) (attributes_read options) (attributed content heading) heading
+        either (IsHeadingIn text whole at) syntax.attributes (attributed content heading) heading
             (attributed_in here heading (braces_in content) is stop end heads.0 heads.2 there) heads.2,
       )
 
@@ -703,11 +703,11 @@ module _ (text : List ℕ) (from : ℕ) (utf8 : IsUtf8 text) (whole : Line) (at 
       let html = html_kind_of here.bytes (is_paragraph before) in
       let underline = setext_level here.bytes in
       first_within text whole at (quote_in_line s here ∷ heading_in_line s here ∷ fence_in_line s columns here
-      ∷ html_in_line before here ∷ footnote_in_line s.options here ∷ underline_in_line before here
+      ∷ html_in_line before here ∷ footnote_in_line s.syntax here ∷ underline_in_line before here
       ∷ break_in_line here ∷ item_in_line s before columns here ∷ []) (
         quote_within s here is,
         (
-          whole_within s.options here (atx_heading_at s.text here.scanned (here.scanned + length here.bytes)) is stop
+          whole_within s.syntax here (atx_heading_at s.text here.scanned (here.scanned + length here.bytes)) is stop
               end
               (subst (λ t. HeadsIn here (atx_heading_at t here.scanned (here.scanned + length here.bytes))) (sym same)
               (heads_in here is content stop end)),
@@ -757,7 +757,7 @@ module _ (text : List ℕ) (from : ℕ) (utf8 : IsUtf8 text) (whole : Line) (at 
       let there = space_within text from utf8 4 l.left is in
       let over : whole.stop ≡ space.after.scanned + length space.after.bytes = stop ∙ sym alike.end in
       let after = begins_after s before space.columns space.after in
-      let opened = metadata_opened s.options s.text l.left.bytes l.next in
+      let opened = metadata_opened s.syntax s.text l.left.bytes l.next in
       either (BeginsWithin text whole at) (space.columns == 4)
       (if is_paragraph before then line.begins_text else line.begins_indented space.after)
       (unwrap_or (metadata_in_line s before l) after)

@@ -9,7 +9,7 @@ use Rattle.markdown_base.specs.declared.tag.MetadataBlockKind.{MetadataBlockKind
 use Rattle.markdown_builder.specs.BuilderView.{BuilderView}
 use Rattle.markdown_builder.specs.TreeLevels.{followed_by}
 use Rattle.markdown_scan.specs.LineStart.{LineLeft, leading_space}
-use Rattle.markdown_lines.specs.BlockBeginnings.{Source}
+use Rattle.markdown_base.specs.Source.{Source}
 use Rattle.markdown_lines.specs.SourceLines.{SourceLine, cut, is_blank_rest}
 use Rattle.markdown_lines.specs.declared.held_line.HeldLine.{HeldLine}
 use Rattle.markdown_lines.specs.declared.line.Line.{Line}
@@ -339,8 +339,8 @@ kept_places : (s : Source) (old new : Pass) (line : Line) (found : code.Reached)
     → PlacesFor s new line.next (with_line s (blocks_before (last_of frames inside b)) source)
 kept_places s old new line found frames inside b source by none may empty unheld same text grown is =
     grown_places s old new line found frames inside b source grown.now by none may empty grown.grows grown.is (record {
-      source = ap (λ t. record { text = t; options = new.options }) text
-          ∙ ap (λ (p : Pass). record { text = old.placing.builder.text; options = p.options }) same;
+      source = ap (λ t. record { text = t; syntax = new.syntax }) text
+          ∙ ap (λ (p : Pass). record { text = old.placing.builder.text; syntax = p.syntax }) same;
       lines = ap (λ (p : Pass). p.lines.items) same;
       looseness = ap (λ (p : Pass). p.looseness) same;
       is = is;
@@ -557,8 +557,8 @@ indented_places s old new line found before source after how open_leaf same empt
           alone = λ e. absurd (true≢false (sym e));
           end = λ b e. ap (lines_end_from b.first) all ∙ end_of_last b.first lines (cut 4 rest);
         }) (ap (leaf_with s rest) kind ∙ goes rest lines enough) (record {
-          source = ap (λ t. record { text = t; options = new.options }) text
-              ∙ ap (λ (p : Pass). record { text = old.placing.builder.text; options = p.options }) same;
+          source = ap (λ t. record { text = t; syntax = new.syntax }) text
+              ∙ ap (λ (p : Pass). record { text = old.placing.builder.text; syntax = p.syntax }) same;
           lines = ap (λ (p : Pass). p.lines.items) same;
           looseness = ap (λ (p : Pass). p.looseness) same;
           is = subst (λ ls. IsLeafIn s new.placing.builder before.frames before.inside

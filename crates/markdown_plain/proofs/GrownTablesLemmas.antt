@@ -12,7 +12,7 @@ use Rattle.markdown_builder.specs.BuilderView.{BuilderView, innermost_block, par
 use Rattle.markdown_builder.specs.EvenRows.{open_columns}
 use Rattle.markdown_builder.specs.Shown.{Parts, Shown, alignments_shown, shown_item}
 use Rattle.markdown_builder.specs.TreeLevels.{followed_by, with_trees}
-use Rattle.markdown_lines.specs.BlockBeginnings.{Source}
+use Rattle.markdown_base.specs.Source.{Source}
 use Rattle.markdown_lines.specs.SourceLines.{SourceLine, text_line}
 use Rattle.markdown_lines.specs.declared.held_line.HeldLine.{HeldLine}
 use Rattle.markdown_lines.specs.declared.line.Line.{Line}
@@ -187,8 +187,8 @@ row_places s old new line found frames inside b source head alignments rows kind
       inside = inside;
       last = Some c;
       places = record {
-        source = ap (λ t. record { text = t; options = new.options }) text
-            ∙ (ap (λ (p : Pass). record { text = old.placing.builder.text; options = p.options }) same
+        source = ap (λ t. record { text = t; syntax = new.syntax }) text
+            ∙ (ap (λ (p : Pass). record { text = old.placing.builder.text; syntax = p.syntax }) same
             ∙ by.stands.source);
         unended = unended;
         quotes = quotes_touched source line.next (sym by.is.next) frames;

@@ -11,7 +11,7 @@ use Rattle.markdown_builder.specs.BuilderView.{BuilderView, with_items, Opens}
 use Rattle.markdown_builder.specs.Shown.{chain_of, Shown}
 use Rattle.markdown_builder.specs.TreeLevels.{followed_by, with_trees}
 use Rattle.markdown_scan.specs.LineStart.{LineLeft}
-use Rattle.markdown_lines.specs.BlockBeginnings.{Source}
+use Rattle.markdown_base.specs.Source.{Source}
 use Rattle.markdown_lines.specs.SourceLines.{SourceLine, is_blank_rest}
 use Rattle.markdown_lines.specs.declared.line.Line.{Line}
 use Rattle.markdown_lines.specs.declared.position.Position.{Position}

@@ -8,7 +8,7 @@ use Rattle.markdown_base.specs.declared.item.ItemBody.TheVariants as body
 use Rattle.markdown_builder.specs.BuilderView.{BuilderView, Opens, with_items}
 use Rattle.markdown_builder.specs.Shown.{Shown, chain_of}
 use Rattle.markdown_scan.specs.LineStart.{Space, column_after, space_from, space_width}
-use Rattle.markdown_lines.specs.BlockBeginnings.{Source}
+use Rattle.markdown_base.specs.Source.{Source}
 use Rattle.markdown_lines.specs.Lines.{is_space_or_tab}
 use Rattle.markdown_lines.specs.SourceLines.{SourceLine, cut, is_blank_rest}
 use Rattle.markdown_block_rules.specs.BlockGrowth as was

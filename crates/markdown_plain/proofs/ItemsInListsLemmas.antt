@@ -12,7 +12,8 @@ use Rattle.markdown_scan.specs.LineStart.{LineLeft, leading_space}
 use Rattle.markdown_lines.specs.declared.block_start.Before.TheVariants as paragraph
 use Rattle.markdown_lines.specs.declared.list_marker.ListMarker.{ListMarker}
 use Rattle.markdown_lines.specs.BlockBeginnings as line
-use Rattle.markdown_lines.specs.BlockBeginnings.{Beginning, Source, begins}
+use Rattle.markdown_base.specs.Source.{Source}
+use Rattle.markdown_lines.specs.BlockBeginnings.{Beginning, begins}
 use Rattle.markdown_lines.specs.DefinitionRules.{divided}
 use Rattle.markdown_lines.specs.HtmlKinds.{ends_at_blank}
 use Rattle.markdown_lines.specs.MetadataBlocks.{closes_metadata}
@@ -123,7 +124,7 @@ text_same : (s : Source) (m : SourceLine) (lines : List SourceLine) (b : Beginni
     → IfSome (paragraph_with s m lines b) (IsPlacedAs (was.paragraph_leaf lines))
 text_same s m lines (line.begins_underline level) =
     chosen (IsPlacedAs (was.paragraph_leaf lines))
-    (length (divided (entity_names s.options) s.text lines).lines == 0)
+    (length (divided (entity_names s.syntax) s.text lines).lines == 0)
     (paragraph_with_text s m lines (begins_but_underline s m)) (Some (was.underlined_leaf level lines))
     (further_same s m lines (begins_but_underline s m)) (refl, refl, refl)
 text_same s m lines other = further_same s m lines other

@@ -7,7 +7,8 @@ use Rattle.std.specs.Prelude.{if◌then◌else◌}
 use Rattle.std.specs.Option.{option_map}
 use Rattle.markdown_base.specs.Forest.{Forest, nil, node}
 use Rattle.markdown_lines.specs.declared.block_start.Before.TheVariants as paragraph
-use Rattle.markdown_lines.specs.BlockBeginnings.{Source, begins}
+use Rattle.markdown_base.specs.Source.{Source}
+use Rattle.markdown_lines.specs.BlockBeginnings.{begins}
 use Rattle.markdown_lines.specs.SourceLines.{SourceLine, is_blank_rest}
 use Rattle.markdown_builder.specs.TreeLevels.{followed_by}
 use Rattle.markdown_builder.specs.declared.open_block.OpenBlock.{OpenBlock}

@@ -6,7 +6,7 @@ use Rattle.std.proofs.lemmas.Option.{same_Some}
 use Rattle.markdown_base.specs.Forest.{Forest, nil, node}
 use Rattle.markdown_base.specs.declared.item.ItemBody.{ItemBody}
 use Rattle.markdown_base.specs.declared.item.ItemBody.TheVariants as body
-use Rattle.markdown_base.specs.declared.options.Options.{Options}
+use Rattle.markdown_base.specs.declared.syntax.Syntax.{Syntax}
 use Rattle.markdown_base.specs.declared.tag.MetadataBlockKind.{MetadataBlockKind}
 use Rattle.markdown_builder.specs.declared.open_block.OpenBlock.{OpenBlock}
 use Rattle.markdown_builder.specs.BuilderView.{BuilderView, parts_of}
@@ -16,7 +16,7 @@ use Rattle.markdown_scan.specs.Entity.{entity_names}
 use Rattle.markdown_scan.specs.Unescape.{unescaped}
 use Rattle.markdown_scan.specs.LineStart.{leading_space}
 use Rattle.markdown_items.proofs.RestOfLineLemmas.{no_items}
-use Rattle.markdown_lines.specs.BlockBeginnings.{Source}
+use Rattle.markdown_base.specs.Source.{Source}
 use Rattle.markdown_lines.specs.LineBytes.{IsPartOf}
 use Rattle.markdown_lines.specs.SourceLines.{SourceLine, cut, stop_of}
 use Rattle.markdown_lines.specs.declared.fence.OpeningFence.{OpeningFence}
@@ -110,21 +110,21 @@ fenced_added s old new frames inside b opening lines source kind is_open same gr
     (body.Text false) lines one (fenced_lined s opening false lines)
     (fenced_lined s opening false (lines ++ one ∷ [])) same goes_on texts added is_open)
 
-pub fenced_opened : (s : Source) (old new : BuilderView) (options : Options) (frames : List Frame)
+pub fenced_opened : (s : Source) (old new : BuilderView) (syntax : Syntax) (frames : List Frame)
     (inside : Forest Block) (b : Block) (opening : OpeningFence) (at to : ℕ) (info : List ℕ)
-    → IsBuilt s old frames inside → s.options ≡ options → InfoStands old.text opening
+    → IsBuilt s old frames inside → s.syntax ≡ syntax → InfoStands old.text opening
     → b.kind ≡ was.fenced_leaf opening false [] → b.start ≡ at → b.last ≡ to
     → IsPartOf old.text opening.from opening.to info
-    → OpensFenced old new at to (unescaped (entity_names options) false info)
+    → OpensFenced old new at to (unescaped (entity_names syntax) false info)
     → IsOpenIn s new frames inside true b
-fenced_opened s old new options frames inside b opening at to info built same stands kind start last part opens =
+fenced_opened s old new syntax frames inside b opening at to info built same stands kind start last part opens =
     let kind_of = was.fenced_leaf opening false [] in
-    let name = unescaped (entity_names options) false info in
+    let name = unescaped (entity_names syntax) false info in
     let opened_now : OpenBlock = record { start = at; body = body.FencedCodeBlock (record { 0 = length old.texts }) } in
     let names : name ≡ info_of s opening =
-    ap (unescaped (entity_names options) false) (part.cut stands.ordered stands.from stands.to)
+    ap (unescaped (entity_names syntax) false) (part.cut stands.ordered stands.from stands.to)
     ∙ (ap (λ o. unescaped (entity_names o) false (slice_range old.text opening.from opening.to)) (sym same)
-    ∙ ap (λ t. unescaped (entity_names s.options) false (slice_range t opening.from opening.to)) built.text) in
+    ∙ ap (λ t. unescaped (entity_names s.syntax) false (slice_range t opening.from opening.to)) built.text) in
     opened_leaf s old new frames inside b (kind_is_leaf b kind_of kind refl) built (record {
       block = opened_now;
       items = [];

@@ -8,7 +8,7 @@ use Rattle.markdown_base.specs.Forest.{Forest, nil}
 use Rattle.markdown_builder.specs.BuilderView.{BuilderView}
 use Rattle.markdown_builder.specs.TreeLevels.{followed_by}
 use Rattle.markdown_builder.specs.declared.open_block.OpenBlock.{OpenBlock}
-use Rattle.markdown_lines.specs.BlockBeginnings.{Source}
+use Rattle.markdown_base.specs.Source.{Source}
 use Rattle.markdown_lines.specs.SourceLines.{SourceLine}
 use Rattle.markdown_lines.specs.declared.line.Line.{Line}
 use Rattle.markdown_block_rules.specs.BlockGrowth as was
@@ -116,7 +116,7 @@ before_line s pass line frames inside last source stands is =
       alone = parts.alone;
       are = parts.are;
       empty = parts.empty;
-      options = ap (λ (source : Source). source.options) stands.source;
+      syntax = ap (λ (source : Source). source.syntax) stands.source;
       left = is.left;
       stop = is.stop;
       next = is.next;

@@ -30,7 +30,7 @@ use Rattle.markdown_lines.specs.declared.position.Position.{Position}
 use Rattle.markdown_lines.specs.Lines.{IsNextContent}
 use Rattle.markdown_lines.specs.Positions.{left_from}
 use Rattle.markdown_lines.specs.declared.braces.Braces.{Braces}
-use Rattle.markdown_lines.specs.BlockBeginnings.{Source}
+use Rattle.markdown_base.specs.Source.{Source}
 use Rattle.markdown_lines.specs.HeadingAttributes.{AreAttributes, classes_among, heading_of_words, id_among, words_in}
 use Rattle.markdown_lines.specs.SourceLines.{SourceLine, cut}
 use Rattle.markdown_block_rules.specs.BlockRules.{shown_heading, shown_over}

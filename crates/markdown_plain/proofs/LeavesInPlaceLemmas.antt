@@ -10,9 +10,9 @@ use Rattle.markdown_builder.specs.BuilderView.{BuilderView, parts_of, with_items
 use Rattle.markdown_builder.specs.Shown.{Shown, chain_of, shown_item, text_shown, unnumbered, with_block}
 use Rattle.markdown_builder.specs.Tightness.{is_tight_list}
 use Rattle.markdown_builder.specs.TreeLevels.{followed_by, with_trees}
-use Rattle.markdown_lines.specs.BlockBeginnings.{Source}
+use Rattle.markdown_base.specs.Source.{Source}
 use Rattle.markdown_items.specs.ContentItems.{content_items}
-use Rattle.markdown_items.specs.LineItems.{item_extensions}
+use Rattle.markdown_items.specs.LineItems.{item_syntax}
 use Rattle.markdown_lines.specs.declared.braces.Braces.{Braces}
 use Rattle.markdown_lines.specs.DefinitionRules.{divided, divided_in}
 use Rattle.markdown_scan.specs.Entity.{entity_names}
@@ -52,7 +52,7 @@ shown_alone s around b kind is = ap (shown_of_kind s around b) is
 nothing_defined : (s : Source) (b : Block) → is_leaf b.kind ≡ true → definitions_in s (leaf_block b) ≡ []
 unfolding definitions_in divided_in
 nothing_defined s b leaf =
-    ap (λ lines. (divided (entity_names s.options) s.text lines).definitions ++ ([] ++ [])) (no_lines b.kind leaf)
+    ap (λ lines. (divided (entity_names s.syntax) s.text lines).definitions ++ ([] ++ [])) (no_lines b.kind leaf)
   where
     no_lines : (kind : Kind) → is_leaf kind ≡ true → paragraph_lines kind ≡ []
     no_lines (was.paragraph_leaf lines) e = absurd (true≢false (sym e))
@@ -250,7 +250,7 @@ leaf_unlisted : (s : Source) (around : Around) (b : Block) (kind : Kind) → is_
 leaf_unlisted s around b (was.heading_leaf found) leaf = untitled found.braces
   where
     untitled : (braces : Option Braces) → first_is_tight (followed_by (shown_heading s b.start b.last found.level braces
-        (chain_of (content_items s.text (item_extensions s.options) found.from found.to))) nil) ≡ false
+        (chain_of (content_items s.text (item_syntax s.syntax) found.from found.to))) nil) ≡ false
     untitled None = refl
     untitled (Some braces) = refl
 leaf_unlisted s around b was.blank_line leaf = absurd (true≢false (sym leaf))

@@ -9,7 +9,8 @@ use Rattle.markdown_scan.specs.Beginnings.{begins_with}
 use Rattle.markdown_scan.specs.LineStart.{LineLeft, leading_space}
 use Rattle.markdown_lines.specs.AtxHeadings.{atx_heading_at}
 use Rattle.markdown_lines.specs.BlockBeginnings as line
-use Rattle.markdown_lines.specs.BlockBeginnings.{Beginning, Source, begins, begins_after, break_in_line, fence_in_line}
+use Rattle.markdown_base.specs.Source.{Source}
+use Rattle.markdown_lines.specs.BlockBeginnings.{Beginning, begins, begins_after, break_in_line, fence_in_line}
 use Rattle.markdown_lines.specs.BlockBeginnings.{first_found, footnote_in_line, heading_in_line, html_in_line}
 use Rattle.markdown_lines.specs.BlockBeginnings.{is_paragraph, is_reached, item_in_line, metadata_begun}
 use Rattle.markdown_lines.specs.BlockBeginnings.{metadata_in_line, quote_in_line, underline_in_line, whole_heading}
@@ -66,7 +67,7 @@ underline_holds P before here holds =
 
 -- after fewer than four columns of space
 pub after_holds : (P : Beginning → Type 0) (s : Source) (before : Before) (columns : ℕ) (here : LineLeft)
-    → HoldsOfLeaves P → IfFound P (quote_in_line s here) → IfFound P (footnote_in_line s.options here)
+    → HoldsOfLeaves P → IfFound P (quote_in_line s here) → IfFound P (footnote_in_line s.syntax here)
     → IfFound P (underline_in_line before here) → IfFound P (item_in_line s before columns here)
     → P (begins_after s before columns here)
 after_holds P s before columns here leaves quote footnote underline item =
@@ -76,12 +77,12 @@ after_holds P s before columns here leaves quote footnote underline item =
     let html = html_kind_of here.bytes (is_paragraph before) in
     let heading = atx_heading_at s.text here.scanned (here.scanned + n) in
     first_holds P (quote_in_line s here ∷ heading_in_line s here ∷ fence_in_line s columns here
-    ∷ html_in_line before here ∷ footnote_in_line s.options here ∷ underline_in_line before here
+    ∷ html_in_line before here ∷ footnote_in_line s.syntax here ∷ underline_in_line before here
     ∷ break_in_line here ∷ item_in_line s before columns here ∷ []) leaves.text (
       quote,
       (
-        mapped_holds P (λ found. line.begins_heading (whole_heading s.options here found)) heading
-            (λ found. leaves.heading (whole_heading s.options here found)),
+        mapped_holds P (λ found. line.begins_heading (whole_heading s.syntax here found)) heading
+            (λ found. leaves.heading (whole_heading s.syntax here found)),
         (
           either (IfFound P) ((byte == 96) || (byte == 126)) (option_map line.begins_fence fence) None
               (mapped_holds P line.begins_fence fence leaves.fence) tt,
@@ -128,7 +129,7 @@ begins_holds P s before l text indented metadata after =
     let space = leading_space 4 l.left in
     let found = metadata_in_line s before l in
     let other = begins_after s before space.columns space.after in
-    let opened = metadata_opened s.options s.text l.left.bytes l.next in
+    let opened = metadata_opened s.syntax s.text l.left.bytes l.next in
     either P (space.columns == 4) (if is_paragraph before then line.begins_text else line.begins_indented space.after)
     (unwrap_or found other)
     (either P (is_paragraph before) line.begins_text (line.begins_indented space.after) text indented)

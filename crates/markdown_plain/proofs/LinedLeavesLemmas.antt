@@ -5,7 +5,7 @@ use Rattle.std.specs.Prelude.{◌||◌, ◌+◌, ◌-◌, ◌≤◌, ◌==◌, n
 use Rattle.markdown_base.specs.Forest.{Forest, nil, node}
 use Rattle.markdown_base.specs.declared.item.ItemBody.{ItemBody}
 use Rattle.markdown_base.specs.declared.item.ItemBody.TheVariants as body
-use Rattle.markdown_base.specs.declared.options.Options.{Options}
+use Rattle.markdown_base.specs.declared.syntax.Syntax.{Syntax}
 use Rattle.markdown_base.specs.declared.tag.MetadataBlockKind.{MetadataBlockKind}
 use Rattle.markdown_builder.specs.BuilderView.{AppendsItem, BuilderView, parts_of, with_items}
 use Rattle.markdown_builder.specs.Shown.{chain_of, shown_item, Parts, plain_item}
@@ -13,9 +13,9 @@ use Rattle.markdown_builder.specs.TreeLevels.{followed_by, with_trees}
 use Rattle.markdown_builder.proofs.LaidLemmas.{followed_by-nil}
 use Rattle.markdown_scan.specs.LineStart.{LineLeft, Space, column_after, space_from, space_width}
 use Rattle.markdown_items.specs.ContentItems.{content_items}
-use Rattle.markdown_items.specs.LineItems.{item_extensions}
+use Rattle.markdown_items.specs.LineItems.{item_syntax}
 use Rattle.markdown_items.proofs.RestOfLineLemmas.{no_items}
-use Rattle.markdown_lines.specs.BlockBeginnings.{Source}
+use Rattle.markdown_base.specs.Source.{Source}
 use Rattle.markdown_lines.specs.SourceLines.{SourceLine, cut, stop_of}
 use Rattle.markdown_lines.specs.declared.atx_heading.AtxHeading.{AtxHeading}
 use Rattle.markdown_lines.specs.declared.line.Line.{Line}
@@ -76,22 +76,22 @@ break_placed s old new frames inside b to built appends kind start last =
 
 -- ---- headings
 
-pub heading_placed : (s : Source) (old new : BuilderView) (options : Options) (frames : List Frame)
+pub heading_placed : (s : Source) (old new : BuilderView) (syntax : Syntax) (frames : List Frame)
     (inside : Forest Block) (b : Block) (heading : AtxHeading) (to : ℕ)
-    → IsBuilt s old frames inside → s.options ≡ options → b.kind ≡ was.heading_leaf heading
+    → IsBuilt s old frames inside → s.syntax ≡ syntax → b.kind ≡ was.heading_leaf heading
     → b.start ≡ old.at → b.last ≡ to → IsPlacedTo old new to → HasMoreTexts old new
-    → HasTrees old new (shown_heading (record { text = old.text; options = options }) old.at to heading.level
-    heading.braces (chain_of (content_items old.text (item_extensions options) heading.from heading.to)))
+    → HasTrees old new (shown_heading (record { text = old.text; syntax = syntax }) old.at to heading.level
+    heading.braces (chain_of (content_items old.text (item_syntax syntax) heading.from heading.to)))
     → IsPlaced s new frames (followed_by inside (leaf_block b))
-heading_placed s old new options frames inside b heading to built same kind start last placed texts trees =
-    let shown = λ (t : List ℕ) (o : Options) (at : ℕ) (end : ℕ). with_trees old.levels
-    (shown_heading (record { text = t; options = o }) at end heading.level heading.braces
-    (chain_of (content_items t (item_extensions o) heading.from heading.to))) in
+heading_placed s old new syntax frames inside b heading to built same kind start last placed texts trees =
+    let shown = λ (t : List ℕ) (o : Syntax) (at : ℕ) (end : ℕ). with_trees old.levels
+    (shown_heading (record { text = t; syntax = o }) at end heading.level heading.braces
+    (chain_of (content_items t (item_syntax o) heading.from heading.to))) in
     whole_leaf s old new frames inside b (kind_is_leaf b (was.heading_leaf heading) kind refl) built
     (subst (IsPlacedTo old new) (ends_with_line b (was.heading_leaf heading) to kind refl last) placed) texts
-    (λ some. trees some ∙ (ap (λ t. shown t options old.at to) built.text ∙ (ap (λ o. shown s.text o old.at to)
+    (λ some. trees some ∙ (ap (λ t. shown t syntax old.at to) built.text ∙ (ap (λ o. shown s.text o old.at to)
     (sym same)
-    ∙ (ap (λ n. shown s.text s.options n to) (sym start) ∙ (ap (shown s.text s.options b.start) (sym last)
+    ∙ (ap (λ n. shown s.text s.syntax n to) (sym start) ∙ (ap (shown s.text s.syntax b.start) (sym last)
     ∙ ap (with_trees old.levels) (sym (shown_alone s (around_innermost in_no_item frames) b
     (was.heading_leaf heading) kind
     ∙ followed_by-nil _)))))))

@@ -16,7 +16,7 @@ use Rattle.markdown_builder.specs.declared.open_block.OpenBlock.{OpenBlock}
 use Rattle.markdown_builder.specs.Bodies.{is_leaf}
 use Rattle.markdown_builder.specs.BuilderView.{BuilderView, Opens, OpensNaming}
 use Rattle.markdown_scan.specs.Entity.{entity_names}
-use Rattle.markdown_lines.specs.BlockBeginnings.{Source}
+use Rattle.markdown_base.specs.Source.{Source}
 use Rattle.markdown_lines.specs.DefinitionRules.{divided, divided_in}
 use Rattle.markdown_lines.specs.declared.list_marker.ListMarker.{ListMarker}
 use Rattle.markdown_block_rules.specs.BlockGrowth as was
@@ -108,7 +108,7 @@ no_lines texts other b is = refl
 none_of_lines : (s : Source) (b : Block) → paragraph_lines b.kind ≡ [] → definitions_in s (node b nil nil) ≡ []
 unfolding definitions_in divided_in
 none_of_lines s b none =
-    ap (λ lines. (divided (entity_names s.options) s.text lines).definitions ++ ([] ++ [])) none
+    ap (λ lines. (divided (entity_names s.syntax) s.text lines).definitions ++ ([] ++ [])) none
 
 own_label : (b : Block) → footnotes_in (node b nil nil) ≡ label_of b.kind
 unfolding footnotes_in

@@ -10,13 +10,11 @@ use Rattle.std.proofs.lemmas.Bool.Decides.{nat_tests}
 use Rattle.std.proofs.lemmas.List.{get_or-take, length-take, length-drop}
 use Rattle.std.proofs.lemmas.Option.{same_Some}
 use Rattle.std.proofs.lemmas.Str.{IsCharBoundary-after_ascii, IsCharBoundary-before_ascii}
-use Rattle.markdown_base.specs.declared.options.Options.{Options}
-use Rattle.markdown_base.specs.declared.options.TheConstants.Options.{ENABLE_TASKLISTS}
+use Rattle.markdown_base.specs.declared.syntax.Syntax.{Syntax}
 use Rattle.markdown_base.specs.declared.tag.HeadingLevel.{HeadingLevel}
-use Rattle.markdown_lines.specs.ExtendedOnly.{is_read}
 use Rattle.markdown_lines.specs.declared.line.Line.{Line}
-use Rattle.markdown_lines.specs.BlockBeginnings.{Source}
-use Rattle.markdown_lines.specs.HeadingAttributes.{attributes_read, braces_from, braces_in, braces_to, close_brace}
+use Rattle.markdown_base.specs.Source.{Source}
+use Rattle.markdown_lines.specs.HeadingAttributes.{braces_from, braces_in, braces_to, close_brace}
 use Rattle.markdown_lines.specs.HeadingAttributes.{is_enclosed, open_brace}
 use Rattle.markdown_lines.specs.Lines.{is_space_or_tab}
 use Rattle.markdown_lines.specs.SourceLines.{SourceLine}
@@ -135,29 +133,29 @@ braces_within text line utf8 = of_found (braces_in bytes) refl
 
 -- ---- the last line
 
-last_of : (options : Options) (text : List ℕ) (lines : List HeldLine) (sources : List SourceLine) (from k : ℕ)
+last_of : (syntax : Syntax) (text : List ℕ) (lines : List HeldLine) (sources : List SourceLine) (from k : ℕ)
     (line : HeldLine) → AreTextLines text lines sources → from < length lines → k + 1 ≡ length lines
     → slice_get lines k ≡ Some line
-    → last_braces options (drop from sources) ≡ (if attributes_read options
+    → last_braces syntax (drop from sources) ≡ (if syntax.attributes
     then option_map (braces_from line.start) (braces_in (slice_range text line.start line.stop)) else None)
-last_of options text [] sources from k line are less size e = absurd (omega (arith, less))
-last_of options text (first ∷ lines) [] from k line are less size e = absurd are
-last_of options text (first ∷ []) (source ∷ []) zero zero line are less size e =
+last_of syntax text [] sources from k line are less size e = absurd (omega (arith, less))
+last_of syntax text (first ∷ lines) [] from k line are less size e = absurd are
+last_of syntax text (first ∷ []) (source ∷ []) zero zero line are less size e =
     let is = subst (λ l. IsTextLine text l source) (same_Some first line e) are.0 in
-    ap (λ n. if attributes_read options then option_map (braces_from n) (braces_in source.left.bytes) else None)
+    ap (λ n. if syntax.attributes then option_map (braces_from n) (braces_in source.left.bytes) else None)
     (sym is.start)
-    ∙ ap (λ bytes. if attributes_read options then option_map (braces_from line.start) (braces_in bytes) else None)
+    ∙ ap (λ bytes. if syntax.attributes then option_map (braces_from line.start) (braces_in bytes) else None)
     (sym is.bytes)
-last_of options text (first ∷ []) (source ∷ other ∷ sources) from k line are less size e = absurd are.1
-last_of options text (first ∷ []) (source ∷ []) (suc from) k line are less size e = absurd (omega (arith, less))
-last_of options text (first ∷ []) (source ∷ []) zero (suc k) line are less size e = absurd (omega (arith, size))
-last_of options text (first ∷ second ∷ lines) (source ∷ []) from k line are less size e = absurd are.1
-last_of options text (first ∷ second ∷ lines) (source ∷ other ∷ sources) from zero line are less size e =
+last_of syntax text (first ∷ []) (source ∷ other ∷ sources) from k line are less size e = absurd are.1
+last_of syntax text (first ∷ []) (source ∷ []) (suc from) k line are less size e = absurd (omega (arith, less))
+last_of syntax text (first ∷ []) (source ∷ []) zero (suc k) line are less size e = absurd (omega (arith, size))
+last_of syntax text (first ∷ second ∷ lines) (source ∷ []) from k line are less size e = absurd are.1
+last_of syntax text (first ∷ second ∷ lines) (source ∷ other ∷ sources) from zero line are less size e =
     absurd (omega (arith, size))
-last_of options text (first ∷ second ∷ lines) (source ∷ other ∷ sources) zero (suc k) line are less size e =
-    last_of options text (second ∷ lines) (other ∷ sources) zero k line are.1 (omega arith) (omega (arith, size)) e
-last_of options text (first ∷ second ∷ lines) (source ∷ other ∷ sources) (suc from) (suc k) line are less size e =
-    last_of options text (second ∷ lines) (other ∷ sources) from k line are.1 (omega (arith, less))
+last_of syntax text (first ∷ second ∷ lines) (source ∷ other ∷ sources) zero (suc k) line are less size e =
+    last_of syntax text (second ∷ lines) (other ∷ sources) zero k line are.1 (omega arith) (omega (arith, size)) e
+last_of syntax text (first ∷ second ∷ lines) (source ∷ other ∷ sources) (suc from) (suc k) line are less size e =
+    last_of syntax text (second ∷ lines) (other ∷ sources) from k line are.1 (omega (arith, less))
     (omega (arith, size)) e
 
 -- ---- what is at the ends of the lines
@@ -176,24 +174,24 @@ open_more : (braces : Option Braces) (l m : SourceLine) (lines : List SourceLine
 open_more None l m lines e = tt
 open_more (Some braces) l m lines e = e
 
-last_open : (options : Options) (lines : List SourceLine) → OpenInLast (last_braces options lines) lines
-last_open options [] = tt
-last_open options (l ∷ []) = line_open (attributes_read options) l (braces_in l.left.bytes) refl
-last_open options (l ∷ m ∷ lines) = open_more (last_braces options (m ∷ lines)) l m lines
-    (last_open options (m ∷ lines))
+last_open : (syntax : Syntax) (lines : List SourceLine) → OpenInLast (last_braces syntax lines) lines
+last_open syntax [] = tt
+last_open syntax (l ∷ []) = line_open syntax.attributes l (braces_in l.left.bytes) refl
+last_open syntax (l ∷ m ∷ lines) = open_more (last_braces syntax (m ∷ lines)) l m lines
+    (last_open syntax (m ∷ lines))
 
-pub heading_open : (options : Options) (heading : Option (HeadingLevel × Line)) (lines : List SourceLine)
-    → OpenInLast (heading_braces options heading lines) lines
-heading_open options None lines = tt
-heading_open options (Some heading) lines = last_open options lines
+pub heading_open : (syntax : Syntax) (heading : Option (HeadingLevel × Line)) (lines : List SourceLine)
+    → OpenInLast (heading_braces syntax heading lines) lines
+heading_open syntax None lines = tt
+heading_open syntax (Some heading) lines = last_open syntax lines
 
 pub begin_first : (s : Source) (marked : ℕ) (lines : List SourceLine) (task : Option Bool)
     → task ≡ first_task s marked lines → BeginWithTask task lines
 begin_first s marked [] task e = tt
 begin_first s marked (l ∷ lines) None e = tt
 begin_first s marked (l ∷ lines) (Some done) e =
-    let read = if_some (l.next == marked) (task_read s.options l.left.bytes) done (sym e) in
-    (if_some (is_read ENABLE_TASKLISTS s.options) (task_marker l.left.bytes) done read.1).1
+    let read = if_some (l.next == marked) (task_read s.syntax l.left.bytes) done (sym e) in
+    (if_some s.syntax.tasks (task_marker l.left.bytes) done read.1).1
 
 -- no line is cut off without braces
 pub not_cut : (lines : List SourceLine) → before_braces None lines ≡ lines
@@ -212,35 +210,35 @@ items_before_braces s marked (Some braces) (l ∷ []) e =
     let k = braces.opening - l.left.scanned in
     let cut : SourceLine = record l { left = record l.left { bytes = take k l.left.bytes } } in
     ap (λ task. items_after_task s cut [] (if l.next == marked
-    then (if is_read ENABLE_TASKLISTS s.options then task else None) else None))
+    then (if s.syntax.tasks then task else None) else None))
     (sym (marker_before_brace l.left.bytes k e))
 items_before_braces s marked braces (l ∷ m ∷ lines) e = refl
 
 -- there are no braces where no attributes are read
-none_last : (options : Options) (lines : List SourceLine) → attributes_read options ≡ false
-    → last_braces options lines ≡ None
-none_last options [] unread = refl
-none_last options (l ∷ []) unread =
-    on_false (attributes_read options) (option_map (braces_from l.left.scanned) (braces_in l.left.bytes)) None unread
-none_last options (l ∷ m ∷ lines) unread = none_last options (m ∷ lines) unread
+none_last : (syntax : Syntax) (lines : List SourceLine) → syntax.attributes ≡ false
+    → last_braces syntax lines ≡ None
+none_last syntax [] unread = refl
+none_last syntax (l ∷ []) unread =
+    on_false syntax.attributes (option_map (braces_from l.left.scanned) (braces_in l.left.bytes)) None unread
+none_last syntax (l ∷ m ∷ lines) unread = none_last syntax (m ∷ lines) unread
 
-pub none_read : (options : Options) (heading : Option (HeadingLevel × Line)) (lines : List SourceLine)
-    → attributes_read options ≡ false → None ≡ heading_braces options heading lines
-none_read options None lines unread = refl
-none_read options (Some heading) lines unread = sym (none_last options lines unread)
+pub none_read : (syntax : Syntax) (heading : Option (HeadingLevel × Line)) (lines : List SourceLine)
+    → syntax.attributes ≡ false → None ≡ heading_braces syntax heading lines
+none_read syntax None lines unread = refl
+none_read syntax (Some heading) lines unread = sym (none_last syntax lines unread)
 
-pub none_of_paragraph : (options : Options) (heading : Option (HeadingLevel × Line)) (lines : List SourceLine)
-    → heading ≡ None → None ≡ heading_braces options heading lines
-none_of_paragraph options heading lines e = sym (ap (λ h. heading_braces options h lines) e)
+pub none_of_paragraph : (syntax : Syntax) (heading : Option (HeadingLevel × Line)) (lines : List SourceLine)
+    → heading ≡ None → None ≡ heading_braces syntax heading lines
+none_of_paragraph syntax heading lines e = sym (ap (λ h. heading_braces syntax h lines) e)
 
 -- the braces of the last line are those of the heading
-pub heading_last : (options : Options) (heading : Option (HeadingLevel × Line)) (text : List ℕ) (lines : List HeldLine)
-    (sources : List SourceLine) (from : ℕ) (line : HeldLine) → is_some heading ≡ true → attributes_read options ≡ true
+pub heading_last : (syntax : Syntax) (heading : Option (HeadingLevel × Line)) (text : List ℕ) (lines : List HeldLine)
+    (sources : List SourceLine) (from : ℕ) (line : HeldLine) → is_some heading ≡ true → syntax.attributes ≡ true
     → AreTextLines text lines sources → from < length lines → Some line ≡ slice_get lines (length lines - 1)
     → option_map (braces_from line.start) (braces_in (slice_range text line.start line.stop))
-    ≡ heading_braces options heading (drop from sources)
-heading_last options None text lines sources from line some read are less there = absurd (true≢false (sym some))
-heading_last options (Some heading) text lines sources from line some read are less there =
-    sym (last_of options text lines sources from (length lines - 1) line are less (omega (arith, less)) (sym there)
+    ≡ heading_braces syntax heading (drop from sources)
+heading_last syntax None text lines sources from line some read are less there = absurd (true≢false (sym some))
+heading_last syntax (Some heading) text lines sources from line some read are less there =
+    sym (last_of syntax text lines sources from (length lines - 1) line are less (omega (arith, less)) (sym there)
     ∙ ap (λ test. if test
     then option_map (braces_from line.start) (braces_in (slice_range text line.start line.stop)) else None) read)

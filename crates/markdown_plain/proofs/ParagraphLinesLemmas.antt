@@ -16,11 +16,11 @@ use Rattle.markdown_base.specs.Forest.{Forest}
 use Rattle.markdown_items.proofs.ContentItemsLemmas.{no_byte}
 use Rattle.markdown_items.proofs.RestOfLineLemmas.{more_items, no_items}
 use Rattle.markdown_items.specs.ContentItems.{content_items}
-use Rattle.markdown_items.specs.LineItems.{item_extensions}
+use Rattle.markdown_items.specs.LineItems.{item_syntax}
 use Rattle.markdown_items.specs.declared.extensions.ItemSyntax.{ItemSyntax}
 use Rattle.markdown_items.specs.declared.found.LineRange.{LineRange}
 use Rattle.markdown_lines.proofs.LineBytesLemmas.{trimmed_is}
-use Rattle.markdown_lines.specs.BlockBeginnings.{Source}
+use Rattle.markdown_base.specs.Source.{Source}
 use Rattle.markdown_lines.specs.HeadingAttributes.{open_brace}
 use Rattle.markdown_lines.specs.LineBreaks.{IsLineBreak, break_after}
 use Rattle.markdown_lines.specs.LineBytes.{without_end}
@@ -104,13 +104,13 @@ no_content text extensions at =
 pub none_left : (s : Source) (source : SourceLine) → length source.left.bytes ≡ 0 → line_or_nothing s source ≡ []
 none_left s source none =
     let is : (length source.left.bytes == 0) ≡ true = grind (arith, nat_tests, none) in
-    ap (λ b. if b then [] else broken_line s.text (item_extensions s.options) source) is
+    ap (λ b. if b then [] else broken_line s.text (item_syntax s.syntax) source) is
 
 pub some_left : (s : Source) (source : SourceLine) → 0 < length source.left.bytes
-    → line_or_nothing s source ≡ broken_line s.text (item_extensions s.options) source
+    → line_or_nothing s source ≡ broken_line s.text (item_syntax s.syntax) source
 some_left s source some =
     let is : (length source.left.bytes == 0) ≡ false = grind (arith, nat_tests, some) in
-    on_false (length source.left.bytes == 0) [] (broken_line s.text (item_extensions s.options) source) is
+    on_false (length source.left.bytes == 0) [] (broken_line s.text (item_syntax s.syntax) source) is
 
 -- a line of which nothing is left has no items
 pub empty_line : (levels : List (Forest Shown)) (s : Source) (line : HeldLine) (source : SourceLine)
@@ -124,7 +124,7 @@ empty_line levels s line source is same =
 pub line_and_break : (levels mid after : List (Forest Shown)) (s : Source) (line : HeldLine) (source : SourceLine)
     (between : LineBreak) → IsTextLine s.text line source → line.start < line.stop → line.stop ≤ length s.text
     → IsLineBreak s.text line.start line.stop between
-    → mid ≡ with_items levels (content_items s.text (item_extensions s.options) line.start between.text_end)
+    → mid ≡ with_items levels (content_items s.text (item_syntax s.syntax) line.start between.text_end)
     → after ≡ with_items mid (plain_item between.start line.next between.body ∷ [])
     → after ≡ with_items levels (line_or_nothing s source)
 line_and_break levels mid after s line source between is some within broken first second =
@@ -134,14 +134,14 @@ line_and_break levels mid after s line source between is some within broken firs
     break_is s.text line.start line.stop between (omega (arith, some)) within broken
     ∙ (ap (λ n. break_between n (slice_range s.text line.start line.stop)) is.start
     ∙ ap (break_between source.left.scanned) is.bytes) in
-    let items : content_items s.text (item_extensions s.options) line.start between.text_end
+    let items : content_items s.text (item_syntax s.syntax) line.start between.text_end
     ++ plain_item between.start line.next between.body ∷ []
-    ≡ broken_line s.text (item_extensions s.options) source =
-    ap (λ n. content_items s.text (item_extensions s.options) n between.text_end
+    ≡ broken_line s.text (item_syntax s.syntax) source =
+    ap (λ n. content_items s.text (item_syntax s.syntax) n between.text_end
     ++ plain_item between.start line.next between.body ∷ []) is.start
-    ∙ (ap (λ n. content_items s.text (item_extensions s.options) source.left.scanned between.text_end
+    ∙ (ap (λ n. content_items s.text (item_syntax s.syntax) source.left.scanned between.text_end
     ++ plain_item between.start n between.body ∷ []) is.next
-    ∙ ap (λ (b : LineBreak). content_items s.text (item_extensions s.options) source.left.scanned b.text_end
+    ∙ ap (λ (b : LineBreak). content_items s.text (item_syntax s.syntax) source.left.scanned b.text_end
     ++ plain_item b.start source.next b.body ∷ []) value) in
     second
     ∙ (ap (λ ls. with_items ls (plain_item between.start line.next between.body ∷ [])) first

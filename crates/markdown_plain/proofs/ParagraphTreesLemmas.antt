@@ -14,8 +14,8 @@ use Rattle.markdown_base.specs.declared.item.ItemBody.TheVariants as body
 use Rattle.markdown_builder.specs.BuilderView.{BuilderView, with_items}
 use Rattle.markdown_builder.specs.Shown.{Shown, plain_item}
 use Rattle.markdown_items.proofs.RestOfLineLemmas.{more_items, no_items}
-use Rattle.markdown_items.specs.LineItems.{item_extensions}
-use Rattle.markdown_lines.specs.BlockBeginnings.{Source}
+use Rattle.markdown_items.specs.LineItems.{item_syntax}
+use Rattle.markdown_base.specs.Source.{Source}
 use Rattle.markdown_lines.specs.SourceLines.{SourceLine, without_empty}
 use Rattle.markdown_lines.specs.TaskMarkers.{past_task}
 use Rattle.markdown_lines.specs.declared.braces.Braces.{Braces}
@@ -23,7 +23,7 @@ use Rattle.markdown_lines.specs.declared.held_line.HeldLine.{HeldLine}
 use Rattle.markdown_block_rules.specs.BlockRules.{before_braces, cut_before_braces}
 use Rattle.markdown_block_rules.specs.LineContents.{lines_items}
 use Rattle.markdown_plain.proofs.ParagraphLinesLemmas.{cut_after_task, no_content, none_left, on_false, some_left}
-use Rattle.markdown_base.specs.declared.options.Options.{Options}
+use Rattle.markdown_base.specs.declared.syntax.Syntax.{Syntax}
 use Rattle.markdown_plain.specs.Fitting.{GoesOn}
 use Rattle.markdown_plain.specs.HeldSources.{AreTextLines, IsTextLine}
 use Rattle.markdown_plain.specs.ParagraphItems.{IsLeft, OpenInLast}
@@ -37,7 +37,7 @@ on_true test x y holds = ap (λ b. if b then x else y) holds
 
 -- the items of some lines, of which nothing may be left of the first
 abbrev items_of : Source → List SourceLine → List Shown
-items_of s lines = lines_items s.text (item_extensions s.options) lines
+items_of s lines = lines_items s.text (item_syntax s.syntax) lines
 
 empty_or_not : (bytes : List ℕ) → (P : Type 0) → (length bytes ≡ 0 → P) → (0 < length bytes → P) → P
 empty_or_not [] P none some = none refl
@@ -58,9 +58,9 @@ last_or_nothing s l = empty_or_not l.left.bytes (items_of s (without_empty (l �
     nothing none =
         let short : length (without_end is_space_or_tab l.left.bytes) ≡ 0 =
         omega (arith, none, length-take (length l.left.bytes - suffix_len is_space_or_tab l.left.bytes) l.left.bytes) in
-        ap (content_items s.text (item_extensions s.options) l.left.scanned)
+        ap (content_items s.text (item_syntax s.syntax) l.left.scanned)
         (ap (λ n. l.left.scanned + n) short ∙ omega arith)
-        ∙ no_content s.text (item_extensions s.options) l.left.scanned
+        ∙ no_content s.text (item_syntax s.syntax) l.left.scanned
 
 more_or_nothing : (s : Source) (l m : SourceLine) (lines : List SourceLine)
     → items_of s (without_empty (l ∷ m ∷ lines)) ≡ line_or_nothing s l ++ items_of s (m ∷ lines)
@@ -105,7 +105,7 @@ open_nowhere (Some braces) = tt
 pub last_line_left : (s : Source) (task : Option Bool) (braces : Option Braces) (l : SourceLine)
     (now mid after all : List (Forest Shown)) → IsLeft s (record { task = task; braces = braces }) (l ∷ []) now all
     → mid ≡ with_items now (task_items task l)
-    → after ≡ with_items mid (lines_items s.text (item_extensions s.options)
+    → after ≡ with_items mid (lines_items s.text (item_syntax s.syntax)
     (cut_before_braces braces (after_task task l) ∷ []))
     → IsLeft s (record { task = None; braces = braces }) [] after all
 last_line_left s task braces l now mid after all left marked added = record {
@@ -226,14 +226,14 @@ nothing_left s ends lines now all none left =
     ∙ (sym (ap (λ ls. with_items now (text_items s ends.task (before_braces ends.braces ls))) none) ∙ left.rest)
 
 -- what is left of lines of the same text, with the same task marker
-pub left_of_same : (text other : List ℕ) (options : Options) (task now_task : Option Bool) (braces : Option Braces)
+pub left_of_same : (text other : List ℕ) (syntax : Syntax) (task now_task : Option Bool) (braces : Option Braces)
     (lines : List SourceLine) (now all : List (Forest Shown)) → text ≡ other → task ≡ now_task
-    → IsLeft (record { text = text; options = options }) (record { task = task; braces = braces }) lines now all
-    → IsLeft (record { text = other; options = options }) (record { task = now_task; braces = braces }) lines now all
-left_of_same text other options task now_task braces lines now all same same_task left =
-    subst (λ t. IsLeft (record { text = other; options = options })
+    → IsLeft (record { text = text; syntax = syntax }) (record { task = task; braces = braces }) lines now all
+    → IsLeft (record { text = other; syntax = syntax }) (record { task = now_task; braces = braces }) lines now all
+left_of_same text other syntax task now_task braces lines now all same same_task left =
+    subst (λ t. IsLeft (record { text = other; syntax = syntax })
     (record { task = t; braces = braces }) lines now all)
-    same_task (subst (λ t. IsLeft (record { text = t; options = options }) (record { task = task; braces = braces })
+    same_task (subst (λ t. IsLeft (record { text = t; syntax = syntax }) (record { task = task; braces = braces })
     lines now all) same left)
 
 -- more was appended, and then more still

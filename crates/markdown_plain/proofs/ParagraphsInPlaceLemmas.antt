@@ -12,7 +12,7 @@ use Rattle.markdown_builder.specs.Shown.{Shown}
 use Rattle.markdown_builder.specs.TreeLevels.{followed_by, with_trees}
 use Rattle.markdown_builder.proofs.LaidLemmas.{followed_by-nil}
 use Rattle.markdown_scan.specs.Entity.{entity_names}
-use Rattle.markdown_lines.specs.BlockBeginnings.{Source}
+use Rattle.markdown_base.specs.Source.{Source}
 use Rattle.markdown_lines.specs.DefinitionRules.{divided}
 use Rattle.markdown_lines.specs.SourceLines.{SourceLine}
 use Rattle.markdown_lines.specs.declared.line.Line.{Line}
@@ -44,7 +44,7 @@ still_loose around (f ∷ frames) loose =
 
 -- the lines after its definitions
 abbrev rest_of : Source → List SourceLine → List SourceLine
-rest_of s lines = (divided (entity_names s.options) s.text lines).lines
+rest_of s lines = (divided (entity_names s.syntax) s.text lines).lines
 
 paragraph_shown : (s : Source) (around : Around) (b : Block) (sources : List SourceLine) → around.tight ≡ false
     → b.kind ≡ was.paragraph_leaf sources
@@ -64,10 +64,10 @@ heading_shown s around b level sources is =
     ∙ followed_by-nil _
 
 text_defines : (s : Source) (b : Block) (sources : List SourceLine) → paragraph_lines b.kind ≡ sources
-    → definitions_in s (leaf_block b) ≡ (divided (entity_names s.options) s.text sources).definitions
+    → definitions_in s (leaf_block b) ≡ (divided (entity_names s.syntax) s.text sources).definitions
 unfolding definitions_in
 text_defines s b sources is =
-    append-nil _ ∙ ap (λ lines. (divided (entity_names s.options) s.text lines).definitions) is
+    append-nil _ ∙ ap (λ lines. (divided (entity_names s.syntax) s.text lines).definitions) is
 
 nothing_named : (b : Block) → label_of b.kind ≡ [] → footnotes_in (leaf_block b) ≡ []
 unfolding footnotes_in
@@ -108,7 +108,7 @@ pub record EndsText (s : Source) (sources : List SourceLine) (trees : Forest Sho
   pub shown : HasTrees old new trees
   pub texts : HasMoreTexts old new
   pub definitions : new.definitions
-      ≡ old.definitions ++ (divided (entity_names s.options) s.text sources).definitions
+      ≡ old.definitions ++ (divided (entity_names s.syntax) s.text sources).definitions
   pub footnotes : new.footnotes ≡ old.footnotes
 
 -- what was made after definitions were taken keeps them
@@ -139,7 +139,7 @@ same_keeps defined new same outside = record {
 
 pub ends_text : (s : Source) (sources : List SourceLine) (trees : Forest Shown) (old defined new : BuilderView)
     → defined ≡ defining old defined.definitions defined.at
-    → defined.definitions ≡ old.definitions ++ (divided (entity_names s.options) s.text sources).definitions
+    → defined.definitions ≡ old.definitions ++ (divided (entity_names s.syntax) s.text sources).definitions
     → KeepsDefined defined new → HasTrees old new trees → HasMoreTexts old new → EndsText s sources trees old new
 ends_text s sources trees old defined new steps definitions keeps has more = record {
   text = keeps.text ∙ ap (λ (v : BuilderView). v.text) steps;

@@ -7,14 +7,14 @@ use Rattle.std.proofs.lemmas.Bool.Decides.{nat_tests}
 use Rattle.std.specs.Prelude.{if◌then◌else◌, slice_index}
 use Rattle.std.specs.List.{prefix_len}
 use Rattle.std.specs.Option.{option_map}
-use Rattle.markdown_base.specs.EnabledOptions.{footnotes_on}
 use Rattle.markdown_base.specs.declared.tag.BlockQuoteKind.{BlockQuoteKind}
 use Rattle.markdown_scan.specs.Beginnings.{begins_with}
 use Rattle.markdown_scan.specs.Label.{link_label}
 use Rattle.markdown_scan.specs.LineStart.{LineLeft, Space, leading_space, past_marker, past_one_byte}
 use Rattle.markdown_lines.specs.Alerts.{alert_read}
 use Rattle.markdown_lines.specs.BlockBeginnings as line
-use Rattle.markdown_lines.specs.BlockBeginnings.{Beginning, Source, begins, footnote_in_line, footnote_marker}
+use Rattle.markdown_base.specs.Source.{Source}
+use Rattle.markdown_lines.specs.BlockBeginnings.{Beginning, begins, footnote_in_line, footnote_marker}
 use Rattle.markdown_lines.specs.BlockBeginnings.{is_reached, item_in_line, item_of, label_before_colon, past_bytes}
 use Rattle.markdown_lines.specs.BlockBeginnings.{quote_in_line, quote_of, quote_or_alert}
 use Rattle.markdown_lines.specs.HtmlBeginnings.{in_one_line}
@@ -61,11 +61,11 @@ in_quote : (s : Source) (whole here : LineLeft) → content_of whole ≡ content
     → IfFound (HoldsPast whole) (quote_in_line s here)
 in_quote s whole here same =
     on_test (IfFound (HoldsPast whole)) (begins_with (codes ">") here.bytes)
-    (Some (quote_of s.options (past_marker here))) None
+    (Some (quote_of s.syntax (past_marker here))) None
     (λ marker.
     let none = first_other 62 [] here.bytes refl marker in
     let on = space_after 1 (past_one_byte here) in
-    quote_past whole (past_marker here) (alert_read s.options (past_marker here)) (omega (arith, same, none, on)))
+    quote_past whole (past_marker here) (alert_read s.syntax (past_marker here)) (omega (arith, same, none, on)))
     (λ none. tt)
 
 -- ---- a footnote definition
@@ -80,12 +80,12 @@ label_past whole here (Some label) past =
     (slice_index here.bytes (label.0 + 2) == 58) (Some (label.1, label.0 + 3)) None (omega (arith, past)) tt
 
 in_footnote : (s : Source) (whole here : LineLeft) → content_of whole ≡ content_of here
-    → IfFound (HoldsPast whole) (footnote_in_line s.options here)
+    → IfFound (HoldsPast whole) (footnote_in_line s.syntax here)
 in_footnote s whole here same =
     let label = link_label in_one_line false (drop 2 here.bytes) in
     let found : Option (List ℕ × ℕ) → Option Beginning =
     option_map (λ marker. line.begins_footnote marker.0 (past_bytes marker.1 here)) in
-    either (IfFound (HoldsPast whole)) (footnotes_on s.options) (found (footnote_marker here.bytes)) None
+    either (IfFound (HoldsPast whole)) s.syntax.footnotes (found (footnote_marker here.bytes)) None
     (on_test (λ o. IfFound (HoldsPast whole) (found o)) (begins_with (codes "[^") here.bytes)
     (label_before_colon here.bytes label) None
     (λ marker.

@@ -10,7 +10,7 @@ use Rattle.markdown_builder.specs.Shown.{chain_of, plain_item}
 use Rattle.markdown_builder.specs.TreeLevels.{with_trees}
 use Rattle.markdown_lines.specs.declared.braces.Braces.{Braces}
 use Rattle.markdown_lines.specs.declared.line.Line.{Line}
-use Rattle.markdown_lines.specs.BlockBeginnings.{Source}
+use Rattle.markdown_base.specs.Source.{Source}
 use Rattle.markdown_lines.specs.SourceLines.{SourceLine}
 use Rattle.markdown_block_rules.specs.BlockGrowth.{Block}
 use Rattle.markdown_block_rules.specs.BlockRules.{before_braces, last_braces, paragraph_items, shown_heading}
@@ -26,7 +26,7 @@ use Rattle.markdown_plain.specs.Paragraphs.{IsPlacedTo, first_task, shown_ended}
 pub placed_tree : (s : Source) (old begun opened filled now new : BuilderView) (marked : ℕ) (b : Block)
     (heading : Option (HeadingLevel × Line)) (braces : Option Braces) (l : SourceLine) (lines : List SourceLine)
     → s.text ≡ begun.text → begun.levels ≡ old.levels → begun.at ≡ l.left.scanned
-    → braces ≡ heading_braces s.options heading (l ∷ lines)
+    → braces ≡ heading_braces s.syntax heading (l ∷ lines)
     → MatchOption heading (Opens begun opened body.Paragraph) (λ h. OpensHeadingOf begun opened h.0 braces)
     → filled.levels
     ≡ with_items opened.levels (text_items s (first_task s marked (l ∷ lines)) (before_braces braces (l ∷ lines)))
@@ -53,7 +53,7 @@ placed_tree s old begun opened filled now new marked b
     let all = l ∷ lines in
     let level = heading.0 in
     let task = first_task s marked all in
-    let found = last_braces s.options all in
+    let found = last_braces s.syntax all in
     put_heading s begun opened now new level braces (text_items s task (before_braces braces all)) text opens blocks
     headings (kept ∙ fills) put (λ e. some (sym before ∙ e))
     ∙ (ap (λ n. with_trees begun.levels (shown_heading s n now.at level braces
@@ -63,7 +63,7 @@ placed_tree s old begun opened filled now new marked b
     ∙ (ap (λ br. with_trees begun.levels (shown_heading s l.left.scanned b.last level br
     (chain_of (text_items s task (before_braces br all))))) is
     ∙ (ap (λ items. with_trees begun.levels (shown_heading s l.left.scanned b.last level found (chain_of items)))
-    (items_before_braces s marked found all (heading_open s.options (Some heading) all))
+    (items_before_braces s marked found all (heading_open s.syntax (Some heading) all))
     ∙ ap (λ ls. with_trees ls (shown_heading s l.left.scanned b.last level found
     (chain_of (paragraph_items s marked (before_braces found all))))) before))))
 

@@ -10,7 +10,7 @@ use Rattle.markdown_base.specs.Forest.{Forest, nil, node}
 use Rattle.markdown_base.specs.declared.tag.Alignment.{Alignment}
 use Rattle.markdown_builder.specs.TreeLevels.{followed_by}
 use Rattle.markdown_builder.proofs.LaidLemmas.{followed_by-assoc, followed_by-nil}
-use Rattle.markdown_lines.specs.BlockBeginnings.{Source}
+use Rattle.markdown_base.specs.Source.{Source}
 use Rattle.markdown_lines.specs.SourceLines.{SourceLine, is_blank_rest}
 use Rattle.markdown_lines.specs.declared.held_line.HeldLine.{HeldLine}
 use Rattle.markdown_lines.specs.declared.line.Line.{Line}
@@ -189,8 +189,8 @@ table_places s old new line found frames inside b before from source by none fil
       inside = first;
       last = Some t;
       places = record {
-        source = ap (λ (v : List ℕ). record { text = v; options = new.options }) text
-            ∙ (ap (λ (p : Pass). record { text = old.placing.builder.text; options = p.options }) same
+        source = ap (λ (v : List ℕ). record { text = v; syntax = new.syntax }) text
+            ∙ (ap (λ (p : Pass). record { text = old.placing.builder.text; syntax = p.syntax }) same
             ∙ by.stands.source);
         unended = last;
         quotes = quotes_touched source line.next (sym by.is.next) frames;

@@ -8,7 +8,8 @@ use Rattle.markdown_lines.specs.declared.block_start.Before.TheVariants as parag
 use Rattle.markdown_lines.specs.declared.line.Line.{Line}
 use Rattle.markdown_lines.specs.declared.list_marker.ListMarker.{ListMarker}
 use Rattle.markdown_lines.specs.BlockBeginnings as beginning
-use Rattle.markdown_lines.specs.BlockBeginnings.{Source, begins}
+use Rattle.markdown_base.specs.Source.{Source}
+use Rattle.markdown_lines.specs.BlockBeginnings.{begins}
 use Rattle.markdown_lines.specs.SourceLines.{SourceLine, is_blank_rest, text_line}
 use Rattle.markdown_block_rules.specs.BlockGrowth as was
 use Rattle.markdown_block_rules.specs.BlockGrowth.{Block, another_item, begun_by, goes_on, inside_of, line_block}

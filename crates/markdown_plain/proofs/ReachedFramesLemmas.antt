@@ -8,7 +8,6 @@ use Rattle.std.proofs.lemmas.Bool.{cases_Bool, true≢false}
 use Rattle.std.proofs.lemmas.Bool.Decides.{eqb_tells, nat_tests}
 use Rattle.std.proofs.lemmas.List.Sums.{prefix_len-le-length}
 use Rattle.markdown_base.specs.Bytes.{space, tab}
-use Rattle.markdown_base.specs.EnabledOptions.{old_footnotes_on}
 use Rattle.markdown_base.specs.Forest.{Forest}
 use Rattle.markdown_base.specs.declared.item.ItemBody.{ItemBody}
 use Rattle.markdown_builder.specs.declared.open_block.OpenBlock.{OpenBlock}
@@ -17,7 +16,7 @@ use Rattle.markdown_scan.specs.LineStart.{LineLeft, Space, column_after, leading
 use Rattle.markdown_scan.specs.LineStart.{space_from, space_width}
 use Rattle.markdown_lines.specs.declared.line.Line.{Line}
 use Rattle.markdown_lines.specs.Lines.{is_space_or_tab}
-use Rattle.markdown_lines.specs.BlockBeginnings.{Source}
+use Rattle.markdown_base.specs.Source.{Source}
 use Rattle.markdown_lines.specs.SourceLines.{SourceLine, is_blank_rest, rest_inside, stop_of}
 use Rattle.markdown_lines.proofs.BlockStartsLemmas.{is_blank, is_not_blank}
 use Rattle.markdown_block_rules.specs.BlockGrowth as was
@@ -244,7 +243,7 @@ module _ (s : Source) (l : SourceLine) (texts : List (List ℕ)) where
   both_take : (empty none : Bool) (kind : Kind) (b : ItemBody) → IsBodyOf texts kind b
       → AreSameOf kind empty none
       → BothTake (by_body.is_quote b) (is_list kind) l
-      (past_container (old_footnotes_on s.options) empty (is_blank_rest l) b l.left)
+      (past_container s.syntax.old_footnotes empty (is_blank_rest l) b l.left)
       (inside_container s l none kind)
   both_take empty none was.quote_container b is same =
       rw is (both_inside true l (past_quote l.left) (inside_quote l.left))
@@ -255,7 +254,7 @@ module _ (s : Source) (l : SourceLine) (texts : List (List ℕ)) where
   both_take empty none (was.item_container indent) b is same =
       rw (is, same) (both_item l indent (is_blank_rest l && none))
   both_take empty none (was.footnote_container label) b is same =
-      let old = old_footnotes_on s.options in
+      let old = s.syntax.old_footnotes in
       let blank = is_blank_rest l in
       rw is.1 (both_inside false l (past_footnote old blank l.left)
       (inside_footnote old blank l.left))
@@ -435,7 +434,7 @@ module _ (f : Frame) (frames : List Frame) (b : ItemBody) (stop : ℕ) (l : Sour
 module _ (s : Source) (texts : List (List ℕ)) (empty : Bool) (stop : ℕ) (inside : Forest Block)
     (leaf : List OpenBlock) (alone : IsAtMostLeaf leaf) where
   leaf_stays : (blocks : List OpenBlock) (reach : Reach) → IsAtMostLeaf blocks
-      → reach_from (old_footnotes_on s.options) empty stop blocks reach ≡ reach
+      → reach_from s.syntax.old_footnotes empty stop blocks reach ≡ reach
   unfolding reach_from
   leaf_stays [] reach alone = refl
   leaf_stays (block ∷ []) reach alone = rw alone refl
@@ -445,14 +444,14 @@ module _ (s : Source) (texts : List (List ℕ)) (empty : Bool) (stop : ℕ) (ins
   reaches : (frames : List Frame) (containers : List OpenBlock) → AreOpen texts containers frames
       → IsEmptyKnown (is_innermost leaf && empty) frames inside → (l : SourceLine) (reach : Reach)
       → IsAt stop l reach → Reaches stop l reach (reached s frames inside l)
-      (reach_from (old_footnotes_on s.options) empty stop (containers ++ leaf) reach)
+      (reach_from s.syntax.old_footnotes empty stop (containers ++ leaf) reach)
   unfolding reached reach_from
   reaches [] [] are known l reach at =
       rw (leaf_stays leaf reach alone) (reaches_here stop l reach [] reach.all at.all at)
   reaches [] (block ∷ containers) are known l reach at = absurd are
   reaches (f ∷ frames) [] are known l reach at = absurd are
   reaches (f ∷ frames) (block ∷ containers) are known l reach at =
-      let old = old_footnotes_on s.options in
+      let old = s.syntax.old_footnotes in
       let last = is_innermost (containers ++ leaf) && empty in
       let none = is_nil (rebuilt frames inside) in
       let kind = f.block.kind in
@@ -495,7 +494,7 @@ quoted_outside (suc inner) = grind (arith, nat_tests)
 pub frames_reached : (pass : Pass) (line : Line) (s : Source) (frames : List Frame)
     (inside : Forest Block) (source : SourceLine) (result : code.Reached)
     → reach_of pass.placing.builder.text line.stop result
-    ≡ reach_from (old_footnotes_on pass.options) pass.looseness.item_is_empty line.stop
+    ≡ reach_from pass.syntax.old_footnotes pass.looseness.item_is_empty line.stop
     pass.placing.builder.blocks
     (reach_start (whole_line pass.placing.builder.text line))
     → IsBefore pass line s frames inside source
@@ -507,11 +506,11 @@ frames_reached pass line s frames inside source result is before =
     let start = reach_start (whole_line text line) in
     let r = reached s frames inside source in
     let same : reach_of text stop result
-    ≡ reach_from (old_footnotes_on s.options) empty stop (before.containers ++ before.leaf) start =
+    ≡ reach_from s.syntax.old_footnotes empty stop (before.containers ++ before.leaf) start =
     is
-    ∙ (ap (λ options. reach_from (old_footnotes_on options) empty stop
-    pass.placing.builder.blocks start) before.options
-    ∙ ap (λ blocks. reach_from (old_footnotes_on s.options) empty stop blocks start)
+    ∙ (ap (λ syntax. reach_from syntax.old_footnotes empty stop
+    pass.placing.builder.blocks start) before.syntax
+    ∙ ap (λ blocks. reach_from s.syntax.old_footnotes empty stop blocks start)
     before.blocks) in
     let found : Reaches stop source start r (reach_of text stop result) =
     subst (λ reach. Reaches stop source start r reach) (sym same)

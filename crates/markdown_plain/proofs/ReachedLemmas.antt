@@ -8,7 +8,8 @@ use Rattle.std.specs.Option.{option_map, option_or}
 use Rattle.markdown_base.specs.Forest.{Forest}
 use Rattle.markdown_lines.specs.declared.block_start.Before.TheVariants as paragraph
 use Rattle.markdown_lines.specs.declared.list_marker.ListMarker.{ListMarker}
-use Rattle.markdown_lines.specs.BlockBeginnings.{Source, begins}
+use Rattle.markdown_base.specs.Source.{Source}
+use Rattle.markdown_lines.specs.BlockBeginnings.{begins}
 use Rattle.markdown_scan.specs.LineStart.{LineLeft}
 use Rattle.markdown_lines.specs.SourceLines.{SourceLine, is_blank_rest, rest_inside}
 use Rattle.markdown_builder.specs.TreeLevels.{followed_by}

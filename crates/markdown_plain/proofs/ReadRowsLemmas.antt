@@ -12,7 +12,8 @@ use Rattle.markdown_lines.specs.declared.block_start.BlockStart.TheVariants as s
 use Rattle.markdown_lines.specs.declared.line.Line.{Line}
 use Rattle.markdown_lines.specs.declared.line_reader.LineReader.{LineReader}
 use Rattle.markdown_lines.specs.declared.position.Position.{Position}
-use Rattle.markdown_lines.specs.BlockBeginnings.{Beginning, Source, begins}
+use Rattle.markdown_base.specs.Source.{Source}
+use Rattle.markdown_lines.specs.BlockBeginnings.{Beginning, begins}
 use Rattle.markdown_lines.specs.BlockStarts.{begins_unless_blank, beginning_found, left_at, line_at, source_read}
 use Rattle.markdown_lines.specs.Lines.{is_space_or_tab}
 use Rattle.markdown_lines.specs.SourceLines.{SourceLine, is_blank_rest, text_line}
@@ -107,7 +108,7 @@ alike_line one other scanned owed column bytes next outermost indent =
 pub record ReadsRow (s : Source) (line : Line) (found : code.Reached) (reader : LineReader) (position : Position)
     : Type 0 where
   pub text : reader.text.now ≡ s.text
-  pub options : reader.options ≡ s.options
+  pub syntax : reader.syntax ≡ s.syntax
   pub stop : reader.stop ≡ line.stop
   pub next : reader.next ≡ line.next
   pub inside : reader.outermost ≡ false
@@ -190,12 +191,12 @@ module _ (s : Source) (pass : Pass) (line : Line) (found : code.Reached) (before
         begin_text reader start_found (begins s paragraph.Lazy row)
         (is ∙ (ap (begins_unless_blank (source_read reader) paragraph.Lazy) line_read
         ∙ (ap (λ blank. if blank then None else Some (begins (source_read reader) paragraph.Lazy row)) first_byte.1
-        ∙ ap (λ r. Some (begins r paragraph.Lazy row)) (source_same reads.text reads.options))))
+        ∙ ap (λ r. Some (begins r paragraph.Lazy row)) (source_same reads.text reads.syntax))))
       where
-        source_same : reader.text.now ≡ s.text → reader.options ≡ s.options → source_read reader ≡ s
-        source_same text options =
-            ap (λ t. record { text = t; options = reader.options }) text
-            ∙ ap (λ o. record { text = s.text; options = o }) options
+        source_same : reader.text.now ≡ s.text → reader.syntax ≡ s.syntax → source_read reader ≡ s
+        source_same text syntax =
+            ap (λ t. record { text = t; syntax = reader.syntax }) text
+            ∙ ap (λ o. record { text = s.text; syntax = o }) syntax
 
     pub row_starts : (at : ℕ) → at ≡ position.at + prefix_len is_space_or_tab (left_at reader position).bytes
         → at ≡ found.content

@@ -12,7 +12,7 @@ use Rattle.markdown_builder.specs.BuilderView.{BuilderView}
 use Rattle.markdown_builder.specs.declared.open_block.OpenBlock.{OpenBlock}
 use Rattle.markdown_scan.specs.LineStart.{LineLeft}
 use Rattle.markdown_lines.specs.BlockBeginnings as line
-use Rattle.markdown_lines.specs.BlockBeginnings.{Source}
+use Rattle.markdown_base.specs.Source.{Source}
 use Rattle.markdown_lines.specs.BlockStarts.{left_at}
 use Rattle.markdown_lines.specs.Lines.{AllPass, is_in_blank_line}
 use Rattle.markdown_lines.specs.SourceLines.{SourceLine, is_blank_rest}

@@ -9,11 +9,10 @@ use Rattle.std.proofs.lemmas.Bool.{cases_lt}
 use Rattle.std.proofs.lemmas.List.Sums.{AllPass-from_list_all}
 use Rattle.std.proofs.lemmas.Option.{none-some, same_Some}
 use Rattle.markdown_base.proofs.ByteListLemmas.{part_length}
-use Rattle.markdown_base.specs.EnabledOptions.{old_footnotes_on}
 use Rattle.markdown_base.specs.Forest.{Forest}
 use Rattle.markdown_builder.specs.declared.open_block.OpenBlock.{OpenBlock}
 use Rattle.markdown_scan.specs.LineStart.{LineLeft}
-use Rattle.markdown_lines.specs.BlockBeginnings.{Source}
+use Rattle.markdown_base.specs.Source.{Source}
 use Rattle.markdown_lines.specs.Lines.{AllPass, IsLineFrom, is_in_blank_line, is_line_ending, is_space_or_tab}
 use Rattle.markdown_lines.specs.Positions.{IsSpaceAt}
 use Rattle.markdown_lines.specs.SourceLines.{SourceLine, is_blank_rest, rest_inside}
@@ -243,7 +242,7 @@ taken_alike s l m empty (was.item_container indent) plain takes = by_test (is_bl
         → is_blank_rest m ≡ is_blank_rest l
     by_test true takes = absurd (none-some m takes)
     by_test false takes = indented_alike l m indent takes
-taken_alike s l m empty (was.footnote_container label) plain takes = by_style (old_footnotes_on s.options) takes
+taken_alike s l m empty (was.footnote_container label) plain takes = by_style s.syntax.old_footnotes takes
   where
     left_whole : (white : Bool) → option_map (λ rest. rest_inside rest l) (if white then None else Some l.left) ≡ Some m
         → is_blank_rest m ≡ is_blank_rest l

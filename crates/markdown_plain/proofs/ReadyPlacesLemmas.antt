@@ -16,7 +16,7 @@ use Rattle.markdown_builder.specs.EvenRows.{is_in_row, is_table_row}
 use Rattle.markdown_base.specs.declared.item.ItemBody.{ItemBody}
 use Rattle.markdown_base.specs.declared.item.ItemBody.TheVariants as body
 use Rattle.markdown_builder.specs.declared.open_block.OpenBlock.{OpenBlock}
-use Rattle.markdown_lines.specs.BlockBeginnings.{Source}
+use Rattle.markdown_base.specs.Source.{Source}
 use Rattle.markdown_lines.specs.Lines.{AllPass, IsLineEnd, IsLineFrom, ending_length, is_in_blank_line}
 use Rattle.markdown_lines.specs.Lines.{is_line_ending, is_space_or_tab}
 use Rattle.markdown_lines.specs.SourceLines.{SourceLine}

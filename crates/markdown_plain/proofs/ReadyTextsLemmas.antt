@@ -8,13 +8,11 @@ use Rattle.std.specs.Str.{IsCharBoundary, IsUtf8}
 use Rattle.std.proofs.lemmas.Bool.Decides.{nat_tests}
 use Rattle.std.proofs.lemmas.List.Sums.{prefix_len-le-length, prefix_len_passes}
 use Rattle.markdown_base.specs.Forest.{Forest}
-use Rattle.markdown_base.specs.declared.options.Options.{Options}
-use Rattle.markdown_base.specs.declared.options.TheConstants.Options.{ENABLE_TASKLISTS}
+use Rattle.markdown_base.specs.declared.syntax.Syntax.{Syntax}
 use Rattle.markdown_builder.specs.BuilderView.{BuilderView, innermost_block}
 use Rattle.markdown_builder.specs.EvenRows.{is_in_row}
 use Rattle.markdown_scan.specs.LineStart.{LineLeft}
-use Rattle.markdown_lines.specs.BlockBeginnings.{Source}
-use Rattle.markdown_lines.specs.ExtendedOnly.{is_read}
+use Rattle.markdown_base.specs.Source.{Source}
 use Rattle.markdown_lines.specs.Lines.{AllPass, IsLineFrom, is_in_blank_line, is_line_ending, is_space_or_tab}
 use Rattle.markdown_lines.specs.SourceLines.{SourceLine}
 use Rattle.markdown_lines.specs.TaskMarkers.{task_marker, task_read}
@@ -130,9 +128,9 @@ past_end from [] some = absurd (omega (arith, some))
 past_end from (line ∷ lines) some = sym (past_is_end line lines)
 
 -- what is read as a task marker is one
-read_task : (options : Options) (text : List ℕ) (line : HeldLine)
-    → HasTask text (task_read options (slice_range text line.start line.stop)) line
-read_task options text line = by_test (is_read ENABLE_TASKLISTS options)
+read_task : (syntax : Syntax) (text : List ℕ) (line : HeldLine)
+    → HasTask text (task_read syntax (slice_range text line.start line.stop)) line
+read_task syntax text line = by_test syntax.tasks
   where
     of_marker : (found : Option Bool) → task_marker (slice_range text line.start line.stop) ≡ found
         → HasTask text found line
@@ -151,8 +149,8 @@ first_task_held pass line start task is =
     subst (λ found. HasTask pass.placing.builder.text found (held_line line start)) (sym is)
     (either (λ found. HasTask pass.placing.builder.text found (held_line line start))
     (option_map_or (λ block. is_item_in block line) (innermost_block pass.placing.builder.blocks) false)
-    (task_read pass.options (slice_range pass.placing.builder.text start line.stop)) None
-    (read_task pass.options pass.placing.builder.text (held_line line start)) tt)
+    (task_read pass.syntax (slice_range pass.placing.builder.text start line.stop)) None
+    (read_task pass.syntax pass.placing.builder.text (held_line line start)) tt)
 
 -- ---- where the line is
 

@@ -8,7 +8,7 @@ use Rattle.std.specs.Option.{option_map_or}
 use Rattle.markdown_base.specs.Forest.{Forest}
 use Rattle.markdown_builder.specs.TreeLevels.{followed_by}
 use Rattle.markdown_scan.specs.LineStart.{leading_space}
-use Rattle.markdown_lines.specs.BlockBeginnings.{Source}
+use Rattle.markdown_base.specs.Source.{Source}
 use Rattle.markdown_lines.specs.SourceLines.{SourceLine, is_blank_rest, text_line}
 use Rattle.markdown_lines.specs.declared.held_line.HeldLine.{HeldLine}
 use Rattle.markdown_lines.specs.declared.line.Line.{Line}
@@ -184,7 +184,7 @@ held_before s pass line frames inside b sources source holds may is = record {
   alone = tt;
   are = may.unended.built.blocks;
   empty = holds.loose.empty;
-  options = ap (λ (source : Source). source.options) holds.source;
+  syntax = ap (λ (source : Source). source.syntax) holds.source;
   left = is.left;
   stop = is.stop;
   next = is.next;
@@ -225,7 +225,7 @@ more_remembered s old new line start frames now source sources same lines some b
               alone = before.alone;
               are = before.are;
               empty = before.empty;
-              options = before.options;
+              syntax = before.syntax;
               left = before.left;
               stop = before.stop;
               next = before.next;
@@ -254,7 +254,7 @@ further_seen s pass new line last same is = subst (λ (p : Pass). IsFurther s p 
     alone = is.before.alone;
     are = is.before.are;
     empty = is.before.empty;
-    options = is.before.options;
+    syntax = is.before.syntax;
     left = is.before.left;
     stop = is.before.stop;
     next = is.before.next;

@@ -16,7 +16,8 @@ use Rattle.markdown_builder.specs.BuilderView.{BuilderView}
 use Rattle.markdown_builder.specs.TreeLevels.{followed_by}
 use Rattle.markdown_scan.specs.LineStart.{LineLeft}
 use Rattle.markdown_lines.specs.BlockBeginnings as beginning
-use Rattle.markdown_lines.specs.BlockBeginnings.{Beginning, Source, begins}
+use Rattle.markdown_base.specs.Source.{Source}
+use Rattle.markdown_lines.specs.BlockBeginnings.{Beginning, begins}
 use Rattle.markdown_lines.specs.BlockStarts.{beginning_found}
 use Rattle.markdown_lines.specs.Lines.{is_space_or_tab}
 use Rattle.markdown_lines.specs.SourceLines.{SourceLine, is_blank_rest, rest_inside}
@@ -317,7 +318,7 @@ none_goes_on s pass frames inside (Some b) l begun from untabled are holds fille
 -- room was made for a block in the outermost `depth` of the open blocks
 pub record MakesRoom (old new : Pass) (depth : ℕ) : Type 0 where
   pub text : new.placing.builder.text ≡ old.placing.builder.text
-  pub options : new.options ≡ old.options
+  pub syntax : new.syntax ≡ old.syntax
   pub ended : new.lines.items ≡ []
   pub dropped : old.placing.builder.leaf ≡ true → new.blanks.items ≡ []
   pub unheld : old.blanks.items ≡ [] → new.blanks.items ≡ []
@@ -356,10 +357,10 @@ none_kept : (old new : Pass) (depth : ℕ) → MakesRoom old new depth → (leaf
 none_kept old new depth makes true is unheld = makes.dropped is
 none_kept old new depth makes false is unheld = makes.unheld (unheld is)
 
--- the text and its options stay
+-- the text and its syntax stay
 source_stays : (s : Source) (old new : Pass) (depth : ℕ) → MakesRoom old new depth → source_of old ≡ s
     → source_of new ≡ s
-source_stays s old new depth makes is = rw (makes.text, makes.options) is
+source_stays s old new depth makes is = rw (makes.text, makes.syntax) is
 
 -- ---- after the containers that go on in the line
 

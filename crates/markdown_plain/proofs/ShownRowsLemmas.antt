@@ -27,13 +27,13 @@ use Rattle.markdown_builder.specs.TreeLevels.{followed_by, with_trees}
 use Rattle.markdown_builder.proofs.LaidLemmas.{followed_by-assoc, followed_by-nil}
 use Rattle.markdown_items.specs.declared.extensions.ItemSyntax.{ItemSyntax}
 use Rattle.markdown_items.specs.ContentItems.{content_items}
-use Rattle.markdown_items.specs.LineItems.{is_special, item_extensions}
+use Rattle.markdown_items.specs.LineItems.{is_special, item_syntax}
 use Rattle.markdown_items.specs.RestOfLine.{HasSpecialRun, RunIsOver}
 use Rattle.markdown_items.proofs.ContentItemsLemmas.{no_byte}
 use Rattle.markdown_items.proofs.RestOfLineLemmas.{more_items, no_items}
 use Rattle.markdown_lines.specs.declared.held_line.HeldLine.{HeldLine}
 use Rattle.markdown_lines.specs.declared.table_row.Cell.{Cell}
-use Rattle.markdown_lines.specs.BlockBeginnings.{Source}
+use Rattle.markdown_base.specs.Source.{Source}
 use Rattle.markdown_lines.specs.LineBytes.{without_end}
 use Rattle.markdown_lines.specs.SourceLines.{SourceLine}
 use Rattle.markdown_lines.specs.TableRows.{cell_over, cells_from, cells_left, cells_over, is_cut}
@@ -443,10 +443,10 @@ cell_block old first opened at begun opens =
 -- a cell that was opened, filled and closed is put into the row
 pub cell_shown : (s : Source) (cell : Cell) (old first opened filled moved new : BuilderView)
     → first ≡ stepped old cell.start → Opens first opened body.TableCell → GoesOn opened filled filled.at
-    → HasItems opened filled (cell_items s.text (item_extensions s.options) cell.from cell.to)
+    → HasItems opened filled (cell_items s.text (item_syntax s.syntax) cell.from cell.to)
     → moved ≡ stepped filled cell.end → PutsBlock moved new → HasTrees old new (shown_cells s (cell ∷ []))
 cell_shown s cell old first opened filled moved new begun opens goes items ended put some =
-    let content = cell_items s.text (item_extensions s.options) cell.from cell.to in
+    let content = cell_items s.text (item_syntax s.syntax) cell.from cell.to in
     put_opened old.levels moved new old.blocks (record { start = cell.start; body = body.TableCell }) content _
     (ap (λ (v : BuilderView). v.blocks) ended
     ∙ (ap (λ (v : BuilderView). v.blocks) goes ∙ cell_block old first opened cell.start begun opens))
@@ -697,7 +697,7 @@ cell_last : (s : Source) (cells : List Cell) (cell : Cell)
 cell_last s [] cell = refl
 cell_last s (first ∷ cells) cell =
     ap (node (plain_item first.start first.end body.TableCell)
-    (chain_of (cell_items s.text (item_extensions s.options) first.from first.to))) (cell_last s cells cell)
+    (chain_of (cell_items s.text (item_syntax s.syntax) first.from first.to))) (cell_last s cells cell)
 
 -- so does that of an empty one
 empty_last : (count at : ℕ) → empty_cells (suc count) at ≡ followed_by (empty_cells count at) (empty_cells 1 at)

@@ -2,7 +2,7 @@
 use Rattle.std.proofs.Common.{◌≡◌, ℕ, List, Option, Some, None, refl, sym, ap, subst}
 use Rattle.markdown_base.specs.Forest.{Forest}
 use Rattle.markdown_builder.specs.declared.open_block.OpenBlock.{OpenBlock}
-use Rattle.markdown_lines.specs.BlockBeginnings.{Source}
+use Rattle.markdown_base.specs.Source.{Source}
 use Rattle.markdown_lines.specs.SourceLines.{SourceLine}
 use Rattle.markdown_block_rules.specs.BlockGrowth.{Block}
 use Rattle.markdown_plain.specs.declared.pass.Pass.{Pass}
@@ -76,7 +76,7 @@ seen_last s pass to frames inside (Some b) places =
       held,
       record {
         unended = seen_unended s pass to frames inside b held places.unended.1;
-        options = ap (λ (source : Source). source.options) (sym places.source);
+        syntax = ap (λ (source : Source). source.syntax) (sym places.source);
         quotes = places.quotes;
         items = places.items;
         lists = places.loose.lists;

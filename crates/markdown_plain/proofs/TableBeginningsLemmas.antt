@@ -13,7 +13,7 @@ use Rattle.markdown_lines.specs.TableRows.{delimiter_row_at}
 use Rattle.markdown_lines.specs.declared.held_line.HeldLine.{HeldLine}
 use Rattle.markdown_plain.specs.HeldSources.{AreTextLines, IsTextLine}
 use Rattle.markdown_plain.proofs.LeafTreesLemmas.{on_test}
-use Rattle.markdown_lines.specs.BlockBeginnings.{Source}
+use Rattle.markdown_base.specs.Source.{Source}
 use Rattle.markdown_lines.specs.Positions.{IsSpaceAt}
 use Rattle.markdown_lines.specs.declared.line.Line.{Line}
 use Rattle.markdown_base.specs.Forest.{Forest}

@@ -21,7 +21,7 @@ use Rattle.markdown_lines.proofs.PositionsLemmas.{part_next}
 use Rattle.markdown_scan.specs.Beginnings.{begins_with}
 use Rattle.markdown_plain.specs.HeldSources.{AreInOrder, AreTextLines, IsParagraph, IsTextLine}
 use Rattle.markdown_scan.specs.LineStart.{LineLeft, leading_space}
-use Rattle.markdown_lines.specs.BlockBeginnings.{Source}
+use Rattle.markdown_base.specs.Source.{Source}
 use Rattle.markdown_lines.specs.Positions.{left_from}
 use Rattle.markdown_lines.specs.declared.line.Line.{Line}
 use Rattle.markdown_base.specs.Forest.{Forest}
@@ -363,7 +363,7 @@ pub may_last : (s : Source) (pass : Pass) (head : HeldLine) (before : List Sourc
     → is_first_after before ≡ false → (nat_lt columns 4 && begins_with (codes "|") from.left.bytes) ≡ false
     → (not (pass.tried) && (length (divided_of pass before).lines == 0)) ≡ may_be_head s before from
 may_last s pass head before from columns is some indent first led =
-    let defined = ap (λ (now : Source). length (divided (entity_names now.options) now.text before).lines == 0)
+    let defined = ap (λ (now : Source). length (divided (entity_names now.syntax) now.text before).lines == 0)
     is.source in
     ap (λ (tried : Bool). not tried && (length (divided_of pass before).lines == 0)) is.tried
     ∙ (ap (λ (all : Bool). not (hold_fitting s (before ++ from ∷ [])) && all) defined

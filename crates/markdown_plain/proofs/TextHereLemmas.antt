@@ -4,7 +4,8 @@ use Rattle.std.specs.Prelude.{if◌then◌else◌}
 use Rattle.markdown_base.specs.Forest.{Forest, nil}
 use Rattle.markdown_scan.specs.LineStart.{LineLeft}
 use Rattle.markdown_lines.specs.BlockBeginnings as beginning
-use Rattle.markdown_lines.specs.BlockBeginnings.{Source, begins}
+use Rattle.markdown_base.specs.Source.{Source}
+use Rattle.markdown_lines.specs.BlockBeginnings.{begins}
 use Rattle.markdown_lines.specs.SourceLines.{SourceLine, is_blank_rest, text_line}
 use Rattle.markdown_lines.specs.declared.block_start.Before.{Before as ParagraphBefore}
 use Rattle.markdown_lines.specs.declared.block_start.Before.TheVariants as paragraph
@@ -124,14 +125,14 @@ text_later s old new rest at frames source blocks adds state left =
     (left_stands s rest source at state.left left.filled left.here) in
     let begins_it = adds.first none s frames nil b l
     (subst (λ (p : Pass). IsBuilt s p.placing.builder frames nil) (sym same.0) opened.free.built)
-    (sym (ap (λ (r : Source). r.options) opened.source))
+    (sym (ap (λ (r : Source). r.syntax) opened.source))
     (subst (λ bytes. BeginsText bytes held l b)
     (sym (ap (λ (p : Pass). p.placing.builder.text) same.0 ∙ text)) begun) opened.items in
     let made : begins s paragraph.NoParagraph source ≡ beginning.begins_text =
     ap (λ (p : ParagraphBefore). begins s p source) (sym state.before) ∙ left.text in
     text_inside s new rest.line at frames nil blocks b l refl
     (source_kept s old new (ap (λ (p : Pass). p.placing.builder.text) same.0)
-    (ap (λ (p : Pass). p.options) same.0) opened.source) begins_it opened.quotes opened.earlier same.1
+    (ap (λ (p : Pass). p.syntax) same.0) opened.source) begins_it opened.quotes opened.earlier same.1
     (ap (λ (p : Pass). p.blanks.items) same.0 ∙ opened.blanks)
     (adds.lines ∙ ap (λ (has : Bool). (if has then old.lines.items else []) ++ held ∷ []) none)
     (state.whole

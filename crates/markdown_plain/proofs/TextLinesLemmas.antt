@@ -11,7 +11,8 @@ use Rattle.markdown_scan.specs.LineStart.{LineLeft, Space, leading_space, no_spa
 use Rattle.markdown_lines.specs.declared.block_start.Before.{Before}
 use Rattle.markdown_lines.specs.declared.position.Position.{Position}
 use Rattle.markdown_lines.specs.BlockBeginnings as beginning
-use Rattle.markdown_lines.specs.BlockBeginnings.{Source, begins_after, metadata_begun, metadata_in_line}
+use Rattle.markdown_base.specs.Source.{Source}
+use Rattle.markdown_lines.specs.BlockBeginnings.{begins_after, metadata_begun, metadata_in_line}
 use Rattle.markdown_lines.specs.Lines.{is_space_or_tab}
 use Rattle.markdown_lines.specs.MetadataBlocks.{line_opens, opened_before}
 use Rattle.markdown_lines.specs.Positions.{left_from}
@@ -75,7 +76,7 @@ opens_none : (s : Source) (before : Before) (l : SourceLine) (byte : ℕ) (more 
     → BeginsNoBlock byte → metadata_in_line s before l ≡ None
 opens_none s before l byte more is none =
     ap (λ found. if l.outermost
-    then option_and_then (metadata_begun before) (option_and_then (opened_before s.options s.text l.next) found)
+    then option_and_then (metadata_begun before) (option_and_then (opened_before s.syntax s.text l.next) found)
     else None) (ap line_opens is ∙ no_metadata byte more none)
     ∙ none_opened l.outermost before
 

@@ -8,7 +8,6 @@ use Rattle.std.specs.Option.{IfSome, option_map}
 use Rattle.std.specs.Str.{IsCharBoundary, IsUtf8}
 use Rattle.std.proofs.lemmas.Bool.Decides.{nat_tests}
 use Rattle.std.proofs.lemmas.Str.{IsCharBoundary-after_ascii}
-use Rattle.markdown_base.specs.EnabledOptions.{old_footnotes_on}
 use Rattle.markdown_base.specs.Forest.{Forest, nil, node}
 use Rattle.markdown_builder.specs.TreeLevels.{followed_by}
 use Rattle.markdown_builder.specs.declared.open_block.OpenBlock.{OpenBlock}
@@ -19,7 +18,8 @@ use Rattle.markdown_lines.specs.declared.block_start.Before.TheVariants as parag
 use Rattle.markdown_lines.specs.declared.line.Line.{Line}
 use Rattle.markdown_lines.specs.declared.position.Position.{Position}
 use Rattle.markdown_lines.specs.BlockBeginnings as beginning
-use Rattle.markdown_lines.specs.BlockBeginnings.{Source, begins}
+use Rattle.markdown_base.specs.Source.{Source}
+use Rattle.markdown_lines.specs.BlockBeginnings.{begins}
 use Rattle.markdown_lines.specs.Lines.{is_space_or_tab}
 use Rattle.markdown_lines.specs.Positions.{left_from}
 use Rattle.markdown_lines.specs.SourceLines.{SourceLine, is_blank_rest, rest_inside}
@@ -141,7 +141,7 @@ module _ (text : List ℕ) (from : ℕ) (utf8 : IsUtf8 text) where
   footnote_within : (s : Source) (l : SourceLine) → IsWithin text from l.left
       → IfSome (past_footnote s l) (IsWithin text from)
   footnote_within s l is =
-      on_test (λ o. IfSome o (IsWithin text from)) (not (old_footnotes_on s.options)) _ _
+      on_test (λ o. IfSome o (IsWithin text from)) (not s.syntax.old_footnotes) _ _
       (λ e. indentation_within 4 l is)
       (λ e. on_test (λ o. IfSome o (IsWithin text from)) (is_blank_rest l) _ _ (λ blank. tt) (λ filled. is))
 

@@ -8,7 +8,8 @@ use Rattle.markdown_builder.specs.TreeLevels.{followed_by}
 use Rattle.markdown_lines.specs.declared.block_start.Before.TheVariants as paragraph
 use Rattle.markdown_lines.specs.declared.line.Line.{Line}
 use Rattle.markdown_lines.specs.BlockBeginnings as beginning
-use Rattle.markdown_lines.specs.BlockBeginnings.{Source, begins}
+use Rattle.markdown_base.specs.Source.{Source}
+use Rattle.markdown_lines.specs.BlockBeginnings.{begins}
 use Rattle.markdown_lines.specs.SourceLines.{SourceLine}
 use Rattle.markdown_block_rules.specs.BlockGrowth as was
 use Rattle.markdown_block_rules.specs.BlockGrowth.{Block, goes_on, is_nil, paragraph_with, with_line}
@@ -39,7 +40,7 @@ use Rattle.markdown_plain.proofs.RoomLemmas.{last_open}
 -- a line was added from a byte offset on, inside the outermost `depth` of the open blocks
 pub record AddsText (old new : Pass) (line : Line) (start depth : ℕ) : Type 0 where
   pub text : new.placing.builder.text ≡ old.placing.builder.text
-  pub options : new.options ≡ old.options
+  pub syntax : new.syntax ≡ old.syntax
   pub goes_on : has_paragraph old ≡ true → new ≡ record old { lines = new.lines }
   pub unheld : old.blanks.items ≡ [] → new.blanks.items ≡ []
   pub dropped : old.placing.builder.leaf ≡ true → new.blanks.items ≡ []
@@ -59,7 +60,7 @@ pub record AddsText (old new : Pass) (line : Line) (start depth : ℕ) : Type 0 
       → IsLooseBefore new.looseness (take (room_depth depth frames) frames) (rebuilt (drop (room_depth depth frames)
       frames) inside)
   pub first : has_paragraph old ≡ false → (s : Source) (frames : List Frame) (inside : Forest Block) (b : Block)
-      (source : SourceLine) → IsBuilt s new.placing.builder frames inside → s.options ≡ old.options
+      (source : SourceLine) → IsBuilt s new.placing.builder frames inside → s.syntax ≡ old.syntax
       → BeginsText new.placing.builder.text (held_line line start) source b → AreItemsOpenedIn line frames
       → HoldsParagraph s new frames inside b (source ∷ [])
   pub further : (s : Source) (frames : List Frame) (inside : Forest Block) (b : Block) (sources : List SourceLine)
@@ -158,10 +159,10 @@ module _ (s : Source) (old new : Pass) (line : Line) (start depth : ℕ) (source
       let loose = adds.loose none around.texts frames blocks around.are around.nested stands.loose few
       (λ some. stands.blanks) in
       let text = ap (λ (source : Source). source.text) stands.source in
-      let options = ap (λ (source : Source). source.options) stands.source in
+      let syntax = ap (λ (source : Source). source.syntax) stands.source in
       let now : source_of new ≡ s =
-      ap (λ t. record { text = t; options = new.options }) adds.text
-      ∙ (ap (λ o. record { text = old.placing.builder.text; options = o }) adds.options ∙ stands.source) in
+      ap (λ t. record { text = t; syntax = new.syntax }) adds.text
+      ∙ (ap (λ o. record { text = old.placing.builder.text; syntax = o }) adds.syntax ∙ stands.source) in
       let begun : BeginsLine s new line start (take (room_depth depth frames) frames)
       (rebuilt (drop (room_depth depth frames) frames) blocks) = record {
         stands = there;
@@ -170,7 +171,7 @@ module _ (s : Source) (old new : Pass) (line : Line) (start depth : ℕ) (source
         unheld = λ outside. none_kept old.placing.builder.leaf refl stands.unheld;
         loose = loose;
         first = λ b first begins opened.
-            adds.first none s _ _ b first there.built (sym options) begins opened;
+            adds.first none s _ _ b first there.built (sym syntax) begins opened;
       } in
       text_begun s old new line start frames blocks source now text is
       (open_are_containers around.texts (without_leaf old.placing.builder) frames around.are) around.nested

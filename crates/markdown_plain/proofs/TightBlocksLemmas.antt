@@ -6,7 +6,7 @@ use Rattle.markdown_base.specs.declared.item.ItemBody.TheVariants as body
 use Rattle.markdown_base.specs.declared.tag.HeadingLevel.{HeadingLevel}
 use Rattle.markdown_builder.specs.Shown.{Shown, tight_shown}
 use Rattle.markdown_builder.specs.TreeLevels.{followed_by, items_changed, roots_changed}
-use Rattle.markdown_lines.specs.BlockBeginnings.{Source}
+use Rattle.markdown_base.specs.Source.{Source}
 use Rattle.markdown_lines.specs.SourceLines.{SourceLine}
 use Rattle.markdown_lines.specs.DefinitionRules.{divided}
 use Rattle.markdown_lines.specs.declared.braces.Braces.{Braces}
@@ -55,7 +55,7 @@ setext_stays : (s : Source) (marked : ℕ) (b : Block) (level : HeadingLevel) (l
     → roots_changed tight_shown (shown_setext s marked b level lines) ≡ shown_setext s marked b level lines
 setext_stays s marked b level [] = refl
 setext_stays s marked b level (l ∷ lines) =
-    heading_stays s l.left.scanned b.last level (last_braces s.options (l ∷ lines)) _
+    heading_stays s l.left.scanned b.last level (last_braces s.syntax (l ∷ lines)) _
 
 -- a block directly in an item, which is no item
 block_made_tight : (s : Source) (marked : ℕ) (b : Block) (end : ℕ) (below : Forest Block)
@@ -63,9 +63,9 @@ block_made_tight : (s : Source) (marked : ℕ) (b : Block) (end : ℕ) (below : 
     → roots_changed tight_shown (shown_block s (in_item false marked) b end below inside kind)
     ≡ shown_block s (in_item true marked) b end below inside kind
 block_made_tight s marked b end below inside (was.paragraph_leaf lines) may =
-    text_made_tight s marked b (divided (entity_names s.options) s.text lines).lines
+    text_made_tight s marked b (divided (entity_names s.syntax) s.text lines).lines
 block_made_tight s marked b end below inside (was.underlined_leaf level lines) may =
-    setext_stays s marked b level (divided (entity_names s.options) s.text lines).lines
+    setext_stays s marked b level (divided (entity_names s.syntax) s.text lines).lines
 block_made_tight s marked b end below inside (was.heading_leaf found) may =
     heading_stays s b.start end found.level found.braces _
 block_made_tight s marked b end below inside (was.item_container indent) may = absurd (true≢false (may refl))

@@ -2,7 +2,7 @@
 -- table's head.
 use Rattle.std.proofs.Common.{ℕ, Bool, List, Option, Some, None}
 use Rattle.markdown_base.specs.Forest.{Forest}
-use Rattle.markdown_lines.specs.BlockBeginnings.{Source}
+use Rattle.markdown_base.specs.Source.{Source}
 use Rattle.markdown_lines.specs.SourceLines.{SourceLine}
 use Rattle.markdown_lines.specs.declared.line.Line.{Line}
 use Rattle.markdown_block_rules.specs.BlockGrowth.{Block}
@@ -55,7 +55,7 @@ module _ (pass : Pass) (tried : Bool) where
     holds.0,
     record {
       unended = unended_tried s frames inside b holds.0 holds.1.unended;
-      options = holds.1.options;
+      syntax = holds.1.syntax;
       quotes = holds.1.quotes;
       items = holds.1.items;
       lists = holds.1.lists;
@@ -111,7 +111,7 @@ module _ (pass : Pass) (tried : Bool) where
       → IsMadeOf s pass found rest
   made_untried s found rest made = record {
     text = made.text;
-    options = made.options;
+    syntax = made.syntax;
     start = made.start;
     stop = made.stop;
     next = made.next;

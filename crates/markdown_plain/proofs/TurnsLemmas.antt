@@ -3,7 +3,8 @@ use Rattle.std.proofs.Common.{◌≡◌, ℕ, ◌+◌, ◌≤◌, Bool, true, fa
 use Rattle.std.specs.Prelude.{if◌then◌else◌}
 use Rattle.markdown_base.specs.Forest.{Forest}
 use Rattle.markdown_scan.specs.LineStart.{LineLeft}
-use Rattle.markdown_lines.specs.BlockBeginnings.{Source, is_paragraph}
+use Rattle.markdown_base.specs.Source.{Source}
+use Rattle.markdown_lines.specs.BlockBeginnings.{is_paragraph}
 use Rattle.markdown_lines.specs.Positions.{left_from}
 use Rattle.markdown_lines.specs.SourceLines.{SourceLine}
 use Rattle.markdown_lines.specs.declared.block_start.BlockStart.{BlockStart}

@@ -8,14 +8,14 @@ use Rattle.std.proofs.lemmas.Option.{none-some}
 use Rattle.std.specs.Prelude.{slice_range, if◌then◌else◌}
 use Rattle.std.specs.List.{list_all, prefix_len}
 use Rattle.std.specs.Option.{option_map}
-use Rattle.markdown_base.specs.EnabledOptions.{footnotes_on}
 use Rattle.markdown_base.specs.declared.tag.BlockQuoteKind.{BlockQuoteKind}
 use Rattle.markdown_base.specs.declared.tag.HeadingLevel.{HeadingLevel}
 use Rattle.markdown_scan.specs.Beginnings.{begins_with}
 use Rattle.markdown_scan.specs.LineStart.{LineLeft, leading_space, past_marker}
 use Rattle.markdown_lines.specs.Alerts.{alert_read}
 use Rattle.markdown_lines.specs.BlockBeginnings as line
-use Rattle.markdown_lines.specs.BlockBeginnings.{Beginning, Source, begins, begins_after, break_in_line, first_found}
+use Rattle.markdown_base.specs.Source.{Source}
+use Rattle.markdown_lines.specs.BlockBeginnings.{Beginning, begins, begins_after, break_in_line, first_found}
 use Rattle.markdown_lines.specs.BlockBeginnings.{footnote_marker, is_reached, item_in_line, item_of, past_bytes}
 use Rattle.markdown_lines.specs.BlockBeginnings.{quote_of, quote_or_alert}
 use Rattle.markdown_lines.specs.Lines.{is_space_or_tab}
@@ -120,9 +120,9 @@ after_level s before columns here =
     let note = footnote_marker here.bytes in
     after_holds has s before columns here
     (record { text = tt; heading = λ heading. tt; fence = λ opening. tt; html = λ kind. tt; break = tt })
-    (either (IfFound has) (begins_with (codes ">") here.bytes) (Some (quote_of s.options (past_marker here))) None
-    (quote_level here.bytes (past_marker here) (alert_read s.options (past_marker here))) tt)
-    (either (IfFound has) (footnotes_on s.options)
+    (either (IfFound has) (begins_with (codes ">") here.bytes) (Some (quote_of s.syntax (past_marker here))) None
+    (quote_level here.bytes (past_marker here) (alert_read s.syntax (past_marker here))) tt)
+    (either (IfFound has) s.syntax.footnotes
     (option_map (λ marker. line.begins_footnote marker.0 (past_bytes marker.1 here)) note) None
     (mapped_holds has (λ marker. line.begins_footnote marker.0 (past_bytes marker.1 here)) note (λ a. tt)) tt)
     (either (IfFound has) (is_reached before) (option_map line.begins_underline (setext_level here.bytes)) None

@@ -15,7 +15,8 @@ use Rattle.markdown_builder.specs.TreeLevels.{followed_by}
 use Rattle.markdown_scan.specs.Entity.{entity_names}
 use Rattle.markdown_scan.specs.LineStart.{Space, leading_space}
 use Rattle.markdown_lines.specs.BlockBeginnings as line
-use Rattle.markdown_lines.specs.BlockBeginnings.{Beginning, Source, begins, begins_after, is_paragraph, is_reached}
+use Rattle.markdown_base.specs.Source.{Source}
+use Rattle.markdown_lines.specs.BlockBeginnings.{Beginning, begins, begins_after, is_paragraph, is_reached}
 use Rattle.markdown_lines.specs.DefinitionRules.{divided}
 use Rattle.markdown_lines.specs.Lines.{IsLineFrom}
 use Rattle.markdown_lines.specs.SourceLines.{SourceLine, is_blank_rest}
@@ -121,7 +122,7 @@ is_reached_one paragraph.Reached reaches = refl
 
 -- nothing is left of a paragraph's lines after its definitions
 abbrev pub is_defining : Source → List SourceLine → Bool
-is_defining s lines = length (divided (entity_names s.options) s.text lines).lines == 0
+is_defining s lines = length (divided (entity_names s.syntax) s.text lines).lines == 0
 
 paragraph_heads : (s : Source) (l : SourceLine) (begin top last : ℕ) (lines : List SourceLine)
     (level : HeadingLevel)
@@ -202,7 +203,7 @@ pub record EndsUnderlined (old new : Pass) (level : HeadingLevel) (line : Line) 
   pub left : (sources : List SourceLine) → IsParagraph old.placing.builder.text old.lines.items sources
       → some ≡ not (length (divided_of old sources).lines == 0)
   pub frame : (s : Source) (frames : List Frame) (inside : Forest Block) (b : Block) (sources : List SourceLine)
-      → HoldsParagraph s old frames inside b sources → s.options ≡ old.options → IsPlaced s new.placing.builder frames
+      → HoldsParagraph s old frames inside b sources → s.syntax ≡ old.syntax → IsPlaced s new.placing.builder frames
       (followed_by inside (leaf_block (ended_block b sources some (Some (level, line)))))
   pub ends : some ≡ true → IsPlacedTo (record old.placing.builder { definitions = new.placing.builder.definitions })
       new.placing.builder line.next
@@ -280,7 +281,7 @@ module _ (s : Source) (old new : Pass) (rest : LineRest) (level : HeadingLevel) 
   heading_placed ends =
       let h = headed b level sources rest.line.next in
       let at_end = followed_by inside (leaf_block h) in
-      let placed = ends.frame s frames inside b sources holds may.options in
+      let placed = ends.frame s frames inside b sources holds may.syntax in
       let whole = heading_made (heads_not (is_defining s sources)
       (defining true (ends.left sources holds.lines))) in
       record {
@@ -288,7 +289,7 @@ module _ (s : Source) (old new : Pass) (rest : LineRest) (level : HeadingLevel) 
         inside = at_end;
         last = None;
         places = record {
-          source = source_kept s old new ends.text (ap (λ (p : Pass). p.options) ends.same) here.holds.source;
+          source = source_kept s old new ends.text (ap (λ (p : Pass). p.syntax) ends.same) here.holds.source;
           unended = (
             placed_touched l s new.placing.builder frames at_end placed,
             ends.emptied,
@@ -346,14 +347,14 @@ module _ (s : Source) (old new : Pass) (rest : LineRest) (level : HeadingLevel) 
   here_again : EndsUnderlined old new level rest.line false
       → IsFirst s new rest_again (record { frames = frames; inside = now; last = None }) l source blocks
   here_again ends =
-      let placed = ends.frame s frames inside b sources holds may.options in
+      let placed = ends.frame s frames inside b sources holds may.syntax in
       let none = ends_not (is_defining s sources)
       (defining false (ends.left sources holds.lines)) in
       let looseness = ap (λ (p : Pass). p.looseness) ends.same in
       record {
         untabled = tt;
         holds = record {
-          source = source_kept s old new ends.text (ap (λ (p : Pass). p.options) ends.same) here.holds.source;
+          source = source_kept s old new ends.text (ap (λ (p : Pass). p.syntax) ends.same) here.holds.source;
           unended = (
             record {
               stands = record {

@@ -4,7 +4,7 @@ use Rattle.std.proofs.Common.{◌≡◌, ℕ, Bool, true, false, not, ◌||◌, 
 use Rattle.std.proofs.Common.{refl, sym, ap, ◌∙◌}
 use Rattle.std.specs.Prelude.{if◌then◌else◌}
 use Rattle.markdown_builder.specs.declared.open_block.OpenBlock.{OpenBlock}
-use Rattle.markdown_lines.specs.BlockBeginnings.{Source}
+use Rattle.markdown_base.specs.Source.{Source}
 use Rattle.markdown_lines.specs.Positions.{left_from}
 use Rattle.markdown_lines.specs.SourceLines.{SourceLine, is_blank_rest, stop_of, text_line}
 use Rattle.markdown_lines.specs.TableRows.{delimiter_row_at}

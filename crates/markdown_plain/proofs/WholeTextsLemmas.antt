@@ -11,7 +11,7 @@ use Rattle.markdown_base.specs.Forest.{Forest, nil}
 use Rattle.markdown_builder.specs.BuilderView.{BuilderView, nothing_made}
 use Rattle.markdown_builder.specs.TreeLevels.{followed_by}
 use Rattle.markdown_builder.specs.declared.open_block.OpenBlock.{OpenBlock}
-use Rattle.markdown_lines.specs.BlockBeginnings.{Source}
+use Rattle.markdown_base.specs.Source.{Source}
 use Rattle.markdown_lines.specs.Lines.{AllPass, IsLineFrom, is_in_blank_line}
 use Rattle.markdown_lines.specs.MetadataBlocks.{lines_at}
 use Rattle.markdown_lines.specs.SourceLines.{SourceLine, first_line}
@@ -186,7 +186,7 @@ white_left s old new from end so_far closes none text =
 -- nothing was read yet
 pub record HasNothing (s : Source) (pass : Pass) : Type 0 where
   pub made : pass.placing.builder ≡ nothing_made s.text
-  pub options : pass.options ≡ s.options
+  pub syntax : pass.syntax ≡ s.syntax
   pub lines : pass.lines.items ≡ []
   pub blanks : pass.blanks.items ≡ []
   pub lists : pass.looseness.lists.items ≡ []
@@ -233,8 +233,8 @@ nothing_built s = record {
 -- it stands for no blocks
 pub nothing_stands : (s : Source) (pass : Pass) → HasNothing s pass → Stands s pass [] nil None 0
 nothing_stands s pass is = record {
-  source = ap (λ (view : BuilderView). record { text = view.text; options = pass.options }) is.made
-      ∙ ap (λ options. record { text = s.text; options = options }) is.options;
+  source = ap (λ (view : BuilderView). record { text = view.text; syntax = pass.syntax }) is.made
+      ∙ ap (λ syntax. record { text = s.text; syntax = syntax }) is.syntax;
   unended = (
     record {
       stands = record {

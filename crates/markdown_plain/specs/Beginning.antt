@@ -3,13 +3,12 @@
 use Rattle.std.specs.Prelude.{◌≡◌, ◌==◌, ◌&&◌, ◌||◌, ℕ, ◌+◌, ◌<◌, ◌≤◌, Bool, true, false, List, [], Option, Some, None}
 use Rattle.std.specs.Prelude.{length, take, if◌then◌else◌}
 use Rattle.std.specs.Str.{IsCharBoundary, IsUtf8}
-use Rattle.markdown_base.specs.declared.options.Options.{Options}
-use Rattle.markdown_base.specs.declared.options.TheConstants.Options.{ENABLE_YAML_STYLE_METADATA_BLOCKS}
-use Rattle.markdown_base.specs.declared.options.TheConstants.Options.{ENABLE_PLUSES_DELIMITED_METADATA_BLOCKS}
-use Rattle.markdown_lines.specs.ExtendedOnly.{is_read}
+use Rattle.markdown_base.specs.Syntax.{any_metadata}
+use Rattle.markdown_base.specs.declared.syntax.Syntax.{Syntax}
 use Rattle.markdown_base.specs.Forest.{Forest, nil}
 use Rattle.markdown_lines.specs.BlockBeginnings as line
-use Rattle.markdown_lines.specs.BlockBeginnings.{Beginning, Source, begins, is_paragraph}
+use Rattle.markdown_base.specs.Source.{Source}
+use Rattle.markdown_lines.specs.BlockBeginnings.{Beginning, begins, is_paragraph}
 use Rattle.markdown_lines.specs.BlockStarts.{begins_unless_blank, beginning_found, source_read}
 use Rattle.markdown_lines.specs.SourceLines.{SourceLine, is_blank_rest}
 use Rattle.markdown_lines.specs.declared.block_start.Before.TheVariants as paragraph
@@ -43,11 +42,6 @@ use Rattle.markdown_plain.specs.TextLines.{paragraph_before}
 
 -- ---- what is left of a line
 
--- metadata of some kind is read
-abbrev pub reads_metadata : Options → Bool
-reads_metadata options =
-    is_read ENABLE_YAML_STYLE_METADATA_BLOCKS options || is_read ENABLE_PLUSES_DELIMITED_METADATA_BLOCKS options
-
 -- the rest of a line is this one of the definition, and is read as such; whether it is directly under the root matters
 -- for metadata alone
 pub record IsLeft (s : Source) (rest : LineRest) (source : SourceLine) : Type 0 where
@@ -57,7 +51,7 @@ pub record IsLeft (s : Source) (rest : LineRest) (source : SourceLine) : Type 0 
   pub start : rest.reader.start ≡ rest.line.start
   pub next : rest.reader.next ≡ source.next
   pub indent : source.indent ≡ None
-  pub outermost : reads_metadata s.options ≡ true
+  pub outermost : any_metadata s.syntax ≡ true
       → (rest.reader.outermost && (rest.position.at == rest.reader.start)) ≡ source.outermost
   pub after : rest.line.start ≤ rest.position.at
   pub boundary : IsCharBoundary s.text rest.position.at
@@ -156,11 +150,11 @@ pub record Holds (s : Source) (pass : Pass) (frames : List Frame) (inside : Fore
 -- the rest of a line was made of what the line reaches
 pub record IsMadeOf (s : Source) (pass : Pass) (found : Reached) (rest : LineRest) : Type 0 where
   pub text : rest.reader.text.now ≡ s.text
-  pub options : rest.reader.options ≡ pass.options
+  pub syntax : rest.reader.syntax ≡ pass.syntax
   pub start : rest.reader.start ≡ rest.line.start
   pub stop : rest.reader.stop ≡ rest.line.stop
   pub next : rest.reader.next ≡ rest.line.next
-  pub outermost : rest.reader.outermost ≡ (reads_metadata pass.options
+  pub outermost : rest.reader.outermost ≡ (any_metadata pass.syntax
       && list_all (λ block. by_body.is_list block.body) (take found.depth pass.placing.builder.blocks))
   pub position : rest.position ≡ found.position
   pub depth : rest.depth ≡ found.depth

@@ -2,7 +2,7 @@
 use Rattle.std.specs.Prelude.{◌≡◌, Bool, false, List, Option}
 use Rattle.markdown_base.specs.Forest.{Forest, nil, node}
 use Rattle.markdown_builder.specs.TreeLevels.{followed_by}
-use Rattle.markdown_lines.specs.BlockBeginnings.{Source}
+use Rattle.markdown_base.specs.Source.{Source}
 use Rattle.markdown_lines.specs.SourceLines.{SourceLine}
 use Rattle.markdown_block_rules.specs.BlockGrowth.{Block, Kind}
 use Rattle.markdown_block_rules.specs.BlockRules.{is_blank_block}
@@ -37,7 +37,7 @@ pub record MayClose (s : Source) (pass : Pass) (frames : List Frame) (inside : F
 pub record MayEnd (s : Source) (pass : Pass) (frames : List Frame) (inside : Forest Block) (b : Block)
     (held : Option (List SourceLine)) : Type 0 where
   pub unended : IsUnended s pass frames inside b held
-  pub options : s.options ≡ pass.options
+  pub syntax : s.syntax ≡ pass.syntax
   pub quotes : QuotesEnd pass.placed frames
   pub items : AreItemsInLists false (rebuilt frames (followed_by inside (leaf_block b)))
   pub lists : pass.looseness.lists.items ≡ are_loose frames (followed_by inside (leaf_block b))

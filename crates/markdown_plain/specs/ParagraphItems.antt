@@ -5,12 +5,12 @@ use Rattle.markdown_base.specs.declared.item.ItemBody.TheVariants as body
 use Rattle.markdown_base.specs.Forest.{Forest}
 use Rattle.markdown_builder.specs.BuilderView.{with_items}
 use Rattle.markdown_builder.specs.Shown.{Shown, plain_item}
-use Rattle.markdown_base.specs.declared.options.Options.{Options}
+use Rattle.markdown_base.specs.declared.syntax.Syntax.{Syntax}
 use Rattle.markdown_base.specs.declared.tag.HeadingLevel.{HeadingLevel}
 use Rattle.markdown_lines.specs.declared.line.Line.{Line}
-use Rattle.markdown_items.specs.LineItems.{item_extensions}
+use Rattle.markdown_items.specs.LineItems.{item_syntax}
 use Rattle.markdown_lines.specs.declared.braces.Braces.{Braces}
-use Rattle.markdown_lines.specs.BlockBeginnings.{Source}
+use Rattle.markdown_base.specs.Source.{Source}
 use Rattle.markdown_lines.specs.HeadingAttributes.{open_brace}
 use Rattle.markdown_lines.specs.SourceLines.{SourceLine}
 use Rattle.markdown_lines.specs.TaskMarkers.{past_task, task_marker}
@@ -30,7 +30,7 @@ after_task (Some done) l = past_task l
 
 -- a line that another one follows, with its break, unless nothing is left of it
 abbrev pub line_or_nothing : Source → SourceLine → List Shown
-line_or_nothing s l = if length l.left.bytes == 0 then [] else broken_line s.text (item_extensions s.options) l
+line_or_nothing s l = if length l.left.bytes == 0 then [] else broken_line s.text (item_syntax s.syntax) l
 
 -- the items of lines, after a task marker in the first
 abbrev pub text_items : Source → Option Bool → List SourceLine → List Shown
@@ -71,6 +71,6 @@ pub record IsLeft (s : Source) (ends : Ends) (lines : List SourceLine) (now all 
   pub rest : with_items now (text_items s ends.task (before_braces ends.braces lines)) ≡ all
 
 -- the braces at the end of the lines of a heading, or of a paragraph, which has none
-abbrev pub heading_braces : Options → Option (HeadingLevel × Line) → List SourceLine → Option Braces
-heading_braces options None lines = None
-heading_braces options (Some heading) lines = last_braces options lines
+abbrev pub heading_braces : Syntax → Option (HeadingLevel × Line) → List SourceLine → Option Braces
+heading_braces syntax None lines = None
+heading_braces syntax (Some heading) lines = last_braces syntax lines

@@ -13,7 +13,7 @@ use Rattle.markdown_builder.specs.BuilderView.{BuilderView, innermost_block}
 use Rattle.markdown_builder.specs.Shown.{Shown}
 use Rattle.markdown_scan.specs.Entity.{entity_names}
 use Rattle.markdown_scan.specs.declared.entity.EntityNames.{EntityNames}
-use Rattle.markdown_lines.specs.BlockBeginnings.{Source}
+use Rattle.markdown_base.specs.Source.{Source}
 use Rattle.markdown_lines.specs.DefinitionRules.{Divided, divided}
 use Rattle.markdown_lines.specs.SourceLines.{SourceLine}
 use Rattle.markdown_lines.specs.ThematicBreaks.{is_thematic_break}
@@ -61,15 +61,15 @@ is_item_in block line = is_item block.body && nat_le line.start block.start
 abbrev pub task_at : Pass → Line → (start : ℕ) → Option Bool
 task_at pass line start =
     if option_map_or (λ block. is_item_in block line) (innermost_block pass.placing.builder.blocks) false
-    then task_read pass.options (slice_range pass.placing.builder.text start line.stop) else None
+    then task_read pass.syntax (slice_range pass.placing.builder.text start line.stop) else None
 
--- the text that the pass reads, with its options
+-- the text that the pass reads, with its syntax
 abbrev pub source_of : Pass → Source
-source_of pass = record { text = pass.placing.builder.text; options = pass.options }
+source_of pass = record { text = pass.placing.builder.text; syntax = pass.syntax }
 
 -- the definitions at the beginning of these lines, and the lines after them, as the pass reads them
 abbrev pub divided_of : Pass → List SourceLine → Divided
-divided_of pass sources = divided (entity_names pass.options) pass.placing.builder.text sources
+divided_of pass sources = divided (entity_names pass.syntax) pass.placing.builder.text sources
 
 -- whether a line that would underline the open paragraph, from its first content byte on, is text of that
 abbrev pub UnderlinesNothing : Pass → Line → (start : ℕ) → Bool → Type 0
@@ -87,7 +87,7 @@ pub record IsDivided (names : EntityNames) (old new : BuilderView) (sources : Li
 -- the task marker of a paragraph's first line, where that is the line of an item's marker, which ends at `marked`
 abbrev pub first_task : Source → (marked : ℕ) → List SourceLine → Option Bool
 first_task s marked [] = None
-first_task s marked (l ∷ lines) = if l.next == marked then task_read s.options l.left.bytes else None
+first_task s marked (l ∷ lines) = if l.next == marked then task_read s.syntax l.left.bytes else None
 
 -- a paragraph's first line ends at this byte offset, or after it
 abbrev pub EndsFrom : ℕ → List SourceLine → Type 0

@@ -5,7 +5,7 @@ use Rattle.std.specs.List.{list_all}
 use Rattle.markdown_base.specs.Forest.{Forest}
 use Rattle.markdown_builder.specs.declared.open_block.OpenBlock.{OpenBlock}
 use Rattle.markdown_lines.specs.declared.line.Line.{Line}
-use Rattle.markdown_lines.specs.BlockBeginnings.{Source}
+use Rattle.markdown_base.specs.Source.{Source}
 use Rattle.markdown_lines.specs.SourceLines.{SourceLine, is_blank_rest, stop_of}
 use Rattle.markdown_block_rules.specs.BlockGrowth.{Block, content_of}
 use Rattle.markdown_plain.specs.declared.containers.Reached.{Reached}
@@ -33,7 +33,7 @@ pub record IsBefore (pass : Pass) (line : Line) (s : Source) (frames : List Fram
   pub alone : IsAtMostLeaf leaf
   pub are : AreOpen pass.placing.builder.texts containers frames
   pub empty : EmptyKnown (is_innermost leaf && pass.looseness.item_is_empty) frames inside
-  pub options : pass.options ≡ s.options
+  pub syntax : pass.syntax ≡ s.syntax
   pub left : whole_line pass.placing.builder.text line ≡ source.left
   pub stop : line.stop ≡ stop_of source
   pub next : line.next ≡ source.next

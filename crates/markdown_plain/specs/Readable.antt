@@ -2,7 +2,7 @@
 -- fits.
 use Rattle.std.specs.Prelude.{◌≡◌, ℕ, Bool, List, [], None}
 use Rattle.markdown_base.specs.Forest.{nil}
-use Rattle.markdown_lines.specs.BlockBeginnings.{Source}
+use Rattle.markdown_base.specs.Source.{Source}
 use Rattle.markdown_lines.specs.SourceLines.{SourceLine, is_blank_rest}
 use Rattle.markdown_lines.specs.declared.line.Line.{Line}
 use Rattle.markdown_plain.specs.declared.containers.Reached.{Reached}

@@ -9,7 +9,7 @@ use Rattle.markdown_builder.specs.declared.open_block.OpenBlock.{OpenBlock}
 use Rattle.markdown_builder.specs.BuilderView.{BuilderView}
 use Rattle.markdown_builder.specs.Shown.{Shown}
 use Rattle.markdown_builder.specs.TreeLevels.{followed_by}
-use Rattle.markdown_lines.specs.BlockBeginnings.{Source}
+use Rattle.markdown_base.specs.Source.{Source}
 use Rattle.markdown_block_rules.specs.BlockGrowth as was
 use Rattle.markdown_block_rules.specs.BlockGrowth.{Block, Kind, is_nil}
 use Rattle.markdown_block_rules.specs.BlockRules.{Around, in_no_item, shown_blocks, definitions_in, footnotes_in}

@@ -12,7 +12,7 @@ use Rattle.markdown_lines.specs.declared.block_start.BlockStart.{BlockStart}
 use Rattle.markdown_lines.specs.declared.block_start.BlockStart.TheVariants as start
 use Rattle.markdown_lines.specs.declared.held_line.HeldLine.{HeldLine}
 use Rattle.markdown_lines.specs.declared.table_row.Cell.{Cell}
-use Rattle.markdown_lines.specs.BlockBeginnings.{Source}
+use Rattle.markdown_base.specs.Source.{Source}
 use Rattle.markdown_lines.specs.TableRows.{piece_length, row_cells_at}
 use Rattle.markdown_block_rules.specs.BlockGrowth as was
 use Rattle.markdown_block_rules.specs.BlockGrowth.{Block, Kind, added_in, is_nil}

@@ -4,21 +4,14 @@
 ghost use Rattle.std.specs.Prelude.{◌≡◌, [], true, false, Some, None, IfOk, length, slice_range, take};
 ghost use Rattle.std.specs.List.{list_all};
 ghost use Rattle.std.specs.Str.{IsCharBoundary};
-ghost use Rattle.markdown_base.specs.BlockTree.{tree_of};
-ghost use Rattle.markdown_base.specs.Coverage.{Covers};
 ghost use Rattle.markdown_base.specs.Forest.{Forest, nil};
-ghost use Rattle.markdown_base.specs.WellFormed.{IsWellFormed};
 ghost use Rattle.markdown_block_rules.specs.BlockGrowth.{Block, blocks_of, with_line, with_next_line};
 ghost use Rattle.markdown_block_rules.specs.BlockResults.{IsBlockResult};
-ghost use Rattle.markdown_builder.specs.EvenRows.{HasEvenRows};
-ghost use Rattle.markdown_builder.specs.HeadingsHoldInline.{HeadingsHoldInline};
-ghost use Rattle.markdown_builder.specs.Shown.{shown_result};
-ghost use Rattle.markdown_builder.specs.Tightness.{TightInTightLists};
-ghost use Rattle.markdown_lines.specs.BlockBeginnings.{Source};
+ghost use Rattle.markdown_base.specs.Source.{Source, source_as};
 ghost use Rattle.markdown_lines.specs.Lines.{AllPass, is_in_blank_line, is_space_or_tab};
 ghost use Rattle.markdown_lines.specs.SourceLines.{SourceLine, is_blank_rest};
 ghost use Rattle.markdown_lines.specs.declared.position.Position.{Position};
-ghost use Rattle.markdown_plain.specs.Beginning.{IsHere, IsMadeOf, Turn, reads_metadata};
+ghost use Rattle.markdown_plain.specs.Beginning.{IsHere, IsMadeOf, Turn};
 ghost use Rattle.markdown_plain.specs.Beginning.{MayRead};
 ghost use Rattle.markdown_plain.specs.Closable.{MayMakeRoom};
 ghost use Rattle.markdown_plain.specs.Readable.{MayGoOn, MayReadLine, MayReadOn, MayReadRest, MayReadText};
@@ -39,11 +32,10 @@ use crate::pass::{LeafKind, Pass};
 use crate::placing::Placing;
 use markdown_base::block_parts::BlockParts;
 use markdown_base::item::{Item, ItemBody};
-use markdown_base::options::Options;
+use markdown_base::syntax::Syntax;
 use markdown_base::tree::Tree;
 use markdown_builder::open_block::OpenBlock;
 use markdown_lines::bytes::{byte_at, bytes_of, is_white};
-use markdown_lines::extended_only::is_read;
 use markdown_lines::line::{Line, is_space_or_tab, line_from};
 use markdown_lines::line_reader::LineReader;
 use markdown_lines::lines_ahead::LinesAhead;
@@ -88,14 +80,6 @@ fn is_text_from(text: &str, position: Position, stop: usize) -> bool
     ensures { result ≡ true → IsTextFrom text.now position stop }
 {
     position.owed == 0 && begins_text(text, position.at, stop)
-}
-
-/// Returns whether metadata of some kind is read.
-fn reads_metadata(options: Options) -> bool
-    ensures { result ≡ reads_metadata options }
-{
-    is_read(Options::ENABLE_YAML_STYLE_METADATA_BLOCKS, options)
-        || is_read(Options::ENABLE_PLUSES_DELIMITED_METADATA_BLOCKS, options)
 }
 
 /// Returns whether the outermost `depth` of the open blocks are lists, so that what a line begins in them is directly
@@ -299,7 +283,7 @@ impl<'a> Pass<'a> {
             → IfParagraphLast s (IsUntabled s self.new line.start (reached_of s before source))
             before.last) }
     {
-        if !reached.all || !self.has_paragraph() || !is_read(Options::ENABLE_TABLES, self.options) {
+        if !reached.all || !self.has_paragraph() || !self.syntax.tables {
             return Ok(false);
         }
         self.begin_table(line, reached.position)
@@ -315,11 +299,11 @@ impl<'a> Pass<'a> {
             → IsMadeOf s self.now reached result }
     {
         // only metadata asks whether the line is directly under the root
-        let outermost = reads_metadata(self.options)
+        let outermost = self.syntax.any_metadata()
             && are_lists(self.placing.open_blocks(), reached.depth);
         LineRest {
             line,
-            reader: LineReader::new(self.alloc, ahead, self.options, line, outermost),
+            reader: LineReader::new(self.alloc, ahead, self.syntax, line, outermost),
             position: reached.position,
             depth: reached.depth,
             before: self.paragraph_before(reached.all),
@@ -461,15 +445,15 @@ impl<'a> Pass<'a> {
 }
 
 /// Returns a text's blocks, all of them placed and closed.
-fn place_all<'a>(alloc: Global, text: &'a str, options: Options) -> Result<Placing<'a>, AllocError>
+fn place_all<'a>(alloc: Global, text: &'a str, syntax: Syntax) -> Result<Placing<'a>, AllocError>
     ensures text { IfOk result (λ made. made.builder.text ≡ text.now) }
     ensures closed { IfOk result (λ made. made.builder.blocks ≡ []) }
     ensures read { IfOk result (λ made. made.builder.at ≡ length text.now) }
     ensures made { IfOk result (λ made. (s : Source)
-        → s ≡ record { text = text.now; options = options }
+        → s ≡ record { text = text.now; syntax = syntax }
         → IsBuilt s made.builder [] (blocks_of s)) }
 {
-    let mut pass = Pass::new(alloc, text, options)?;
+    let mut pass = Pass::new(alloc, text, syntax)?;
     pass.read_lines()?;
     let mut placing = pass.into_placing();
     placing.step_to(text.as_bytes().len());
@@ -492,7 +476,7 @@ fn place_all<'a>(alloc: Global, text: &'a str, options: Options) -> Result<Placi
 /// paragraph. In GitHub's style it continues in lines that begin with 4 columns of space, in blank lines and in lazy
 /// continuation lines; in the old style up to the first blank line.
 ///
-/// By the full reading, and only by it, more options change blocks. With tables enabled, a delimiter row makes the
+/// Of what else may be read the following changes blocks. With tables enabled, a delimiter row makes the
 /// line before it, the last of a paragraph, the head of a table, whose rows have as many cells. With task lists enabled,
 /// a paragraph that begins an item on the line of its list marker may begin with a TaskListMarker over `[ ]` or `[x]`,
 /// before white space, which is in no item. With GFM's alerts enabled, a block quote whose first line is `[!note]`, or
@@ -503,17 +487,11 @@ fn place_all<'a>(alloc: Global, text: &'a str, options: Options) -> Result<Placi
 pub fn blocks<'a>(
     alloc: Global,
     text: &'a str,
-    options: Options,
+    syntax: Syntax,
 ) -> Result<(Tree<Item>, BlockParts<'a>), AllocError>
-    ensures formed { IfOk result (λ made. IsWellFormed text.now made.0.nodes made.1) }
-    ensures covered { IfOk result (λ made. Covers text.now made.0.nodes made.1) }
-    ensures tight { IfOk result (λ made. TightInTightLists made.0.nodes) }
-    ensures headings { IfOk result (λ made. HeadingsHoldInline (tree_of made.0.nodes)) }
-    ensures rows { IfOk result (λ made. HasEvenRows (shown_result made.0.nodes made.1)) }
-    ensures blocks { IfOk result (λ made.
-        IsBlockResult (record { text = text.now; options = options }) made.0.nodes made.1) }
+    ensures { IfOk result (λ made. IsBlockResult (source_as syntax text.now) made.0.nodes made.1) }
 {
-    let placing = place_all(alloc, text, options)?;
+    let placing = place_all(alloc, text, syntax)?;
     let Placing {
         builder,
         stretches,

@@ -1,10 +1,9 @@
 //! Block quotes (CommonMark 5.1), list items (5.2), and footnote definitions: how they continue in a line, and how they
 //! are opened. Functions that return a `Result` fail only if an allocation fails.
 ghost use Rattle.std.specs.Prelude.{◌≡◌, ℕ, ◌+◌, ◌<◌, ◌^◌, ◌++◌, ◌∷◌, [], true, None, List, nat_le, take, IfOk};
-ghost use Rattle.markdown_base.specs.EnabledOptions.{old_footnotes_on};
 ghost use Rattle.markdown_base.specs.Forest.{Forest};
 ghost use Rattle.markdown_block_rules.specs.BlockGrowth.{Block};
-ghost use Rattle.markdown_lines.specs.BlockBeginnings.{Source};
+ghost use Rattle.markdown_base.specs.Source.{Source};
 ghost use Rattle.markdown_lines.specs.Positions.{left_from};
 ghost use Rattle.markdown_lines.specs.SourceLines.{SourceLine};
 ghost use Rattle.markdown_plain.specs.Containers as spec;
@@ -23,7 +22,7 @@ use crate::pass::{Pass, innermost};
 use crate::stretches::{Ahead, FEW, Taking, next_start, starts_after, taken_by};
 use markdown_base::cow_str::CowStr;
 use markdown_base::item::ItemBody;
-use markdown_base::options::Options;
+use markdown_base::syntax::Syntax;
 use markdown_base::tag::BlockQuoteKind;
 use markdown_builder::open_block::OpenBlock;
 use markdown_lines::block_start::ItemStart;
@@ -257,7 +256,7 @@ fn reach_blocks(
 #[inline(always)]
 pub fn reach(pass: &Pass<'_>, line: Line) -> Reached
     ensures reaches { spec.reach_of pass.now.placing.builder.text line.stop result
-        ≡ spec.reach_from (old_footnotes_on pass.now.options) pass.now.looseness.item_is_empty
+        ≡ spec.reach_from pass.now.syntax.old_footnotes pass.now.looseness.item_is_empty
         line.stop
         pass.now.placing.builder.blocks
         (spec.reach_start (spec.whole_line pass.now.placing.builder.text line)) }
@@ -269,8 +268,7 @@ pub fn reach(pass: &Pass<'_>, line: Line) -> Reached
     reach_blocks(
         pass.placing.text(),
         pass.placing.open_blocks(),
-        pass.placing
-            .ahead(pass.options.contains(Options::ENABLE_OLD_FOOTNOTES)),
+        pass.placing.ahead(pass.syntax.old_footnotes),
         pass.looseness.is_item_empty(),
         line,
     )
@@ -282,7 +280,7 @@ impl<'a> Pass<'a> {
     ghost use Rattle.markdown_base.specs.Forest.{Forest, nil};
     ghost use Rattle.markdown_block_rules.specs.BlockGrowth.{Block, footnote_container, item_container};
     ghost use Rattle.markdown_block_rules.specs.BlockGrowth.{list_container};
-    ghost use Rattle.markdown_lines.specs.BlockBeginnings.{Source};
+    ghost use Rattle.markdown_base.specs.Source.{Source};
     ghost use Rattle.markdown_plain.specs.Beginning.{HoldsLast};
     ghost use Rattle.markdown_plain.specs.Closing.{MayClose};
     ghost use Rattle.markdown_plain.specs.Standing.{with_last};

@@ -12,14 +12,14 @@ ghost use Rattle.markdown_base.specs.Forest.{Forest, nil};
 ghost use Rattle.markdown_builder.specs.BuilderView.{BuilderView};
 ghost use Rattle.markdown_builder.specs.Shown.{chain_of};
 ghost use Rattle.markdown_builder.specs.TreeLevels.{followed_by};
-ghost use Rattle.markdown_lines.specs.BlockBeginnings.{Source};
+ghost use Rattle.markdown_base.specs.Source.{Source};
 ghost use Rattle.markdown_lines.specs.SourceLines.{SourceLine, cut, is_blank_rest};
 ghost use Rattle.markdown_block_rules.specs.BlockGrowth.{Block, Kind, break_leaf, fenced_leaf, heading_leaf};
 ghost use Rattle.markdown_block_rules.specs.BlockGrowth.{ends_html, html_leaf, indented_leaf, leaf_with};
 ghost use Rattle.markdown_block_rules.specs.BlockGrowth.{metadata_leaf};
 ghost use Rattle.markdown_block_rules.specs.BlockRules.{code_lines, shown_heading, shown_over};
 ghost use Rattle.markdown_items.specs.ContentItems.{content_items};
-ghost use Rattle.markdown_items.specs.LineItems.{item_extensions};
+ghost use Rattle.markdown_items.specs.LineItems.{item_syntax};
 ghost use Rattle.markdown_block_rules.specs.LineContents.{source_line, source_lines};
 ghost use Rattle.markdown_plain.specs.CodeLines.{after_line, code_after, ends_html_at, held, is_closed_at, whole_of};
 ghost use Rattle.markdown_plain.specs.Fitting.{GoesOn, IsAhead, OpensFenced};
@@ -170,10 +170,10 @@ impl<'a> Pass<'a> {
             → HasTrees self.old.placing.builder self.new.placing.builder (shown_heading
             (source_of self.old) self.old.placing.builder.at line.next heading.level heading.braces
             (chain_of (content_items self.old.placing.builder.text
-            (item_extensions self.old.options) heading.from heading.to)))) }
+            (item_syntax self.old.syntax) heading.from heading.to)))) }
         ensures leaf { IfOk result (λ _. (s : Source) (frames : List Frame) (inside : Forest Block)
             (b : Block) → IsBuilt s self.old.placing.builder frames inside
-            → s.options ≡ self.old.options → b.kind ≡ heading_leaf heading
+            → s.syntax ≡ self.old.syntax → b.kind ≡ heading_leaf heading
             → b.start ≡ self.old.placing.builder.at → b.last ≡ line.next
             → BracesStand self.old.placing.builder.text heading.braces
             → IsPlaced s self.new.placing.builder frames (followed_by inside (leaf_block b))) }
@@ -181,7 +181,7 @@ impl<'a> Pass<'a> {
     {
         open_heading(self.alloc, &mut self.placing, heading.level, heading.braces)?;
         self.placing.step_to(heading.from);
-        self.placing.add_items(heading.to, self.options)?;
+        self.placing.add_items(heading.to, self.syntax)?;
         self.placing.step_to(line.next);
         self.placing.close();
         Ok(())
@@ -200,10 +200,10 @@ impl<'a> Pass<'a> {
         ensures opens { IfOk result (λ _. (info : List ℕ)
             × IsPartOf self.old.placing.builder.text opening.from opening.to info
             × OpensFenced self.old.placing.builder self.new.placing.builder at line.next
-            (unescaped (entity_names self.old.options) false info)) }
+            (unescaped (entity_names self.old.syntax) false info)) }
         ensures leaf { IfOk result (λ _. (s : Source) (frames : List Frame) (inside : Forest Block)
             (b : Block) → IsBuilt s self.old.placing.builder frames inside
-            → s.options ≡ self.old.options → InfoStands self.old.placing.builder.text opening
+            → s.syntax ≡ self.old.syntax → InfoStands self.old.placing.builder.text opening
             → b.kind ≡ fenced_leaf opening false [] → b.start ≡ at → b.last ≡ line.next
             → IsLeafIn s self.new.placing.builder frames inside b false) }
         ensures kind { IfOk result (λ _. self.new.leaf ≡ leaf_kind.Fenced opening.fence) }
@@ -212,7 +212,7 @@ impl<'a> Pass<'a> {
     {
         self.placing.step_to(at);
         let source = part_of(self.placing.text(), opening.from, opening.to);
-        let info = unescape(self.alloc, source, false, entity_names(self.options))?;
+        let info = unescape(self.alloc, source, false, entity_names(self.syntax))?;
         self.placing.open_code(info)?;
         self.placing.step_to(line.next);
         self.leaf = LeafKind::Fenced(opening.fence);

@@ -23,13 +23,13 @@ ghost use Rattle.markdown_plain.specs.ParagraphItems.{HaveEnds, IsLeft};
 ghost use Rattle.markdown_base.specs.Forest.{Forest, nil};
 ghost use Rattle.markdown_builder.specs.Shown.{Shown};
 ghost use Rattle.std.specs.Option.{option_map_or};
-ghost use Rattle.markdown_items.specs.LineItems.{item_extensions};
+ghost use Rattle.markdown_items.specs.LineItems.{item_syntax};
 ghost use Rattle.markdown_block_rules.specs.BlockRules.{before_braces};
 ghost use Rattle.markdown_block_rules.specs.LineContents.{lines_items};
 ghost use Rattle.markdown_plain.specs.TakenDefinitions.{TakesDefinitions};
 ghost use Rattle.markdown_lines.specs.DefinitionRules.{divided};
 ghost use Rattle.markdown_lines.specs.SourceLines.{SourceLine};
-ghost use Rattle.markdown_lines.specs.BlockBeginnings.{Source};
+ghost use Rattle.markdown_base.specs.Source.{Source};
 ghost use Rattle.markdown_block_rules.specs.BlockGrowth.{Block, paragraph_leaf, is_nil};
 ghost use Rattle.markdown_plain.specs.Closing.{MayClose, MayEnd, StandsFor};
 ghost use Rattle.markdown_builder.specs.TreeLevels.{followed_by};
@@ -43,14 +43,14 @@ use crate::leaves::open_heading;
 use crate::pass::Pass;
 use crate::placing::Placing;
 use markdown_base::item::ItemBody;
-use markdown_base::options::Options;
+use markdown_base::syntax::Syntax;
 use markdown_base::tag::HeadingLevel;
 use markdown_builder::open_block::OpenBlock;
 use markdown_lines::atx_heading::trimmed_length;
 use markdown_lines::braces::Braces;
 use markdown_lines::bytes::{byte_at, bytes_of};
 use markdown_lines::definition::read_definition;
-use markdown_lines::heading_attributes::{attributes_read, braces_at};
+use markdown_lines::heading_attributes::braces_at;
 use markdown_lines::held_line::HeldLine;
 use markdown_lines::line::Line;
 use markdown_lines::line_break::line_break;
@@ -173,7 +173,7 @@ pub fn are_definitions(
 fn add_broken_line(
     placing: &mut Placing<'_>,
     line: HeldLine,
-    options: Options,
+    syntax: Syntax,
 ) -> Result<(), AllocError>
     requires inside { IsLeafOpen placing.old.builder }
     requires ahead { placing.old.builder.at ≤ line.start }
@@ -186,7 +186,7 @@ fn add_broken_line(
     ensures items { IfOk result (λ _. (source : SourceLine)
         → IsTextLine placing.old.builder.text line source → placing.old.builder.run ≡ None
         → placing.old.builder.at ≡ line.start → HasItems placing.old.builder placing.new.builder
-        (line_or_nothing (record { text = placing.old.builder.text; options = options }) source)) }
+        (line_or_nothing (record { text = placing.old.builder.text; syntax = syntax }) source)) }
 {
     if line.start == line.stop {
         placing.step_to(line.next);
@@ -194,7 +194,7 @@ fn add_broken_line(
     }
     let text = placing.text();
     let between = line_break(text, line.start, line.stop);
-    placing.add_items(between.text_end, options)?;
+    placing.add_items(between.text_end, syntax)?;
     placing.step_to(between.start);
     placing.add_inline(between.body, line.next)
 }
@@ -203,7 +203,7 @@ fn add_broken_line(
 fn add_last_line(
     placing: &mut Placing<'_>,
     line: HeldLine,
-    options: Options,
+    syntax: Syntax,
 ) -> Result<(), AllocError>
     requires inside { IsLeafOpen placing.old.builder }
     requires ahead { placing.old.builder.at ≤ line.start }
@@ -214,11 +214,11 @@ fn add_last_line(
     ensures items { IfOk result (λ _. (source : SourceLine)
         → IsTextLine placing.old.builder.text line source → placing.old.builder.run ≡ None
         → placing.old.builder.at ≡ line.start → HasItems placing.old.builder placing.new.builder
-        (lines_items placing.old.builder.text (item_extensions options) (source ∷ []))) }
+        (lines_items placing.old.builder.text (item_syntax syntax) (source ∷ []))) }
 {
     let content = bytes_of(placing.text(), line.start, line.stop);
     let end = line.start.saturating_add(trimmed_length(content));
-    placing.add_items(end, options)?;
+    placing.add_items(end, syntax)?;
     placing.step_to(line.next);
     Ok(())
 }
@@ -290,7 +290,7 @@ fn add_line(
     lines: &[HeldLine],
     number: usize,
     ends: Ends,
-    options: Options,
+    syntax: Syntax,
 ) -> Result<(), AllocError>
     requires within { number < length lines.now }
     requires room { HasRoomFor placing.old.builder lines.now number ends }
@@ -302,16 +302,16 @@ fn add_line(
         → placing.new.builder.run ≡ None) }
     ensures left { IfOk result (λ _. (sources : List SourceLine) (all : List (Forest Shown))
         → AreTextLines placing.old.builder.text lines.now sources
-        → IsLeft (record { text = placing.old.builder.text; options = options }) ends
+        → IsLeft (record { text = placing.old.builder.text; syntax = syntax }) ends
         (drop number sources) placing.old.builder.levels all → placing.old.builder.run ≡ None
-        → IsLeft (record { text = placing.old.builder.text; options = options })
+        → IsLeft (record { text = placing.old.builder.text; syntax = syntax })
         (record ends { task = None }) (drop (number + 1) sources) placing.new.builder.levels all) }
 {
     let line = begin_line(placing, lines[number], ends.task)?;
     if number == lines.len() - 1 {
-        add_last_line(placing, cut_off(line, ends.braces), options)
+        add_last_line(placing, cut_off(line, ends.braces), syntax)
     } else {
-        add_broken_line(placing, line, options)
+        add_broken_line(placing, line, syntax)
     }
 }
 
@@ -321,7 +321,7 @@ fn add_lines(
     lines: &[HeldLine],
     from: usize,
     ends: Ends,
-    options: Options,
+    syntax: Syntax,
 ) -> Result<(), AllocError>
     requires { HasRoomFor placing.old.builder lines.now from ends }
     ensures text { IfOk result (λ _. placing.new.builder.text ≡ placing.old.builder.text) }
@@ -332,12 +332,12 @@ fn add_lines(
         → AreTextLines placing.old.builder.text lines.now sources
         → HaveEnds (drop from sources) ends → placing.old.builder.run ≡ None
         → HasItems placing.old.builder placing.new.builder
-        (text_items (record { text = placing.old.builder.text; options = options }) ends.task
+        (text_items (record { text = placing.old.builder.text; syntax = syntax }) ends.task
         (before_braces ends.braces (drop from sources)))) }
 {
     'lines: for number in from..lines.len() {
         let task = if number == from { ends.task } else { None };
-        add_line(placing, lines, number, Ends { task, ..ends }, options)?;
+        add_line(placing, lines, number, Ends { task, ..ends }, syntax)?;
     }
     Ok(())
 }
@@ -383,7 +383,7 @@ impl<'a> Pass<'a> {
     {
         let block = self.placing.open_blocks().last()?;
         if is_item_in(*block, line) {
-            task_read(self.placing.text(), start, line.stop, self.options)
+            task_read(self.placing.text(), start, line.stop, self.syntax)
         } else {
             None
         }
@@ -434,7 +434,7 @@ impl<'a> Pass<'a> {
             (rebuilt (drop (room_depth depth frames) frames) (followed_by inside (leaf_block b)))) }
         ensures first { IfOk result (λ _. has_paragraph self.old ≡ false → (s : Source)
             (frames : List Frame) (inside : Forest Block) (b : Block) (source : SourceLine)
-            → IsBuilt s self.new.placing.builder frames inside → s.options ≡ self.old.options
+            → IsBuilt s self.new.placing.builder frames inside → s.syntax ≡ self.old.syntax
             → BeginsText self.new.placing.builder.text
             (record { start = start; stop = line.stop; next = line.next; owed = 0 }) source b
             → AreItemsOpenedIn line frames
@@ -456,7 +456,7 @@ impl<'a> Pass<'a> {
             → BlanksKnown self.old.looseness.blank_from 0 frames inside)
             → IsLooseBefore self.new.looseness (take (room_depth depth frames) frames)
             (rebuilt (drop (room_depth depth frames) frames) inside)) }
-        ensures options { self.new.options ≡ self.old.options }
+        ensures syntax { self.new.syntax ≡ self.old.syntax }
         ensures unheld { IfOk result (λ _. self.old.blanks.items ≡ []
             → self.new.blanks.items ≡ []) }
         ensures dropped { IfOk result (λ _. self.old.placing.builder.leaf ≡ true
@@ -486,10 +486,10 @@ impl<'a> Pass<'a> {
         ensures value { (sources : List SourceLine) (from : ℕ)
             → AreTextLines self.now.placing.builder.text self.now.lines.items sources
             → from < length self.now.lines.items
-            → result ≡ heading_braces self.now.options heading (drop from sources) }
+            → result ≡ heading_braces self.now.syntax heading (drop from sources) }
         ensures fits { HaveBraces self.now.placing.builder.text result self.now.lines.items }
     {
-        if heading.is_none() || !attributes_read(self.options) {
+        if heading.is_none() || !self.syntax.attributes {
             return None;
         }
         let last = self.lines.last()?;
@@ -505,7 +505,7 @@ impl<'a> Pass<'a> {
         if thematic_break(bytes_of(text, start, line.stop)).is_ok() {
             return Ok(false);
         }
-        let names = entity_names(self.options);
+        let names = entity_names(self.syntax);
         are_definitions(self.alloc, text, &self.lines, names)
     }
 
@@ -542,7 +542,7 @@ impl<'a> Pass<'a> {
             braces: self.last_braces(heading),
         };
         open_text(self.alloc, &mut self.placing, heading, ends.braces)?;
-        add_lines(&mut self.placing, &self.lines, from, ends, self.options)?;
+        add_lines(&mut self.placing, &self.lines, from, ends, self.syntax)?;
         if let Some((_, underline)) = heading {
             self.placing.step_to(underline.next);
         }
@@ -589,7 +589,7 @@ impl<'a> Pass<'a> {
             → left ≡ not (length (divided_of self.old sources).lines == 0)) }
         ensures frame { IfOk result (λ left. (s : Source) (frames : List Frame)
             (inside : Forest Block) (b : Block) (sources : List SourceLine)
-            → HoldsParagraph s self.old frames inside b sources → s.options ≡ self.old.options
+            → HoldsParagraph s self.old frames inside b sources → s.syntax ≡ self.old.syntax
             → IsPlaced s self.new.placing.builder frames (followed_by inside
             (leaf_block (ended_block b sources left heading)))) }
         ensures emptied { IfOk result (λ _. self.new.lines.items ≡ []) }
@@ -598,7 +598,7 @@ impl<'a> Pass<'a> {
         ensures here { IfOk result (λ left. left ≡ false → IsClosable self.old
             → has_paragraph self.old ≡ true → IsClosable self.new) }
     {
-        let names = entity_names(self.options);
+        let names = entity_names(self.syntax);
         let taken = take_definitions(self.alloc, &mut self.placing, &self.lines, names)?;
         let left = taken < self.lines.len();
         if left {

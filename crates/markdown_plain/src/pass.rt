@@ -7,7 +7,7 @@ ghost use Rattle.markdown_base.specs.Forest.{Forest, nil};
 ghost use Rattle.markdown_base.specs.declared.item.ItemBody.TheVariants as body;
 ghost use Rattle.markdown_block_rules.specs.BlockGrowth.{Block, is_nil};
 ghost use Rattle.markdown_builder.specs.BuilderView.{BuilderView, innermost_block, nothing_made};
-ghost use Rattle.markdown_lines.specs.BlockBeginnings.{Source};
+ghost use Rattle.markdown_base.specs.Source.{Source};
 ghost use Rattle.markdown_plain.specs.Closing.{MayClose, StandsFor, MayEnd};
 ghost use Rattle.markdown_plain.specs.Frames.{Frame, forgotten, rebuilt, room_depth, AreNested};
 ghost use Rattle.markdown_builder.specs.TreeLevels.{followed_by};
@@ -27,7 +27,7 @@ use crate::looseness::Looseness;
 use crate::placing::Placing;
 use crate::table_state::Tables;
 use markdown_base::item::ItemBody;
-use markdown_base::options::Options;
+use markdown_base::syntax::Syntax;
 use markdown_base::tag::MetadataBlockKind;
 use markdown_lines::fence::Fence;
 use markdown_lines::held_line::HeldLine;
@@ -52,7 +52,7 @@ pub enum LeafKind {
 #[derive(Drop)]
 pub struct Pass<'a> {
     pub alloc: Global,
-    pub options: Options,
+    pub syntax: Syntax,
     pub placing: Placing<'a>,
     /// the lines of the open paragraph
     pub lines: Vec<HeldLine>,
@@ -72,9 +72,9 @@ pub struct Pass<'a> {
 
 impl<'a> Pass<'a> {
     /// Returns the state in which nothing is read yet.
-    pub fn new(alloc: Global, text: &'a str, options: Options) -> Result<Pass<'a>, AllocError>
+    pub fn new(alloc: Global, text: &'a str, syntax: Syntax) -> Result<Pass<'a>, AllocError>
         ensures made { IfOk result (λ made. made.placing.builder ≡ nothing_made text.now) }
-        ensures options { IfOk result (λ made. made.options ≡ options) }
+        ensures syntax { IfOk result (λ made. made.syntax ≡ syntax) }
         ensures lines { IfOk result (λ made. made.lines.items ≡ []) }
         ensures blanks { IfOk result (λ made. made.blanks.items ≡ []) }
         ensures lists { IfOk result (λ made. made.looseness.lists.items ≡ []) }
@@ -82,10 +82,10 @@ impl<'a> Pass<'a> {
         ensures added { IfOk result (λ made. made.tables.added ≡ 0) }
         ensures most { IfOk result (λ made. made.tables.most ≡ max (length text.now) 1000) }
     {
-        let old = options.contains(Options::ENABLE_OLD_FOOTNOTES);
+        let old = syntax.old_footnotes;
         Ok(Pass {
             alloc,
-            options,
+            syntax,
             placing: Placing::new(alloc, text, old)?,
             lines: Vec::new(alloc),
             blanks: Vec::new(alloc),
@@ -313,7 +313,7 @@ impl<'a> Pass<'a> {
             → self.new.blanks.items ≡ []) }
         ensures frame { IfOk result (λ _. (s : Source) (frames : List Frame)
             (inside : Forest Block) (b : Block) (held : Option (List SourceLine))
-            → IsUnended s self.old frames inside b held → s.options ≡ self.old.options
+            → IsUnended s self.old frames inside b held → s.syntax ≡ self.old.syntax
             → IsPlaced s self.new.placing.builder frames (followed_by inside (leaf_block b))) }
         ensures none { IfOk result (λ _. has_leaf self.old.placing.builder ≡ false
             → self.old.lines.items ≡ [] → self.new ≡ self.old) }

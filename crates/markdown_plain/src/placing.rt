@@ -10,7 +10,7 @@ use crate::stretches::{Ahead, Stretches};
 use markdown_base::block_parts::HeadingAttributes;
 use markdown_base::cow_str::CowStr;
 use markdown_base::item::ItemBody;
-use markdown_base::options::Options;
+use markdown_base::syntax::Syntax;
 use markdown_base::tag::{Alignment, HeadingLevel};
 use markdown_builder::builder::Builder;
 use markdown_builder::open_block::OpenBlock;
@@ -44,7 +44,7 @@ impl<'a> Placing<'a> {
     ghost use Rattle.markdown_builder.specs.BuilderView.{with_items};
     ghost use Rattle.markdown_base.specs.HeadingWords.{words_of};
     ghost use Rattle.markdown_items.specs.ContentItems.{content_items};
-    ghost use Rattle.markdown_items.specs.LineItems.{item_extensions};
+    ghost use Rattle.markdown_items.specs.LineItems.{item_syntax};
     ghost use Rattle.markdown_items.specs.RestOfLine.{HasSpecialRun, RunIsOver};
     ghost use Rattle.markdown_lines.specs.Lines.{IsNextContent};
     ghost use Rattle.markdown_plain.specs.Fitting.{IsAhead};
@@ -289,24 +289,24 @@ impl<'a> Placing<'a> {
     }
 
     /// Appends the inline items of a line's content up to byte offset `end`.
-    pub fn add_items(&mut self, end: usize, options: Options) -> Result<(), AllocError>
+    pub fn add_items(&mut self, end: usize, syntax: Syntax) -> Result<(), AllocError>
         requires inside { self.old.builder.leaf ≡ true }
         requires ahead { IsAhead self.old.builder end }
         ensures text { IfOk result (λ _. self.new.builder.text ≡ self.old.builder.text) }
         ensures appends { IfOk result (λ _. GoesOn self.old.builder self.new.builder end) }
         ensures items { IfOk result (λ _. self.old.builder.run ≡ None → self.new.builder.levels
             ≡ with_items self.old.builder.levels (content_items self.old.builder.text
-            (item_extensions options) self.old.builder.at end)) }
+            (item_syntax syntax) self.old.builder.at end)) }
         ensures further { IfOk result (λ _. RunIsOver end self.old.builder self.old.builder.at
             → self.new.builder.levels ≡ with_items self.old.builder.levels
-            (content_items self.old.builder.text (item_extensions options) self.old.builder.at
+            (content_items self.old.builder.text (item_syntax syntax) self.old.builder.at
             end)) }
-        ensures over { IfOk result (λ _. HasSpecialRun (item_extensions options) self.old.builder
-            → HasSpecialRun (item_extensions options) self.new.builder) }
+        ensures over { IfOk result (λ _. HasSpecialRun (item_syntax syntax) self.old.builder
+            → HasSpecialRun (item_syntax syntax) self.new.builder) }
         ensures inside { IfOk result (λ _. AddsItems self.old.builder self.new.builder) }
         ensures texts { IfOk result (λ _. HasMoreTexts self.old.builder self.new.builder) }
     {
-        match items(&mut self.builder, self.alloc, end, options) {
+        match items(&mut self.builder, self.alloc, end, syntax) {
             Ok(()) => Ok(()),
             Err(error) => {
                 self.stretches.forget();

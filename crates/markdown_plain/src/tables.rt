@@ -8,8 +8,8 @@ ghost use Rattle.markdown_builder.specs.EvenRows.{is_table_row, open_columns};
 ghost use Rattle.markdown_plain.specs.Readable.{MayGoOn};
 ghost use Rattle.markdown_plain.specs.Fitting.{GoesOn};
 ghost use Rattle.markdown_items.specs.ContentItems.{AddsItems};
-ghost use Rattle.markdown_items.specs.LineItems.{item_extensions};
-ghost use Rattle.markdown_lines.specs.BlockBeginnings.{Source};
+ghost use Rattle.markdown_items.specs.LineItems.{item_syntax};
+ghost use Rattle.markdown_base.specs.Source.{Source};
 ghost use Rattle.markdown_lines.specs.SourceLines.{SourceLine};
 ghost use Rattle.markdown_lines.specs.TableRows.{delimiter_row_at, row_cells_at};
 ghost use Rattle.markdown_block_rules.specs.BlockRules.{empty_cells, shown_cells, shown_row};
@@ -43,7 +43,7 @@ use crate::pass::{Pass, innermost};
 use crate::placing::Placing;
 use markdown_base::byte_tests::holds;
 use markdown_base::item::ItemBody;
-use markdown_base::options::Options;
+use markdown_base::syntax::Syntax;
 use markdown_base::tag::Alignment;
 use markdown_lines::block_start::{Before, BlockStart};
 use markdown_lines::bytes::{byte_at, bytes_of};
@@ -66,7 +66,7 @@ fn add_cell_items(
     placing: &mut Placing<'_>,
     cell: Cell,
     escapes: bool,
-    options: Options,
+    syntax: Syntax,
 ) -> Result<(), AllocError>
     requires inside { IsLeafOpen placing.old.builder }
     requires ahead { placing.old.builder.at ≤ cell.from }
@@ -79,7 +79,7 @@ fn add_cell_items(
     ensures items { IfOk result (λ _. (escapes ≡ false → IsOnePiece placing.old.builder.text cell)
         → IsCellIn placing.old.builder.text cell → placing.old.builder.run ≡ None
         → HasItems placing.old.builder placing.new.builder (cell_items placing.old.builder.text
-        (item_extensions options) cell.from cell.to)) }
+        (item_syntax syntax) cell.from cell.to)) }
     ensures within { IfOk result (λ _. placing.new.builder.at ≤ cell.to) }
 {
     let mut from = cell.from;
@@ -91,7 +91,7 @@ fn add_cell_items(
         };
         let end = from.saturating_add(length);
         placing.step_to(from);
-        placing.add_items(end, options)?;
+        placing.add_items(end, syntax)?;
         from = end.saturating_add(2);
     }
     Ok(())
@@ -103,7 +103,7 @@ fn place_cell(
     placing: &mut Placing<'_>,
     cell: Cell,
     escapes: bool,
-    options: Options,
+    syntax: Syntax,
 ) -> Result<(), AllocError>
     requires may { MayAddCell placing.old.builder cell.start }
     requires cell { IsCellIn placing.old.builder.text cell }
@@ -114,11 +114,11 @@ fn place_cell(
     ensures tree { IfOk result (λ _. PutsTree placing.old.builder placing.new.builder) }
     ensures shown { IfOk result (λ _. (escapes ≡ false → IsOnePiece placing.old.builder.text cell)
         → IsCellIn placing.old.builder.text cell → HasTrees placing.old.builder placing.new.builder
-        (shown_cells (record { text = placing.old.builder.text; options = options }) (cell ∷ []))) }
+        (shown_cells (record { text = placing.old.builder.text; syntax = syntax }) (cell ∷ []))) }
 {
     placing.step_to(cell.start);
     placing.open_block(ItemBody::TableCell)?;
-    add_cell_items(placing, cell, escapes, options)?;
+    add_cell_items(placing, cell, escapes, syntax)?;
     placing.step_to(cell.end);
     placing.close();
     Ok(())
@@ -148,7 +148,7 @@ fn place_row(
     placing: &mut Placing<'_>,
     row: ItemBody,
     line: HeldLine,
-    options: Options,
+    syntax: Syntax,
 ) -> Result<usize, AllocError>
     requires block { is_plain_block row ≡ true }
     requires outside { is_leaf row ≡ false }
@@ -163,7 +163,7 @@ fn place_row(
         → IsInText placing.old.builder.text line → (source : SourceLine)
         → IsTextLine placing.old.builder.text line source
         → HasTrees placing.old.builder placing.new.builder
-        (shown_row (record { text = placing.old.builder.text; options = options })
+        (shown_row (record { text = placing.old.builder.text; syntax = syntax })
         (open_columns placing.old.builder) row source)) }
 {
     let text = placing.text();
@@ -176,7 +176,7 @@ fn place_row(
     'cells: for count in 0..columns {
         match next_cell(text, start, line.stop) {
             Some(cell) => {
-                place_cell(placing, cell, escapes, options)?;
+                place_cell(placing, cell, escapes, syntax)?;
                 start = cell.end + 1;
                 found = count + 1;
             }
@@ -372,7 +372,7 @@ impl<'a> Pass<'a> {
             return Ok(false);
         }
         self.tried = true;
-        let names = entity_names(self.options);
+        let names = entity_names(self.syntax);
         are_definitions(
             self.alloc,
             self.placing.text(),
@@ -408,7 +408,7 @@ impl<'a> Pass<'a> {
         }
         self.placing.step_to(head.start);
         self.placing.open_table(alignments)?;
-        let _found = place_row(&mut self.placing, ItemBody::TableHead, head, self.options)?;
+        let _found = place_row(&mut self.placing, ItemBody::TableHead, head, self.syntax)?;
         Ok(())
     }
 
@@ -452,7 +452,7 @@ impl<'a> Pass<'a> {
             → IsCounted s self.old (blocks_before before)
             → GoesOffAs s self.old line reached before source)) }
     {
-        let mut reader = LineReader::new(self.alloc, ahead, self.options, line, false);
+        let mut reader = LineReader::new(self.alloc, ahead, self.syntax, line, false);
         let begun = reader.beginning(Position::new(reached.content), Before::Lazy)?;
         if !is_text(&begun.start) {
             return Ok(false);
@@ -498,7 +498,7 @@ impl<'a> Pass<'a> {
             owed: 0,
         };
         let columns = self.placing.builder.columns();
-        let found = place_row(&mut self.placing, ItemBody::TableRow, row, self.options)?;
+        let found = place_row(&mut self.placing, ItemBody::TableRow, row, self.syntax)?;
         let _fits = self.tables.add(columns.saturating_sub(found));
         Ok(true)
     }

@@ -4,8 +4,7 @@ use Rattle.std.specs.Prelude.{length, drop, take_while, fold, codes, encode_utf8
 use Rattle.std.specs.Char.{digit_value, is_digit}
 use Rattle.std.specs.Option.{option_or}
 use Rattle.markdown_base.specs.Bytes.{ampersand, double_quote, greater_than, less_than}
-use Rattle.markdown_base.specs.ExtendedOptions.{is_extended}
-use Rattle.markdown_base.specs.declared.options.Options.{Options}
+use Rattle.markdown_base.specs.declared.syntax.Syntax.{Syntax}
 use Rattle.markdown_entities.specs.NamedEntity.{named_entity}
 use Rattle.markdown_scan.specs.Beginnings.{begins_with}
 use Rattle.markdown_scan.specs.declared.entity.EntityText.{EntityText}
@@ -13,9 +12,9 @@ use Rattle.markdown_scan.specs.declared.entity.EntityText.TheVariants.{One, Name
 use Rattle.markdown_scan.specs.declared.entity.EntityNames.{EntityNames}
 use Rattle.markdown_scan.specs.declared.entity.EntityNames.TheVariants.{Basic, Html}
 
--- the names that count with these options: in the full reading those of HTML
-abbrev pub entity_names : Options → EntityNames
-entity_names options = if is_extended options then Html else Basic
+-- the names that are read: all of HTML's, or the four of markup
+abbrev pub entity_names : Syntax → EntityNames
+entity_names syntax = if syntax.entities then Html else Basic
 
 -- no Unicode scalar value: a surrogate, or a number above U+10FFFF
 abbrev pub is_no_scalar : ℕ → Bool

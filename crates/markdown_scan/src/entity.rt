@@ -7,7 +7,7 @@ ghost use Rattle.markdown_scan.specs.Entity.{entity_names, numbered_entity, nume
 
 use markdown_base::cow_str::CowStr;
 use markdown_base::inline_str::InlineStr;
-use markdown_base::options::Options;
+use markdown_base::syntax::Syntax;
 use markdown_entities::named_entity::scan_named_entity;
 use std::alloc::AllocError;
 
@@ -20,11 +20,11 @@ pub enum EntityNames {
     Html,
 }
 
-/// Returns the names that count with these options: in the full reading those of HTML.
-pub fn entity_names(options: Options) -> EntityNames
-    ensures { result ≡ entity_names options }
+/// Returns the names that are read: all of HTML's, or the four of markup.
+pub fn entity_names(syntax: Syntax) -> EntityNames
+    ensures { result ≡ entity_names syntax }
 {
-    if options.is_extended() {
+    if syntax.entities {
         EntityNames::Html
     } else {
         EntityNames::Basic

@@ -3,7 +3,9 @@ use Rattle.std.proofs.Common.{refl}
 use Rattle.markdown_plain.proofs.BlockResultsLemmas.{result_of}
 use Rattle.markdown_plain.proofs.block_pass.blocks.Goals as goal
 
-pub returns-clause-blocks : goal.returns-clause-blocks
-returns-clause-blocks c =
+pub returns : goal.returns
+returns c =
     let made = c.in_ok-placing.ensures in
-    result_of _ _ _ _ (made.made _ refl) c.finish.ensures.tree c.finish.ensures.parts
+    let finished = c.finish.ensures in
+    result_of _ _ _ _ (made.made _ refl) finished.tree finished.parts made.text finished.formed finished.covered
+    finished.tight finished.headings

@@ -1,6 +1,6 @@
 -- All lines were read: no block is open then, and only white space is left.
 use Rattle.std.proofs.Common.{◌≡◌, [], length, rules, subst, sym}
-use Rattle.markdown_lines.specs.BlockBeginnings.{Source}
+use Rattle.markdown_base.specs.Source.{Source}
 use Rattle.markdown_lines.specs.Lines.{AllPass, is_in_blank_line}
 use Rattle.markdown_block_rules.specs.BlockGrowth.{blocks_of}
 use Rattle.markdown_plain.specs.declared.placing.Placing.{Placing}
@@ -13,12 +13,12 @@ use Rattle.markdown_plain.proofs.block_pass.place_all.Goals as goal
 
 -- what is asked
 abbrev asked : In_ok-pass → Source
-asked c = record { text = c.args.text.now; options = c.args.options }
+asked c = record { text = c.args.text.now; syntax = c.args.syntax }
 
 nothing_yet : (c : In_ok-pass) → HasNothing (asked c) c.in_ok-pass.pass
 nothing_yet c = record {
   made = c.in_ok-pass.ensures.made;
-  options = c.in_ok-pass.ensures.options;
+  syntax = c.in_ok-pass.ensures.syntax;
   lines = c.in_ok-pass.ensures.lines;
   blanks = c.in_ok-pass.ensures.blanks;
   lists = c.in_ok-pass.ensures.lists;

@@ -1,13 +1,12 @@
 -- What is reached of the open blocks is reached of the containers of the definition.
 use Rattle.std.proofs.Common.{◌≡◌}
-use Rattle.markdown_base.specs.EnabledOptions.{old_footnotes_on}
 use Rattle.markdown_plain.specs.Containers.{reach_from, reach_of, reach_start, whole_line}
 use Rattle.markdown_plain.proofs.ReachedFramesLemmas.{frames_reached}
 use Rattle.markdown_plain.proofs.containers.reach.Goals as goal
 
 of_blocks : (c : goal.After-reach_blocks)
     → reach_of c.args.pass.now.placing.builder.text c.args.line.stop c.reach_blocks.result
-    ≡ reach_from (old_footnotes_on c.args.pass.now.options)
+    ≡ reach_from c.args.pass.now.syntax.old_footnotes
     c.args.pass.now.looseness.item_is_empty
     c.args.line.stop
     c.args.pass.now.placing.builder.blocks

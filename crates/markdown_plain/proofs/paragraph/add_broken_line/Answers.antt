@@ -4,11 +4,11 @@ use Rattle.markdown_builder.specs.BuilderView.{BuilderView, with_items}
 use Rattle.std.proofs.lemmas.Result.{IfOk-weaker}
 use Rattle.markdown_builder.specs.Shown.{plain_item}
 use Rattle.markdown_items.specs.ContentItems.{content_items}
-use Rattle.markdown_items.specs.LineItems.{item_extensions}
+use Rattle.markdown_items.specs.LineItems.{item_syntax}
 use Rattle.markdown_lines.specs.LineBreaks.{IsLineBreak}
 use Rattle.markdown_lines.specs.declared.held_line.HeldLine.{HeldLine}
 use Rattle.markdown_lines.specs.declared.line_break.LineBreak.{LineBreak}
-use Rattle.markdown_lines.specs.BlockBeginnings.{Source}
+use Rattle.markdown_base.specs.Source.{Source}
 use Rattle.markdown_plain.proofs.ParagraphLinesLemmas.{empty_line, line_and_break}
 use Rattle.markdown_plain.proofs.LeafTreesLemmas.{no_text, texts_after}
 use Rattle.markdown_plain.specs.Closable.{IsInText}
@@ -23,21 +23,21 @@ returns-then-line-clause-items c = λ source is.
     let stepped = c.step_to.ensures.steps in
     let levels = c.args.placing.now.builder.levels in
     λ run at. ap (λ (b : BuilderView). b.levels) stepped
-    ∙ empty_line levels (record { text = c.args.placing.now.builder.text; options = c.args.options }) c.args.line
+    ∙ empty_line levels (record { text = c.args.placing.now.builder.text; syntax = c.args.syntax }) c.args.line
     source is c.if-line.true
 
 pub returns-clause-items : goal.returns-clause-items
 returns-clause-items c =
     let text = c.args.placing.now.builder.text in
-    let s : Source = record { text = text; options = c.args.options } in
+    let s : Source = record { text = text; syntax = c.args.syntax } in
     IfOk-weaker c.add_inline.result _ _ (λ done appends source is.
     let stepped = c.step_to-2.ensures.steps in
     let read = c.in_ok-add_items.ensures.items in
     λ run at.
     let first : c.add_items.new.self.builder.levels ≡ with_items c.args.placing.now.builder.levels (content_items
-    text (item_extensions c.args.options) c.args.line.start c.line_break-between.result.text_end) =
+    text (item_syntax c.args.syntax) c.args.line.start c.line_break-between.result.text_end) =
     read run ∙ ap (λ n. with_items c.args.placing.now.builder.levels (content_items
-    text (item_extensions c.args.options) n c.line_break-between.result.text_end)) at in
+    text (item_syntax c.args.syntax) n c.line_break-between.result.text_end)) at in
     let second : c.add_inline.new.self.builder.levels ≡ with_items c.add_items.new.self.builder.levels
     (plain_item c.line_break-between.result.start c.args.line.next c.line_break-between.result.body ∷ []) =
     ap (λ (b : BuilderView). b.levels) appends

@@ -3,9 +3,9 @@ use Rattle.std.proofs.Common.{◌≡◌, ◌-◌, ◌∙◌, ◌∷◌, [], ◌+
 use Rattle.std.proofs.lemmas.Bool.Decides.{nat_tests}
 use Rattle.std.proofs.lemmas.Result.{IfOk-weaker}
 use Rattle.markdown_builder.specs.BuilderView.{BuilderView, with_items}
-use Rattle.markdown_items.specs.LineItems.{item_extensions}
+use Rattle.markdown_items.specs.LineItems.{item_syntax}
 use Rattle.markdown_lines.specs.declared.held_line.HeldLine.{HeldLine}
-use Rattle.markdown_lines.specs.BlockBeginnings.{Source}
+use Rattle.markdown_base.specs.Source.{Source}
 use Rattle.markdown_lines.specs.SourceLines.{SourceLine}
 use Rattle.markdown_block_rules.specs.BlockRules.{cut_before_braces}
 use Rattle.markdown_block_rules.specs.LineContents.{lines_items}
@@ -23,7 +23,7 @@ pub returns-then-number-lines-clause-left : goal.returns-then-number-lines-claus
 returns-then-number-lines-clause-left c =
     IfOk-weaker c.add_last_line.result _ _ (λ done items sources all are left.
     let text = c.args.placing.now.builder.text in
-    let s : Source = record { text = text; options = c.args.options } in
+    let s : Source = record { text = text; syntax = c.args.syntax } in
     let levels = c.args.placing.now.builder.levels in
     let ends = c.args.ends in
     let same = c.in_ok-line.ensures.text in
@@ -45,7 +45,7 @@ returns-then-number-lines-clause-left c =
     ∙ sym (ap (λ (l : HeldLine). l.start) c.cut_off.ensures) in
     let last = added (c.in_ok-line.ensures.over run) at
     ∙ ap (λ tx. with_items c.begin_line.new.placing.builder.levels
-    (lines_items tx (item_extensions c.args.options) (content ∷ []))) same in
+    (lines_items tx (item_syntax c.args.syntax) (content ∷ []))) same in
     subst (λ ls. IsLeft s (record ends { task = None }) ls c.add_last_line.new.placing.builder.levels all)
     (sym none) (last_line_left s ends.task ends.braces t.source levels c.begin_line.new.placing.builder.levels
     c.add_last_line.new.placing.builder.levels all alone begun last)) c.add_last_line.ensures.items
@@ -64,7 +64,7 @@ pub returns-else-number-lines-clause-left : goal.returns-else-number-lines-claus
 returns-else-number-lines-clause-left c =
     IfOk-weaker c.add_broken_line.result _ _ (λ done items sources all are left.
     let text = c.args.placing.now.builder.text in
-    let s : Source = record { text = text; options = c.args.options } in
+    let s : Source = record { text = text; syntax = c.args.syntax } in
     let levels = c.args.placing.now.builder.levels in
     let ends = c.args.ends in
     let same = c.in_ok-line.ensures.text in
@@ -84,7 +84,7 @@ returns-else-number-lines-clause-left c =
     let at = ap (λ (b : BuilderView). b.at) c.in_ok-line.ensures.goes_on in
     let line = added (c.in_ok-line.ensures.over run) at
     ∙ ap (λ tx. with_items c.begin_line.new.placing.builder.levels
-    (line_or_nothing (record { text = tx; options = c.args.options }) content)) same in
+    (line_or_nothing (record { text = tx; syntax = c.args.syntax }) content)) same in
     subst (λ ls. IsLeft s (record ends { task = None }) ls c.add_broken_line.new.placing.builder.levels all)
     (sym behind.are) (broken_line_left s ends.task ends.braces t.source behind.first behind.more levels
     c.begin_line.new.placing.builder.levels c.add_broken_line.new.placing.builder.levels all whole begun line))

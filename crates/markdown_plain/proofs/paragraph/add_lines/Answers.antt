@@ -55,13 +55,13 @@ lines-preserved c =
           let low = c.lines.auto.number in
           let past : (c.lines.number + 1 == c.args.from) ≡ false = grind (arith, nat_tests, low) in
           λ run.
-          let here = left_of_same text c.lines.placing.builder.text c.args.options _ c.if-number-from.task
+          let here = left_of_same text c.lines.placing.builder.text c.args.syntax _ c.if-number-from.task
           ends.braces (drop c.lines.number sources) c.lines.placing.builder.levels _ (sym same) (sym (task_is c))
           (before run) in
           let added = c.in_ok-add_line.ensures.left sources _
           (subst (λ t. AreTextLines t c.args.lines.now sources)
           (sym same) are) here in
-          left_of_same c.lines.placing.builder.text text c.args.options None _ ends.braces
+          left_of_same c.lines.placing.builder.text text c.args.syntax None _ ends.braces
           (drop (c.lines.number + 1) sources) c.add_line.new.placing.builder.levels _ same
           (sym (on_false (c.lines.number + 1 == c.args.from) ends.task None past))
           (added (c.lines.invariant.over run c.lines-test.true));
@@ -77,6 +77,6 @@ returns-clause-items c = λ sources are fit.
           c.args.lines.now sources are,
       c.lines-test.false,
     )) in
-    nothing_left (record { text = c.args.placing.now.builder.text; options = c.args.options })
+    nothing_left (record { text = c.args.placing.now.builder.text; syntax = c.args.syntax })
     (record c.args.ends { task = if c.lines.number == c.args.from then c.args.ends.task else None })
     (drop c.lines.number sources) c.lines.placing.builder.levels _ none (left run)

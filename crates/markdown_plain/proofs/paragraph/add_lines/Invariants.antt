@@ -24,9 +24,9 @@ invariant-lines l = record {
       (record l.ends { task = if l.number == l.from then l.ends.task else None });
   left : (sources : List SourceLine) → AreTextLines l.fn.placing.builder.text l.lines sources
       → HaveEnds (drop l.from sources) l.ends → l.fn.placing.builder.run ≡ None
-      → IsLeft (record { text = l.fn.placing.builder.text; options = l.options })
+      → IsLeft (record { text = l.fn.placing.builder.text; syntax = l.syntax })
       (record l.ends { task = if l.number == l.from then l.ends.task else None }) (drop l.number sources)
       l.placing.builder.levels (with_items l.fn.placing.builder.levels
-      (text_items (record { text = l.fn.placing.builder.text; options = l.options }) l.ends.task
+      (text_items (record { text = l.fn.placing.builder.text; syntax = l.syntax }) l.ends.task
       (before_braces l.ends.braces (drop l.from sources))));
 }

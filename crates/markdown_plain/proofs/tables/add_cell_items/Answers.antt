@@ -8,7 +8,7 @@ use Rattle.markdown_items.proofs.RestOfLineLemmas.{adds_none}
 use Rattle.markdown_plain.proofs.ClosableLemmas.{ahead_of}
 use Rattle.markdown_plain.proofs.LeafTreesLemmas.{no_text, texts_after}
 use Rattle.markdown_plain.proofs.TableRowsLemmas.{adds_later}
-use Rattle.markdown_items.specs.LineItems.{item_extensions}
+use Rattle.markdown_items.specs.LineItems.{item_syntax}
 use Rattle.markdown_lines.specs.TableRows.{piece_length}
 use Rattle.markdown_plain.proofs.ShownRowsLemmas.{IsPieceIn, piece_added, piece_cut, piece_in, piece_placed}
 use Rattle.markdown_plain.proofs.ShownRowsLemmas.{pieces_done}
@@ -24,7 +24,7 @@ pieces-init c = record {
   texts = no_text _ _ refl;
   whole = λ once less. refl;
   items = λ once is none.
-      pieces_start (item_extensions c.args.options) c.args.placing.now.builder c.args.cell.from c.args.cell.to none;
+      pieces_start (item_syntax c.args.syntax) c.args.placing.now.builder c.args.cell.from c.args.cell.to none;
   may =
       let is = c.requires.cell in
       let low = c.requires.ahead in
@@ -93,9 +93,9 @@ pieces-preserved c =
                 ∙ (ap (λ n. piece_length (slice_range text n to)) (sym first)
                 ∙ ap (λ t. piece_length (slice_range t from to)) (sym same))))
           ] in
-          piece_placed (item_extensions c.args.options) _ view c.add_items.new.self.builder from to stop next less
+          piece_placed (item_syntax c.args.syntax) _ view c.add_items.new.self.builder from to stop next less
           (subst (λ (t : List ℕ). to ≤ length t) (sym same) is.to.0) before
-          (places_piece (item_extensions c.args.options) view c.step_to.new.self.builder
+          (places_piece (item_syntax c.args.syntax) view c.step_to.new.self.builder
           c.add_items.new.self.builder from to stop next moved appended further over
           (there ∙ ap (λ n. from + n) size) after past);
       may =
@@ -151,7 +151,7 @@ add_items-requires-clause-ahead c =
 pub returns-clause-items : goal.returns-clause-items
 returns-clause-items c = λ once is none.
     let done = c.pieces.invariant.items once is none in
-    pieces_done (item_extensions c.args.options) c.args.cell.to _ c.pieces.placing.builder c.pieces.from
+    pieces_done (item_syntax c.args.syntax) c.args.cell.to _ c.pieces.placing.builder c.pieces.from
     (search rules) done
 
 pub returns-clause-within : goal.returns-clause-within

@@ -2,7 +2,7 @@
 use Rattle.std.proofs.Common.{◌≡◌, ◌-◌, ◌<◌, None, false}
 use Rattle.markdown_builder.specs.BuilderView.{with_items}
 use Rattle.markdown_items.specs.ContentItems.{AddsItems}
-use Rattle.markdown_items.specs.LineItems.{item_extensions}
+use Rattle.markdown_items.specs.LineItems.{item_syntax}
 use Rattle.markdown_block_rules.specs.LineContents.{cell_items}
 use Rattle.markdown_plain.specs.Fitting.{GoesOn}
 use Rattle.markdown_plain.specs.LeafTrees.{HasMoreTexts}
@@ -18,8 +18,8 @@ invariant-pieces l = record {
   texts : HasMoreTexts l.fn.placing.builder l.placing.builder;
   whole : l.escapes ≡ false → l.from < l.cell.to → l.from ≡ l.cell.from;
   items : (l.escapes ≡ false → IsOnePiece l.fn.placing.builder.text l.cell) → IsCellIn l.fn.placing.builder.text l.cell
-      → l.fn.placing.builder.run ≡ None → AwaitsPieces (item_extensions l.options) l.cell.to
-      (with_items l.fn.placing.builder.levels (cell_items l.fn.placing.builder.text (item_extensions l.options)
+      → l.fn.placing.builder.run ≡ None → AwaitsPieces (item_syntax l.syntax) l.cell.to
+      (with_items l.fn.placing.builder.levels (cell_items l.fn.placing.builder.text (item_syntax l.syntax)
       l.cell.from l.cell.to)) l.placing.builder l.from;
   may : MayAddPiece l.fn.placing.builder.text l.placing.builder l.from l.cell.to;
 }

@@ -3,7 +3,7 @@ use Rattle.std.proofs.Common.{◌≡◌, ◌∙◌, ◌++◌, ◌∷◌, ℕ, Li
 use Rattle.markdown_base.specs.Forest.{nil}
 use Rattle.markdown_base.specs.declared.item.ItemBody.TheVariants as body
 use Rattle.markdown_builder.specs.BuilderView.{BuilderView, Opens}
-use Rattle.markdown_items.specs.LineItems.{item_extensions}
+use Rattle.markdown_items.specs.LineItems.{item_syntax}
 use Rattle.markdown_block_rules.specs.LineContents.{cell_items}
 use Rattle.markdown_plain.specs.Fitting.{GoesOn, stepped}
 use Rattle.markdown_plain.specs.LeafTrees.{HasItems}
@@ -104,7 +104,7 @@ returns-clause-shown c = λ once is.
     (subst (λ (t : List ℕ). IsCellIn t c.args.cell) (sym same) is)
     (ap (λ (v : BuilderView). v.run) opened) in
     let items = subst (λ (t : List ℕ). HasItems c.open_block.new.self.builder c.add_cell_items.new.placing.builder
-    (cell_items t (item_extensions c.args.options) c.args.cell.from c.args.cell.to)) same filled in
-    cell_shown (record { text = text; options = c.args.options }) c.args.cell c.args.placing.now.builder
+    (cell_items t (item_syntax c.args.syntax) c.args.cell.from c.args.cell.to)) same filled in
+    cell_shown (record { text = text; syntax = c.args.syntax }) c.args.cell c.args.placing.now.builder
     c.step_to.new.self.builder c.open_block.new.self.builder c.add_cell_items.new.placing.builder
     c.step_to-2.new.self.builder c.close.new.self.builder begun opened goes items moved put

@@ -146,17 +146,17 @@ cells-preserved c = record {
         (ap (list_any (λ byte. byte == 92)) (sym c.bytes_of.ensures) ∙ (sym c.holds-escapes.ensures ∙ none)) is.stop.0
         (omega (arith, begins, after, before)) (omega (arith, content, last)) in
         let same = found_all c cell w.in-Some.ensures.value in
-        cell_added (record { text = text; options = c.args.options }) c.args.placing.now.builder.levels _ _ cell
+        cell_added (record { text = text; syntax = c.args.syntax }) c.args.placing.now.builder.levels _ _ cell
         c.cells.found c.cells.count c.match-next_cell.found c.args.line.next c.cells.placing
         w.place_cell.new.placing c.match-next_cell.placing w.placing-is same w.found-is
         (c.cells.invariant.left ∙ w.in-Some.ensures.value) (c.cells.invariant.shown is)
         (subst (λ (t : List ℕ). HasTrees c.cells.placing.builder w.place_cell.new.placing.builder
-        (shown_cells (record { text = t; options = c.args.options }) (cell ∷ []))) kept
+        (shown_cells (record { text = t; syntax = c.args.syntax }) (cell ∷ []))) kept
         (w.in_ok-place_cell-in-Some.ensures.shown
         (λ none. subst (λ (t : List ℕ). IsOnePiece t cell) (sym kept) (once none))
         (subst (λ (t : List ℕ). IsCellIn t cell) (sym kept) next.inside)))
     | in-None+in_ok-place_empty_cell-in-None w ↦
-        empty_added (record { text = c.text-text.result.now; options = c.args.options })
+        empty_added (record { text = c.text-text.result.now; syntax = c.args.syntax })
         c.args.placing.now.builder.levels _ c.cells.found c.cells.count c.match-next_cell.found c.args.line.next
         c.cells.placing w.place_empty_cell.new.placing c.match-next_cell.placing w.placing-is
         w.found-is c.cells.invariant.few (c.cells.invariant.shown is) w.in_ok-place_empty_cell-in-None.ensures.shown
@@ -202,10 +202,10 @@ returns-clause-tree c = λ is inside source stands.
     let done : c.cells.count ≡ c.columns-columns.result =
     grind (arith, nat_tests, c.cells-test.false, c.cells.auto.count-end) in
     subst (λ (t : List ℕ). HasTrees c.args.placing.now.builder c.close_row.new.self.builder
-    (shown_row (record { text = t; options = c.args.options })
+    (shown_row (record { text = t; syntax = c.args.syntax })
     (open_columns c.args.placing.now.builder) c.args.row
     source)) c.text-text.ensures
-    (row_placed (record { text = text; options = c.args.options }) c.args.placing.now.builder
+    (row_placed (record { text = text; syntax = c.args.syntax }) c.args.placing.now.builder
     c.step_to-2.new.self.builder c.close_row.new.self.builder c.args.row c.args.line source c.cells.found
     c.cells.count (open_columns c.args.placing.now.builder) is
     in_row.blocks

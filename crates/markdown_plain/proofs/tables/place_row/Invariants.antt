@@ -26,7 +26,7 @@ invariant-cells l = record {
   lacking : l.found < l.count → length (cells_left l.text l.start l.line.stop) ≡ 0;
   left : drop l.found (row_cells_at l.text l.line.start l.line.stop) ≡ cells_left l.text l.start l.line.stop;
   shown : IsInText l.text l.line → l.placing.builder.levels ≡ l.fn.placing.builder.levels ++ cells_placed
-      (record { text = l.text; options = l.options }) (row_cells_at l.text l.line.start l.line.stop)
+      (record { text = l.text; syntax = l.syntax }) (row_cells_at l.text l.line.start l.line.stop)
       l.found l.count l.line.next
       ∷ [];
   inside : IsInText l.text l.line

@@ -1,6 +1,8 @@
 -- What is held was tested, and what is refused is not well formed.
-use Rattle.std.proofs.Common.{◌∙◌, refl}
+use Rattle.std.proofs.Common.{◌∙◌, ap, refl}
 use Rattle.std.proofs.lemmas.Result.{err_from_is_err_and}
+use Rattle.markdown_base.specs.Source.{source_as}
+use Rattle.markdown_base.specs.declared.syntax.Syntax.{Syntax}
 use Rattle.markdown_blocks.proofs.blocks.Blocks.checked.Goals as goal
 
 pub is_well_formed-requires : goal.is_well_formed-requires
@@ -16,7 +18,8 @@ pub invariant_of-result : goal.invariant_of-result
 invariant_of-result c = record { well_formed = c.in_ok-is_well_formed-in-Some.ensures.0 cc }
 
 pub returns-then-branch-clause-holds : goal.returns-then-branch-clause-holds
-returns-then-branch-clause-holds c = (refl, refl, refl, refl)
+returns-then-branch-clause-holds c =
+    (ap (λ (s : Syntax). source_as s c.args.text.now) c.profile.ensures, refl, refl, refl)
 
 pub returns-then-branch-clause-rules : goal.returns-then-branch-clause-rules
 returns-then-branch-clause-rules c = c.in_ok-is_well_formed-in-Some.ensures.0 cc
@@ -32,11 +35,11 @@ pub returns-in_err-reached_once : goal.returns-in_err-reached_once
 returns-in_err-reached_once c =
     let error = err_from_is_err_and c.from_residual.result c.from_residual.ensures.1 in
     rw (error.1, error.2)
-    (record { holds = tt; entry = tt; rules = tt; refused = λ is. cc is; faults = λ is. cc is })
+    (record { holds = tt; rules = tt; refused = λ is. cc is; faults = λ is. cc is })
 
 pub returns-in_err-is_well_formed-in-Some : goal.returns-in_err-is_well_formed-in-Some
 returns-in_err-is_well_formed-in-Some c =
     let error = err_from_is_err_and c.from_residual-in_err-is_well_formed-in-Some.result
     c.from_residual-in_err-is_well_formed-in-Some.ensures.1 in
     rw (error.1, error.2)
-    (record { holds = tt; entry = tt; rules = tt; refused = λ is. cc is; faults = λ is. cc is })
+    (record { holds = tt; rules = tt; refused = λ is. cc is; faults = λ is. cc is })

@@ -7,7 +7,7 @@ use Rattle.markdown_builder.specs.BuilderView.{BuilderView, with_items}
 use Rattle.markdown_builder.specs.Shown.{chain_of}
 use Rattle.markdown_builder.specs.TreeLevels.{with_trees}
 use Rattle.markdown_items.specs.ContentItems.{content_items}
-use Rattle.markdown_items.specs.LineItems.{item_extensions}
+use Rattle.markdown_items.specs.LineItems.{item_syntax}
 use Rattle.markdown_plain.specs.Fitting.{GoesOn, OpensHeading, stepped}
 use Rattle.markdown_plain.specs.LeafTrees.{HasMoreTexts}
 use Rattle.markdown_plain.specs.Paragraphs.{IsPlacedTo, source_of}
@@ -97,16 +97,16 @@ returns-clause-tree c = λ stand.
     let headings : c.step_to-2.new.self.builder.headings ≡ c.open_heading.new.placing.builder.headings = search rules in
     let kept : c.step_to-2.new.self.builder.levels ≡ c.add_items.new.self.builder.levels = search rules in
     let before : c.step_to.new.self.builder.levels ≡ c.open_heading.new.placing.builder.levels = search rules in
-    let items = content_items c.args.self.now.placing.builder.text (item_extensions c.args.self.now.options)
+    let items = content_items c.args.self.now.placing.builder.text (item_syntax c.args.self.now.syntax)
     c.args.heading.from c.args.heading.to in
     let levels : c.step_to-2.new.self.builder.levels ≡ with_items c.open_heading.new.placing.builder.levels items =
     kept ∙ (filled run
-    ∙ (ap (λ ls. with_items ls (content_items c.step_to.new.self.builder.text (item_extensions c.args.self.now.options)
+    ∙ (ap (λ ls. with_items ls (content_items c.step_to.new.self.builder.text (item_syntax c.args.self.now.syntax)
     c.step_to.new.self.builder.at c.args.heading.to)) before
     ∙ (ap (λ t. with_items c.open_heading.new.placing.builder.levels (content_items t
-    (item_extensions c.args.self.now.options) c.step_to.new.self.builder.at c.args.heading.to)) text
+    (item_syntax c.args.self.now.syntax) c.step_to.new.self.builder.at c.args.heading.to)) text
     ∙ ap (λ n. with_items c.open_heading.new.placing.builder.levels (content_items c.args.self.now.placing.builder.text
-    (item_extensions c.args.self.now.options) n c.args.heading.to)) from))) in
+    (item_syntax c.args.self.now.syntax) n c.args.heading.to)) from))) in
     λ some. put_heading (source_of c.args.self.now) c.args.self.now.placing.builder
     c.open_heading.new.placing.builder c.step_to-2.new.self.builder c.close.new.self.builder c.args.heading.level
     c.args.heading.braces items refl opens blocks headings levels put some
@@ -114,7 +114,7 @@ returns-clause-tree c = λ stand.
     c.args.self.now.placing.builder.at n c.args.heading.level c.args.heading.braces (chain_of items))) at
 
 pub returns-clause-leaf : goal.returns-clause-leaf
-returns-clause-leaf c = λ s frames inside b built options kind start last stand.
+returns-clause-leaf c = λ s frames inside b built syntax kind start last stand.
     let old = c.args.self.now.placing.builder in
     let made = returns-clause-tree c stand in
     let closed = c.close.ensures.closes in
@@ -128,5 +128,5 @@ returns-clause-leaf c = λ s frames inside b built options kind start last stand
     (texts_after _ _ _ filled (no_text _ _ (ap (λ (v : BuilderView). v.texts) closed
     ∙ ap (λ (v : BuilderView). v.texts) over))) in
     let placed : IsPlacedTo old c.close.new.self.builder c.args.line.next = search (rules, outer_of_opened) in
-    heading_placed s old c.close.new.self.builder c.args.self.now.options frames inside b c.args.heading
-    c.args.line.next built options kind start last placed texts made
+    heading_placed s old c.close.new.self.builder c.args.self.now.syntax frames inside b c.args.heading
+    c.args.line.next built syntax kind start last placed texts made

@@ -34,12 +34,12 @@ returns-clause-finishes c = λ s frames inside b none few may.
     ]
 
 pub returns-clause-first : goal.returns-clause-first
-returns-clause-first c = λ none s frames inside b source built options begins opened.
+returns-clause-first c = λ none s frames inside b source built syntax begins opened.
     let self = c.if-not-has_paragraph.self in
     let lines : c.push.new.self.items ≡ line_of c ∷ [] = search (rules, none) in
     let task : self.task ≡ task_at self c.args.line c.args.start = search (rules, none) in
-    let same : self.options ≡ c.args.self.now.options = search (rules, none) in
-    paragraph_begun s _ frames inside b c.args.line (line_of c) source refl refl lines task built (options ∙ sym same)
+    let same : self.syntax ≡ c.args.self.now.syntax = search (rules, none) in
+    paragraph_begun s _ frames inside b c.args.line (line_of c) source refl refl lines task built (syntax ∙ sym same)
     begins opened
 
 pub returns-clause-further : goal.returns-clause-further

@@ -3,7 +3,7 @@ use Rattle.std.proofs.Common.{◌≡◌, ◌∙◌, ◌<◌, ◌≤◌, suc, ap,
 use Rattle.markdown_base.specs.Forest.{Forest}
 use Rattle.markdown_builder.specs.BuilderView.{BuilderView}
 use Rattle.markdown_builder.specs.TreeLevels.{followed_by}
-use Rattle.markdown_lines.specs.BlockBeginnings.{Source}
+use Rattle.markdown_base.specs.Source.{Source}
 use Rattle.markdown_block_rules.specs.BlockGrowth.{Block}
 use Rattle.markdown_plain.specs.Closable.{AreClosable}
 use Rattle.markdown_plain.specs.Closing.{MayClose}
@@ -154,7 +154,7 @@ returns-clause-forgets c = λ s frames inside none may.
 
 pub returns-clause-finishes : goal.returns-clause-finishes
 returns-clause-finishes c = λ s frames inside b held may.
-    let placed = c.in_ok-end_leaf.ensures.frame s frames inside b held may.unended may.options in
+    let placed = c.in_ok-end_leaf.ensures.frame s frames inside b held may.unended may.syntax in
     closed_from c s frames (followed_by inside (leaf_block b))
     (ended_may_close s c.args.self.now c.end_leaf.new.self frames inside b held may
     c.in_ok-end_leaf.ensures.same placed)

@@ -4,7 +4,7 @@ use Rattle.std.proofs.Common.{true≢false}
 use Rattle.std.proofs.lemmas.Bool.Decides.{nat_tests}
 use Rattle.markdown_base.specs.Forest.{Forest}
 use Rattle.markdown_builder.specs.TreeLevels.{followed_by}
-use Rattle.markdown_lines.specs.BlockBeginnings.{Source}
+use Rattle.markdown_base.specs.Source.{Source}
 use Rattle.markdown_lines.specs.SourceLines.{SourceLine}
 use Rattle.markdown_block_rules.specs.BlockGrowth.{Block}
 use Rattle.markdown_plain.proofs.LeavesInPlaceLemmas.{closed_leaf}
@@ -15,7 +15,7 @@ use Rattle.markdown_plain.proofs.OpenTablesLemmas.{built_outside, open_has_leaf}
 use Rattle.markdown_plain.proofs.pass.Pass.end_leaf.Goals as goal
 
 pub returns-then-has_leaf-clause-frame : goal.returns-then-has_leaf-clause-frame
-returns-then-has_leaf-clause-frame c = λ s frames inside b held unended options.
+returns-then-has_leaf-clause-frame c = λ s frames inside b held unended syntax.
     let closes = c.close.ensures.closes in
     (placed c s frames inside b held unended (sym c.has_leaf.ensures ∙ c.if-has_leaf.true))
   where
@@ -31,22 +31,22 @@ returns-then-has_leaf-clause-frame c = λ s frames inside b held unended options
         ∙ built_outside s c.args.self.now.placing.builder frames inside holds.built))
 
 pub returns-in_ok-end_paragraph-clause-frame : goal.returns-in_ok-end_paragraph-clause-frame
-returns-in_ok-end_paragraph-clause-frame c = λ s frames inside b held unended options.
-    placed c s frames inside b held unended options (sym c.has_leaf.ensures ∙ c.if-has_leaf.false)
+returns-in_ok-end_paragraph-clause-frame c = λ s frames inside b held unended syntax.
+    placed c s frames inside b held unended syntax (sym c.has_leaf.ensures ∙ c.if-has_leaf.false)
   where
     placed : (c : goal.In_ok-end_paragraph) (s : Source) (frames : List Frame) (inside : Forest Block) (b : Block)
         (held : Option (List SourceLine)) → IsUnended s c.args.self.now frames inside b held
-        → s.options ≡ c.args.self.now.options → has_leaf c.args.self.now.placing.builder ≡ false
+        → s.syntax ≡ c.args.self.now.syntax → has_leaf c.args.self.now.placing.builder ≡ false
         → IsPlaced s c.end_paragraph.new.self.placing.builder frames (followed_by inside (leaf_block b))
-    placed c s frames inside b None unended options outside =
+    placed c s frames inside b None unended syntax outside =
         absurd (true≢false (sym (open_has_leaf s c.args.self.now.placing.builder frames inside b unended.1)
         ∙ outside))
-    placed c s frames inside b (Some sources) holds options outside =
-        c.in_ok-end_paragraph.ensures.frame s frames inside b sources holds options
+    placed c s frames inside b (Some sources) holds syntax outside =
+        c.in_ok-end_paragraph.ensures.frame s frames inside b sources holds syntax
 
 -- something has not ended, so that one of the two was there
 pub returns-else-not-is_empty-clause-frame : goal.returns-else-not-is_empty-clause-frame
-returns-else-not-is_empty-clause-frame c = λ s frames inside b held unended options.
+returns-else-not-is_empty-clause-frame c = λ s frames inside b held unended syntax.
     let empty : (length c.args.self.now.lines.items == 0) ≡ true = search rules in
     absurd (none s frames inside b held unended (sym c.has_leaf.ensures ∙ c.if-has_leaf.false) empty)
   where

@@ -5,7 +5,7 @@ use Rattle.std.specs.Prelude.{nat_lt, ◌==◌, if◌then◌else◌}
 use Rattle.std.proofs.lemmas.Bool.Decides.{nat_tests}
 use Rattle.markdown_builder.specs.BuilderView.{BuilderView}
 use Rattle.markdown_builder.specs.TreeLevels.{followed_by, with_trees}
-use Rattle.markdown_lines.specs.BlockBeginnings.{Source}
+use Rattle.markdown_base.specs.Source.{Source}
 use Rattle.markdown_lines.specs.DefinitionRules.{divided}
 use Rattle.markdown_lines.specs.SourceLines.{SourceLine}
 use Rattle.markdown_lines.specs.declared.held_line.HeldLine.{HeldLine}
@@ -50,9 +50,9 @@ returns-clause-tree c = λ sources marked b is task from end.
           let less : taken < length lines = search rules in
           let placed = subst (λ tx. AreTextLines tx lines sources → taken < length lines → AreSome (drop taken sources)
           → (if taken == 0 then pass.task else None)
-          ≡ first_task (record { text = tx; options = pass.options }) marked (drop taken sources)
+          ≡ first_task (record { text = tx; syntax = pass.syntax }) marked (drop taken sources)
           → b.last ≡ paragraph_end lines c.args.heading → HasTrees defined.builder new.builder
-          (shown_ended (record { text = tx; options = pass.options }) marked b c.args.heading (drop taken sources)))
+          (shown_ended (record { text = tx; syntax = pass.syntax }) marked b c.args.heading (drop taken sources)))
           c.in_ok-taken.ensures.text (w.in_ok-place_paragraph.ensures.tree sources marked b) in
           let tree = placed is.are less (some_left_over _ text lines sources taken is behind)
           (task_left_over s marked pass.task lines sources taken is from task) end in
@@ -69,7 +69,7 @@ returns-clause-tree c = λ sources marked b is task from end.
     ]
 
 divides : (c : goal.After-clear) (sources : List SourceLine) → IsParagraph c.args.self.now.placing.builder.text
-    c.args.self.now.lines.items sources → IsDivided (entity_names c.args.self.now.options)
+    c.args.self.now.lines.items sources → IsDivided (entity_names c.args.self.now.syntax)
     c.args.self.now.placing.builder c.take_definitions.new.placing.builder sources c.in_ok-taken.taken
 divides c sources is =
     let pass = c.args.self.now in
@@ -141,7 +141,7 @@ more_texts c =
     ]
 
 pub returns-clause-frame : goal.returns-clause-frame
-returns-clause-frame c = λ s frames inside b sources holds options.
+returns-clause-frame c = λ s frames inside b sources holds syntax.
     let pass = c.args.self.now in
     let new = c.if-left.self.placing.builder in
     let heading = c.args.heading in
@@ -150,8 +150,8 @@ returns-clause-frame c = λ s frames inside b sources holds options.
     let is = placed c holds.built.outside holds.some in
     let count = returns-clause-left c sources holds.lines in
     let whole : s ≡ source_of pass =
-    ap (λ t. record { text = t; options = s.options }) (sym holds.built.text)
-    ∙ ap (λ o. record { text = pass.placing.builder.text; options = o }) options in
+    ap (λ t. record { text = t; syntax = s.syntax }) (sym holds.built.text)
+    ∙ ap (λ o. record { text = pass.placing.builder.text; syntax = o }) syntax in
     subst (λ (t : Source). HoldsParagraph t pass frames inside b sources → IsPlaced t new frames
     (followed_by inside (leaf_block (ended_block b sources left heading)))) (sym whole)
     (λ held.

@@ -6,7 +6,7 @@ use Rattle.markdown_lines.specs.HeadingAttributes.{braces_from, braces_in}
 use Rattle.markdown_lines.specs.declared.held_line.HeldLine.{HeldLine}
 use Rattle.markdown_plain.proofs.ParagraphBracesLemmas.{heading_last, none_of_paragraph, none_read}
 use Rattle.markdown_plain.proofs.pass.Pass.last_braces.Goals.{then-is_none-via-then-is_none}
-use Rattle.markdown_plain.proofs.pass.Pass.last_braces.Goals.{then-is_none-via-else-is_none+then-not-attributes_read}
+use Rattle.markdown_plain.proofs.pass.Pass.last_braces.Goals.{then-is_none-via-else-is_none+then-not-self}
 use Rattle.std.proofs.lemmas.Option.{same_Some}
 use Rattle.std.specs.Str.{IsUtf8}
 use Rattle.markdown_plain.specs.Closable.{HasBraces}
@@ -16,9 +16,9 @@ use Rattle.markdown_plain.proofs.pass.Pass.last_braces.Goals as goal
 pub returns-then-is_none-clause-value : goal.returns-then-is_none-clause-value
 returns-then-is_none-clause-value c = λ sources from are less.
     elim c.then-is_none.branch [
-      | then-is_none-via-then-is_none w ↦ none_of_paragraph c.args.self.now.options c.args.heading _ (search rules)
-      | then-is_none-via-else-is_none+then-not-attributes_read w ↦
-          none_read c.args.self.now.options c.args.heading _ (search rules)
+      | then-is_none-via-then-is_none w ↦ none_of_paragraph c.args.self.now.syntax c.args.heading _ (search rules)
+      | then-is_none-via-else-is_none+then-not-self w ↦
+          none_read c.args.self.now.syntax c.args.heading _ (search rules)
     ]
 
 pub returns-clause-value : goal.returns-clause-value
@@ -30,8 +30,8 @@ returns-clause-value c = λ sources from are less.
     c.in_ok-last.ensures.value in
     c.braces_at.ensures
     ∙ (ap (λ t. option_map (braces_from line.start) (braces_in (slice_range t line.start line.stop))) c.text.ensures
-    ∙ heading_last c.args.self.now.options c.args.heading text lines sources from line c.if-is_none.ensures
-    (sym c.attributes_read.ensures ∙ c.if-not-attributes_read.false) are less there)
+    ∙ heading_last c.args.self.now.syntax c.args.heading text lines sources from line c.if-is_none.ensures
+    c.if-not-self.false are less there)
 
 pub returns-clause-fits : goal.returns-clause-fits
 returns-clause-fits c = λ other found.

@@ -5,7 +5,7 @@ use Rattle.markdown_base.specs.Forest.{Forest, nil}
 use Rattle.std.proofs.lemmas.Bool.{true≢false}
 use Rattle.markdown_builder.specs.BuilderView.{BuilderView}
 use Rattle.markdown_builder.specs.TreeLevels.{followed_by}
-use Rattle.markdown_lines.specs.BlockBeginnings.{Source}
+use Rattle.markdown_base.specs.Source.{Source}
 use Rattle.markdown_block_rules.specs.BlockGrowth.{Block}
 use Rattle.markdown_plain.specs.Frames.{Frame, rebuilt, room_depth}
 use Rattle.markdown_plain.specs.OpenLeaves.{leaf_block}

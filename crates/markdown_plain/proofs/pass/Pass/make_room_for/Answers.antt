@@ -14,7 +14,7 @@ makes c (Ok done) is =
     let room = c.make_room.ensures in
     record {
       text = IfOk-at_ok _ is room.text;
-      options = ap (λ (p : Pass). p.options) room.same;
+      syntax = ap (λ (p : Pass). p.syntax) room.same;
       ended = IfOk-at_ok _ is room.ended;
       dropped = IfOk-at_ok _ is room.dropped;
       unheld = IfOk-at_ok _ is room.unheld;

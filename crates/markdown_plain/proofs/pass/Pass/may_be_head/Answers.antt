@@ -12,7 +12,7 @@ use Rattle.markdown_plain.specs.HeldSources.{IsParagraph}
 use Rattle.markdown_plain.specs.declared.pass.Pass.{Pass}
 use Rattle.markdown_plain.specs.Paragraphs.{divided_of}
 use Rattle.markdown_plain.specs.declared.pass.Pass.{Pass}
-use Rattle.markdown_lines.specs.BlockBeginnings.{Source}
+use Rattle.markdown_base.specs.Source.{Source}
 use Rattle.markdown_lines.specs.SourceLines.{SourceLine}
 use Rattle.markdown_plain.specs.TableHeads.{IsLastLine}
 use Rattle.markdown_plain.proofs.TableHeadsLemmas.{any_tried, as_tried, columns_again, count_of, first_by_index}

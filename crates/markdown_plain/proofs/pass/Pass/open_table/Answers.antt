@@ -11,7 +11,7 @@ use Rattle.markdown_block_rules.specs.BlockRules.{shown_row}
 use Rattle.markdown_plain.specs.HeldSources.{IsTextLine}
 use Rattle.markdown_plain.specs.LeafTrees.{HasTrees}
 use Rattle.markdown_plain.proofs.FittingLemmas.{may_step, some_opened}
-use Rattle.markdown_lines.specs.BlockBeginnings.{Source}
+use Rattle.markdown_base.specs.Source.{Source}
 use Rattle.markdown_lines.specs.SourceLines.{SourceLine}
 use Rattle.markdown_block_rules.specs.BlockGrowth.{Block}
 use Rattle.markdown_plain.specs.declared.pass.Pass.{Pass}
@@ -38,9 +38,9 @@ all_of c there =
 -- what is built once they have ended
 front_built : (c : goal.In_ok-_found) (s : Source) (frames : List Frame) (inside : Forest Block) (b : Block)
     (before : List SourceLine) (from : SourceLine) → HasFront s c.args.self.now frames inside b before from
-    c.pop-head.new.self.items c.args.head → s.options ≡ c.args.self.now.options
+    c.pop-head.new.self.items c.args.head → s.syntax ≡ c.args.self.now.syntax
     → IsBuilt s c.if-not-is_empty.self.placing.builder frames (before_table inside b before)
-front_built c s frames inside b before from has options =
+front_built c s frames inside b before from has syntax =
     let front = c.pop-head.new.self.items in
     elim c.if-not-is_empty.branch [
       | then-not-is_empty+in_ok-end_paragraph w ↦
@@ -48,7 +48,7 @@ front_built c s frames inside b before from has options =
           let now : Pass = record c.args.self.now { lines = c.pop-head.new.self } in
           let held = front_holds s c.args.self.now now frames inside b before from front c.args.head has refl refl
           some in
-          let ended = w.in_ok-end_paragraph.ensures.frame s frames inside _ before held.0 options in
+          let ended = w.in_ok-end_paragraph.ensures.frame s frames inside _ before held.0 syntax in
           subst (λ (p : Pass). IsBuilt s p.placing.builder frames (before_table inside b before)) (sym w.self-is)
           (subst (IsBuilt s w.end_paragraph.new.self.placing.builder frames) (sym held.1) ended.built)
       | else-not-is_empty w ↦
@@ -59,11 +59,11 @@ front_built c s frames inside b before from has options =
           has.holds.built)
     ]
 
-front_options : (c : goal.In_ok-_found) → c.if-not-is_empty.self.options ≡ c.args.self.now.options
+front_options : (c : goal.In_ok-_found) → c.if-not-is_empty.self.syntax ≡ c.args.self.now.syntax
 front_options c = elim c.if-not-is_empty.branch [
   | then-not-is_empty+in_ok-end_paragraph w ↦
-      ap (λ (p : Pass). p.options) w.self-is ∙ ap (λ (p : Pass). p.options) w.end_paragraph.ensures.same
-  | else-not-is_empty w ↦ ap (λ (p : Pass). p.options) w.self-is
+      ap (λ (p : Pass). p.syntax) w.self-is ∙ ap (λ (p : Pass). p.syntax) w.end_paragraph.ensures.same
+  | else-not-is_empty w ↦ ap (λ (p : Pass). p.syntax) w.self-is
 ]
 
 pub returns-clause-frame : goal.returns-clause-frame
@@ -77,7 +77,7 @@ returns-clause-frame c = λ s frames inside b before from holds source there ahe
     let placed = c.in_ok-_found.ensures.placed in
     let opened = c.in_ok-open_table.ensures.opens in
     let moved = c.step_to.ensures.steps in
-    let built = front_built c s frames inside b before from has (ap (λ (s : Source). s.options) (sym source)) in
+    let built = front_built c s frames inside b before from has (ap (λ (s : Source). s.syntax) (sym source)) in
     let same : c.open_table.new.self.builder.text ≡ text =
     ap (λ (v : BuilderView). v.text) opened.2 ∙ (ap (λ (v : BuilderView). v.text) moved
     ∙ (built.text ∙ sym holds.built.text)) in
@@ -87,7 +87,7 @@ returns-clause-frame c = λ s frames inside b before from holds source there ahe
     let row : HasTrees c.open_table.new.self.builder c.place_row.new.placing.builder
     (shown_row (record {
       text = c.open_table.new.self.builder.text;
-      options = c.if-not-is_empty.self.options;
+      syntax = c.if-not-is_empty.self.syntax;
     }) (open_columns c.open_table.new.self.builder) body.TableHead from) =
     c.in_ok-_found.ensures.tree refl
     (subst (λ (t : List ℕ). IsInText t c.args.head) (sym same) inside_it) from
@@ -100,8 +100,8 @@ returns-clause-frame c = λ s frames inside b before from holds source there ahe
       texts = c.in_ok-_found.ensures.texts;
       row = subst (λ (s : Source). HasTrees c.open_table.new.self.builder c.place_row.new.placing.builder
           (shown_row s (open_columns c.open_table.new.self.builder) body.TableHead from))
-          (ap (λ (t : List ℕ). record { text = t; options = c.if-not-is_empty.self.options }) same
-          ∙ (ap (λ o. record { text = text; options = o }) (front_options c) ∙ source)) row;
+          (ap (λ (t : List ℕ). record { text = t; syntax = c.if-not-is_empty.self.syntax }) same
+          ∙ (ap (λ o. record { text = text; syntax = o }) (front_options c) ∙ source)) row;
       is = subst (λ (t : List ℕ). IsTextLine t c.args.head from) holds.built.text line;
     })
 

@@ -105,8 +105,8 @@ returns-clause-tree c = λ sources marked b are less some first end.
     let pass_same = same c in
     let text_same : c.match-get.self.placing.builder.text ≡ text = search rules in
     let open_same : c.open_text.new.placing.builder.text ≡ text = c.in_ok-open_text.ensures.text ∙ text_same in
-    let options_same : c.match-get.self.options ≡ pass.options = ap (λ (p : Pass). p.options) pass_same in
-    let braces_are : c.last_braces.result ≡ heading_braces pass.options c.args.heading lines =
+    let options_same : c.match-get.self.syntax ≡ pass.syntax = ap (λ (p : Pass). p.syntax) pass_same in
+    let braces_are : c.last_braces.result ≡ heading_braces pass.syntax c.args.heading lines =
     c.last_braces.ensures.value sources c.args.from
     (subst (λ t. AreTextLines t c.match-get.self.lines.items sources) (sym text_same)
     (subst (λ (ls : List HeldLine). AreTextLines text ls sources)
@@ -117,7 +117,7 @@ returns-clause-tree c = λ sources marked b are less some first end.
     let fit : HaveEnds lines (record { task = c.if-from-eq0.ends; braces = c.last_braces.result }) = record {
       some = some;
       task = begin_first (source_of pass) marked lines c.if-from-eq0.ends task;
-      braces = subst (λ br. OpenInLast br lines) (sym braces_are) (heading_open pass.options c.args.heading lines);
+      braces = subst (λ br. OpenInLast br lines) (sym braces_are) (heading_open pass.syntax c.args.heading lines);
     } in
     let filled = c.in_ok-add_lines.ensures.items sources
     (subst (λ t. AreTextLines t c.deref-2.result.now sources) (sym open_same)
@@ -139,9 +139,9 @@ returns-clause-tree c = λ sources marked b are less some first end.
     (first_task (source_of pass) marked (t.source ∷ drop (c.args.from + 1) sources))
     (before_braces braces (t.source ∷ drop (c.args.from + 1) sources))) =
     filled run
-    ∙ (ap (λ tx. with_items levels (text_items (record { text = tx; options = c.match-get.self.options })
+    ∙ (ap (λ tx. with_items levels (text_items (record { text = tx; syntax = c.match-get.self.syntax })
     c.if-from-eq0.ends (before_braces braces lines))) open_same
-    ∙ (ap (λ o. with_items levels (text_items (record { text = text; options = o })
+    ∙ (ap (λ o. with_items levels (text_items (record { text = text; syntax = o })
     c.if-from-eq0.ends (before_braces braces lines))) options_same
     ∙ (ap (λ k. with_items levels (text_items (source_of pass) k (before_braces braces lines))) task
     ∙ ap (λ (ls : List SourceLine). with_items levels (text_items (source_of pass)
@@ -152,7 +152,7 @@ returns-clause-tree c = λ sources marked b are less some first end.
     c.open_text.new.placing.builder c.add_lines.new.placing.builder c.match-heading.self.placing.builder
     c.close.new.self.builder marked b c.args.heading braces t.source (drop (c.args.from + 1) sources)
     (sym text_same) (ap (λ (v : BuilderView). v.levels) begun) (ap (λ (v : BuilderView). v.at) begun)
-    (braces_are ∙ ap (heading_braces pass.options c.args.heading) t.left) opens items
+    (braces_are ∙ ap (heading_braces pass.syntax c.args.heading) t.left) opens items
     (over.open_blocks ∙ ap (λ (v : BuilderView). v.blocks) goes)
     (over.headings ∙ ap (λ (v : BuilderView). v.headings) goes) over.levels (over.at ∙ sym end) put)
 

@@ -2,7 +2,7 @@
 use Rattle.std.proofs.Common.{◌≡◌, ◌∙◌, ◌++◌, ◌∷◌, [], Bool, refl, sym, subst, ap, if◌then◌else◌, true≢false}
 use Rattle.markdown_base.specs.Forest.{Forest, nil}
 use Rattle.markdown_lines.specs.BlockBeginnings as line
-use Rattle.markdown_lines.specs.BlockBeginnings.{Source}
+use Rattle.markdown_base.specs.Source.{Source}
 use Rattle.markdown_lines.specs.SourceLines.{SourceLine, end_of_line}
 use Rattle.markdown_lines.specs.declared.block_start.BlockStart.TheVariants as start
 use Rattle.markdown_block_rules.specs.BlockGrowth as was
@@ -93,16 +93,16 @@ returns-clause-places c = λ s turn source blocks state found.
     (line_in_room s made rest source begins blocks room) in
     let none = no_paragraph quote after.lines in
     let bytes = ap (λ (p : Pass). p.placing.builder.text) same.0 in
-    let options = ap (λ (p : Pass). p.options) same.0 in
+    let syntax = ap (λ (p : Pass). p.syntax) same.0 in
     let built = subst (λ (p : Pass). IsBuilt s p.placing.builder inner nil) (sym same.0) alert.built in
     let lines = c.in_ok-add_text.ensures.line
     ∙ ap (λ (has : Bool). (if has then quote.lines.items else []) ++ held ∷ []) none in
     let paragraph = c.in_ok-add_text.ensures.first none s inner nil b (end_of_line source) built
-    (sym (ap (λ (r : Source). r.options) after.source))
+    (sym (ap (λ (r : Source). r.syntax) after.source))
     (subst (λ text. BeginsText text held (end_of_line source) b) (sym (bytes ∙ texts))
     (end_begins s.text rest.position rest.line source room.left.is room.filled)) more.items in
     text_inside s now rest.line rest.line.stop inner nil blocks b (end_of_line source) refl
-    (source_kept s quote now bytes options after.source) paragraph more.quotes more.earlier same.1
+    (source_kept s quote now bytes syntax after.source) paragraph more.quotes more.earlier same.1
     (ap (λ (p : Pass). p.blanks.items) same.0 ∙ after.blanks) lines
     (begun_in_room s made rest source begins blocks room
     ∙ sym (rebuilt_more room.frames f (leaf_block b)))

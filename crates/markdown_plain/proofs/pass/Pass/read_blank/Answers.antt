@@ -1,6 +1,6 @@
 -- The containers that the line does not reach are closed, or it is held back as a line of indented code.
 use Rattle.std.proofs.Common.{◌≡◌, ◌∙◌, ℕ, [], true, false, map, sym, subst, ap, rules, true≢false}
-use Rattle.markdown_lines.specs.BlockBeginnings.{Source}
+use Rattle.markdown_base.specs.Source.{Source}
 use Rattle.markdown_lines.specs.SourceLines.{SourceLine, is_blank_rest}
 use Rattle.markdown_block_rules.specs.BlockGrowth.{with_line}
 use Rattle.markdown_plain.specs.Frames.{touched}

@@ -1,7 +1,7 @@
 -- No paragraph that the line reaches, or no tables; and a table that begins, or none.
 use Rattle.std.proofs.Common.{◌≡◌, ◌∙◌, Some, None, List, Option, Bool, true, false, not, refl, sym, ap, true≢false}
 use Rattle.markdown_base.specs.Forest.{Forest}
-use Rattle.markdown_lines.specs.BlockBeginnings.{Source}
+use Rattle.markdown_base.specs.Source.{Source}
 use Rattle.markdown_lines.specs.SourceLines.{SourceLine}
 use Rattle.markdown_block_rules.specs.BlockGrowth.{Block}
 use Rattle.markdown_block_rules.specs.TableLines.{reads_tables}
@@ -16,7 +16,7 @@ use Rattle.markdown_plain.proofs.pass.Pass.read_delimiter_row.Goals.{
   then-not-reached-via-else-not-reached+then-not-has_paragraph,
 }
 use Rattle.markdown_plain.proofs.pass.Pass.read_delimiter_row.Goals.{
-  then-not-reached-via-else-not-reached+else-not-has_paragraph+then-not-is_read,
+  then-not-reached-via-else-not-reached+else-not-has_paragraph+then-not-self,
 }
 use Rattle.markdown_plain.proofs.pass.Pass.read_delimiter_row.Goals as goal
 
@@ -47,10 +47,10 @@ returns-then-not-reached-clause-untabled c = λ _ s before source by.
               let some = no_paragraph_last s pass frames inside b sources by.stands.unended kind in
               absurd (true≢false (sym some
               ∙ (sym w.has_paragraph.ensures ∙ w.if-not-has_paragraph.true)))
-          | then-not-reached-via-else-not-reached+else-not-has_paragraph+then-not-is_read w ↦
+          | then-not-reached-via-else-not-reached+else-not-has_paragraph+then-not-self w ↦
               absurd (true≢false (sym reads
               ∙ (sym (ap (λ (s : Source). reads_tables s) by.stands.source)
-              ∙ (sym w.is_read.ensures ∙ w.if-not-is_read.true))))
+              ∙ w.if-not-self.true)))
         ]) by.stands.remembers
 
 -- the line reaches the open paragraph, where tables are read
@@ -61,7 +61,7 @@ reaches c s before source by = record {
   by = by;
   all = c.if-not-reached.false;
   some = sym c.if-not-has_paragraph.ensures;
-  reads = ap (λ (s : Source). reads_tables s) (sym by.stands.source) ∙ sym c.if-not-is_read.ensures;
+  reads = ap (λ (s : Source). reads_tables s) (sym by.stands.source) ∙ c.if-not-self.false;
 }
 
 pub returns-clause-places : goal.returns-clause-places
@@ -90,7 +90,7 @@ begin_table-requires-clause-outside c =
       by = may.by;
       all = c.if-not-reached.false;
       some = sym c.if-not-has_paragraph.ensures;
-      reads = ap (λ (s : Source). reads_tables s) (sym may.by.stands.source) ∙ sym c.if-not-is_read.ensures;
+      reads = ap (λ (s : Source). reads_tables s) (sym may.by.stands.source) ∙ c.if-not-self.false;
     })).outside
 
 pub begin_table-requires-clause-ahead : goal.begin_table-requires-clause-ahead
@@ -101,7 +101,7 @@ begin_table-requires-clause-ahead c =
       by = may.by;
       all = c.if-not-reached.false;
       some = sym c.if-not-has_paragraph.ensures;
-      reads = ap (λ (s : Source). reads_tables s) (sym may.by.stands.source) ∙ sym c.if-not-is_read.ensures;
+      reads = ap (λ (s : Source). reads_tables s) (sym may.by.stands.source) ∙ c.if-not-self.false;
     })).ahead
 
 pub begin_table-requires-clause-task : goal.begin_table-requires-clause-task
@@ -112,7 +112,7 @@ begin_table-requires-clause-task c =
       by = may.by;
       all = c.if-not-reached.false;
       some = sym c.if-not-has_paragraph.ensures;
-      reads = ap (λ (s : Source). reads_tables s) (sym may.by.stands.source) ∙ sym c.if-not-is_read.ensures;
+      reads = ap (λ (s : Source). reads_tables s) (sym may.by.stands.source) ∙ c.if-not-self.false;
     })).task
 
 pub begin_table-requires-clause-before : goal.begin_table-requires-clause-before
@@ -123,7 +123,7 @@ begin_table-requires-clause-before c =
       by = may.by;
       all = c.if-not-reached.false;
       some = sym c.if-not-has_paragraph.ensures;
-      reads = ap (λ (s : Source). reads_tables s) (sym may.by.stands.source) ∙ sym c.if-not-is_read.ensures;
+      reads = ap (λ (s : Source). reads_tables s) (sym may.by.stands.source) ∙ c.if-not-self.false;
     })).before
 
 pub begin_table-requires-clause-next : goal.begin_table-requires-clause-next
@@ -134,5 +134,5 @@ begin_table-requires-clause-next c =
       by = may.by;
       all = c.if-not-reached.false;
       some = sym c.if-not-has_paragraph.ensures;
-      reads = ap (λ (s : Source). reads_tables s) (sym may.by.stands.source) ∙ sym c.if-not-is_read.ensures;
+      reads = ap (λ (s : Source). reads_tables s) (sym may.by.stands.source) ∙ c.if-not-self.false;
     })).next

@@ -2,7 +2,7 @@
 use Rattle.std.proofs.Common.{◌∙◌, refl, sym, subst, ap, []}
 use Rattle.std.specs.Prelude.{false}
 use Rattle.markdown_lines.specs.BlockBeginnings as line
-use Rattle.markdown_lines.specs.BlockBeginnings.{Source}
+use Rattle.markdown_base.specs.Source.{Source}
 use Rattle.markdown_lines.specs.declared.block_start.BlockStart.TheVariants as start
 use Rattle.markdown_block_rules.specs.BlockGrowth as was
 use Rattle.markdown_plain.specs.OpenLeaves.{InfoStands}
@@ -26,7 +26,7 @@ returns-clause-places c = λ s turn source blocks here found stand.
     refl tt in
     let keeps = keeps_rest room now c.open_fenced.ensures.same c.in_ok-open_fenced.ensures.text in
     let leaf = c.in_ok-open_fenced.ensures.leaf s has.frames has.inside b has.built
-    (sym (ap (λ (r : Source). r.options) has.may.source))
+    (sym (ap (λ (r : Source). r.syntax) has.may.source))
     (subst (λ text. InfoStands text opening) (sym c.in_ok-make_room_for.ensures.text) stand) refl (sym found.begins)
     (sym has.left.is.rest.next) in
     open_in_room s room now rest source begins blocks b has keeps (record { filled = refl; ends = refl }) refl refl

@@ -2,7 +2,7 @@
 use Rattle.std.proofs.Common.{◌∙◌, refl, sym, subst, ap}
 use Rattle.markdown_builder.specs.BuilderView.{BuilderView}
 use Rattle.markdown_lines.specs.BlockBeginnings as line
-use Rattle.markdown_lines.specs.BlockBeginnings.{Source}
+use Rattle.markdown_base.specs.Source.{Source}
 use Rattle.markdown_lines.specs.declared.block_start.BlockStart.TheVariants as start
 use Rattle.markdown_block_rules.specs.BlockGrowth as was
 use Rattle.markdown_plain.specs.Fitting.{BracesStand}
@@ -26,7 +26,7 @@ returns-clause-places c = λ s turn source blocks here found stand.
     found refl tt in
     let leaf = c.in_ok-add_heading.ensures.leaf s has.frames has.inside b
     (built_at s room.placing.builder c.step_to.new.self.builder c.args.at has.frames has.inside step has.built)
-    (sym (ap (λ (r : Source). r.options) has.may.source)) refl
+    (sym (ap (λ (r : Source). r.syntax) has.may.source)) refl
     (sym found.begins ∙ sym (ap (λ (v : BuilderView). v.at) step)) (sym has.left.is.rest.next)
     (subst (λ text. BracesStand text heading.braces)
     (sym (c.step_to.ensures.text ∙ c.in_ok-make_room_for.ensures.text)) stand) in

@@ -18,7 +18,7 @@ returns-clause-reads_on c = λ s turn source blocks state found boundary.
     c.go_inside.ensures.goes
     (record {
       text = opens.text;
-      options = ap (λ (p : Pass). p.options) c.open_item.ensures.same;
+      syntax = ap (λ (p : Pass). p.syntax) c.open_item.ensures.same;
       here = opens.here;
       ended = opens.ended;
       dropped = opens.dropped;

@@ -2,7 +2,7 @@
 use Rattle.std.proofs.Common.{◌≡◌, ◌-◌, [], None, length}
 use Rattle.std.specs.Str.{IsCharBoundary}
 use Rattle.markdown_base.specs.Forest.{nil}
-use Rattle.markdown_lines.specs.BlockBeginnings.{Source}
+use Rattle.markdown_base.specs.Source.{Source}
 use Rattle.markdown_plain.specs.TableRows.{IsCounted}
 use Rattle.markdown_plain.specs.Standing.{Stands}
 use Rattle.markdown_plain.proofs.WholeTextsLemmas.{StandsAt}

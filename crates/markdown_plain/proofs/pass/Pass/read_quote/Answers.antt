@@ -3,7 +3,7 @@ use Rattle.std.proofs.Common.{◌∙◌, refl, sym, subst, ap}
 use Rattle.std.specs.Str.{IsCharBoundary}
 use Rattle.markdown_builder.specs.BuilderView.{BuilderView}
 use Rattle.markdown_lines.specs.BlockBeginnings as line
-use Rattle.markdown_lines.specs.BlockBeginnings.{Source}
+use Rattle.markdown_base.specs.Source.{Source}
 use Rattle.markdown_lines.specs.BlockStarts.{left_at}
 use Rattle.markdown_lines.specs.declared.block_start.BlockStart.TheVariants as start
 use Rattle.markdown_block_rules.specs.BlockGrowth as was

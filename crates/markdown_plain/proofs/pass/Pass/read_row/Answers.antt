@@ -2,7 +2,7 @@
 use Rattle.std.proofs.Common.{◌≡◌, ◌<◌, ◌∙◌, ◌&&◌, ℕ, false, ap, arith, nat_le, refl, subst, sym}
 use Rattle.std.proofs.lemmas.Bool.Decides.{nat_tests}
 use Rattle.std.proofs.lemmas.Result.{IfOk-weaker}
-use Rattle.markdown_lines.specs.BlockBeginnings.{Source}
+use Rattle.markdown_base.specs.Source.{Source}
 use Rattle.markdown_lines.specs.SourceLines.{SourceLine, is_blank_rest}
 use Rattle.markdown_plain.specs.ReachedLines as lines
 use Rattle.markdown_plain.specs.ReachedLines.{IsReachedBy, reached_of}
@@ -21,7 +21,7 @@ reads : (c : In_ok-begun) (s : Source) (before : lines.Before) (source : SourceL
     → ReadsRow s c.args.line c.args.reached c.new-reader.result c.new.result
 reads c s before source text by = record {
   text = c.new-reader.ensures.text ∙ text;
-  options = c.new-reader.ensures.options ∙ ap (λ (r : Source). r.options) by.stands.source;
+  syntax = c.new-reader.ensures.syntax ∙ ap (λ (r : Source). r.syntax) by.stands.source;
   stop = c.new-reader.ensures.stop;
   next = c.new-reader.ensures.next;
   inside = c.new-reader.ensures.outermost;

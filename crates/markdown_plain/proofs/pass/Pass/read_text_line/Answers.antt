@@ -8,7 +8,7 @@ adds c =
     let done = c.in_ok-add_text.ensures in
     record {
       text = done.text;
-      options = done.options;
+      syntax = done.syntax;
       goes_on = done.goes_on;
       unheld = done.unheld;
       dropped = done.dropped;
