@@ -12,7 +12,7 @@ use Rattle.markdown_brackets.specs.BracketDecision.{BracketContext, Becomes, Clo
 use Rattle.markdown_brackets.specs.BracketDecision.{Progress, a_text, block_text, carried_out, decided, form_of, found}
 use Rattle.markdown_brackets.specs.BracketDecision.{left_for_one, lines, link_reference, past_second, question_at}
 use Rattle.markdown_brackets.specs.BracketDecision.{second_end}
-use Rattle.markdown_brackets.specs.BracketOptions.{footnote_style}
+use Rattle.markdown_brackets.specs.FootnoteUse.{footnote_style}
 use Rattle.markdown_brackets.specs.ClosingBracket.{closed, put}
 use Rattle.markdown_brackets.specs.LeftList.{Split, bracket_taken}
 use Rattle.markdown_brackets.specs.Lookup.{LookedUp, look_up, answered}
@@ -156,7 +156,7 @@ module _ {A : Type 0} (w : BracketContext) (c : Closing A) where
       after = option_map as_item (first_root (past_second c.rest))
 
       found : Option FoundLabel
-      found = bracket_label (footnote_style w.setting.rules.options) (lines w) w.above.in_table
+      found = bracket_label (footnote_style w.setting.rules.syntax) (lines w) w.above.in_table
           (drop from (block_text w))
 
       by_label : (o : Option FoundLabel) → found ≡ o → form_by_label from o ≡ reference label end
@@ -171,7 +171,7 @@ module _ {A : Type 0} (w : BracketContext) (c : Closing A) where
           plain false b e =
               let to : from + l.length ≡ end = cc e in
               subst (IsLabelFrom (lines w) (block_text w) from) to
-              (label_from (lines w) w.above.in_table (footnote_style w.setting.rules.options) (block_text w) from l f b)
+              (label_from (lines w) w.above.in_table (footnote_style w.setting.rules.syntax) (block_text w) from l f b)
 
       by : (empty starts : Bool)
           → (if empty then collapsed else if starts then form_by_label from found else shortcut) ≡ reference label end

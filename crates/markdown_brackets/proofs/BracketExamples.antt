@@ -2,6 +2,8 @@
 use Rattle.std.proofs.Common.{◌≡◌, ℕ, ◌+◌, ◌-◌, Bool, true, false, ◌==◌, List, [], ◌∷◌, ◌++◌, Option, Some, None}
 use Rattle.std.proofs.Common.{length, nat_lt, refl}
 use Rattle.std.specs.Prelude.{codes, bytes_eq, map}
+use Rattle.markdown_base.specs.Syntax.{commonmark}
+use Rattle.markdown_base.specs.declared.syntax.Syntax.{Syntax}
 use Rattle.markdown_base.specs.Event.{TagView, EventView, text, link, image, footnote_reference}
 use Rattle.markdown_base.specs.Forest.{Forest, nil, node}
 use Rattle.markdown_base.specs.Questions.{Answer, Answers}
@@ -82,12 +84,12 @@ ranges nil = []
 ranges (node a below after) = range_pair a ∷ (ranges below ++ ranges after)
 
 -- lines have no prefix, and nothing is defined except, if footnotes are enabled, the footnote `a`
-abbrev bracket_context : ℕ → Bool → List ℕ → BracketContext
-bracket_context options asks source = record {
+abbrev bracket_context : Syntax → Bool → List ℕ → BracketContext
+bracket_context syntax asks source = record {
   setting = record {
     text = source;
     rules = record {
-      options = record { 0 = options };
+      syntax = syntax;
       definitions = λ label. None;
       is_footnote = bytes_eq (codes "a");
       asks = asks;
@@ -97,21 +99,28 @@ bracket_context options asks source = record {
   skipped = λ rest. 0;
 }
 
-abbrev progress : ℕ → Bool → ℕ → Answers → List ℕ → Progress (Unit {0})
-progress options asks limit answers source =
-    read_chain (bracket_context options asks source) (λ a below rest p. record p { left = done a below ∷ p.left })
+abbrev progress : Syntax → Bool → ℕ → Answers → List ℕ → Progress (Unit {0})
+progress syntax asks limit answers source =
+    read_chain (bracket_context syntax asks source) (λ a below rest p. record p { left = done a below ∷ p.left })
     (chain_of source (items_from 0 0 false false source))
     (begun (record { limit = limit; answers = answers; uses = λ name. 0 }))
 
 abbrev forest_of : Progress (Unit {0}) → Forest Plain
 forest_of p = trees_onto p.left nil
 
--- with options and nobody to ask
-abbrev read_with : ℕ → List ℕ → List ℕ
-read_with options source = shown (forest_of (progress options false 100 [] source))
+-- with this syntax and nobody to ask
+abbrev read_with : Syntax → List ℕ → List ℕ
+read_with syntax source = shown (forest_of (progress syntax false 100 [] source))
 
-abbrev wikilinks : ℕ
-wikilinks = 32768
+-- CommonMark with one extension
+abbrev with_wikilinks : Syntax
+with_wikilinks = record commonmark { wikilinks = true }
+
+abbrev with_footnotes : Syntax
+with_footnotes = record commonmark { footnotes = true }
+
+abbrev with_old_footnotes : Syntax
+with_old_footnotes = record commonmark { footnotes = true; old_footnotes = true }
 
 -- where each question is answered so
 abbrev answer : List ℕ → List ℕ → Option Answer
@@ -119,18 +128,18 @@ answer destination title = Some (record { destination = destination; title = tit
 
 -- tables of sources, each with what is shown of it, its trees' ranges, or the number of questions that are asked if
 -- each is refused
-abbrev Shows : (options : ℕ) → List (List ℕ × List ℕ) → Type 0
-Shows options rows = map (λ row. read_with options row.0) rows ≡ map (λ row. row.1) rows
+abbrev Shows : Syntax → List (List ℕ × List ℕ) → Type 0
+Shows syntax rows = map (λ row. read_with syntax row.0) rows ≡ map (λ row. row.1) rows
 
-abbrev HasRanges : (options : ℕ) → List (List ℕ × List (ℕ × ℕ)) → Type 0
-HasRanges options rows = map (λ row. ranges (forest_of (progress options false 100 [] row.0))) rows
+abbrev HasRanges : Syntax → List (List ℕ × List (ℕ × ℕ)) → Type 0
+HasRanges syntax rows = map (λ row. ranges (forest_of (progress syntax false 100 [] row.0))) rows
     ≡ map (λ row. row.1) rows
 
 abbrev Asks : List (List ℕ × ℕ) → Type 0
-Asks rows = map (λ row. length (progress 0 true 100 [] row.0).asked) rows ≡ map (λ row. row.1) rows
+Asks rows = map (λ row. length (progress commonmark true 100 [] row.0).asked) rows ≡ map (λ row. row.1) rows
 
 -- inline links and images; a link contains no link, but it may contain an image, and an image a link
-links_and_images : Shows 0 (
+links_and_images : Shows commonmark (
     (codes "a [b](c) d", codes "a {c:b} d")
     ∷ (codes "[a [b](c) d](e)", codes "[a {c:b} d](e)")
     ∷ (codes "![a *b*](c \"t\")", codes "!{ct:a *b*}")
@@ -144,13 +153,13 @@ links_and_images : Shows 0 (
 unfolding read_chain closed decided
 links_and_images = refl
 
-link_ranges : HasRanges 0 ((codes "a [b](c) d", (0, 2) ∷ (2, 8) ∷ (3, 4) ∷ (8, 10) ∷ []) ∷ [])
+link_ranges : HasRanges commonmark ((codes "a [b](c) d", (0, 2) ∷ (2, 8) ∷ (3, 4) ∷ (8, 10) ∷ []) ∷ [])
 unfolding read_chain closed decided
 link_ranges = refl
 
 -- footnotes in GitHub's style (4): a defined one is a reference, takes no `[]` after it, and no opener before it opens
 -- a link
-footnotes : Shows 4 (
+footnotes : Shows with_footnotes (
     (codes "this![^a] out", codes "this!^{a} out")
     ∷ (codes "a[^b]", codes "a[^b]")
     ∷ (codes "[^a][]", codes "^{a}[]")
@@ -160,23 +169,23 @@ unfolding read_chain closed decided
 footnotes = refl
 
 -- in the old style (516) what is not defined is one too
-old_footnotes : Shows 516 ((codes "a[^b]", codes "a^{b}") ∷ [])
+old_footnotes : Shows with_old_footnotes ((codes "a[^b]", codes "a^{b}") ∷ [])
 unfolding read_chain closed decided
 old_footnotes = refl
 
 -- an image's mark before a footnote is a text
-footnote_ranges : HasRanges 4 ((codes "this![^a] out", (0, 4) ∷ (4, 5) ∷ (5, 9) ∷ (9, 13) ∷ []) ∷ [])
+footnote_ranges : HasRanges with_footnotes ((codes "this![^a] out", (0, 4) ∷ (4, 5) ∷ (5, 9) ∷ (9, 13) ∷ []) ∷ [])
 unfolding read_chain closed decided
 footnote_ranges = refl
 
 -- uses are counted
-used_twice : (progress 4 false 100 [] (codes "[^a] [^a]")).state.uses
+used_twice : (progress with_footnotes false 100 [] (codes "[^a] [^a]")).state.uses
     ≡ uses_once_more (codes "a") (uses_once_more (codes "a") (λ name. 0))
 unfolding read_chain closed decided
 used_twice = refl
 
 -- wikilinks, without a pipe and with one
-many_wikilinks : Shows wikilinks (
+many_wikilinks : Shows with_wikilinks (
     (codes "[[foo]] [[bar|baz]]", codes "{foo:foo} {bar:baz}")
     -- no name
     ∷ (codes "[[|b]]", codes "[[|b]]")
@@ -191,7 +200,7 @@ many_wikilinks : Shows wikilinks (
 unfolding read_chain closed decided
 many_wikilinks = refl
 
-wikilink_ranges : HasRanges wikilinks (
+wikilink_ranges : HasRanges with_wikilinks (
     (codes "[[foo]] [[bar|baz]]", (0, 7) ∷ (2, 5) ∷ (7, 8) ∷ (8, 19) ∷ (14, 17) ∷ [])
     -- nothing is shown
     ∷ (codes "[[a|]]", (0, 6) ∷ (4, 4) ∷ [])
@@ -209,20 +218,21 @@ unfolding read_chain closed decided
 questions = refl
 
 -- an escaped bracket opens no label: both are shortcuts
-escaped_bracket : shown (forest_of (progress 0 true 100 (answer (codes "u") [] ∷ None ∷ []) (codes "[a]\\[b]")))
+escaped_bracket : shown (forest_of (progress commonmark true 100
+    (answer (codes "u") [] ∷ None ∷ []) (codes "[a]\\[b]")))
     ≡ codes "{u:a}[b]"
 unfolding read_chain closed decided
 escaped_bracket = refl
 
 -- without footnotes the label is a link's
-no_footnotes : shown (forest_of (progress 0 true 100 (answer (codes "yolo") [] ∷ []) (codes "a [^a]")))
+no_footnotes : shown (forest_of (progress commonmark true 100 (answer (codes "yolo") [] ∷ []) (codes "a [^a]")))
     ≡ codes "a {yolo:^a}"
 unfolding read_chain closed decided
 no_footnotes = refl
 
 -- a reference in full: its range ends with its label, and who is asked is told the form
 abbrev asks_world : Progress (Unit {0})
-asks_world = progress 0 true 100 (answer (codes "YOLO") (codes "SWAG") ∷ []) (codes "no def: [hello][world]")
+asks_world = progress commonmark true 100 (answer (codes "YOLO") (codes "SWAG") ∷ []) (codes "no def: [hello][world]")
 
 full_reference : (asks_world.asked
     ≡ record { span = record { start = 8; end = 22 }; link_type = kind.Reference; reference = codes "world" } ∷ [])
@@ -233,7 +243,7 @@ full_reference = (refl, refl, refl)
 
 -- the range of a collapsed one ends before its `[]`
 abbrev asks_foo : Progress (Unit {0})
-asks_foo = progress 0 true 100 (answer (codes "u") [] ∷ []) (codes "[foo][]")
+asks_foo = progress commonmark true 100 (answer (codes "u") [] ∷ []) (codes "[foo][]")
 
 collapsed_reference : (asks_foo.asked
     ≡ record { span = record { start = 0; end = 5 }; link_type = kind.Collapsed; reference = codes "foo" } ∷ [])
@@ -243,7 +253,7 @@ collapsed_reference = (refl, refl)
 
 -- a target may be longer than what is left of the limit, but then no further question is asked
 abbrev asks_two : Progress (Unit {0})
-asks_two = progress 0 true 3 (answer (codes "long") [] ∷ answer (codes "v") [] ∷ []) (codes "[a] [b]")
+asks_two = progress commonmark true 3 (answer (codes "long") [] ∷ answer (codes "v") [] ∷ []) (codes "[a] [b]")
 
 second_is_text : (shown (forest_of asks_two) ≡ codes "{long:a} [b]")
     × (length asks_two.asked ≡ 1)

@@ -22,7 +22,7 @@ use Rattle.markdown_brackets.specs.BracketDecision.{label_of_opener, left_for_on
 use Rattle.markdown_brackets.specs.BracketDecision.{own_written, past_second, question_at, reference_written}
 use Rattle.markdown_brackets.specs.BracketDecision.{second_end, shown_children, start_of_first_past, to_be, wikilink}
 use Rattle.markdown_brackets.specs.BracketDecision.{wikilink_by, wikilink_found, wikilink_in, written}
-use Rattle.markdown_brackets.specs.BracketOptions.{footnote_style}
+use Rattle.markdown_brackets.specs.FootnoteUse.{footnote_style}
 use Rattle.markdown_brackets.specs.BracketNotes.{ReaderFollows, BracketNoteLaw, annotate_entry, annotate_left}
 use Rattle.markdown_brackets.specs.BracketNotes.{annotate_progress}
 use Rattle.markdown_brackets.specs.ClosingBracket.{closed, footnote_onto, put, put_decided}
@@ -211,7 +211,7 @@ module _ {A B : Type 0} (f : A → B) where
         ≡ option_map annotate_found (option_and_then (own_written w o link_type end next) own)
     own_annotate o link_type end next None = refl
     own_annotate o link_type end next (Some l) = by l.is_footnote
-        (is_reference (footnote_style w.setting.rules.options) (w.setting.rules.is_footnote l.name))
+        (is_reference (footnote_style w.setting.rules.syntax) (w.setting.rules.is_footnote l.name))
       where
         link : LinkReference
         link = record { link_type = link_type; label = l.name; end = end; next = next; spends = [] }

@@ -10,7 +10,7 @@ use Rattle.markdown_base.specs.declared.tag.LinkType.{LinkType}
 use Rattle.markdown_base.specs.declared.tag.LinkType.TheVariants as kind
 use Rattle.markdown_document.specs.Document.{Origin, as_text}
 use Rattle.markdown_document.specs.ChainRest.{start_of, end_of}
-use Rattle.markdown_brackets.specs.BracketOptions.{footnote_style}
+use Rattle.markdown_brackets.specs.FootnoteUse.{footnote_style}
 use Rattle.markdown_brackets.specs.BracketDecision.{BracketContext, Closing, Written, LinkReference, Progress, Wikilink}
 use Rattle.markdown_brackets.specs.BracketDecision.{a_link, inline_title}
 use Rattle.markdown_brackets.specs.BracketDecision.{a_text, block_text, bracket_found, carried_out, closer_ends_at}
@@ -106,7 +106,7 @@ module _ {A : Type 0} (w : BracketContext) (c : Closing A) where
             spends = [];
           }))) p
       by_label l true could = if_test p
-          (is_reference (footnote_style w.setting.rules.options) (w.setting.rules.is_footnote l.name))
+          (is_reference (footnote_style w.setting.rules.syntax) (w.setting.rules.is_footnote l.name))
           (Some (footnote_label o l.name)) (λ e. k.footnote l.name)
       by_label l false could = k.refers _ (inr (record { could = could; end = refl; spends = refl; form = form }))
 

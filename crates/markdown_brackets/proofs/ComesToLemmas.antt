@@ -26,7 +26,7 @@ use Rattle.markdown_brackets.specs.BracketDecision.{a_footnote, carried_out, foo
 use Rattle.markdown_brackets.specs.BracketDecision.{inline_link, inline_target, inline_title, link_reference, looked_up}
 use Rattle.markdown_brackets.specs.BracketDecision.{names_read}
 use Rattle.markdown_brackets.specs.BracketDecision.{question_at, to_be, uses_once_more}
-use Rattle.markdown_brackets.specs.BracketOptions.{footnote_style}
+use Rattle.markdown_brackets.specs.FootnoteUse.{footnote_style}
 use Rattle.markdown_brackets.specs.DecisionView.{IsBecome, knowing}
 use Rattle.markdown_brackets.specs.FootnoteUse.{is_reference}
 use Rattle.markdown_brackets.specs.LeftList.{Split}
@@ -186,7 +186,7 @@ module _ {C : Type 0} (step : C → Question → Option Answer → C → Type 0)
       ≡ (if is_match name other then option_map footnotes.used_once_more (footnote_at old.tables.footdefs name)
       else footnote_at old.tables.footdefs other)) where
     abbrev is_one : Bool
-    is_one = is_reference (footnote_style place.options) (is_some (footnote_at old.tables.footdefs name))
+    is_one = is_reference (footnote_style place.syntax) (is_some (footnote_at old.tables.footdefs name))
 
     -- a use is counted, or nothing has changed
     knows_uses : (d : Bool) → is_some (footnote_at old.tables.footdefs name) ≡ d → (p : Progress ℕ) (later : Answers)
@@ -206,7 +206,7 @@ module _ {C : Type 0} (step : C → Question → Option Answer → C → Type 0)
     pub comes_to_no_footnote : is_one ≡ false → ComesTo step w (footnote_written w o name) old new spent spent Text
     comes_to_no_footnote none = found_as (rw none refl) (comes_unasked step w old spent new None a_text Text callback
         (λ p later. ap (to_be a_text) (knows_uses false
-        (none_defined (footnote_style place.options) (is_some (footnote_at old.tables.footdefs name)) none) p later))
+        (none_defined (footnote_style place.syntax) (is_some (footnote_at old.tables.footdefs name)) none) p later))
         tt)
       where
         none_defined : (how : FootnoteStyle) (d : Bool) → is_reference how d ≡ false → d ≡ false

@@ -17,7 +17,6 @@ use Rattle.markdown_brackets.specs.BracketDecision.{BracketContext, Closing, Dec
 use Rattle.markdown_brackets.specs.BracketDecision.{bracket_found, carried_out, decided, found, left_for_one}
 use Rattle.markdown_brackets.specs.BracketDecision.{past_second, second_end, wikilink, wikilink_found, wikilink_in}
 use Rattle.std.specs.Option.{option_and_then, option_map, option_or}
-use Rattle.markdown_base.specs.EnabledOptions.{wikilinks_on}
 use Rattle.markdown_brackets.specs.ChainHeld.{Holds, numbers_of, times_of}
 use Rattle.markdown_brackets.specs.Decides.{StandsBefore}
 use Rattle.markdown_brackets.specs.DecisionView.{opener_of}
@@ -185,7 +184,7 @@ module _ (nodes : List (Node Item)) (closer : ℕ) (left : List (Entry ℕ)) (c 
       decides = λ p. decided_is None e (record p { left = left });
     }
 
-    pub none_by_off : (held : List Waiting) → held ≡ wikilinks_of left → wikilinks_on w.setting.rules.options ≡ false
+    pub none_by_off : (held : List Waiting) → held ≡ wikilinks_of left → w.setting.rules.syntax.wikilinks ≡ false
         → TakesNone w c left held
     none_by_off held h off = none_tried held h (by c.rest)
       where
@@ -208,13 +207,13 @@ module _ (nodes : List (Node Item)) (closer : ℕ) (left : List (Entry ℕ)) (c 
             let e : next ≡ a.note = let q = h.0 in cc in
             let none : is_closing_bracket (open_body a.part.shape) ≡ false =
             sym (same_closer s.source s.tables nodes a h.2) ∙ rw e at m in
-            rw (none, and-false (wikilinks_on w.setting.rules.options)) refl
+            rw (none, and-false w.setting.rules.syntax.wikilinks) refl
 
     -- where a wikilink is tried
     module _ (next : ℕ) (is_next : sibling_of nodes closer ≡ Some next) (closes : is_closing_bracket
         (item_at nodes next).body
         ≡ true)
-        (on : wikilinks_on w.setting.rules.options ≡ true) where
+        (on : w.setting.rules.syntax.wikilinks ≡ true) where
       abbrev end : ℕ
       end = (item_at nodes next).end
 

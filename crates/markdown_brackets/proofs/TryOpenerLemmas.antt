@@ -16,7 +16,7 @@ use Rattle.markdown_document.specs.declared.chain_place.ChainPlace.{ChainPlace}
 use Rattle.markdown_brackets.specs.BracketDecision.{BracketContext, Closing, bracket_found, closer_ends_at, inline_link}
 use Rattle.markdown_brackets.specs.BracketDecision.{lines}
 use Rattle.markdown_brackets.specs.BracketDecision.{past_second, reference_written, start_of_first_past, written}
-use Rattle.markdown_brackets.specs.BracketOptions.{footnote_style}
+use Rattle.markdown_brackets.specs.FootnoteUse.{footnote_style}
 use Rattle.markdown_brackets.specs.ChainAhead.{reaches_closer, starts_from}
 use Rattle.markdown_brackets.specs.DecisionView.{opener_of}
 use Rattle.markdown_brackets.specs.LeftList.{Split, is_live}
@@ -56,18 +56,18 @@ module _ {C : Type 0} (step : C → Question → Option Answer → C → Type 0)
       let text = take place.block_end place.text.now in
       let end = (item_at nodes closer).end in
       let form : Form = form_ahead nodes place (lines w) closer in
-      let form_is : form ≡ form_at (footnote_style place.options) (lines w) place.in_table text end
+      let form_is : form ≡ form_at (footnote_style place.syntax) (lines w) place.in_table text end
       (option_map as_item (first_root c.rest)) (option_map as_item (first_root (past_second c.rest))) =
-      form_ahead_is t.source t.tables nodes (footnote_style place.options) (lines w) place.in_table text end next c.rest
+      form_ahead_is t.source t.tables nodes (footnote_style place.syntax) (lines w) place.in_table text end next c.rest
       t.rest in
-      let after : EndsAfter 0 form = form_after (footnote_style place.options) (lines w) place.in_table text end
+      let after : EndsAfter 0 form = form_after (footnote_style place.syntax) (lines w) place.in_table text end
       (option_map (item_at nodes) next)
       (option_map (item_at nodes) (option_and_then (sibling_of nodes) next)) some in
       let starts : starts_from nodes next
       ≡ start_of_first_past c.rest = fun_ext (starts_ahead t.source t.tables nodes next c.rest t.rest
       t.rest_found) in
       let own : Option FoundLabel = if could_be
-      then own_label (footnote_style place.options) (lines w) place.in_table text start end else None in
+      then own_label (footnote_style place.syntax) (lines w) place.in_table text start end else None in
       ap (λ other. option_or (option_map (inline_link o) (link_tail (lines w) (starts_from nodes next) text end)) other)
       (reference_same w o end (λ i. reaches_closer nodes i next) (λ i. closer_ends_at i c.rest) own form after
       (closers_ahead t.source t.tables nodes next c.rest t.rest t.rest_found))

@@ -11,7 +11,7 @@ use Rattle.markdown_base.specs.declared.item.Item.{Item}
 use Rattle.markdown_base.specs.declared.node.Node.{Node}
 use Rattle.markdown_document.specs.declared.chain_place.ChainPlace.{ChainPlace}
 use Rattle.markdown_brackets.specs.BracketDecision.{BracketContext, Written, inline_link, reference_written}
-use Rattle.markdown_brackets.specs.BracketOptions.{footnote_style}
+use Rattle.markdown_brackets.specs.FootnoteUse.{footnote_style}
 use Rattle.markdown_brackets.specs.ChainAhead.{reaches_closer, starts_from}
 use Rattle.markdown_brackets.specs.LeftList.{Split}
 use Rattle.markdown_brackets.specs.LinkTail as scanned
@@ -70,8 +70,8 @@ nothing_past_block nodes place skipped closer w o could_be start past =
     let second : Option Item = option_map (item_at nodes) (option_and_then (sibling_of nodes) next) in
     rw (
       tail_past_end skipped (starts_from nodes next) text end within,
-      no_label_past_block place.in_table (footnote_style place.options) skipped place.text.now place.block_end start end
+      no_label_past_block place.in_table (footnote_style place.syntax) skipped place.text.now place.block_end start end
           past,
-      form_past (footnote_style place.options) skipped place.in_table text end after second within,
+      form_past (footnote_style place.syntax) skipped place.in_table text end after second within,
     ) (no_reference w o could_be end (λ i. reaches_closer nodes i next)
     (stands_at end is_opener after && stands_at (end + 1) is_closing_bracket second))

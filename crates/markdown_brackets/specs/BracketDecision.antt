@@ -4,7 +4,6 @@
 use Rattle.std.specs.Prelude.{ℕ, ◌+◌, ◌-◌, Bool, false, ◌&&◌, ◌==◌, List, [], ◌∷◌, ◌++◌, Option, Some, None}
 use Rattle.std.specs.Prelude.{if◌then◌else◌, nat_lt, min, ◌^◌, slice_range, take, unwrap_or}
 use Rattle.std.specs.Option.{option_and_then, option_map, option_or}
-use Rattle.markdown_base.specs.EnabledOptions.{wikilinks_on}
 use Rattle.markdown_base.specs.Event.{LinkView}
 use Rattle.markdown_base.specs.Forest.{Forest, nil, node, first_root}
 use Rattle.markdown_base.specs.Questions.{Question}
@@ -19,7 +18,7 @@ use Rattle.markdown_document.specs.Setting.{Setting, ReferenceState}
 use Rattle.markdown_scan.specs.Entity.{entity_names}
 use Rattle.markdown_scan.specs.Unescape.{unescaped}
 use Rattle.markdown_scan.specs.declared.entity.EntityNames.{EntityNames}
-use Rattle.markdown_brackets.specs.BracketOptions.{footnote_style}
+use Rattle.markdown_brackets.specs.FootnoteUse.{footnote_style}
 use Rattle.markdown_brackets.specs.FootnoteUse.{is_reference}
 use Rattle.markdown_brackets.specs.LeftList.{Entry, Split, inside, is_live, nearest, opens_bracket, opens_wikilink}
 use Rattle.markdown_brackets.specs.LeftList.{bracket_taken, wikilink_taken}
@@ -138,7 +137,7 @@ closer_ends_at i (node a below after) =
 -- a footnote label is a reference if it is defined, and always in the old style
 abbrev pub footnote_written : {A : Type 0} → BracketContext → Split A → List ℕ → Option (Written A)
 footnote_written w o name =
-    if is_reference (footnote_style w.setting.rules.options) (w.setting.rules.is_footnote name)
+    if is_reference (footnote_style w.setting.rules.syntax) (w.setting.rules.is_footnote name)
     then Some (footnote_label o name) else None
 
 -- the reference of this type, by the label from the opener to the `]`
@@ -168,14 +167,14 @@ reference_written w o end closes own shortcut = option_and_then (own_written w o
 abbrev pub label_of_opener : {A : Type 0} → BracketContext → Closing A → Split A → Option FoundLabel
 label_of_opener w c o =
     if c.could_be_reference
-    then own_label (footnote_style w.setting.rules.options) (lines w) w.above.in_table (block_text w)
+    then own_label (footnote_style w.setting.rules.syntax) (lines w) w.above.in_table (block_text w)
     (end_of o.opener - 1) (end_of c.node)
     else None
 
 -- the form of a reference at a `]`, from the two items after it
 abbrev pub form_of : {A : Type 0} → BracketContext → Closing A → Form
 form_of w c =
-    form_at (footnote_style w.setting.rules.options) (lines w) w.above.in_table (block_text w) (end_of c.node)
+    form_at (footnote_style w.setting.rules.syntax) (lines w) w.above.in_table (block_text w) (end_of c.node)
     (option_map as_item (first_root c.rest)) (option_map as_item (first_root (past_second c.rest)))
 
 -- what is written from an opener on: an inline link, or else a reference
@@ -216,7 +215,7 @@ wikilink_in w (node first below after) end =
 abbrev pub second_end : {A : Type 0} → BracketContext → Forest (TreeNode A) → Option ℕ
 second_end w nil = None
 second_end w (node a below after) =
-    if wikilinks_on w.setting.rules.options && is_closing_bracket (open_body a.part.shape) then Some
+    if w.setting.rules.syntax.wikilinks && is_closing_bracket (open_body a.part.shape) then Some
     (end_of a) else None
 
 -- what is written from an opener to its `]`, if the opener is live
@@ -245,7 +244,7 @@ found w c second left =
 
 -- the names by which entities are read
 abbrev pub names_read : BracketContext → EntityNames
-names_read w = entity_names w.setting.rules.options
+names_read w = entity_names w.setting.rules.syntax
 
 -- the target of an inline link
 abbrev pub inline_target : BracketContext → LinkTail → LinkView

@@ -16,7 +16,6 @@ pub mod WikilinkView
 pub mod Openers
 pub mod OpenerStack
 -- the effect of brackets on a chain
-pub mod BracketOptions
 pub mod LeftList
 pub mod BracketDecision
 pub mod ClosingBracket

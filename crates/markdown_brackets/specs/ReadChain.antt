@@ -7,7 +7,6 @@ use Rattle.markdown_base.specs.declared.item.ItemBody.TheVariants as body
 use Rattle.markdown_document.specs.Document.{TreeNode, as_text}
 use Rattle.markdown_document.specs.Setting.{ReferenceState}
 use Rattle.markdown_document.specs.ChainRest.{begun_at, end_of, open_body}
-use Rattle.markdown_base.specs.EnabledOptions.{wikilinks_on}
 use Rattle.markdown_brackets.specs.BracketDecision.{BracketContext, Closing, Progress, Step}
 use Rattle.markdown_brackets.specs.ClosingBracket.{closed}
 use Rattle.markdown_brackets.specs.LeftList.{waits, live, gone}
@@ -28,7 +27,7 @@ opened w is_image a rest p = record p {
   left = waits (record {
     is_image = is_image;
     bracket = live;
-    wikilink = if wikilinks_on w.setting.rules.options && is_next is_opener rest then live else gone;
+    wikilink = if w.setting.rules.syntax.wikilinks && is_next is_opener rest then live else gone;
   }) (as_text w.setting.text a) ∷ p.left;
 }
 

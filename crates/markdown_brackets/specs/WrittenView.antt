@@ -8,7 +8,7 @@ use Rattle.markdown_base.specs.declared.item.Item.{Item}
 use Rattle.markdown_base.specs.declared.tag.LinkType.TheVariants as kind
 use Rattle.markdown_base.specs.declared.node.Node.{Node}
 use Rattle.markdown_brackets.specs.BracketDecision.{BracketContext, Written, inline_link, reference_written}
-use Rattle.markdown_brackets.specs.BracketOptions.{footnote_style}
+use Rattle.markdown_brackets.specs.FootnoteUse.{footnote_style}
 use Rattle.markdown_brackets.specs.ChainAhead.{reaches_closer, starts_from}
 use Rattle.markdown_brackets.specs.LeftList.{Split}
 use Rattle.markdown_brackets.specs.LinkTail as tail
@@ -35,14 +35,14 @@ module _ (nodes : List (Node Item)) (place : ChainPlace) (skipped : List ℕ →
   abbrev pub form_ahead : Form
   form_ahead =
       let next = sibling_of nodes closer in
-      form_at (footnote_style place.options) skipped place.in_table (take place.block_end place.text.now)
+      form_at (footnote_style place.syntax) skipped place.in_table (take place.block_end place.text.now)
       (item_at nodes closer).end (option_map (item_at nodes) next)
       (option_map (item_at nodes) (option_and_then (sibling_of nodes) next))
 
   -- the label to there from a `[` at a byte offset
   abbrev pub own_label_at : (start : ℕ) → Option FoundLabel
   own_label_at start =
-      own_label (footnote_style place.options) skipped place.in_table (take place.block_end place.text.now) start
+      own_label (footnote_style place.syntax) skipped place.in_table (take place.block_end place.text.now) start
       (item_at nodes closer).end
 
   -- the reference there, from an opener on

@@ -3,7 +3,7 @@
 ghost use Rattle.std.specs.Prelude.{◌≡◌, ◌<◌, ◌≤◌, ◌+◌, ◌^◌, ◌&&◌, not, ℕ, IfOk, IfSome, length, take};
 ghost use Rattle.std.specs.Option.{option_map};
 ghost use Rattle.markdown_base.specs.BlockTree.{item_at};
-ghost use Rattle.markdown_brackets.specs.BracketOptions.{footnote_style};
+ghost use Rattle.markdown_brackets.specs.FootnoteUse.{footnote_style};
 ghost use Rattle.markdown_brackets.specs.LinkTailView.{ReadsTail};
 ghost use Rattle.markdown_brackets.specs.Reference.{could_be_reference, own_label};
 ghost use Rattle.markdown_brackets.specs.ReferenceView.{form_view, label_view};
@@ -13,9 +13,9 @@ ghost use Rattle.markdown_brackets.specs.Decides.{CanRead};
 ghost use Rattle.markdown_scan.specs.Entity.{entity_names};
 
 use crate::block_rules::BlockRules;
+use crate::footnote::footnote_style;
 use crate::items_ahead::{ItemsAhead, link_after, linked_item};
 use crate::link_tail::{LinkTail, scan_link_tail};
-use crate::options::footnote_style;
 use crate::reference::{Form, FoundLabel, could_be_reference, scan_form, scan_own_label};
 use crate::spent_ends::SpentEnds;
 use markdown_base::item::Item;
@@ -42,15 +42,15 @@ impl<'r, 'a, R: LineRule> BracketReader<'r, 'a, R> {
     fn rules(&self) -> BlockRules<'r, R>
         ensures rule { result.rule.now ≡ self.now.rule.now }
         ensures in_table { result.in_table ≡ self.now.place.now.in_table }
-        ensures names { result.names ≡ entity_names self.now.place.now.options }
-        ensures style { result.style ≡ footnote_style self.now.place.now.options }
+        ensures names { result.names ≡ entity_names self.now.place.now.syntax }
+        ensures style { result.style ≡ footnote_style self.now.place.now.syntax }
     {
         BlockRules {
             alloc: self.alloc,
             rule: self.rule,
             in_table: self.place.in_table,
-            names: entity_names(self.place.options),
-            style: footnote_style(self.place.options),
+            names: entity_names(self.place.syntax),
+            style: footnote_style(self.place.syntax),
         }
     }
 
@@ -70,7 +70,7 @@ impl<'r, 'a, R: LineRule> BracketReader<'r, 'a, R> {
             × CanRead self.now.tree.now.nodes self.now.place.now self.now.node start }
         requires inside { (item_at self.now.tree.now.nodes self.now.node).end
             ≤ self.now.place.now.block_end }
-        ensures value { IfOk result (ReadsTail (entity_names self.now.place.now.options)
+        ensures value { IfOk result (ReadsTail (entity_names self.now.place.now.syntax)
             self.now.place.now.in_table
             (tail_ahead self.now.tree.now.nodes self.now.place.now (R.skipped self.now.rule.now)
             self.now.node)) }
@@ -112,7 +112,7 @@ impl<'r, 'a, R: LineRule> BracketReader<'r, 'a, R> {
         requires inside { (item_at self.now.tree.now.nodes self.now.node).end
             ≤ self.now.place.now.block_end }
         ensures { IfOk result (λ found. option_map label_view found
-            ≡ own_label (footnote_style self.now.place.now.options) (R.skipped self.now.rule.now)
+            ≡ own_label (footnote_style self.now.place.now.syntax) (R.skipped self.now.rule.now)
             self.now.place.now.in_table
             (take self.now.place.now.block_end self.now.place.now.text.now) start
             (item_at self.now.tree.now.nodes self.now.node).end) }

@@ -25,7 +25,6 @@ use crate::bracket_reader::BracketReader;
 use crate::closing_bracket::ClosedBracket;
 use crate::look_up::LabelLookup;
 use crate::openers::{Opener, OpenerStack};
-use crate::options::wikilinks_on;
 use crate::reference::is_closing_bracket;
 use crate::tries::try_opener;
 use crate::waiting::WaitingBrackets;
@@ -112,7 +111,7 @@ fn take_wikilink<'a, R>(
         (bracket_context_at at.now.place.now skipped bodies definitions footnotes asks) c
         left wikilinks.new result }
 {
-    if !wikilinks_on(at.place.options) {
+    if !at.place.syntax.wikilinks {
         return None;
     }
     let Some(next) = at.tree.next(at.node) else {

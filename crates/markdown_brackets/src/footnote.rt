@@ -5,9 +5,10 @@ ghost use Rattle.markdown_base.specs.declared.fault.Fault.{Fault};
 ghost use Rattle.markdown_defs.specs.Folding.{is_match};
 ghost use Rattle.markdown_defs.specs.Footnotes.{footnote_at};
 ghost use Rattle.markdown_defs.specs.FootnoteCounts.{used_once_more};
-ghost use Rattle.markdown_brackets.specs.FootnoteUse.{is_reference};
+ghost use Rattle.markdown_brackets.specs.FootnoteUse.{footnote_style, is_reference};
 
 use markdown_base::fault::Fault;
+use markdown_base::syntax::Syntax;
 use markdown_defs::FootnoteDefs;
 
 /// The style of footnotes.
@@ -19,6 +20,19 @@ pub enum FootnoteStyle {
     Gfm,
     /// The old style: a label may continue on further lines, and is a reference even if it is not defined.
     Old,
+}
+
+/// Returns the style of the footnotes that are read.
+pub(crate) fn footnote_style(syntax: Syntax) -> FootnoteStyle
+    ensures { result ≡ footnote_style syntax }
+{
+    if syntax.old_footnotes {
+        FootnoteStyle::Old
+    } else if syntax.footnotes {
+        FootnoteStyle::Gfm
+    } else {
+        FootnoteStyle::Off
+    }
 }
 
 /// Returns whether a footnote label with this name is a reference. If the footnote is defined, one more use of it is

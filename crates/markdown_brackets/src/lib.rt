@@ -17,7 +17,6 @@ pub mod link_tail;
 pub mod link_title;
 pub mod look_up;
 pub mod openers;
-pub mod options;
 pub mod reference;
 pub mod separator;
 pub mod spent_ends;

@@ -26,12 +26,11 @@ ghost use Rattle.markdown_brackets.specs.declared.spent_ends.SpentEnds.{SpentEnd
 
 use crate::bracket_reader::BracketReader;
 use crate::closing_bracket::ClosedBracket;
-use crate::footnote::use_footnote;
+use crate::footnote::{footnote_style, use_footnote};
 use crate::items_ahead::reaches_closer;
 use crate::link_tail::LinkTail;
 use crate::look_up::{LabelLookup, Target, look_up_label};
 use crate::openers::Opener;
-use crate::options::footnote_style;
 use crate::reference::Form;
 use crate::spent_ends::SpentEnds;
 use markdown_base::cow_str::CowStr;
@@ -108,7 +107,7 @@ fn find_footnote<'a, R, F: BrokenLinkCallback<'a>>(
     ensures callback { lookup.new.callback ≡ lookup.old.callback }
     ensures refused { IfErr result (λ fault. fault ≡ Fault.Memory) }
 {
-    let style = footnote_style(at.place.options);
+    let style = footnote_style(at.place.syntax);
     if use_footnote(&mut lookup.tables.footdefs, style, name.as_str())? {
         return Ok(ClosedBracket::Footnote { opener, name });
     }

@@ -27,7 +27,7 @@ pub struct WikilinkBody<'t> {
 }
 
 // Returns the body with this name, if the name is not empty.
-fn named<'t>(name: &'t str, shown: Shown) -> Option<WikilinkBody<'t>>
+fn body_of<'t>(name: &'t str, shown: Shown) -> Option<WikilinkBody<'t>>
     ensures { option_map body_view result ≡ named name.now (shown_view shown) }
 {
     if name.is_empty() {
@@ -68,8 +68,8 @@ pub fn scan_wikilink_body(
         return None;
     }
     match scan_pipe(text, block_end, start, end - start) {
-        None => named(&text[start..end], Shown::Name),
-        Some((after, name)) if after < end => named(name, Shown::From(after)),
-        Some((after, name)) => named(name, Shown::Nothing(after)),
+        None => body_of(&text[start..end], Shown::Name),
+        Some((after, name)) if after < end => body_of(name, Shown::From(after)),
+        Some((after, name)) => body_of(name, Shown::Nothing(after)),
     }
 }

@@ -27,8 +27,8 @@ more_kept s = record {
   after = λ a below f g h i k. k;
   text = λ a below f g h i k. refl;
   closed = λ a below after opens i k. refl;
-  one = λ d x v inside rest c i k. gives_more _ (one-gives (extensions_of s.rules.options) d _);
-  two = λ d x y v w inside rest c i k. gives_more _ (two-gives (extensions_of s.rules.options) d _);
+  one = λ d x v inside rest c i k. gives_more _ (one-gives (extensions_of s.rules.syntax) d _);
+  two = λ d x y v w inside rest c i k. gives_more _ (two-gives (extensions_of s.rules.syntax) d _);
 }
 
 more_begins : {A : Type 0} (chain : Forest (TreeNode A)) → IsMore tt chain → EachTree IsClosedTree chain → Begins chain

@@ -104,10 +104,10 @@ pub record KeptByPairing {I A : Type 0} (s : Setting) (p : I → Forest (TreeNod
       → Keeps p (node a below after) (node (as_text s.text a) below after)
   pub one : (d : Delimiter) (x v : TreeNode A) (inside rest : Forest (TreeNode A)) → EachTree IsClosedTree inside
       → Keeps p (node x nil (joined_chains inside (node v nil rest)))
-      (node (spanned s.text (layer_of_one (extensions_of s.rules.options) d) x v) inside rest)
+      (node (spanned s.text (layer_of_one (extensions_of s.rules.syntax) d) x v) inside rest)
   pub two : (d : Delimiter) (x y v w : TreeNode A) (inside rest : Forest (TreeNode A)) → EachTree IsClosedTree inside
       → Keeps p (node y nil (node x nil (joined_chains inside (node v nil (node w nil rest)))))
-      (node (spanned s.text (layer_of_two (extensions_of s.rules.options) d) y w) inside rest)
+      (node (spanned s.text (layer_of_two (extensions_of s.rules.syntax) d) y w) inside rest)
 
 module _ {I A : Type 0} (s : Setting) (p : I → Forest (TreeNode A) → Type 0) (kept : KeptByPairing s p) where
   texts_after : (xs : List (TreeNode A)) (f g : Forest (TreeNode A)) → Keeps p f g
@@ -151,12 +151,12 @@ module _ {I A : Type 0} (s : Setting) (p : I → Forest (TreeNode A) → Type 0)
   layers_keep d (x ∷ []) (v ∷ vs) inside rest c = kept.one d x v inside (forward vs rest) c
   layers_keep d (x ∷ y ∷ xs) (v ∷ []) inside rest c =
       texts_after (y ∷ xs) (node x nil (joined_chains inside (node v nil rest)))
-      (node (spanned s.text (layer_of_one (extensions_of s.rules.options) d) x v) inside rest)
+      (node (spanned s.text (layer_of_one (extensions_of s.rules.syntax) d) x v) inside rest)
       (kept.one d x v inside rest c)
   layers_keep d (x ∷ y ∷ xs) (v ∷ w ∷ vs) inside rest c =
-      let made : TreeNode A = spanned s.text (layer_of_two (extensions_of s.rules.options) d) y w in
+      let made : TreeNode A = spanned s.text (layer_of_two (extensions_of s.rules.syntax) d) y w in
       let after : Forest (TreeNode A) = forward vs rest in
-      λ i h. layers_keep d xs vs (node made inside nil) rest (two-closed (extensions_of s.rules.options) d _, tt) i
+      λ i h. layers_keep d xs vs (node made inside nil) rest (two-closed (extensions_of s.rules.syntax) d _, tt) i
       (texts_after xs (node y nil (node x nil (joined_chains inside (node v nil (node w nil after)))))
       (node made inside after) (kept.two d x y v w inside after c) i h)
 

@@ -240,14 +240,14 @@ module _ (s : Setting) (tables : Tables) (old : Arena Item) (first count : ℕ) 
   module _ (t : Arena Item) (o now : Openers) (last : Option ℕ) where
     -- a tree more
     pub read_on : (m : Extensions) (text : List ℕ) (u : Arena Item) (new : Openers) (last' l : Option ℕ) (ix : ℕ)
-        → extensions_of s.rules.options ≡ m
+        → extensions_of s.rules.syntax ≡ m
         → s.text ≡ text → (a : RunsRead t o now last (Some ix)) → ReadsTree m text ix last t u now new last' l
         → ReadFurther runs_chain t u a.rs a.rest now new last' l (suc ix)
     unfolding whole_chain
     read_on m text u new last' l ix is e a step = step runs_chain a.rs a.rest is e a.stands
 
     pub reads_more : (m : Extensions) (text : List ℕ) (u : Arena Item) (new : Openers) (last' l : Option ℕ) (ix : ℕ)
-        → extensions_of s.rules.options ≡ m → s.text ≡ text → RunsRead t o now last (Some ix)
+        → extensions_of s.rules.syntax ≡ m → s.text ≡ text → RunsRead t o now last (Some ix)
         → ReadsTree m text ix last t u now new last' l
         → RunsRead u o new last' l
     unfolding whole_chain
@@ -278,7 +278,7 @@ module _ (s : Setting) (tables : Tables) (old : Arena Item) (first count : ℕ) 
     unfolding whole_chain
     pays text ix new e rs rest st paid = omega (arith, paid runs_chain rs rest e st, ap (λ x. runs_in x rest) e)
 
-    pub can_go_on : (m : Extensions) (text : List ℕ) (ix : ℕ) → extensions_of s.rules.options ≡ m → s.text ≡ text
+    pub can_go_on : (m : Extensions) (text : List ℕ) (ix : ℕ) → extensions_of s.rules.syntax ≡ m → s.text ≡ text
         → o.potential + comparisons_per_delimiter * runs_in text (labels s tables old.nodes f) < 2 ^ 128
         → RunsRead t o now last (Some ix) → CanReadTree m text ix last t now
     unfolding whole_chain

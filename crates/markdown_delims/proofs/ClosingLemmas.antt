@@ -144,7 +144,7 @@ module _ (h : Chain) (met : Characters) (met_vs : List (TreeNode ℕ)) (begun : 
     are_dropped : AreOpen dropped rs'
     are_dropped = subst (λ runs. AreOpen runs rs') (sym is) (open-dropped closer.run now.runs a.rs a.are)
 
-    pub can_keep : (m : Extensions) → extensions_of h.setting.rules.options ≡ m → CanRead m closer last t dropped
+    pub can_keep : (m : Extensions) → extensions_of h.setting.rules.syntax ≡ m → CanRead m closer last t dropped
     can_keep m e = record {
       chain = h;
       extensions_are = e;
@@ -178,7 +178,7 @@ module _ (h : Chain) (met : Characters) (met_vs : List (TreeNode ℕ)) (begun : 
         opener_stands closer.run a.rs nil taken.found (omega (arith, taken.are.count, some_open)) taken.finds
         (sym a.stands.stands.last_is ∙ e)
 
-    module _ (m : Extensions) (extensions_are : extensions_of h.setting.rules.options ≡ m) (ix : ℕ)
+    module _ (m : Extensions) (extensions_are : extensions_of h.setting.rules.syntax ≡ m) (ix : ℕ)
         (is : last ≡ Some ix) where
       stands_after : StandsAt h t a.rs (Some ix) closer a.vs after
       stands_after = subst (λ x. StandsAt h t a.rs x closer a.vs after) is a.stands

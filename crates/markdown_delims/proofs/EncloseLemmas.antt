@@ -124,7 +124,7 @@ layers_end s d (x ∷ xs) (v ∷ vs) inside e = absurd (omega (arith, e))
 layers_once : (s : Setting) (d : Delimiter) (x v : TreeNode ℕ) (xs vs : List (TreeNode ℕ))
     (inside : Forest (TreeNode ℕ)) → min (length xs) (length vs) ≡ 0
     → layers s d (x ∷ xs) (v ∷ vs) inside
-    ≡ layers s d xs vs (node (spanned s.text (layer_of_one (extensions_of s.rules.options) d) x v) inside nil)
+    ≡ layers s d xs vs (node (spanned s.text (layer_of_one (extensions_of s.rules.syntax) d) x v) inside nil)
 layers_once s d x v [] vs inside e = refl
 layers_once s d x v (y ∷ xs) [] inside e = refl
 layers_once s d x v (y ∷ xs) (w ∷ vs) inside e = absurd (omega (arith, e))
@@ -195,10 +195,10 @@ pub record NextLayer (h : Chain) (g : ChainParts) (t : Arena Item) (o c : Charac
 
 -- of two characters, and of one
 abbrev shape_of_two : Setting → Delimiter → List ℕ → Shape
-shape_of_two s d = layer_of_two (extensions_of s.rules.options) d
+shape_of_two s d = layer_of_two (extensions_of s.rules.syntax) d
 
 abbrev shape_of_one : Setting → Delimiter → List ℕ → Shape
-shape_of_one s d = layer_of_one (extensions_of s.rules.options) d
+shape_of_one s d = layer_of_one (extensions_of s.rules.syntax) d
 
 module _ (h : Chain) (t : Arena Item) (o c : Characters) (inner : Option ℕ) (before inside after : Forest (TreeNode ℕ))
   where
@@ -337,7 +337,7 @@ module _ (h : Chain) (g : ChainParts) (s t u : Arena Item) (d : Delimiter) (o c 
         Wrote t u root (record { start = (item_at t.nodes root).start; end = (item_at t.nodes end).end; body = b })
         inner m
 
-    pub layers_more : IsLayer b (layer_of_two (extensions_of h.setting.rules.options) d) → (root : ℕ)
+    pub layers_more : IsLayer b (layer_of_two (extensions_of h.setting.rules.syntax) d) → (root : ℕ)
         → root ≡ o.number + (o.count - 2) → 2 < left → LayerWritten None root (c.number + 1)
         → LayersAt h g s u d (record o { count = o.count - 2 })
         (record c { number = c.number + 2; count = c.count - 2 }) (left - 2) (Some root)
@@ -345,7 +345,7 @@ module _ (h : Chain) (g : ChainParts) (s t u : Arena Item) (d : Delimiter) (o c 
         let z = two (omega (arith, more)) in
         let n = z.next in
         let layer : TreeNode ℕ = spanned h.setting.text (layer_of_two
-        (extensions_of h.setting.rules.options) d) n.x n.v in
+        (extensions_of h.setting.rules.syntax) d) n.x n.v in
         let root_is : root ≡ n.x.note = e ∙ sym n.root_is in
         let end_is : c.number + 1 ≡ n.v.note = omega (arith, n.end_is) in
         let written = layer_written h t o c inner _ 2 n _ _ is u _ _ None w root_is end_is in
@@ -411,13 +411,13 @@ module _ (h : Chain) (g : ChainParts) (s t u : Arena Item) (d : Delimiter) (o c 
           kept = layer_kept h t o c inner _ n next _ _ is u _ _ rest w root_is end_is s a.kept;
         })
 
-    pub layers_two : IsLayer b (layer_of_two (extensions_of h.setting.rules.options) d) → (root end : ℕ)
+    pub layers_two : IsLayer b (layer_of_two (extensions_of h.setting.rules.syntax) d) → (root end : ℕ)
         (rest : Option ℕ) → root ≡ o.number + (o.count - 2) → end ≡ c.number + 1 → left ≡ 2 → rest ≡ (view h t).next end
         → LayerWritten rest root end → IsDone root rest
     layers_two is root end rest e f l r w =
         outermost 2 shape_of_two (two (omega (arith, l))) l is root end rest e (omega (arith, f)) r w
 
-    pub layers_one : IsLayer b (layer_of_one (extensions_of h.setting.rules.options) d) → (root : ℕ) (rest : Option ℕ)
+    pub layers_one : IsLayer b (layer_of_one (extensions_of h.setting.rules.syntax) d) → (root : ℕ) (rest : Option ℕ)
         → root ≡ o.number + (o.count - 1) → left ≡ 1 → rest ≡ (view h t).next c.number
         → LayerWritten rest root c.number → IsDone root rest
     layers_one is root rest e l r w =

@@ -139,11 +139,11 @@ module _ (text : List ℕ) (deep : ℕ → Type 0) where
         (h.0, h.1, as_text_lies s.text a h.2, tt, l (a.part.range.end, suc a.note) h.4);
     closed = λ a below after opens i h. (h.0, h.1, as_text_lies s.text a h.2, h.3, h.4);
     one = λ d x v inside rest c i. around x v (spanned s.text (layer_of_one
-        (extensions_of s.rules.options) d) x v) inside
+        (extensions_of s.rules.syntax) d) x v) inside
         rest refl refl refl c i.0 i.1;
     two = λ d x y v w inside rest c i h.
         around y w (spanned s.text (layer_of_two
-        (extensions_of s.rules.options) d) y w) inside rest refl refl refl c i.0 i.1
+        (extensions_of s.rules.syntax) d) y w) inside rest refl refl refl c i.0 i.1
         (h.0, h.1, h.2, h.3, without_inner x v inside (node w nil rest) y.part.range.end (suc y.note) h.4);
   }
     where

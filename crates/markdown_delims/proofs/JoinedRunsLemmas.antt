@@ -137,11 +137,11 @@ module _ (whole : Forest Character) where
     layers_join d [] vs inside a b h = (h, tt, b)
     layers_join d (x ∷ xs) [] inside a b h = (h, a, tt)
     layers_join d (x ∷ []) (v ∷ vs) inside a b h =
-        ((layer_joins (layer_of_one (extensions_of s.rules.options) d) x v inside a.0 b.0 h, tt), tt, b.1)
+        ((layer_joins (layer_of_one (extensions_of s.rules.syntax) d) x v inside a.0 b.0 h, tt), tt, b.1)
     layers_join d (x ∷ y ∷ xs) (v ∷ []) inside a b h =
-        ((layer_joins (layer_of_one (extensions_of s.rules.options) d) x v inside a.0 b.0 h, tt), a.1, tt)
+        ((layer_joins (layer_of_one (extensions_of s.rules.syntax) d) x v inside a.0 b.0 h, tt), a.1, tt)
     layers_join d (x ∷ y ∷ xs) (v ∷ w ∷ vs) inside a b h =
-        let shape : List ℕ → Shape = layer_of_two (extensions_of s.rules.options) d in
+        let shape : List ℕ → Shape = layer_of_two (extensions_of s.rules.syntax) d in
         layers_join d xs vs (node (spanned s.text shape y w) inside nil) a.1.1 b.1.1
         (layer_joins shape y w inside a.1.0 b.1.0 h, tt)
 

@@ -31,9 +31,9 @@ pub record MakesTrees {A : Type 0} (s : Setting) (c : TreeNode A → Type 0) (t 
     0 where
   pub text : (x : TreeNode A) → c x → t x nil
   pub one : (d : Delimiter) (x v : TreeNode A) (inside : Forest (TreeNode A)) → c x → EachTree t inside
-      → t (spanned s.text (layer_of_one (extensions_of s.rules.options) d) x v) inside
+      → t (spanned s.text (layer_of_one (extensions_of s.rules.syntax) d) x v) inside
   pub two : (d : Delimiter) (x v : TreeNode A) (inside : Forest (TreeNode A)) → c x → EachTree t inside
-      → t (spanned s.text (layer_of_two (extensions_of s.rules.options) d) x v) inside
+      → t (spanned s.text (layer_of_two (extensions_of s.rules.syntax) d) x v) inside
 
 pub turned-all : {A : Type 0} (c : TreeNode A → Type 0) (xs ys : List (TreeNode A)) → AllByRecursion c xs
     → AllByRecursion c ys → AllByRecursion c (last_first xs ys)
@@ -139,7 +139,7 @@ module _ {A : Type 0} (c : TreeNode A → Type 0) (t : TreeNode A → Forest (Tr
     layers_keep d (x ∷ y ∷ xs) (v ∷ []) inside h k i = ((makes.one d x v inside h.0 i, tt), h.1, tt)
     layers_keep d (x ∷ y ∷ xs) (v ∷ w ∷ vs) inside h k i =
         layers_keep d xs vs (node (spanned s.text (layer_of_two
-        (extensions_of s.rules.options) d) y w) inside nil) h.1.1
+        (extensions_of s.rules.syntax) d) y w) inside nil) h.1.1
         k.1.1
         (makes.two d y w inside h.1.0 i, tt)
 
@@ -213,8 +213,8 @@ readable s (node a below after) = ((refl, as_closed-closed s.text a), readable s
 pub makes-closed : {A : Type 0} (s : Setting) → MakesTrees {A = A} s IsClosed IsClosedTree
 makes-closed s = record {
   text = λ x h. h;
-  one = λ d x v inside h i. one-closed (extensions_of s.rules.options) d _;
-  two = λ d x v inside h i. two-closed (extensions_of s.rules.options) d _;
+  one = λ d x v inside h i. one-closed (extensions_of s.rules.syntax) d _;
+  two = λ d x v inside h i. two-closed (extensions_of s.rules.syntax) d _;
 }
 
 -- nothing of the chain stays open

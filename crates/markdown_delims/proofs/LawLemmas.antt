@@ -68,8 +68,8 @@ module _ {A : Type 0} (p : TreeNode A → Type 0) (stays : (a b : TreeNode A) �
   makes_such : MakesTrees s p HoldsBelow
   makes_such = record {
     text = λ x h. (h, tt);
-    one = λ d x v inside h i. (stays x _ h refl (one-closed (extensions_of s.rules.options) d _), each_holds inside i);
-    two = λ d x v inside h i. (stays x _ h refl (two-closed (extensions_of s.rules.options) d _), each_holds inside i);
+    one = λ d x v inside h i. (stays x _ h refl (one-closed (extensions_of s.rules.syntax) d _), each_holds inside i);
+    two = λ d x v inside h i. (stays x _ h refl (two-closed (extensions_of s.rules.syntax) d _), each_holds inside i);
   }
 
   same_block : (b : Bool) (a : TreeNode A) → (text_if b s.text a).part.block ≡ a.part.block

@@ -356,8 +356,8 @@ module _ (p : RunAt) where
 
     one_layer : (d : Delimiter) (x v : Character) (inside : Forest Character) → p.run.delimiter ≡ d → x.note ≡ Some p
         → NoneMissed inside → IsLayer (node (spanned s.text (layer_of_one
-        (extensions_of s.rules.options) d) x v) inside nil)
-    one_layer = made_layer (layer_of_one (extensions_of s.rules.options)) (λ _. tt) (λ _. tt)
+        (extensions_of s.rules.syntax) d) x v) inside nil)
+    one_layer = made_layer (layer_of_one (extensions_of s.rules.syntax)) (λ _. tt) (λ _. tt)
 
     abbrev AreMade : RunAt → Layers MaybeRun → Type 0
     AreMade q l = IsLayer l.whole × AreOf p l.opening × AreOf q l.closing
@@ -374,7 +374,7 @@ module _ (p : RunAt) where
     layers_made q d (x ∷ y ∷ xs) (v ∷ []) inside e a b m i = (one_layer d x v inside e a.0 m, a.1, tt)
     layers_made q d (x ∷ y ∷ xs) (v ∷ w ∷ vs) inside e a b m i =
         let whole : Forest Character = (layers s d (x ∷ y ∷ []) (v ∷ w ∷ []) inside).whole in
-        let l : IsLayer whole = made_layer (layer_of_two (extensions_of s.rules.options)) (λ _. tt)
+        let l : IsLayer whole = made_layer (layer_of_two (extensions_of s.rules.syntax)) (λ _. tt)
         (λ _. tt) d y w inside e
         a.1.0 m in
         layers_made q d xs vs whole e a.1.1 b.1.1 (layer_missed whole l) (inr l)

@@ -117,8 +117,8 @@ module _ {A B : Type 0} (to : A → B) (within : Forest (TreeNode A) → Forest 
     layers_deep d (x ∷ y ∷ xs) (v ∷ []) inside h = rw (stays inside h) refl
     layers_deep d (x ∷ y ∷ xs) (v ∷ w ∷ vs) inside h =
         rw (stays inside h) at
-        (layers_deep d xs vs (node (spanned s.text (layer_of_two (extensions_of s.rules.options) d) y w) inside nil)
-        (two-closed (extensions_of s.rules.options) d _, tt))
+        (layers_deep d xs vs (node (spanned s.text (layer_of_two (extensions_of s.rules.syntax) d) y w) inside nil)
+        (two-closed (extensions_of s.rules.syntax) d _, tt))
 
     done_trees_deep : (f : Forest (TreeNode A)) (rs : List (Read A)) → trees_done (deep f) (deep_reads rs)
         ≡ deep_reads (trees_done f rs)

@@ -191,7 +191,7 @@ module _ (h : Chain) (s : Arena Item) (rs : List (Read ℕ)) (vs : List (TreeNod
         }
 
     pub pair_done : (m : Extensions) (u : Arena Item) (root : ℕ) (rest : Option ℕ)
-        → extensions_of h.setting.rules.options ≡ m
+        → extensions_of h.setting.rules.syntax ≡ m
         → EnclosesAll m opener closer t u root rest
         → Reads h s u (after_layers found (layers h.setting found.run.delimiter found.characters vs found.inside))
         (Some root) rest

@@ -2,6 +2,8 @@
 use Rattle.std.proofs.Common.{◌≡◌, ℕ, zero, suc, ◌+◌, Bool, true, false, List, [], ◌∷◌, ◌++◌, Option, Some, None, refl}
 use Rattle.std.proofs.Common.{map}
 use Rattle.std.specs.Prelude.{codes, encode_utf8, slice_range, option_map}
+use Rattle.markdown_base.specs.Syntax.{commonmark}
+use Rattle.markdown_base.specs.declared.syntax.Syntax.{Syntax}
 use Rattle.markdown_base.specs.Event.{TagView, EventView, text, strong, emphasis, strikethrough, superscript, subscript}
 use Rattle.markdown_base.specs.Forest.{Forest, nil, node, preorder}
 use Rattle.markdown_base.specs.declared.item.ItemBody.TheVariants as body
@@ -56,12 +58,22 @@ abbrev shown : Forest Plain → List ℕ
 shown nil = []
 shown (node a below after) = seen_as a.part.shape (shown below) ++ shown after
 
--- a text under a set of options; the other rules say nothing here
-abbrev under : Rules → List ℕ → ℕ → Setting
-under rules source options = record { text = source; rules = record rules { options = record { 0 = options } } }
+-- CommonMark with one kind of marks, and with all
+abbrev with_strikethrough : Syntax
+with_strikethrough = record commonmark { strikethrough = true }
+
+abbrev with_subscript : Syntax
+with_subscript = record commonmark { subscript = true }
+
+abbrev with_all_marks : Syntax
+with_all_marks = record commonmark { strikethrough = true; superscript = true; subscript = true }
+
+-- a text that is read so; the other rules say nothing here
+abbrev under : Rules → List ℕ → Syntax → Setting
+under rules source syntax = record { text = source; rules = record rules { syntax = syntax } }
 
 -- `*hello* world`
-row_1 : (rules : Rules) → shown (paired (under rules (codes "*hello* world") 0)
+row_1 : (rules : Rules) → shown (paired (under rules (codes "*hello* world") commonmark)
     (run 0 1 true false (word (codes "*hello* world") 1 5 (run 6 1 false true (word (codes "*hello* world") 7 6 nil)))))
     ≡ codes "[hello] world"
 unfolding paired runs_paired reads_from closed_by with_quotes
@@ -69,7 +81,7 @@ row_1 rules = refl
 
 -- two layers around one text
 row_2 : (rules : Rules)
-    → shown (paired (under rules (codes "***a***") 0)
+    → shown (paired (under rules (codes "***a***") commonmark)
     (run 0 3 true false (word (codes "***a***") 3 1 (run 4 3 false true nil))))
     ≡ codes "[{a}]"
 unfolding paired runs_paired reads_from closed_by with_quotes
@@ -77,7 +89,7 @@ row_2 rules = refl
 
 -- the rule of three
 row_3 : (rules : Rules)
-    → shown (paired (under rules (codes "*foo**bar*") 0)
+    → shown (paired (under rules (codes "*foo**bar*") commonmark)
     (run 0 1 true false (word (codes "*foo**bar*") 1 3
     (run 4 2 true true (word (codes "*foo**bar*") 6 3 (run 9 1 false true nil))))))
     ≡ codes "[foo**bar]"
@@ -86,14 +98,14 @@ row_3 rules = refl
 
 -- the opener keeps what the closer does not take
 row_4 : (rules : Rules)
-    → shown (paired (under rules (codes "**a*") 0)
+    → shown (paired (under rules (codes "**a*") commonmark)
     (run 0 2 true false (word (codes "**a*") 2 1 (run 3 1 false true nil)))) ≡ codes "*[a]"
 unfolding paired runs_paired reads_from closed_by with_quotes
 row_4 rules = refl
 
 -- open runs inside a pair are text
 row_5 : (rules : Rules)
-    → shown (paired (under rules (codes "*a _b* c_") 0)
+    → shown (paired (under rules (codes "*a _b* c_") commonmark)
     (run 0 1 true false (word (codes "*a _b* c_") 1 2
     (run 3 1 true false (word (codes "*a _b* c_") 4 1
     (run 5 1 false true (word (codes "*a _b* c_") 6 2 (run 8 1 false true nil))))))))
@@ -103,7 +115,7 @@ row_5 rules = refl
 
 -- by twos, and then a one
 row_6 : (rules : Rules)
-    → shown (paired (under rules (codes "*****a*****") 0)
+    → shown (paired (under rules (codes "*****a*****") commonmark)
     (run 0 5 true false (word (codes "*****a*****") 5 1 (run 6 5 false true nil))))
     ≡ codes "[{{a}}]"
 unfolding paired runs_paired reads_from closed_by with_quotes
@@ -111,7 +123,7 @@ row_6 rules = refl
 
 -- a closer with characters left searches again
 row_7 : (rules : Rules)
-    → shown (paired (under rules (codes "*a **b***") 0)
+    → shown (paired (under rules (codes "*a **b***") commonmark)
     (run 0 1 true false (word (codes "*a **b***") 1 2
     (run 3 2 true false (word (codes "*a **b***") 5 1 (run 6 3 false true nil))))))
     ≡ codes "[a {b}]"
@@ -120,7 +132,7 @@ row_7 rules = refl
 
 -- `~` pairs by equal lengths alone
 row_8 : (rules : Rules)
-    → shown (paired (under rules (codes "~~a~~~b~") 24584)
+    → shown (paired (under rules (codes "~~a~~~b~") with_all_marks)
     (run 0 2 true false (word (codes "~~a~~~b~") 2 1
     (run 3 2 false true (run 5 1 true false (word (codes "~~a~~~b~") 6 1 (run 7 1 false true nil))))))) ≡ codes "<a>(b)"
 unfolding paired runs_paired reads_from closed_by with_quotes
@@ -128,7 +140,7 @@ row_8 rules = refl
 
 -- a failed search by `^` drops no open `~`
 row_9 : (rules : Rules)
-    → shown (paired (under rules (codes "~a b^ c~") 24584)
+    → shown (paired (under rules (codes "~a b^ c~") with_all_marks)
     (run 0 1 true false (word (codes "~a b^ c~") 1 3
     (run 4 1 false true (word (codes "~a b^ c~") 5 2 (run 7 1 false true nil))))))
     ≡ codes "(a b^ c)"
@@ -137,7 +149,7 @@ row_9 rules = refl
 
 -- a failed search by `~` drops runs of every length
 row_10 : (rules : Rules)
-    → shown (paired (under rules (codes "~a~~b~") 16384)
+    → shown (paired (under rules (codes "~a~~b~") with_subscript)
     (run 0 1 true false (word (codes "~a~~b~") 1 1
     (run 2 2 false true (word (codes "~a~~b~") 4 1 (run 5 1 false true nil))))))
     ≡ codes "~a~~b~"
@@ -145,7 +157,7 @@ unfolding paired runs_paired reads_from closed_by with_quotes
 row_10 rules = refl
 
 -- a mark that is off is text over all of its range
-row_11 : (rules : Rules) → shown (paired (under rules (codes "~~a *b* c~~") 16384)
+row_11 : (rules : Rules) → shown (paired (under rules (codes "~~a *b* c~~") with_subscript)
     (run 0 2 true false (word (codes "~~a *b* c~~") 2 2
     (run 4 1 true false (word (codes "~~a *b* c~~") 5 1
     (run 6 1 false true (word (codes "~~a *b* c~~") 7 2 (run 9 2 false true nil))))))))
@@ -155,7 +167,7 @@ row_11 rules = refl
 
 -- a mark that is on
 row_12 : (rules : Rules)
-    → shown (paired (under rules (codes "hi ~~no~~") 8)
+    → shown (paired (under rules (codes "hi ~~no~~") with_strikethrough)
     (word (codes "hi ~~no~~") 0 3 (run 3 2 true false (word (codes "hi ~~no~~") 5 2 (run 7 2 false true nil)))))
     ≡ codes "hi <no>"
 unfolding paired runs_paired reads_from closed_by with_quotes
@@ -163,14 +175,14 @@ row_12 rules = refl
 
 -- subscript off, strikethrough on: one `~` is a strikethrough
 row_13 : (rules : Rules)
-    → shown (paired (under rules (codes "~a~") 8)
+    → shown (paired (under rules (codes "~a~") with_strikethrough)
     (run 0 1 true false (word (codes "~a~") 1 1 (run 2 1 false true nil)))) ≡ codes "<a>"
 unfolding paired runs_paired reads_from closed_by with_quotes
 row_13 rules = refl
 
 -- quotes: one that closes and one that opens; a double one that is open
 row_quotes : (rules : Rules)
-    → shown (paired (under rules (codes "'a' \"b\"") 0)
+    → shown (paired (under rules (codes "'a' \"b\"") commonmark)
     (quote 0 39 true false (word (codes "'a' \"b\"") 1 1
     (quote 2 39 false true (word (codes "'a' \"b\"") 3 1
     (quote 4 34 true false (word (codes "'a' \"b\"") 5 1 (quote 6 34 false true nil))))))))
@@ -180,14 +192,14 @@ row_quotes rules = refl
 
 -- a `"` that finds none open is a left quote, also where it can only close
 row_closing_quote : (rules : Rules)
-    → shown (paired (under rules (codes "a\"") 0) (word (codes "a\"") 0 1 (quote 1 34 false true nil)))
+    → shown (paired (under rules (codes "a\"") commonmark) (word (codes "a\"") 0 1 (quote 1 34 false true nil)))
     ≡ codes "a" ++ encode_utf8 8220 ++ []
 unfolding paired runs_paired reads_from closed_by with_quotes
 row_closing_quote rules = refl
 
 -- a hard break by a backslash, at the end of a chain and before it
 row_last_break : (rules : Rules)
-    → shown (paired (under rules (codes "*a*\\") 0)
+    → shown (paired (under rules (codes "*a*\\") commonmark)
     (run 0 1 true false (word (codes "*a*\\") 1 1 (run 2 1 false true (node (over 3 4 backslash_break) nil nil)))))
     ≡ codes "[a]"
     ++ encode_utf8 92 ++ []
@@ -205,19 +217,21 @@ abbrev kept_starts : Forest (TreeNode (Option RunAt)) → List (Option ℕ)
 kept_starts chain = map (λ (a : TreeNode (Option RunAt)). start_of (kept_run a)) (preorder chain)
 
 -- each character of a run is told of which it is, and of what the opener keeps it is known
-told_4 : (rules : Rules) → starts (with_runs (under rules (codes "**a*") 0) 0 None
+told_4 : (rules : Rules) → starts (with_runs (under rules (codes "**a*") commonmark) 0 None
     (run 0 2 true false (word (codes "**a*") 2 1 (run 3 1 false true nil)))) ≡ Some 0 ∷ Some 0 ∷ None ∷ Some 3 ∷ []
 told_4 rules = refl
 
 kept_4 : (rules : Rules)
-    → kept_starts (paired (under rules (codes "**a*") 0) (with_runs (under rules (codes "**a*") 0) 0 None
+    → kept_starts (paired (under rules (codes "**a*") commonmark)
+    (with_runs (under rules (codes "**a*") commonmark) 0 None
     (run 0 2 true false (word (codes "**a*") 2 1 (run 3 1 false true nil))))) ≡ Some 0 ∷ None ∷ None ∷ []
 unfolding paired runs_paired reads_from closed_by with_quotes
 kept_4 rules = refl
 
 -- two runs that may pair, of which a pair encloses one
 kept_5 : (rules : Rules)
-    → kept_starts (paired (under rules (codes "*a _b* c_") 0) (with_runs (under rules (codes "*a _b* c_") 0) 0 None
+    → kept_starts (paired (under rules (codes "*a _b* c_") commonmark)
+    (with_runs (under rules (codes "*a _b* c_") commonmark) 0 None
     (run 0 1 true false (word (codes "*a _b* c_") 1 2
     (run 3 1 true false (word (codes "*a _b* c_") 4 1
     (run 5 1 false true (word (codes "*a _b* c_") 6 2 (run 8 1 false true nil)))))))))
@@ -227,25 +241,27 @@ kept_5 rules = refl
 
 -- one pair: `*a*`
 finds_pair : (rules : Rules)
-    → finds_in (under rules (codes "*a*") 0) (run 0 1 true false (word (codes "*a*") 1 1 (run 2 1 false true nil)))
+    → finds_in (under rules (codes "*a*") commonmark)
+    (run 0 1 true false (word (codes "*a*") 1 1 (run 2 1 false true nil)))
     ≡ 1
 unfolding finds_in finds_from closer_finds reads_from closed_by with_quotes
 finds_pair rules = refl
 
 -- two layers of one opener, by one search: `***a***`
-finds_layers : (rules : Rules) → finds_in (under rules (codes "***a***") 0)
+finds_layers : (rules : Rules) → finds_in (under rules (codes "***a***") commonmark)
     (run 0 3 true false (word (codes "***a***") 3 1 (run 4 3 false true nil))) ≡ 1
 unfolding finds_in finds_from closer_finds reads_from closed_by with_quotes
 finds_layers rules = refl
 
 -- no closer: `*a`
-finds_none : (rules : Rules) → finds_in (under rules (codes "*a") 0) (run 0 1 true false (word (codes "*a") 1 1 nil))
+finds_none : (rules : Rules) → finds_in (under rules (codes "*a") commonmark)
+    (run 0 1 true false (word (codes "*a") 1 1 nil))
     ≡ 0
 unfolding finds_in finds_from closer_finds reads_from closed_by with_quotes
 finds_none rules = refl
 
 -- two pairs: `*a* *b*`
-finds_pairs : (rules : Rules) → finds_in (under rules (codes "*a* *b*") 0)
+finds_pairs : (rules : Rules) → finds_in (under rules (codes "*a* *b*") commonmark)
     (run 0 1 true false (word (codes "*a* *b*") 1 1
     (run 2 1 false true (word (codes "*a* *b*") 3 1
     (run 4 1 true false (word (codes "*a* *b*") 5 1 (run 6 1 false true nil))))))) ≡ 2
@@ -253,7 +269,7 @@ unfolding finds_in finds_from closer_finds reads_from closed_by with_quotes
 finds_pairs rules = refl
 
 -- a closer with characters left finds again: `*a **b***`
-finds_again : (rules : Rules) → finds_in (under rules (codes "*a **b***") 0)
+finds_again : (rules : Rules) → finds_in (under rules (codes "*a **b***") commonmark)
     (run 0 1 true false (word (codes "*a **b***") 1 2
     (run 3 2 true false (word (codes "*a **b***") 5 1 (run 6 3 false true nil))))) ≡ 2
 unfolding finds_in finds_from closer_finds reads_from closed_by with_quotes
@@ -261,7 +277,8 @@ finds_again rules = refl
 
 -- one that finds no opener of its character: `*a_`
 finds_open : (rules : Rules)
-    → finds_in (under rules (codes "*a_") 0) (run 0 1 true false (word (codes "*a_") 1 1 (run 2 1 false true nil)))
+    → finds_in (under rules (codes "*a_") commonmark)
+    (run 0 1 true false (word (codes "*a_") 1 1 (run 2 1 false true nil)))
     ≡ 0
 unfolding finds_in finds_from closer_finds reads_from closed_by with_quotes
 finds_open rules = refl

@@ -20,9 +20,9 @@ sum_of g (node a below after) = g a + (sum_of g below + sum_of g after)
 pub record CountsNoMore {A : Type 0} (s : Setting) (g : TreeNode A → ℕ) : Type 0 where
   pub text : (a : TreeNode A) → g (as_text s.text a) ≤ g a
   pub one : (d : Delimiter) (x v : TreeNode A) → g (spanned s.text (layer_of_one
-      (extensions_of s.rules.options) d) x v) ≤ g x
+      (extensions_of s.rules.syntax) d) x v) ≤ g x
   pub two : (d : Delimiter) (x v : TreeNode A) → g (spanned s.text (layer_of_two
-      (extensions_of s.rules.options) d) x v) ≤ g x
+      (extensions_of s.rules.syntax) d) x v) ≤ g x
   pub quote : (a : TreeNode A) (after : Forest (TreeNode A)) (single double : Bool)
       → g (shaped (first_turn a after single double).made a) ≤ g a
 

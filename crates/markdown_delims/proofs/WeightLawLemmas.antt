@@ -23,8 +23,8 @@ least b c e = subst (λ x. weight_if x ≤ weight_if c) (sym e) (some_weight c)
 pub weights-count : {A : Type 0} (s : Setting) → CountsNoMore {A = A} s weighs
 weights-count s = record {
   text = λ a. some_weight (is_unresolved a.part.shape);
-  one = λ d x v. least _ (is_unresolved x.part.shape) (one-closed (extensions_of s.rules.options) d _);
-  two = λ d x v. least _ (is_unresolved x.part.shape) (two-closed (extensions_of s.rules.options) d _);
+  one = λ d x v. least _ (is_unresolved x.part.shape) (one-closed (extensions_of s.rules.syntax) d _);
+  two = λ d x v. least _ (is_unresolved x.part.shape) (two-closed (extensions_of s.rules.syntax) d _);
   quote = λ a after single double.
       turn-made (λ shape. weight_if (is_unresolved shape) ≤ weighs a) (λ c. some_weight (is_unresolved a.part.shape))
       (kind_of_shape a.part.shape) a.part.shape single double (is_closed_later after) (is_end after)

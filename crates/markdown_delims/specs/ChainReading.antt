@@ -111,7 +111,7 @@ abbrev pub ReadsTree : Extensions → List ℕ → ℕ → Option ℕ → Arena 
     → Option ℕ
     → Type 0
 ReadsTree m text ix last s t old new last' l =
-    (h : Chain) (rs : List (Read ℕ)) (chain : Forest (TreeNode ℕ)) → extensions_of h.setting.rules.options ≡ m
+    (h : Chain) (rs : List (Read ℕ)) (chain : Forest (TreeNode ℕ)) → extensions_of h.setting.rules.syntax ≡ m
     → h.setting.text ≡ text → StandsWhole h s rs last (Some ix) chain old
     → ReadFurther h s t rs chain old new last' l (suc ix)
 
@@ -127,7 +127,7 @@ pub record CanReadTree (m : Extensions) (text : List ℕ) (ix : ℕ) (last : Opt
     (openers : Openers) : Type 0
   where
     pub chain : Chain
-    pub extensions_are : extensions_of chain.setting.rules.options ≡ m
+    pub extensions_are : extensions_of chain.setting.rules.syntax ≡ m
     pub text_is : chain.setting.text ≡ text
     pub rs : List (Read ℕ)
     pub rest : Forest (TreeNode ℕ)
@@ -175,21 +175,21 @@ pub record IsPaired (s : Setting) (tables : Tables) (old new : Arena Item) (firs
 -- the runs of any such chain are paired
 abbrev pub PairsRuns : Extensions → List ℕ → Arena Item → Arena Item → (first count : ℕ) → Type 0
 PairsRuns m text old new first count =
-    (s : Setting) (tables : Tables) (f : Forest ℕ) → extensions_of s.rules.options ≡ m → s.text ≡ text
+    (s : Setting) (tables : Tables) (f : Forest ℕ) → extensions_of s.rules.syntax ≡ m → s.text ≡ text
     → IsChainAt s tables old.nodes first count f
     → IsPaired s tables old new first f
 
 -- each search that finds was counted
 abbrev pub CountsFinds : Extensions → List ℕ → List (Node Item) → (first count : ℕ) → Openers → Openers → Type 0
 CountsFinds m text nodes first count old new =
-    (s : Setting) (tables : Tables) (f : Forest ℕ) → extensions_of s.rules.options ≡ m → s.text ≡ text
+    (s : Setting) (tables : Tables) (f : Forest ℕ) → extensions_of s.rules.syntax ≡ m → s.text ≡ text
     → IsChainAt s tables nodes first count f
     → old.examined + finds_from s 0 (labels s tables nodes f) [] ≤ new.examined
 
 -- no more comparisons were made than the runs of the chain allow
 abbrev pub PaysForRuns : Extensions → List ℕ → List (Node Item) → (first count : ℕ) → Openers → Openers → Type 0
 PaysForRuns m text nodes first count old new =
-    (s : Setting) (tables : Tables) (f : Forest ℕ) → extensions_of s.rules.options ≡ m → s.text ≡ text
+    (s : Setting) (tables : Tables) (f : Forest ℕ) → extensions_of s.rules.syntax ≡ m → s.text ≡ text
     → IsChainAt s tables nodes first count f
     → new.potential ≤ old.potential + comparisons_per_delimiter * runs_in text (labels s tables nodes f)
 
@@ -203,7 +203,7 @@ pub record CanPairAll (m : Extensions) (text : List ℕ) (nodes : List (Node Ite
     (openers : Openers) : Type 0
   where
     pub setting : Setting
-    pub extensions_are : extensions_of setting.rules.options ≡ m
+    pub extensions_are : extensions_of setting.rules.syntax ≡ m
     pub text_is : setting.text ≡ text
     pub tables : Tables
     pub forest : Forest ℕ

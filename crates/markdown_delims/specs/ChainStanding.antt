@@ -117,7 +117,7 @@ pub record Finds (rs : List (Read ℕ)) (opener closer : Characters) (found : Fo
 abbrev pub Pairs : Extensions → Characters → Characters → ℕ → Arena Item → Arena Item → ℕ → Option ℕ → Type 0
 Pairs m opener closer last s t root rest =
     (h : Chain) (rs : List (Read ℕ)) (vs : List (TreeNode ℕ)) (after : Forest (TreeNode ℕ)) (found : FoundOpener ℕ)
-    → extensions_of h.setting.rules.options ≡ m → StandsAt h s rs (Some last) closer vs after
+    → extensions_of h.setting.rules.syntax ≡ m → StandsAt h s rs (Some last) closer vs after
     → Finds rs opener closer found
     → Reads h s t (after_layers found (layers h.setting found.run.delimiter found.characters vs found.inside))
     (Some root) rest (texts (layers h.setting found.run.delimiter found.characters vs found.inside).closing after)
@@ -125,7 +125,7 @@ Pairs m opener closer last s t root rest =
 -- there is a chain in which the closer's search finds that opener
 pub record CanPair (m : Extensions) (opener closer : Characters) (last : ℕ) (s : Arena Item) : Type 0 where
   pub chain : Chain
-  pub extensions_are : extensions_of chain.setting.rules.options ≡ m
+  pub extensions_are : extensions_of chain.setting.rules.syntax ≡ m
   pub rs : List (Read ℕ)
   pub vs : List (TreeNode ℕ)
   pub after : Forest (TreeNode ℕ)
@@ -158,14 +158,14 @@ abbrev pub ReadsRun : Extensions → Characters → Option ℕ → Arena Item �
     → Type 0
 ReadsRun m met last s t old new last' l =
     (h : Chain) (rs : List (Read ℕ)) (vs : List (TreeNode ℕ)) (after : Forest (TreeNode ℕ))
-    → extensions_of h.setting.rules.options ≡ m → StandsAt h s rs last met vs after → AreOpen old.runs rs
+    → extensions_of h.setting.rules.syntax ≡ m → StandsAt h s rs last met vs after → AreOpen old.runs rs
     → RunRead h s t met.run vs rs old new last' l after
 
 -- there is such a chain
 pub record CanRead (m : Extensions) (met : Characters) (last : Option ℕ) (s : Arena Item) (runs : List OpenRun) : Type 0
   where
     pub chain : Chain
-    pub extensions_are : extensions_of chain.setting.rules.options ≡ m
+    pub extensions_are : extensions_of chain.setting.rules.syntax ≡ m
     pub rs : List (Read ℕ)
     pub vs : List (TreeNode ℕ)
     pub after : Forest (TreeNode ℕ)

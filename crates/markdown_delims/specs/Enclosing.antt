@@ -50,7 +50,7 @@ inner_of opener s = sibling_of s.nodes (opener.number + (opener.count - 1))
 -- there is such an opener
 pub record CanEnclose (m : Extensions) (opener closer : Characters) (s : Arena Item) : Type 0 where
   pub chain : Chain
-  pub extensions_are : extensions_of chain.setting.rules.options ≡ m
+  pub extensions_are : extensions_of chain.setting.rules.syntax ≡ m
   pub around : ChainParts
   pub encloses : Encloses chain around s opener closer (inner_of opener s)
 
@@ -71,6 +71,6 @@ pub record IsEnclosed (h : Chain) (g : ChainParts) (s t : Arena Item) (made : La
 -- the characters pair, and enclose what lies inside
 abbrev pub EnclosesAll : Extensions → Characters → Characters → Arena Item → Arena Item → ℕ → Option ℕ → Type 0
 EnclosesAll m opener closer s t root rest =
-    (h : Chain) (g : ChainParts) → extensions_of h.setting.rules.options ≡ m → Encloses h g s opener closer
+    (h : Chain) (g : ChainParts) → extensions_of h.setting.rules.syntax ≡ m → Encloses h g s opener closer
     (inner_of opener s)
     → IsEnclosed h g s t (layers h.setting opener.run.delimiter g.opening g.closing g.inside) root rest

@@ -1,10 +1,9 @@
--- What the characters of a pair become, by the options.
+-- What the characters of a pair become, by what is read.
 use Rattle.std.specs.Prelude.{ℕ, zero, suc, Bool, true, false, List, [], Option, Some, None, slice_index}
 use Rattle.std.specs.Prelude.{slice_range}
-use Rattle.markdown_base.specs.EnabledOptions.{strikethrough_on, subscript_on, superscript_on}
 use Rattle.markdown_base.specs.Event.{TagView, emphasis, strong, strikethrough, superscript, subscript}
 use Rattle.markdown_base.specs.declared.item.ItemBody.TheVariants as body
-use Rattle.markdown_base.specs.declared.options.Options.{Options}
+use Rattle.markdown_base.specs.declared.syntax.Syntax.{Syntax}
 use Rattle.markdown_document.specs.Document.{Shape, enclosed, unresolved, Part, TreeNode, text_over}
 use Rattle.markdown_delims.specs.declared.extensions.Extensions.{Extensions}
 use Rattle.markdown_delims.specs.declared.run.Delimiter.{Delimiter}
@@ -12,12 +11,12 @@ use Rattle.markdown_delims.specs.declared.run.Delimiter.TheVariants.{Star, Under
 use Rattle.markdown_delims.specs.declared.run.Run.{Run}
 use Rattle.markdown_delims.specs.MayPair.{delimiter_of}
 
--- the marks that a set of options enables
-abbrev pub extensions_of : Options → Extensions
-extensions_of options = record {
-  strikethrough = strikethrough_on options;
-  superscript = superscript_on options;
-  subscript = subscript_on options;
+-- the marks of a syntax
+abbrev pub extensions_of : Syntax → Extensions
+extensions_of syntax = record {
+  strikethrough = syntax.strikethrough;
+  superscript = syntax.superscript;
+  subscript = syntax.subscript;
 }
 
 -- a mark if it is enabled, and otherwise another shape

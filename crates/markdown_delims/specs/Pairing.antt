@@ -72,9 +72,9 @@ abbrev pub layers : {A : Type 0} → Setting → Delimiter → (opener closer : 
 layers s d [] vs inside = record { whole = inside; opening = []; closing = vs }
 layers s d (x ∷ xs) [] inside = record { whole = inside; opening = x ∷ xs; closing = [] }
 layers s d (x ∷ y ∷ xs) (v ∷ w ∷ vs) inside =
-    layers s d xs vs (node (spanned s.text (layer_of_two (extensions_of s.rules.options) d) y w) inside nil)
+    layers s d xs vs (node (spanned s.text (layer_of_two (extensions_of s.rules.syntax) d) y w) inside nil)
 layers s d (x ∷ xs) (v ∷ vs) inside =
-    let outer : TreeNode _ = spanned s.text (layer_of_one (extensions_of s.rules.options) d) x v in
+    let outer : TreeNode _ = spanned s.text (layer_of_one (extensions_of s.rules.syntax) d) x v in
     record { whole = node outer inside nil; opening = xs; closing = vs }
 
 -- the trees of a chain, added to what was read

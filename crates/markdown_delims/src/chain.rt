@@ -16,7 +16,7 @@ use crate::open_runs::OpenRuns;
 use crate::quotes::quote_chain;
 use crate::read::read_tree;
 use markdown_base::item::Item;
-use markdown_base::options::Options;
+use markdown_base::syntax::Syntax;
 use markdown_base::tree::Tree;
 use markdown_document::work::Work;
 use std::alloc::AllocError;
@@ -55,11 +55,11 @@ fn pair_runs(
     Ok(())
 }
 
-/// What a chain is paired by: the text that its items are ranges of, and the enabled options.
+/// What a chain is paired by: the text that its items are ranges of, and what is read of it.
 #[derive(Clone, Copy, Drop)]
 pub struct ChainText<'t> {
     pub text: &'t str,
-    pub options: Options,
+    pub syntax: Syntax,
 }
 
 /// Pairs the chain of inline items from the node `first` on in place, once pass one has left nothing open in it but
@@ -79,12 +79,12 @@ pub fn pair_chain(
     work: &mut Work,
 ) -> Result<(), AllocError>
     requires chain { CanPair source.text.now tree.old.nodes first }
-    ensures pairs { OnOk result ((rules : Rules) → rules.options ≡ source.entry.options
+    ensures pairs { OnOk result ((rules : Rules) → rules.syntax ≡ source.entry.syntax
         → PairsChain (setting_of source.entry.text.now rules) first tree.old.nodes
         tree.new.nodes) }
     ensures place { OnOk result (tree.new ≡ record tree.old { nodes = tree.new.nodes }) }
     ensures found { OnOk result ((rules : Rules) (tables : Tables)
-        → rules.options ≡ source.entry.options
+        → rules.syntax ≡ source.entry.syntax
         → RisesAtLeast (finds_in (setting_of source.entry.text.now rules)
         (trees_from source.entry.text.now tables tree.old.nodes (Some first)))
         work.old.examined work.new.examined) }
@@ -101,7 +101,7 @@ pub fn pair_chain(
     open_runs.clear();
     let marked = Source {
         text: source.text.as_bytes(),
-        extensions: Extensions::of_options(source.options),
+        extensions: Extensions::of(source.syntax),
     };
     let delimiters = quote_chain(tree, first);
     let done = pair_runs(tree, open_runs, marked, first, delimiters);

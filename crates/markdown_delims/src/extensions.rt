@@ -9,7 +9,7 @@ ghost use Rattle.markdown_delims.specs.ChainReading.{HasCount};
 
 use crate::run::{Delimiter, Run};
 use markdown_base::item::{Item, ItemBody};
-use markdown_base::options::Options;
+use markdown_base::syntax::Syntax;
 
 /// The enabled marks.
 #[derive(Clone, Copy)]
@@ -22,14 +22,14 @@ pub struct Extensions {
 impl Extensions {
     ghost use Rattle.markdown_delims.specs.Layers.{extensions_of};
 
-    /// Returns the marks that a set of options enables.
-    pub fn of_options(options: Options) -> Extensions
-        ensures { result ≡ extensions_of options }
+    /// Returns the marks of a syntax.
+    pub fn of(syntax: Syntax) -> Extensions
+        ensures { result ≡ extensions_of syntax }
     {
         Extensions {
-            strikethrough: options.contains(Options::ENABLE_STRIKETHROUGH),
-            superscript: options.contains(Options::ENABLE_SUPERSCRIPT),
-            subscript: options.contains(Options::ENABLE_SUBSCRIPT),
+            strikethrough: syntax.strikethrough,
+            superscript: syntax.superscript,
+            subscript: syntax.subscript,
         }
     }
 

@@ -4,7 +4,7 @@ use Rattle.std.specs.Prelude.{ℕ, Bool, List, Option, Some, None, is_some}
 use Rattle.std.specs.Option.{option_map}
 use Rattle.markdown_base.specs.BlockParts.{DefinitionView, definition_view}
 use Rattle.markdown_base.specs.Questions.{Answers}
-use Rattle.markdown_base.specs.declared.options.Options.{Options}
+use Rattle.markdown_base.specs.declared.syntax.Syntax.{Syntax}
 use Rattle.markdown_defs.specs.Allocations.{Allocated}
 use Rattle.markdown_defs.specs.Definitions.{Labelled, find_definition}
 use Rattle.markdown_defs.specs.Footnotes.{footnote_at}
@@ -19,17 +19,17 @@ DefinitionsByLabel = List ℕ → Option DefinitionView
 abbrev pub by_label : List Labelled → DefinitionsByLabel
 by_label definitions = λ label. option_map definition_view (find_definition label definitions)
 
--- the options, what link labels refer to, which names are those of footnotes, and whether there is a callback
+-- what is read, what link labels refer to, which names are those of footnotes, and whether there is a callback
 pub record Rules : Type 0 where
-  pub options : Options
+  pub syntax : Syntax
   pub definitions : DefinitionsByLabel
   pub is_footnote : List ℕ → Bool
   pub asks : Bool
 
--- the rules of a chain with these options, reference definitions and footnotes
-abbrev pub rules_from : Options → Allocated → Bool → Rules
-rules_from options held asks = record {
-  options = options;
+-- the rules of a chain with this syntax, reference definitions and footnotes
+abbrev pub rules_from : Syntax → Allocated → Bool → Rules
+rules_from syntax held asks = record {
+  syntax = syntax;
   definitions = by_label held.refdefs;
   is_footnote = λ name. is_some (footnote_at held.footdefs name);
   asks = asks;

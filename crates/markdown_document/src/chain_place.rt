@@ -1,9 +1,6 @@
-//! The place of a chain: what its rules read of the text, of the options and of the blocks that are open above it.
-ghost use Rattle.std.specs.Prelude.{◌≡◌};
-ghost use Rattle.markdown_base.specs.EnabledOptions.{gfm_footnotes_on};
-
+//! The place of a chain: what its rules read of the text, what is read of it, and the blocks that are open above it.
 use markdown_base::item::Item;
-use markdown_base::options::Options;
+use markdown_base::syntax::Syntax;
 
 /// The place of a chain in a text.
 #[derive(Clone, Copy, Drop)]
@@ -17,12 +14,6 @@ pub struct ChainPlace<'a, 'p> {
     /// The containers that the chain is in, the outermost first: of the blocks above it those that have a part in the
     /// beginning of each line.
     pub containers: &'p [Item],
-    pub options: Options,
-}
-
-/// Returns whether footnotes are enabled, in GitHub's style (`ENABLE_FOOTNOTES` without `ENABLE_OLD_FOOTNOTES`).
-pub fn gfm_footnotes(options: Options) -> bool
-    ensures { result ≡ gfm_footnotes_on options }
-{
-    options.contains(Options::ENABLE_FOOTNOTES) && !options.contains(Options::ENABLE_OLD_FOOTNOTES)
+    /// What is read of the text.
+    pub syntax: Syntax,
 }

@@ -28,7 +28,7 @@ use Rattle.markdown_builder.specs.Shown.{stored_parts, text_shown, unnumbered}
 use Rattle.markdown_document.specs.Document.{Shape, block_of, document, enclosed, shape_of, tree_node_of}
 use Rattle.markdown_document.specs.Tables.{alignments_at, heading_at, tables_at_start, text_at}
 use Rattle.markdown_inline.specs.DocumentOfText.{document_of, node_shown, shape_with, tables_for}
-use Rattle.markdown_lines.specs.BlockBeginnings.{Source}
+use Rattle.markdown_base.specs.Source.{Source}
 
 -- the text, the heading and the alignments of a number, as they are shown and as they are stored
 text_found : (cows : List CowStr) (ix : ℕ) → text_at (tables_for (slice_get (map text_of cows) ix)).cows 0

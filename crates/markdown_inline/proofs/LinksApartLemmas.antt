@@ -6,7 +6,6 @@ use Rattle.std.proofs.Common.{arith}
 use Rattle.std.specs.Option.{option_map, option_map_or, option_or}
 use Rattle.std.specs.Prelude.{⊤, IfSome, if◌then◌else◌, slice_range, take}
 use Rattle.markdown_base.specs.Event.{TagView, link}
-use Rattle.markdown_base.specs.ExtendedOptions.{is_extended}
 use Rattle.markdown_base.specs.Forest.{Forest, nil, node, roots}
 use Rattle.markdown_base.specs.declared.item.ItemBody.{ItemBody}
 use Rattle.markdown_base.specs.declared.item.ItemBody.TheVariants as body
@@ -206,11 +205,11 @@ module _ (addresses : Bool) where
     makes_apart s = record {
       text = λ x h. (nothing_below A x.part.shape, tt);
       one = λ d x v inside h i. (
-        one_apart (extensions_of s.rules.options) d (slice_range s.text x.part.range.start v.part.range.end) inside,
+        one_apart (extensions_of s.rules.syntax) d (slice_range s.text x.part.range.start v.part.range.end) inside,
         from_each inside i,
       );
       two = λ d x v inside h i. (
-        two_apart (extensions_of s.rules.options) d (slice_range s.text x.part.range.start v.part.range.end) inside,
+        two_apart (extensions_of s.rules.syntax) d (slice_range s.text x.part.range.start v.part.range.end) inside,
         from_each inside i,
       );
     }
@@ -331,38 +330,38 @@ module _ (addresses : Bool) where
 module _ {A : Type 0} where
   -- the full reading has addresses
   abbrev FreeBy : Setting → Forest (TreeNode A) → Type 0
-  FreeBy s f = IsFreeOfLinks (is_extended s.rules.options) f
+  FreeBy s f = IsFreeOfLinks s.rules.syntax.addresses f
 
   abbrev ApartBy : Setting → Forest (TreeNode A) → Type 0
-  ApartBy s f = HasNoLinkInLink (is_extended s.rules.options) f
+  ApartBy s f = HasNoLinkInLink s.rules.syntax.addresses f
 
   code_allowed : (s : Setting) (above : EnclosingBlocks) (a : TreeNode A) (closer : Option (TreeNode A))
-      → FindsAllowed (is_extended s.rules.options) (code_found s above a closer)
+      → FindsAllowed s.rules.syntax.addresses (code_found s above a closer)
   code_allowed s above a None = tt
   code_allowed s above a (Some closer) = tt
 
   math_allowed : (s : Setting) (above : EnclosingBlocks) (a : TreeNode A) (after : List (TreeNode A))
       (m : Option (MathClose (TreeNode A)))
-      → FindsAllowed (is_extended s.rules.options) (math_found s above a after m)
+      → FindsAllowed s.rules.syntax.addresses (math_found s above a after m)
   math_allowed s above a after None = tt
   math_allowed s above a after (Some m) = tt
 
   markup_allowed : (s : Setting) (above : EnclosingBlocks) (a : TreeNode A) (is_followed : Bool)
-      → FindsAllowed (is_extended s.rules.options) (markup_found s above a is_followed)
+      → FindsAllowed s.rules.syntax.addresses (markup_found s above a is_followed)
   markup_allowed s above a false = tt
   markup_allowed s above a true =
-      by (markup_at (λ bytes. Some (prefix_below s above bytes)) (is_extended s.rules.options)
+      by (markup_at (λ bytes. Some (prefix_below s above bytes)) s.rules.syntax.addresses
       (take above.block_end s.text) (start_of a) (end_of a))
-      (allowed_at (is_extended s.rules.options) (λ bytes. Some (prefix_below s above bytes))
+      (allowed_at s.rules.syntax.addresses (λ bytes. Some (prefix_below s above bytes))
       (take above.block_end s.text) (start_of a) (end_of a))
     where
-      by : (m : Option Markup) → IfSome m (IsAllowed (is_extended s.rules.options))
-          → FindsAllowed (is_extended s.rules.options) {A = A} (option_map_or markup m nothing)
+      by : (m : Option Markup) → IfSome m (IsAllowed s.rules.syntax.addresses)
+          → FindsAllowed s.rules.syntax.addresses {A = A} (option_map_or markup m nothing)
       by None h = tt
       by (Some m) h = h
 
   find_allowed : (s : Setting) (above : EnclosingBlocks) (b : ItemBody) (a : TreeNode A) (rest : Forest (TreeNode A))
-      → FindsAllowed (is_extended s.rules.options) (find_by s above b a rest)
+      → FindsAllowed s.rules.syntax.addresses (find_by s above b a rest)
   find_allowed s above (body.MaybeCode count escaped) a rest =
       code_allowed s above a (code_close as_item (body.MaybeCode count escaped) (roots rest))
   find_allowed s above (body.MaybeMath opens closes context) a rest =
@@ -371,13 +370,13 @@ module _ {A : Type 0} where
   find_allowed s above other a rest = tt
 
   other_free : (s : Setting) (notes : Notes A) (above : EnclosingBlocks) (a : TreeNode A)
-      (below rest : Forest (TreeNode A)) (p : Progress A) → IsNoLink (is_extended s.rules.options) a.part.shape
+      (below rest : Forest (TreeNode A)) (p : Progress A) → IsNoLink s.rules.syntax.addresses a.part.shape
       → FreeBy s below
-      → HasMoreTrees (is_extended s.rules.options) p.left (read_other s notes above a below rest p).left
+      → HasMoreTrees s.rules.syntax.addresses p.left (read_other s notes above a below rest p).left
   unfolding read_tree
   other_free s notes above a below rest p h i =
-      put_more (is_extended s.rules.options) (read_tree s notes above p.made a below rest).trees p.left
-      (free_unless (is_extended s.rules.options) (is_quiet a.part.shape) s notes above p.made a below rest
+      put_more s.rules.syntax.addresses (read_tree s notes above p.made a below rest).trees p.left
+      (free_unless s.rules.syntax.addresses (is_quiet a.part.shape) s notes above p.made a below rest
       (find_allowed s above (open_body a.part.shape) a rest) h i)
 
   -- pass one puts no link into a link either, by the law of brackets; nor does the whole
@@ -385,15 +384,15 @@ module _ {A : Type 0} where
       (state : ReferenceState) → FreeBy s chain
       → ApartBy s (pass_one s notes above chain state).forest
   unfolding pass_one
-  pass_one_apart s notes above chain state h = no_link_in_link (is_extended s.rules.options) (bracket_context s above)
+  pass_one_apart s notes above chain state h = no_link_in_link s.rules.syntax.addresses (bracket_context s above)
       (read_other s notes above) (other_free s notes above) chain
       state h
 
   pub resolved_apart : (s : Setting) (notes : Notes A) (above : EnclosingBlocks) (chain : Forest (TreeNode A))
-      (state : ReferenceState) → IsFreeOfLinks (is_extended s.rules.options) chain
-      → HasNoLinkInLink (is_extended s.rules.options) (all_paired s (resolved s notes above chain state).forest)
+      (state : ReferenceState) → IsFreeOfLinks s.rules.syntax.addresses chain
+      → HasNoLinkInLink s.rules.syntax.addresses (all_paired s (resolved s notes above chain state).forest)
   unfolding resolved
   resolved_apart s notes above chain state h =
       let f : Forest (TreeNode A) = (pass_one s notes above chain state).forest in
-      all_apart (is_extended s.rules.options) s (paired s f) (paired_apart (is_extended s.rules.options) s f
+      all_apart s.rules.syntax.addresses s (paired s f) (paired_apart s.rules.syntax.addresses s f
       (pass_one_apart s notes above chain state h))

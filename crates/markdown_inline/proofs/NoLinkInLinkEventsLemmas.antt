@@ -4,7 +4,6 @@ use Rattle.std.proofs.Common.{◌≡◌, ℕ, suc, ◌≤◌, Bool, true, false,
 use Rattle.std.proofs.Common.{append_assoc, append-nil, arith, inl, inr}
 use Rattle.std.specs.declared.ops.Range.{Range}
 use Rattle.markdown_base.specs.Event.{EventView, TagView, start, end, tag_end, link}
-use Rattle.markdown_base.specs.ExtendedOptions.{is_extended}
 use Rattle.markdown_base.specs.Forest.{Forest, nil, node}
 use Rattle.markdown_base.specs.declared.tag.LinkType.{LinkType}
 use Rattle.markdown_base.specs.declared.tag.LinkType.TheVariants as kind
@@ -91,7 +90,7 @@ module _ (addresses : Bool) where
 
 pub no-link-law : NoLinkInLinkLaw
 no-link-law blocks asks answers =
-    let addresses = is_extended (rules_of blocks asks).options in
+    let addresses = (rules_of blocks asks).syntax.addresses in
     let r = whole_such blocks asks answers in
     let trees = (resolved_blocks blocks asks answers).trees in
     subst (NoLinkInLink addresses) (sym (whole_events blocks asks answers))

@@ -176,18 +176,18 @@ module _ (own : Shape → List ℕ) (numbers : NumbersNoMarks own) where
     ends_layers s d [] vs inside t = within_same (ends inside (forward vs t))
     ends_layers s d (x ∷ xs) [] inside t = within_same (backward (x ∷ xs) (ends inside t))
     ends_layers s d (x ∷ []) (v ∷ vs) inside t =
-        let e = one_none (extensions_of s.rules.options) d (slice_range s.text x.part.range.start v.part.range.end) in
-        one_layer s (spanned s.text (layer_of_one (extensions_of s.rules.options) d) x v).part.shape x v inside
+        let e = one_none (extensions_of s.rules.syntax) d (slice_range s.text x.part.range.start v.part.range.end) in
+        one_layer s (spanned s.text (layer_of_one (extensions_of s.rules.syntax) d) x v).part.shape x v inside
         (forward vs t) (forward vs t) e
         (within_same (forward vs t))
     ends_layers s d (x ∷ y ∷ xs) (v ∷ []) inside t =
-        let e = one_none (extensions_of s.rules.options) d (slice_range s.text x.part.range.start v.part.range.end) in
-        let shape : Shape = (spanned s.text (layer_of_one (extensions_of s.rules.options) d) x v).part.shape in
+        let e = one_none (extensions_of s.rules.syntax) d (slice_range s.text x.part.range.start v.part.range.end) in
+        let shape : Shape = (spanned s.text (layer_of_one (extensions_of s.rules.syntax) d) x v).part.shape in
         mono_backward (y ∷ xs) (ends inside (own shape ++ t)) (of x ++ ends inside (of v ++ t))
         (one_layer s shape x v inside t t e (within_same t))
     ends_layers s d (x ∷ y ∷ xs) (v ∷ w ∷ vs) inside t =
-        let e = two_none (extensions_of s.rules.options) d (slice_range s.text y.part.range.start w.part.range.end) in
-        let layer : TreeNode A = spanned s.text (layer_of_two (extensions_of s.rules.options) d) y w in
+        let e = two_none (extensions_of s.rules.syntax) d (slice_range s.text y.part.range.start w.part.range.end) in
+        let layer : TreeNode A = spanned s.text (layer_of_two (extensions_of s.rules.syntax) d) y w in
         let u : List ℕ = forward vs t in
         within_trans _ (backward xs (ends inside (of layer ++ u))) _ (ends_layers s d xs vs (node layer inside nil) t)
         (mono_backward xs (ends inside (of layer ++ u)) (of y ++ (of x ++ ends inside (of v ++ (of w ++ u))))

@@ -69,7 +69,7 @@ gave-elements s t given g later = ap (λ (x : Passage). x.elements) (g.left late
 -- what a parser holds but for its tree and its tables
 pub record SameBut {F : Type 0} (s t : Parser F) : Type 0 where
   pub text : t.resolver.text ≡ s.resolver.text
-  pub options : t.resolver.options ≡ s.resolver.options
+  pub syntax : t.resolver.syntax ≡ s.resolver.syntax
   pub callback : t.resolver.lookup.callback ≡ s.resolver.lookup.callback
   pub limit : t.resolver.lookup.limit ≡ s.resolver.lookup.limit
   pub work : t.resolver.work ≡ s.resolver.work
@@ -81,9 +81,9 @@ gave_step s t given k w = record {
   callback = sym k.callback;
   work = k.work;
   left = λ later.
-      rw (k.text, k.options, k.callback, k.limit, w.tables)
+      rw (k.text, k.syntax, k.callback, k.limit, w.tables)
       (rw w.tables at (w.left
-      (rules_from s.resolver.options s.resolver.lookup.tables (is_some s.resolver.lookup.callback))
+      (rules_from s.resolver.syntax s.resolver.lookup.tables (is_some s.resolver.lookup.callback))
       (parser_state s later)));
 }
 
@@ -104,7 +104,7 @@ moved_give s t e range k g = (
 took_same : {F : Type 0} (s t u : Parser F) (item : Item) → SameBut s t → Took t u item → SameBut s u
 took_same s t u item k took = record {
   text = took.text ∙ k.text;
-  options = took.options ∙ k.options;
+  syntax = took.syntax ∙ k.syntax;
   callback = took.callback ∙ k.callback;
   limit = took.limit ∙ k.limit;
   work = took.work ∙ k.work;
@@ -231,8 +231,8 @@ entered_chain g {s} {t} {held} {held'} {first} gfm w b r known =
     rw (spine, items_above s.spine r.chain.changes (above_chain g.text s held first w b)) known
 
 -- the rules depend on the names of footnotes, and not on their uses
-setting_kept : {F : Type 0} (s t : Parser F) → t.resolver.text ≡ s.resolver.text → t.resolver.options
-    ≡ s.resolver.options
+setting_kept : {F : Type 0} (s t : Parser F) → t.resolver.text ≡ s.resolver.text → t.resolver.syntax
+    ≡ s.resolver.syntax
     → is_some s.resolver.lookup.callback ≡ is_some t.resolver.lookup.callback
     → t.resolver.lookup.tables ≡ record s.resolver.lookup.tables {
       cows = t.resolver.lookup.tables.cows;
@@ -252,7 +252,7 @@ setting_kept s t x o some tables names =
     rw (x, o, ← some, definitions)
     (ap (λ (f : List ℕ → Bool). let g : Setting = setting_of s.resolver.text.now
     (record {
-      options = s.resolver.options;
+      syntax = s.resolver.syntax;
       definitions = by_label s.resolver.lookup.tables.refdefs;
       is_footnote = f;
       asks = is_some s.resolver.lookup.callback;
@@ -282,7 +282,7 @@ counts_before s first w b answers =
 
 -- a chain that is resolved: its questions, and then an event
 pub moved_chain : {F : Type 0} (step : F → Question → Option Answer → F → Type 0) (s t : Parser F) (first : ℕ)
-    → t.resolver.text ≡ s.resolver.text → t.resolver.options ≡ s.resolver.options
+    → t.resolver.text ≡ s.resolver.text → t.resolver.syntax ≡ s.resolver.syntax
     → TreeStands s.resolver.text.now (tables_of s.resolver.lookup.tables) s.tree → IsBeforeChain s.tree first
     → ResolvesChain step (parser_setting s) first s.tree t.tree s.resolver.lookup.tables t.resolver.lookup.tables
     s.resolver.lookup.limit t.resolver.lookup.limit

@@ -10,9 +10,8 @@ use Rattle.markdown_base.specs.CowText.{text_of}
 use Rattle.markdown_base.specs.Forest.{Forest}
 use Rattle.markdown_base.specs.Questions.{Answers}
 use Rattle.markdown_base.specs.declared.cow_str.CowStr.{CowStr}
-use Rattle.markdown_base.specs.declared.options.Options.{Options}
-use Rattle.markdown_block_rules.specs.BlockResults.{IsBlockResult}
-use Rattle.markdown_blocks.specs.Blocks.{IsOfEntry, block_arena, block_parts, source_for, text_of_blocks}
+use Rattle.markdown_base.specs.Source.{Source}
+use Rattle.markdown_blocks.specs.Blocks.{IsBlocksOf, block_arena, block_parts, block_source, text_of_blocks}
 use Rattle.markdown_blocks.specs.declared.blocks.Blocks.{Blocks}
 use Rattle.markdown_builder.specs.BuilderView.{Definition, stored_definition}
 use Rattle.markdown_defs.proofs.DefinitionsLemmas.{look_up_firsts}
@@ -52,28 +51,28 @@ same_names : (name : List ℕ) (labels : List CowStr) → list_any (λ n. is_mat
 same_names name [] = refl
 same_names name (n ∷ labels) = rw (same_names name labels) refl
 
-same_definitions : (definitions : List Labelled)
+-- what labels refer to by the definitions of a block result is what they refer to by those of its source
+pub same_definitions : (definitions : List Labelled)
     → by_label (firsts definitions) ≡ defined_by (map stored_definition definitions)
 same_definitions definitions = fun_ext (λ label. ap (option_map definition_view) (look_up_firsts label definitions)
     ∙ same_found label definitions)
 
-rules-of_text : (extended : Bool) (text : List ℕ) (options : Options) (blocks : Blocks)
-    → IsOfEntry extended text options blocks
-    → IsBlockResult (source_for extended text options) (block_arena blocks).nodes (block_parts blocks)
-    → (asks : Bool) → rules_of blocks asks ≡ rules_of_text (source_for extended text options) asks
-rules-of_text extended text options blocks of is asks =
+rules-of_text : (s : Source) (blocks : Blocks) → IsBlocksOf s blocks → (asks : Bool)
+    → rules_of blocks asks ≡ rules_of_text s asks
+rules-of_text s blocks of asks =
+    let is = of.by_rules in
     let was : List ℕ → Bool = λ name. list_any (λ n. is_match (text_of n) name) (block_parts blocks).footnotes.items in
     let now : List ℕ → Bool = λ name. list_any (λ footnote. is_match footnote name)
     (map text_of (block_parts blocks).footnotes.items) in
     let names : was ≡ now = fun_ext (λ name. same_names name (block_parts blocks).footnotes.items) in
+    let syntax : (block_source blocks).syntax ≡ s.syntax = ap (λ (o : Source). o.syntax) of.source in
     rw (
-      of.holds_options,
-      of.holds_entry,
+      syntax,
       ← is.definitions,
       ← is.footnotes,
       same_definitions (block_parts blocks).definitions.items,
     ) (ap (λ (f : List ℕ → Bool). let r : Rules = record {
-      options = (source_for extended text options).options;
+      syntax = s.syntax;
       definitions = defined_by (map stored_definition (block_parts blocks).definitions.items);
       is_footnote = f;
       asks = asks;
@@ -87,14 +86,12 @@ read_with text rules trees answers =
 
 pub text-law : TextLaw
 unfolding read_with
-text-law extended text options blocks of asks answers =
-    let is = of.by_rules in
-    let source = source_for extended text options in
+text-law s blocks of asks answers =
+    let text : text_of_blocks blocks ≡ s.text = ap (λ (o : Source). o.text) of.source in
     let nodes = (block_arena blocks).nodes in
     let tables = tables_at_start (block_parts blocks) in
     ap (λ (rules : Rules). read_with (text_of_blocks blocks) rules (document (text_of_blocks blocks) tables nodes)
-    answers) (rules-of_text extended text options blocks of is asks)
-    ∙ ap (λ (read : List ℕ). read_with read (rules_of_text source asks) (document read tables nodes) answers)
-    of.holds_text
-    ∙ ap (λ (trees : Forest Plain). read_with text (rules_of_text source asks) trees answers)
-    (document-of_text source nodes (block_parts blocks) is)
+    answers) (rules-of_text s blocks of asks)
+    ∙ ap (λ (read : List ℕ). read_with read (rules_of_text s asks) (document read tables nodes) answers) text
+    ∙ ap (λ (trees : Forest Plain). read_with s.text (rules_of_text s asks) trees answers)
+    (document-of_text s nodes (block_parts blocks) of.by_rules)

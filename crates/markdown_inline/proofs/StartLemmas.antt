@@ -7,7 +7,8 @@ use Rattle.std.specs.Prelude.{IfOk, if◌then◌else◌, IsTrue, nat_eq, is_some
 use Rattle.std.proofs.Math.Path.{fun_ext}
 use Rattle.markdown_base.specs.CowText.{text_of}
 use Rattle.markdown_base.specs.declared.fault.Fault.{Fault}
-use Rattle.markdown_base.specs.declared.options.Options.{Options}
+use Rattle.markdown_base.specs.Source.{Source}
+use Rattle.markdown_base.specs.declared.syntax.Syntax.{Syntax}
 use Rattle.markdown_defs.specs.Allocations.{Allocated}
 use Rattle.markdown_defs.specs.AllocationCalls.{HoldsParts}
 use Rattle.markdown_defs.specs.Folding.{is_match}
@@ -33,10 +34,10 @@ use Rattle.markdown_base.specs.declared.item.ItemBody.{ItemBody}
 use Rattle.markdown_base.specs.declared.node.Node.{Node}
 use Rattle.markdown_base.proofs.ForestLemmas.{Throughout-weaker, relabelled-Throughout, relabelled-relabelled}
 use Rattle.markdown_base.specs.Questions.{Answers}
-use Rattle.markdown_blocks.specs.Blocks.{text_of_blocks, block_arena, block_parts, IsOfEntry}
+use Rattle.markdown_blocks.specs.Blocks.{IsBlocksOf, block_arena, block_parts, block_source, text_of_blocks}
 use Rattle.markdown_blocks.specs.declared.blocks.Blocks.{Blocks}
-use Rattle.markdown_inline.specs.ParserLeft.{elements, rules_of, reading_of, expansion_limit, ReadsBlocks, ReadsEntry}
-use Rattle.markdown_inline.specs.ParserLeft.{findable_definitions, options_read, parser_callback, parser_definitions}
+use Rattle.markdown_inline.specs.ParserLeft.{elements, rules_of, reading_of, expansion_limit, ReadsBlocks, ReadsText}
+use Rattle.markdown_inline.specs.ParserLeft.{findable_definitions, parser_callback, parser_definitions}
 use Rattle.markdown_inline.specs.Walk.{left_of}
 use Rattle.markdown_document.specs.Places.{tree_node_at, trees_from, origin_start}
 use Rattle.markdown_document.specs.PlacedNodes.{IsPlaced, HasSlices}
@@ -54,7 +55,8 @@ use Rattle.markdown_inline.specs.declared.walk.Parser.{Parser}
 use Rattle.markdown_document.specs.Tables.{Tables, tables_of, tables_at_start}
 use Rattle.markdown_document.proofs.PlaceLemmas.{named-past, open-unresolved}
 use Rattle.markdown_inline.proofs.ParserLemmas.{elements-left}
-use Rattle.markdown_inline.proofs.ReadingOfTextLemmas.{text-law}
+use Rattle.markdown_inline.proofs.ReadingOfTextLemmas.{same_definitions, text-law}
+use Rattle.markdown_inline.specs.ReadingOfText.{defined_by}
 
 -- the texts that are referred to
 listed-cons : (n : ℕ) (o : Option ℕ) (xs : List ℕ) → listed (same n) (cons_option o xs)
@@ -329,16 +331,16 @@ pub tables_held : (parts : BlockParts) (held : Allocated) → HoldsParts parts h
 tables_held parts held h = rw (h.cows, h.links, h.alignments, h.headings) refl
 
 -- what is held at first gives the rules of the block result
-rules_held : (blocks : Blocks) (held : Allocated) (options : Options) (asks : Bool)
+rules_held : (blocks : Blocks) (held : Allocated) (syntax : Syntax) (asks : Bool)
     → HoldsParts (block_parts blocks) held
-    → options ≡ options_read blocks → rules_from options held asks ≡ rules_of blocks asks
-rules_held blocks held options asks h o =
+    → syntax ≡ (block_source blocks).syntax → rules_from syntax held asks ≡ rules_of blocks asks
+rules_held blocks held syntax asks h o =
     let is_name : List ℕ → Bool = λ name. list_any (λ n. is_match (text_of n) name) (block_parts blocks).footnotes.items
     in
     let is_held : List ℕ → Bool = λ name. is_some (footnote_at held.footdefs name) in
     let named : is_held ≡ is_name = fun_ext (λ name. ap is_some (h.footnotes name) ∙ some_if unused (is_name name)) in
     rw (o, h.definitions) (ap (λ (f : List ℕ → Bool). let r : Rules = record {
-      options = options_read blocks;
+      syntax = (block_source blocks).syntax;
       definitions = by_label (findable_definitions blocks);
       is_footnote = f;
       asks = asks;
@@ -360,13 +362,13 @@ uses_held blocks held h =
 -- at the start what is left is the whole reading
 pub starts_left : {F : Type 0} (blocks : Blocks) (p : Parser F) (answers : Answers) → p.resolver.text.now
     ≡ text_of_blocks blocks
-    → p.resolver.options ≡ options_read blocks → HoldsParts (block_parts blocks) p.resolver.lookup.tables
+    → p.resolver.syntax ≡ (block_source blocks).syntax → HoldsParts (block_parts blocks) p.resolver.lookup.tables
     → (tree : Arena Item) → tree ≡ block_arena blocks → p.tree
     ≡ record tree { spine = []; cursor = child_of tree.nodes 0 }
     → p.resolver.lookup.limit ≡ expansion_limit (text_of_blocks blocks)
     → elements p answers ≡ reading_of blocks (is_some p.resolver.lookup.callback) answers
 unfolding left_of
-starts_left blocks p answers text options held tree same reset limit =
+starts_left blocks p answers text syntax held tree same reset limit =
     elements-left p answers
     ∙ rw (
       reset,
@@ -375,22 +377,21 @@ starts_left blocks p answers text options held tree same reset limit =
       tables_held (block_parts blocks) p.resolver.lookup.tables held,
       limit,
       uses_held blocks p.resolver.lookup.tables held,
-      rules_held blocks p.resolver.lookup.tables p.resolver.options (is_some p.resolver.lookup.callback) held options,
+      rules_held blocks p.resolver.lookup.tables p.resolver.syntax (is_some p.resolver.lookup.callback) held syntax,
       ← document-trees
           (text_of_blocks blocks) (tables_at_start (block_parts blocks)) (block_arena blocks).nodes,
     ) refl
 
--- a parser of a block result of a text is one of some block result of the text
-pub of_some_text : {F : Type 0} (extended : Bool) (text : List ℕ) (options : Options) (blocks : Blocks)
-    (made : Result (Parser F) Fault) → IsOfEntry extended text options blocks
+-- a parser of a block result of a source reads the source
+pub of_some_text : {F : Type 0} (s : Source) (blocks : Blocks) (made : Result (Parser F) Fault) → IsBlocksOf s blocks
     → IfOk made (ReadsBlocks blocks) → IfOk made (λ p. parser_definitions p ≡ findable_definitions blocks)
-    → IfOk made (ReadsEntry extended text options)
-of_some_text extended text options blocks (Ok p) of left found = record {
+    → IfOk made (ReadsText s)
+of_some_text s blocks (Ok p) of left found = record {
+  left = λ answers. left answers ∙ text-law s blocks of (is_some (parser_callback p)) answers;
+  definitions = ap by_label found
+      ∙ (same_definitions (block_parts blocks).definitions.items ∙ ap defined_by of.by_rules.definitions);
   blocks = blocks;
   of_text = of;
-  left = left;
-  definitions = found;
-  by_rules = λ answers.
-      left answers ∙ text-law extended text options blocks of (is_some (parser_callback p)) answers;
+  of_blocks = left;
 }
-of_some_text extended text options blocks (Err fault) of left found = tt
+of_some_text s blocks (Err fault) of left found = tt

@@ -5,6 +5,7 @@ use Rattle.std.specs.Prelude.{slice_range}
 use Rattle.std.proofs.Common.{sym, subst, ap, ap₂, ◌∙◌, map}
 use Rattle.std.proofs.lemmas.List.{length-map, map-append}
 use Rattle.markdown_inline.specs.declared.bodies.Visit.TheVariants as visit
+use Rattle.markdown_base.specs.Syntax.{commonmark}
 use Rattle.markdown_base.specs.Arena.{Arena, child_of, sibling_of}
 use Rattle.markdown_base.specs.ArenaForest.{links_of}
 use Rattle.markdown_base.specs.BlockTree.{item_at}
@@ -44,7 +45,7 @@ over source item = slice_range source item.start item.end
 -- some rules, for what does not depend on the rules of a chain
 any_rules : Rules
 any_rules = record {
-  options = record { 0 = 0 };
+  syntax = commonmark;
   definitions = λ label. None;
   is_footnote = λ name. false;
   asks = false;

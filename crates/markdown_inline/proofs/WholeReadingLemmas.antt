@@ -7,7 +7,6 @@ use Rattle.std.proofs.lemmas.List.{map-append}
 use Rattle.std.specs.declared.ops.Range.{Range}
 use Rattle.markdown_base.specs.BlockTree.{Numbered, tree_of}
 use Rattle.markdown_base.specs.Event.{EventView, TagView, start, end, tag_end, link, image, hard_break}
-use Rattle.markdown_base.specs.ExtendedOptions.{is_extended}
 use Rattle.markdown_base.specs.Forest.{Forest, nil, node, Each, relabelled}
 use Rattle.markdown_base.specs.Item.{is_resolved}
 use Rattle.markdown_base.specs.Questions.{Answers}
@@ -221,7 +220,7 @@ module _ {A : Type 0} where
 -- a chain
 chain_such : (s : Setting) (above : EnclosingBlocks) (chain : Forest Plain) (state : ReferenceState)
     → AreBlockShapes chain
-    → IsSuch (is_extended s.rules.options) state (resolved_chain s no_notes above chain state)
+    → IsSuch s.rules.syntax.addresses state (resolved_chain s no_notes above chain state)
 chain_such s above chain state h =
     let trees : Forest Plain = (resolved_chain s no_notes above chain state).trees in
     record {
@@ -229,7 +228,7 @@ chain_such s above chain state h =
           let none = resolved_holds alone_at (λ ns limit. total ns ≡ 0) alone_keeps s no_notes above chain state
           (none_at alone_at block_alone chain h) refl in
           omega (arith, none, total_ends alone_at trees []);
-      apart = resolved_apart s no_notes above chain state (free_blocks (is_extended s.rules.options) chain h);
+      apart = resolved_apart s no_notes above chain state (free_blocks s.rules.syntax.addresses chain h);
       spent = resolved_holds expansion_at (Spent state.limit) (expansions_keep state.limit) s no_notes above chain
           state
           (none_at expansion_at block_expansion chain h) (spent_none state.limit);
@@ -278,10 +277,10 @@ tree_such addresses (unresolved b) a below after chain h i l w state = w state
 
 -- a document
 document_such : (s : Setting) (above : EnclosingBlocks) (f : Forest Plain) (state : ReferenceState) → AreBlockShapes f
-    → IsSuch (is_extended s.rules.options) state (resolved_document s no_notes above f state)
-document_such s above nil state h = none_such (is_extended s.rules.options) state
+    → IsSuch s.rules.syntax.addresses state (resolved_document s no_notes above f state)
+document_such s above nil state h = none_such s.rules.syntax.addresses state
 document_such s above (node a below later) state h =
-    tree_such (is_extended s.rules.options) a.part.shape a
+    tree_such s.rules.syntax.addresses a.part.shape a
     (λ k. resolved_document s no_notes (inside_node a above) below k)
     (λ k. resolved_document s no_notes above later k) (λ k. resolved_chain s no_notes above (node a below later) k)
     h.0
@@ -311,7 +310,7 @@ block_shapes source tables counts (node a below after) h = (
 
 -- the whole
 pub whole_such : (blocks : Blocks) (asks : Bool) (answers : Answers)
-    → IsSuch (is_extended (rules_of blocks asks).options) (state_at_start (text_of_blocks blocks) answers)
+    → IsSuch ((rules_of blocks asks).syntax.addresses) (state_at_start (text_of_blocks blocks) answers)
     (resolved_blocks blocks asks answers)
 whole_such blocks asks answers =
     document_such (setting_of (text_of_blocks blocks) (rules_of blocks asks)) (no_blocks (text_of_blocks blocks))

@@ -3,7 +3,6 @@
 use Rattle.std.proofs.Common.{◌≡◌, ℕ, List, [], ◌∷◌, Option, Bool, refl, sym, subst, ap, ◌∙◌, append-nil}
 use Rattle.std.specs.Prelude.{is_some}
 use Rattle.std.specs.declared.ops.Range.{Range}
-use Rattle.markdown_base.specs.ExtendedOptions.{is_extended}
 use Rattle.markdown_base.specs.Questions.{Question, Answer, Answers}
 use Rattle.markdown_base.specs.declared.event.Event.{Event}
 use Rattle.markdown_brackets.proofs.BracketLawLemmas.{closed_law}
@@ -41,7 +40,7 @@ viewed-ranged source (e ∷ given) (p ∷ events) h =
 
 -- the three laws, of a reading
 whole_reading : (blocks : Blocks) (asks : Bool) (answers : Answers)
-    → IsWhole (text_of_blocks blocks) (is_extended (rules_of blocks asks).options)
+    → IsWhole (text_of_blocks blocks) ((rules_of blocks asks).syntax.addresses)
     (ranged (events_of (reading_of blocks asks answers)))
 whole_reading blocks asks answers =
     record {
@@ -83,7 +82,7 @@ whole_run step p given callback r blocks reads =
     viewed-ranged _ given r.events r.are ∙ ap ranged (sym all)
     ∙ ap (λ es. ranged (events_of es)) (reads r.answers) in
     record {
-      events = subst (IsWhole (text_of_blocks blocks) (is_extended (rules_of blocks asks).options)) (sym same)
+      events = subst (IsWhole (text_of_blocks blocks) ((rules_of blocks asks).syntax.addresses)) (sym same)
           (whole_reading blocks asks r.answers);
       answers = r.answers;
       are = same;

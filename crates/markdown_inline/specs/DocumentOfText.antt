@@ -12,7 +12,7 @@ use Rattle.markdown_block_rules.specs.BlockRules.{block_tree}
 use Rattle.markdown_builder.specs.Shown.{Shown}
 use Rattle.markdown_document.specs.Document.{Plain, Shape, block_of, enclosed, shape_of}
 use Rattle.markdown_document.specs.Tables.{Tables, no_tables}
-use Rattle.markdown_lines.specs.BlockBeginnings.{Source}
+use Rattle.markdown_base.specs.Source.{Source}
 
 -- bytes as the text of an event, wherever they are in memory
 abbrev pub cow_of : List ℕ → CowStr

@@ -111,7 +111,7 @@ pub record IsToBegin {F : Type 0} (s : Parser F) (item : Item) (w : Visit) : Typ
 -- what an item refers to was taken, and nothing else was done
 pub record Took {F : Type 0} (s t : Parser F) (item : Item) : Type 0 where
   pub text : t.resolver.text ≡ s.resolver.text
-  pub options : t.resolver.options ≡ s.resolver.options
+  pub syntax : t.resolver.syntax ≡ s.resolver.syntax
   pub callback : t.resolver.lookup.callback ≡ s.resolver.lookup.callback
   pub limit : t.resolver.lookup.limit ≡ s.resolver.lookup.limit
   pub work : t.resolver.work ≡ s.resolver.work

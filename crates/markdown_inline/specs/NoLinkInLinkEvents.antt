@@ -2,7 +2,6 @@
 -- Autolink or, where addresses are on, Email.
 use Rattle.std.specs.Prelude.{◌≡◌, ◌⊎◌, ℕ, zero, suc, ◌≤◌, Bool, true, false, List, [], ◌∷◌}
 use Rattle.markdown_base.specs.Event.{EventView, start, end, link}
-use Rattle.markdown_base.specs.ExtendedOptions.{is_extended}
 use Rattle.markdown_base.specs.Questions.{Answers}
 use Rattle.markdown_base.specs.declared.tag.LinkType.{LinkType}
 use Rattle.markdown_base.specs.declared.tag.LinkType.TheVariants as kind
@@ -39,4 +38,4 @@ NoLinkInLink addresses events = NoLinkInLinkFrom addresses 0 events
 -- this is true of the reading of each block result, for all answers of the callback; the full reading has addresses
 abbrev pub NoLinkInLinkLaw : Type 0
 NoLinkInLinkLaw = (blocks : Blocks) (asks : Bool) (answers : Answers)
-    → NoLinkInLink (is_extended (rules_of blocks asks).options) (ranged (events_of (reading_of blocks asks answers)))
+    → NoLinkInLink ((rules_of blocks asks).syntax.addresses) (ranged (events_of (reading_of blocks asks answers)))

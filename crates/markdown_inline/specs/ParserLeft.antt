@@ -5,11 +5,10 @@ use Rattle.std.specs.List.{list_any}
 use Rattle.markdown_base.specs.Arena.{Arena}
 use Rattle.markdown_base.specs.CowText.{text_of}
 use Rattle.markdown_base.specs.Questions.{Answers}
+use Rattle.markdown_base.specs.Source.{Source}
+use Rattle.markdown_block_rules.specs.BlockRules.{block_definitions}
 use Rattle.markdown_base.specs.declared.item.Item.{Item}
-use Rattle.markdown_base.specs.declared.options.Options.{Options}
-use Rattle.markdown_base.specs.ExtendedOptions.{with_extended}
-use Rattle.markdown_blocks.specs.Blocks.{text_of_blocks, block_options, block_extended, block_arena, block_parts}
-use Rattle.markdown_blocks.specs.Blocks.{IsOfEntry, source_for}
+use Rattle.markdown_blocks.specs.Blocks.{IsBlocksOf, block_arena, block_parts, block_source, text_of_blocks}
 use Rattle.markdown_defs.specs.Definitions.{Labelled, firsts}
 use Rattle.markdown_defs.specs.Folding.{is_match}
 use Rattle.markdown_blocks.specs.declared.blocks.Blocks.{Blocks}
@@ -18,7 +17,7 @@ use Rattle.markdown_document.specs.Document.{no_notes, document}
 use Rattle.markdown_document.specs.Counts.{ChainCounts}
 use Rattle.markdown_inline.specs.Elements.{Element, Passage, nothing_read}
 use Rattle.markdown_inline.specs.Reading.{reading}
-use Rattle.markdown_inline.specs.ReadingOfText.{reading_of_text}
+use Rattle.markdown_inline.specs.ReadingOfText.{defined_by, reading_of_text}
 pub use Rattle.markdown_inline.specs.ReadingOfText.{expansion_limit, state_at_start}
 use Rattle.markdown_document.specs.Setting.{Rules, Setting, ReferenceState, by_label, rules_from, setting_of, uses_of}
 use Rattle.markdown_document.specs.Tables.{tables_of, tables_at_start}
@@ -32,14 +31,10 @@ use Rattle.markdown_document.specs.declared.work.Work.{Work}
 abbrev pub findable_definitions : Blocks → List Labelled
 findable_definitions blocks = firsts (block_parts blocks).definitions.items
 
--- the options by which a block result is read: those of its caller, for its entry
-abbrev pub options_read : Blocks → Options
-options_read blocks = with_extended (block_extended blocks) (block_options blocks)
-
 -- the rules by which the chains of a block result are resolved, with or without a callback
 abbrev pub rules_of : Blocks → Bool → Rules
 rules_of blocks asks = record {
-  options = options_read blocks;
+  syntax = (block_source blocks).syntax;
   definitions = by_label (findable_definitions blocks);
   is_footnote = λ name. list_any (λ n. is_match (text_of n) name) (block_parts blocks).footnotes.items;
   asks = asks;
@@ -78,7 +73,7 @@ parser_tree p = p.tree
 
 -- what resolving its chains depends on
 abbrev pub parser_setting : {F : Type 0} → Parser F → Setting
-parser_setting p = setting_of p.resolver.text.now (rules_from p.resolver.options p.resolver.lookup.tables
+parser_setting p = setting_of p.resolver.text.now (rules_from p.resolver.syntax p.resolver.lookup.tables
     (is_some p.resolver.lookup.callback))
 
 -- what is known when the next chain is reached, where these answers are still to come
@@ -107,24 +102,14 @@ abbrev pub ReadsBlocks : {F : Type 0} → Blocks → Parser F → Type 0
 ReadsBlocks blocks p = (answers : Answers)
     → elements p answers ≡ reading_of blocks (is_some (parser_callback p)) answers
 
--- the same of some block result of a text and options, of one of the entries: one that is well formed and covers the
--- text. The reference definitions that can be found are those of this block result. What is left is the reading that is
--- defined of the text.
-pub record ReadsEntry {F : Type 0} (extended : Bool) (text : List ℕ) (options : Options) (p : Parser F) : Type 0 where
+-- all of the reading of a source is left, for every list of answers. The reference definitions that can be found are
+-- those of the source, and the chains are those of some block result of it.
+pub record ReadsText {F : Type 0} (s : Source) (p : Parser F) : Type 0 where
+  pub left : (answers : Answers) → elements p answers ≡ reading_of_text s (is_some (parser_callback p)) answers
+  pub definitions : by_label (parser_definitions p) ≡ defined_by (block_definitions s)
   pub blocks : Blocks
-  pub of_text : IsOfEntry extended text options blocks
-  pub left : ReadsBlocks blocks p
-  pub definitions : parser_definitions p ≡ findable_definitions blocks
-  pub by_rules : (answers : Answers)
-      → elements p answers
-      ≡ reading_of_text (source_for extended text options) (is_some (parser_callback p)) answers
-
--- the same of the port's profile, and of the extended one
-abbrev pub ReadsText : {F : Type 0} → (text : List ℕ) → Options → Parser F → Type 0
-ReadsText text options p = ReadsEntry false text options p
-
-abbrev pub ReadsExtended : {F : Type 0} → (text : List ℕ) → Options → Parser F → Type 0
-ReadsExtended text options p = ReadsEntry true text options p
+  pub of_text : IsBlocksOf s blocks
+  pub of_blocks : ReadsBlocks blocks p
 
 -- a bound on the steps to come, and so on the items
 abbrev pub parser_steps : {F : Type 0} → Parser F → ℕ

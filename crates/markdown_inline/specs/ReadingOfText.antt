@@ -14,7 +14,7 @@ use Rattle.markdown_document.specs.Setting.{DefinitionsByLabel, ReferenceState, 
 use Rattle.markdown_inline.specs.DocumentOfText.{document_of}
 use Rattle.markdown_inline.specs.Elements.{Element, Placed, events_of, nothing_read}
 use Rattle.markdown_inline.specs.Reading.{reading}
-use Rattle.markdown_lines.specs.BlockBeginnings.{Source}
+use Rattle.markdown_base.specs.Source.{Source}
 
 -- a definition without its label
 abbrev pub unlabelled : Definition → DefinitionView
@@ -31,7 +31,7 @@ defined_by definitions = λ label. option_map unlabelled (find (λ d. is_match l
 -- the rules by which the chains of a text are resolved, with or without a callback
 abbrev pub rules_of_text : Source → Bool → Rules
 rules_of_text s asks = record {
-  options = s.options;
+  syntax = s.syntax;
   definitions = defined_by (block_definitions s);
   is_footnote = λ name. list_any (λ footnote. is_match footnote name) (block_footnotes s);
   asks = asks;

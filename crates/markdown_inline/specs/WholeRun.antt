@@ -2,7 +2,6 @@
 use Rattle.std.specs.Prelude.{◌≡◌, ◌≤◌, ℕ, Bool, List, map, length, Option, is_some}
 use Rattle.std.specs.declared.ops.Range.{Range}
 use Rattle.markdown_base.specs.Event.{event_view}
-use Rattle.markdown_base.specs.ExtendedOptions.{is_extended}
 use Rattle.markdown_base.specs.Forest.{Forest, roots}
 use Rattle.markdown_base.specs.Questions.{Question, Answer, Answers}
 use Rattle.markdown_base.specs.declared.event.Event.{Event}
@@ -56,7 +55,7 @@ pub record AsksOnce (blocks : Blocks) (asks : Bool) (questions : List Question) 
 -- the callback, which was asked the questions of that reading, and these keep the laws too
 pub record IsWholeRun {F : Type 0} (step : F → Question → Option Answer → F → Type 0) (blocks : Blocks) (p : Parser F)
     (given : List (Event × Range ℕ)) (callback : Option F) : Type 0 where
-  pub events : IsWhole (text_of_blocks blocks) (is_extended (rules_of blocks (is_some (parser_callback p))).options)
+  pub events : IsWhole (text_of_blocks blocks) (rules_of blocks (is_some (parser_callback p))).syntax.addresses
       (viewed given)
   pub answers : Answers
   pub are : viewed given ≡ ranged (events_of (reading_of blocks (is_some (parser_callback p)) answers))

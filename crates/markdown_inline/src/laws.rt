@@ -80,7 +80,7 @@ pub fn slices_of_blocks_are_in_place()
 {}
 
 /// States that each block result of a text has the reading that is defined of the text: what is read is a function of the
-/// text, its options, and the callback's answers.
+/// text, of what is read of it, and of the callback's answers.
 pub fn reading_of_blocks_is_that_of_the_text()
     ensures { TextLaw }
 {}

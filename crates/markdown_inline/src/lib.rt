@@ -15,6 +15,7 @@ pub use markdown_base::event::Event;
 pub use markdown_base::fault::Fault;
 pub use markdown_base::inline_str::InlineStr;
 pub use markdown_base::options::Options;
+pub use markdown_base::syntax::Syntax;
 pub use markdown_base::tag::{
     Alignment, BlockQuoteKind, CodeBlockKind, HeadingLevel, LinkType, MetadataBlockKind, Tag,
     TagEnd,

@@ -1,6 +1,6 @@
 //! The walk over a block result that gives its events, and resolves each chain when it reaches it.
 ghost use Rattle.std.specs.Prelude.{◌≡◌, ◌<◌, ◌++◌, ◌∷◌, [], IfOk, IfErr, IfSome, IsTrue, None};
-ghost use Rattle.markdown_base.specs.EnabledOptions.{gfm_footnotes_on};
+ghost use Rattle.markdown_base.specs.Syntax.{gfm_footnotes};
 ghost use Rattle.markdown_resolver.specs.BlocksAbove.{IsKnownAt};
 ghost use Rattle.markdown_inline.specs.Standing.{Stands, Stands-prop};
 ghost use Rattle.markdown_document.specs.Tables.{tables_of};
@@ -10,6 +10,7 @@ use crate::step::{Step, take_step};
 use markdown_base::event::Event;
 use markdown_base::item::Item;
 use markdown_base::options::Options;
+use markdown_base::syntax::Syntax;
 use markdown_base::tag::TagEnd;
 use markdown_base::tree::Tree;
 use markdown_blocks::{Blocks, Fault};
@@ -58,7 +59,7 @@ pub struct Parser<'input, F = DefaultBrokenLinkCallback> {
     /// What is known of the entered nodes of the tree: the containers, and the innermost block.
     above: BlocksAbove,
     resolver: Resolver<'input, F>,
-    ghost entered: { IsKnownAt (gfm_footnotes_on resolver.options) tree.nodes tree.spine above },
+    ghost entered: { IsKnownAt (gfm_footnotes resolver.syntax) tree.nodes tree.spine above },
     ghost stands: { Stands resolver.text.now (tables_of resolver.lookup.tables)
         tree.nodes tree.cursor tree.spine } by { Stands-prop resolver.text.now (tables_of resolver.lookup.tables)
             tree.nodes tree.cursor tree.spine },
@@ -313,15 +314,13 @@ impl<'input, F> OffsetIter<'input, F> {
     }
 }
 
-/// Formats the text and the caller's options, without the tree and what its items refer to, which may be as long as the
+/// Formats the text and what is read of it, without the tree and what its items refer to, which may be as long as the
 /// text, and without the callback.
 impl<'input, F> fmt::Debug for Parser<'input, F> {
     fn fmt<W: fmt::Write>(&self, f: &mut fmt::Formatter<W>) -> fmt::Result {
-        // without the bit of the entry
-        let options = self.resolver.options.with_extended(false);
         f.debug_struct("Parser")
             .field("text", &self.resolver.text)
-            .field("options", &options)
+            .field("syntax", &self.resolver.syntax)
             .finish_non_exhaustive()
     }
 }
@@ -337,12 +336,13 @@ impl<'input, F> fmt::Debug for OffsetIter<'input, F> {
 
 impl<'input> Parser<'input, DefaultBrokenLinkCallback> {
     ghost use Rattle.std.specs.Prelude.{◌≡◌, IfOk, IfErr};
-    ghost use Rattle.markdown_base.specs.EnabledOptions.{no_options};
+    ghost use Rattle.markdown_base.specs.Source.{source_as};
+    ghost use Rattle.markdown_base.specs.Syntax.{commonmark, profile_syntax};
     ghost use Rattle.markdown_inline.specs.ParserLeft.{ReadsText, no_work, parser_text, parser_callback, parser_work};
 
     /// Returns a parser of a text, with no extension enabled. The only error is `Fault::Memory`.
     pub fn new(alloc: Global, text: &'input str) -> Result<Self, Fault>
-        ensures left { IfOk result (ReadsText text.entry.now no_options) }
+        ensures left { IfOk result (ReadsText (source_as commonmark text.entry.now)) }
         ensures text { IfOk result (λ p. parser_text p ≡ text.entry.now) }
         ensures callback { IfOk result (λ p. parser_callback p ≡ None) }
         ensures work { IfOk result (λ p. parser_work p ≡ no_work) }
@@ -353,7 +353,7 @@ impl<'input> Parser<'input, DefaultBrokenLinkCallback> {
 
     /// Returns a parser of a text, with the extensions that `options` enables. The only error is `Fault::Memory`.
     pub fn new_ext(alloc: Global, text: &'input str, options: Options) -> Result<Self, Fault>
-        ensures left { IfOk result (ReadsText text.entry.now options) }
+        ensures left { IfOk result (ReadsText (source_as (profile_syntax options) text.entry.now)) }
         ensures text { IfOk result (λ p. parser_text p ≡ text.entry.now) }
         ensures callback { IfOk result (λ p. parser_callback p ≡ None) }
         ensures work { IfOk result (λ p. parser_work p ≡ no_work) }
@@ -367,7 +367,9 @@ impl<'input, F: BrokenLinkCallback<'input>> Parser<'input, F> {
     ghost use Rattle.std.specs.Prelude.{◌≡◌, IfOk, IfErr, IfSome};
     ghost use Rattle.markdown_blocks.specs.Blocks.{text_of_blocks};
     ghost use Rattle.markdown_inline.specs.CountsLaw.{CountsLaw, RisesPlainly};
-    ghost use Rattle.markdown_inline.specs.ParserLeft.{ReadsText, ReadsExtended, ReadsBlocks, no_work, parser_text};
+    ghost use Rattle.markdown_base.specs.Source.{source_as};
+    ghost use Rattle.markdown_base.specs.Syntax.{full_syntax, profile_syntax};
+    ghost use Rattle.markdown_inline.specs.ParserLeft.{ReadsText, ReadsBlocks, no_work, parser_text};
     ghost use Rattle.markdown_inline.specs.ParserLeft.{parser_callback, findable_definitions, parser_definitions};
     ghost use Rattle.markdown_inline.specs.ParserLeft.{parser_work, offset_parser};
 
@@ -379,14 +381,13 @@ impl<'input, F: BrokenLinkCallback<'input>> Parser<'input, F> {
         options: Options,
         callback: Option<F>,
     ) -> Result<Self, Fault>
-        ensures left { IfOk result (ReadsText text.entry.now options) }
+        ensures left { IfOk result (ReadsText (source_as (profile_syntax options) text.entry.now)) }
         ensures text { IfOk result (λ p. parser_text p ≡ text.entry.now) }
         ensures callback { IfOk result (λ p. parser_callback p ≡ callback) }
         ensures work { IfOk result (λ p. parser_work p ≡ no_work) }
         ensures refused { IfErr result (λ fault. fault ≡ Fault.Memory) }
     {
-        let blocks = Blocks::of_text(alloc, text, options)?;
-        Parser::from_blocks(alloc, blocks, callback)
+        Parser::of_source(alloc, text, Syntax::profile(options), callback)
     }
 
     /// Returns a parser of a text, by the full reading. It calls `callback`, where there is one, for each
@@ -397,18 +398,36 @@ impl<'input, F: BrokenLinkCallback<'input>> Parser<'input, F> {
         options: Options,
         callback: Option<F>,
     ) -> Result<Self, Fault>
-        ensures left { IfOk result (ReadsExtended text.entry.now options) }
+        ensures left { IfOk result (ReadsText (source_as (full_syntax options) text.entry.now)) }
         ensures text { IfOk result (λ p. parser_text p ≡ text.entry.now) }
         ensures callback { IfOk result (λ p. parser_callback p ≡ callback) }
         ensures work { IfOk result (λ p. parser_work p ≡ no_work) }
         ensures refused { IfErr result (λ fault. fault ≡ Fault.Memory) }
     {
-        let blocks = Blocks::of_extended(alloc, text, options)?;
+        Parser::of_source(alloc, text, Syntax::full(options), callback)
+    }
+
+    /// Returns a parser of a text of which `syntax` is read. It calls `callback`, where there is one, for each link label
+    /// without a reference definition. The only error is `Fault::Memory`.
+    pub fn of_source(
+        alloc: Global,
+        text: &'input str,
+        syntax: Syntax,
+        callback: Option<F>,
+    ) -> Result<Self, Fault>
+        ensures left { IfOk result (ReadsText (source_as syntax text.entry.now)) }
+        ensures text { IfOk result (λ p. parser_text p ≡ text.entry.now) }
+        ensures callback { IfOk result (λ p. parser_callback p ≡ callback) }
+        ensures work { IfOk result (λ p. parser_work p ≡ no_work) }
+        ensures refused { IfErr result (λ fault. fault ≡ Fault.Memory) }
+    {
+        // no caller gets these options back
+        let blocks = Blocks::of_source(alloc, text, Options::empty(), syntax)?;
         Parser::from_blocks(alloc, blocks, callback)
     }
 
-    /// Returns a parser of a block result, whose entry also decides how chains are resolved. The only error is
-    /// `Fault::Memory`.
+    /// Returns a parser of a block result. What is read of its text also decides how chains are resolved. The only error
+    /// is `Fault::Memory`.
     pub fn from_blocks(
         alloc: Global,
         blocks: Blocks<'input>,
@@ -422,13 +441,12 @@ impl<'input, F: BrokenLinkCallback<'input>> Parser<'input, F> {
         ensures work { IfOk result (λ p. parser_work p ≡ no_work) }
         ensures refused { IfErr result (λ fault. fault ≡ Fault.Memory) }
     {
-        let extended = blocks.is_extended();
-        let (text, options, tree, parts) = blocks.into_parts();
+        let syntax = blocks.syntax();
+        let (text, _, tree, parts) = blocks.into_parts();
         let tables = Allocations::new(alloc, parts)?;
         let mut tree = tree;
         tree.reset();
-        let options = options.with_extended(extended);
-        let above = BlocksAbove::new(alloc, options);
+        let above = BlocksAbove::new(alloc, syntax);
         Ok(Parser {
             alloc,
             tree,
@@ -436,7 +454,7 @@ impl<'input, F: BrokenLinkCallback<'input>> Parser<'input, F> {
             resolver: Resolver {
                 alloc,
                 text,
-                options,
+                syntax,
                 lookup: LabelLookup {
                     tables,
                     limit: text.len().max(100000),

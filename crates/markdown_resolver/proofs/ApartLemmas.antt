@@ -8,7 +8,6 @@ use Rattle.std.specs.List.{AllByRecursion}
 use Rattle.std.specs.Option.{option_and_then, option_map, option_map_or, option_or}
 use Rattle.std.proofs.lemmas.Bool.{leb-false}
 use Rattle.std.proofs.lemmas.Bool.Decides.{nat_tests}
-use Rattle.markdown_base.specs.ExtendedOptions.{is_extended}
 use Rattle.markdown_base.specs.Forest.{Forest, nil, node, roots}
 use Rattle.markdown_base.specs.declared.item.Item.{Item}
 use Rattle.markdown_base.specs.declared.item.ItemBody.{ItemBody}
@@ -401,8 +400,8 @@ module _ {A : Type 0} where
     less_fits : (a : TreeNode A) (followed : Bool) → start_of a < end_of a → Fits a (markup_found s above a followed)
     less_fits a false l = tt
     less_fits a true l =
-        by (markup_at skipped (is_extended s.rules.options) text (start_of a) (end_of a))
-        (markup_fits skipped (is_extended s.rules.options) text a l)
+        by (markup_at skipped s.rules.syntax.addresses text (start_of a) (end_of a))
+        (markup_fits skipped s.rules.syntax.addresses text a l)
       where
         skipped : List ℕ → Option ℕ
         skipped = λ bytes. Some (prefix_below s above bytes)

@@ -20,7 +20,7 @@ use Rattle.markdown_builder.specs.Shown.{unnumbered}
 use Rattle.markdown_document.specs.Document.{block_of}
 use Rattle.markdown_document.specs.Setting.{Setting}
 use Rattle.markdown_spans.specs.ContainerPrefix.{has_prefix, past_block, past_blocks, prefix_length}
-use Rattle.markdown_base.specs.EnabledOptions.{gfm_footnotes_on}
+use Rattle.markdown_base.specs.Syntax.{gfm_footnotes}
 use Rattle.markdown_spans.specs.Finds.{prefix_below}
 use Rattle.markdown_spans.specs.PrefixView.{bodies_of, length_by}
 use Rattle.markdown_spans.specs.declared.prefixes.ContainerPrefix.{ContainerPrefix}
@@ -148,8 +148,8 @@ contained_prefix gfm source nodes spine bytes =
 
 -- the prefix that is read at a place is that of the blocks above
 pub prefix_is : (prefix : ContainerPrefix) (place : ChainPlace) (tree : Arena Item) (s : Setting)
-    → prefix.containers.now ≡ place.containers.now → prefix.gfm_footnotes ≡ gfm_footnotes_on place.options
-    → gfm_footnotes_on s.rules.options ≡ gfm_footnotes_on place.options → s.text ≡ place.text.now
+    → prefix.containers.now ≡ place.containers.now → prefix.gfm_footnotes ≡ gfm_footnotes place.syntax
+    → gfm_footnotes s.rules.syntax ≡ gfm_footnotes place.syntax → s.text ≡ place.text.now
     → IsPlaceOf place tree → (bytes : List ℕ) → length_by prefix bytes ≡ prefix_below s (above_cursor s.text tree) bytes
 unfolding length_by
 prefix_is prefix place tree s containers gfm same text stands bytes =
@@ -200,7 +200,7 @@ boundary_inside source nodes l (ix ∷ deeper) above are boundary =
 -- what is known of the nodes above is the place of the chain below them
 pub place_stands : (place : ChainPlace) (tree : Arena Item) (first : Option ℕ) (above : Above)
     → AreAbove place.text.now tree.nodes first tree.spine
-    → IsKnownAt (gfm_footnotes_on place.options) tree.nodes tree.spine above → IsUtf8 place.text.now
+    → IsKnownAt (gfm_footnotes place.syntax) tree.nodes tree.spine above → IsUtf8 place.text.now
     → (place.block_end, place.in_table)
     ≡ place_inside (blocks_in (map (item_at tree.nodes) tree.spine)) (length place.text.now, false)
     → place.containers.now ≡ above.containers → IsPlaceOf place tree
@@ -212,9 +212,9 @@ place_stands place tree first above are known utf8 end containers =
       block_end = block_end;
       in_table = ap (λ (p : ℕ × Bool). p.1) inside;
       containers = λ bytes.
-          ap (λ (items : List Item). prefix_length (gfm_footnotes_on place.options) (bodies_of items) bytes)
+          ap (λ (items : List Item). prefix_length (gfm_footnotes place.syntax) (bodies_of items) bytes)
           (containers ∙ known.containers)
-          ∙ contained_prefix (gfm_footnotes_on place.options) source tree.nodes tree.spine bytes;
+          ∙ contained_prefix (gfm_footnotes place.syntax) source tree.nodes tree.spine bytes;
       boundary = rw block_end (boundary_inside source tree.nodes first tree.spine (no_blocks source) are
           (IsCharBoundary-end source));
       utf8 = utf8;

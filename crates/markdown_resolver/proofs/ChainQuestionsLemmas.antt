@@ -22,7 +22,7 @@ use Rattle.markdown_document.specs.Document.{TreeNode, Plain, Notes, document, i
 use Rattle.markdown_document.specs.Setting.{ReferenceState, Setting}
 use Rattle.markdown_document.specs.Tables.{Tables}
 use Rattle.markdown_document.proofs.PlaceLemmas.{open-unresolved}
-use Rattle.markdown_base.specs.EnabledOptions.{gfm_footnotes_on}
+use Rattle.markdown_base.specs.Syntax.{gfm_footnotes}
 use Rattle.markdown_spans.proofs.ContainerPrefixLemmas.{prefix_opens_none}
 use Rattle.markdown_resolver.specs.Kept.{EachChain}
 use Rattle.markdown_resolver.specs.PassOne.{bracket_context, pass_one, read_other}
@@ -35,7 +35,7 @@ module _ {A : Type 0} (s : Setting) (notes : Notes A) (above : EnclosingBlocks) 
 
   -- the prefix of a line contains no `[`
   prefix_holds_none : HoldsNoOpener (bracket_context s above).skipped
-  prefix_holds_none bytes = prefix_opens_none (gfm_footnotes_on s.rules.options) above.bodies bytes
+  prefix_holds_none bytes = prefix_opens_none (gfm_footnotes s.rules.syntax) above.bodies bytes
 
   pub resolved_asks : (chain : Forest (TreeNode A)) (state : ReferenceState)
       → AsksAtMost (closers_among (roots chain)) state.limit (resolved s notes above chain state).questions

@@ -8,7 +8,7 @@ use Rattle.markdown_base.specs.BlockTree.{item_at}
 use Rattle.markdown_base.specs.Questions.{Question, Answer}
 use Rattle.markdown_base.specs.declared.item.Item.{Item}
 use Rattle.markdown_base.specs.declared.node.Node.{Node}
-use Rattle.markdown_base.specs.declared.options.Options.{Options}
+use Rattle.markdown_base.specs.declared.syntax.Syntax.{Syntax}
 use Rattle.markdown_brackets.specs.LeftList.{Entry}
 use Rattle.markdown_brackets.specs.Openers.{Waiting}
 use Rattle.markdown_brackets.specs.declared.spent_ends.SpentEnds.{SpentEnds}
@@ -18,7 +18,7 @@ use Rattle.markdown_document.specs.Setting.{Setting, by_label, rules_from, setti
 use Rattle.markdown_document.specs.ResolverStates.{resolver_state, above_cursor}
 use Rattle.markdown_document.specs.Tables.{Tables, tables_of}
 use Rattle.markdown_document.proofs.CallbackLemmas.{Asks-some}
-use Rattle.markdown_base.specs.EnabledOptions.{gfm_footnotes_on}
+use Rattle.markdown_base.specs.Syntax.{gfm_footnotes}
 use Rattle.markdown_spans.specs.ContainerPrefix.{prefix_length}
 use Rattle.markdown_resolver.specs.ChainPlace.{CanReadItem, CanReadOn, IsPlaceOf}
 use Rattle.markdown_resolver.specs.Chains.{AreAbove, CanResolve, ChangesChain, ResolvesFrom}
@@ -33,20 +33,20 @@ use Rattle.markdown_defs.specs.Footnotes.{footnote_at}
 use Rattle.markdown_resolver.specs.Unread.{IsUnread}
 use Rattle.markdown_document.specs.Places.{trees_from}
 
--- the setting of a chain stays where its text, the options, the reference definitions, the names of its footnotes, and
+-- the setting of a chain stays where its text, the syntax, the reference definitions, the names of its footnotes, and
 -- whether there is a callback stay
-pub same_setting : (text text' : List ℕ) (options options' : Options) (held held' : Allocated) (asks asks' : Bool)
-    → text' ≡ text → options' ≡ options → held'.refdefs ≡ held.refdefs
+pub same_setting : (text text' : List ℕ) (syntax syntax' : Syntax) (held held' : Allocated) (asks asks' : Bool)
+    → text' ≡ text → syntax' ≡ syntax → held'.refdefs ≡ held.refdefs
     → ((name : List ℕ) → is_some (footnote_at held'.footdefs name) ≡ is_some (footnote_at held.footdefs name)) → asks'
-    ≡ asks → setting_of text' (rules_from options' held' asks') ≡ setting_of text (rules_from options held asks)
-same_setting text text' options options' held held' asks asks' of_text of_options definitions footnotes same =
+    ≡ asks → setting_of text' (rules_from syntax' held' asks') ≡ setting_of text (rules_from syntax held asks)
+same_setting text text' syntax syntax' held held' asks asks' of_text of_options definitions footnotes same =
     let names : (λ name. is_some (footnote_at held'.footdefs name)) ≡ (λ name. is_some (footnote_at held.footdefs name))
     = fun_ext footnotes
     in
     rw (of_text, of_options, definitions, same) (ap (λ (names : List ℕ → Bool). let x : Setting =
     record {
       text = text;
-      rules = record { options = options; definitions = by_label held.refdefs; is_footnote = names; asks = asks };
+      rules = record { syntax = syntax; definitions = by_label held.refdefs; is_footnote = names; asks = asks };
     } in x) names)
 
 -- the items of the nodes above a chain stay where it is changed
@@ -140,7 +140,7 @@ module _ {C : Type 0} {step : C → Question → Option Answer → C → Type 0}
           block_end = stands.block_end ∙ ap (λ (a : EnclosingBlocks). a.block_end) (sym above);
           in_table = stands.in_table ∙ ap (λ (a : EnclosingBlocks). a.in_table) (sym above);
           containers = λ bytes. stands.containers bytes ∙ ap (λ (a : EnclosingBlocks).
-              prefix_length (gfm_footnotes_on place.options) a.bodies bytes) (sym above);
+              prefix_length (gfm_footnotes place.syntax) a.bodies bytes) (sym above);
           boundary = stands.boundary;
           utf8 = stands.utf8;
         };

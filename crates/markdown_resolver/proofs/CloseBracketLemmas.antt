@@ -14,7 +14,7 @@ use Rattle.markdown_base.specs.WellFormed.{StandsOverMarkup}
 use Rattle.markdown_base.specs.declared.item.Item.{Item}
 use Rattle.markdown_base.specs.declared.item.ItemBody.{ItemBody}
 use Rattle.markdown_base.specs.declared.node.Node.{Node}
-use Rattle.markdown_base.specs.declared.options.Options.{Options}
+use Rattle.markdown_base.specs.declared.syntax.Syntax.{Syntax}
 use Rattle.markdown_brackets.specs.BracketDecision.{BracketContext, Becomes, Closing, Progress, decided}
 use Rattle.markdown_brackets.specs.Decides.{Decides, EachOpener, StandsBefore, CanTry}
 use Rattle.markdown_brackets.specs.ClosingBracket.{put}
@@ -34,7 +34,7 @@ use Rattle.markdown_document.specs.ResolverStates.{above_cursor}
 use Rattle.markdown_document.specs.ChainRest.{end_of}
 use Rattle.markdown_document.specs.Setting.{Rules, rules_from, setting_of, uses_of}
 use Rattle.markdown_document.specs.Tables.{Tables, tables_of}
-use Rattle.markdown_base.specs.EnabledOptions.{gfm_footnotes_on}
+use Rattle.markdown_base.specs.Syntax.{gfm_footnotes}
 use Rattle.markdown_spans.specs.Finds.{prefix_below}
 use Rattle.markdown_spans.specs.PrefixView.{length_by}
 use Rattle.markdown_spans.specs.declared.prefixes.ContainerPrefix.{ContainerPrefix}
@@ -69,19 +69,19 @@ use Rattle.markdown_resolver.proofs.OpenerReadLemmas.{closer_body}
 -- a prefix is that of the lines of a chain at a place
 pub record IsPrefixOf (place : ChainPlace) (prefix : ContainerPrefix) : Type 0 where
   pub containers : prefix.containers.now ≡ place.containers.now
-  pub gfm : prefix.gfm_footnotes ≡ gfm_footnotes_on place.options
+  pub gfm : prefix.gfm_footnotes ≡ gfm_footnotes place.syntax
 
 -- brackets are decided by the rules of pass one
 pub context_is : (place : ChainPlace) (prefix : ContainerPrefix) (tree : Arena Item) (source : List ℕ)
-    (options : Options) (held : Allocated) (asks : Bool)
-    → place.text.now ≡ source → place.options ≡ options → IsPlaceOf place tree → IsPrefixOf place prefix
+    (syntax : Syntax) (held : Allocated) (asks : Bool)
+    → place.text.now ≡ source → place.syntax ≡ syntax → IsPlaceOf place tree → IsPrefixOf place prefix
     → bracket_context_at place (length_by prefix) (above_cursor source tree).bodies held.refdefs held.footdefs asks
-    ≡ bracket_context (setting_of source (rules_from options held asks)) (above_cursor source tree)
-context_is place prefix tree source options held asks text options_are stands is =
-    let s = setting_of source (rules_from options held asks) in
+    ≡ bracket_context (setting_of source (rules_from syntax held asks)) (above_cursor source tree)
+context_is place prefix tree source syntax held asks text options_are stands is =
+    let s = setting_of source (rules_from syntax held asks) in
     let above = above_cursor source tree in
     let rule : length_by prefix ≡ prefix_below s above = fun_ext (prefix_is prefix place tree s is.containers is.gfm
-    (sym (ap gfm_footnotes_on options_are)) (sym text) stands) in
+    (sym (ap gfm_footnotes options_are)) (sym text) stands) in
     let block_end : place.block_end ≡ above.block_end = stands.block_end
     ∙ ap (λ (t : List ℕ). (above_cursor t tree).block_end) text in
     let in_table : place.in_table ≡ above.in_table = stands.in_table
@@ -195,7 +195,7 @@ may_close step source rules above tables nodes first ix left could_be limit limi
 -- the decision, as the rules of pass one have it, unless memory was refused
 pub decides_here : {C E : Type 0} (step : C → Question → Option Answer → C → Type 0) (place : ChainPlace)
     (prefix : ContainerPrefix) (tree : Arena Item) (old new : Resolver C) (ix : ℕ) (r : Result ClosedBracket E)
-    → place.text.now ≡ old.text.now → place.options ≡ old.options → IsPrefixOf place prefix
+    → place.text.now ≡ old.text.now → place.syntax ≡ old.syntax → IsPrefixOf place prefix
     → is_closing_bracket (item_at tree.nodes ix).body ≡ true
     → IfOk r (λ found. (bodies : List ItemBody) (skipped : List ℕ → ℕ) (left : List (Entry ℕ)) (c : Closing ℕ)
     → GoesOnAfter (λ rest. Some (length_by prefix rest)) skipped → StandsBefore tree.nodes ix left c
@@ -220,11 +220,11 @@ decides_here step place prefix tree old new ix (Ok found) text options_are prefi
       (uses_of held.footdefs)
       (uses_of new.lookup.tables.footdefs) old.waiting.spent new.waiting.spent old.lookup.callback new.lookup.callback
       new.waiting.openers.brackets new.waiting.openers.wikilinks found)
-      (context_is place prefix tree place.text.now old.options held (is_some old.lookup.callback) refl options_are
+      (context_is place prefix tree place.text.now old.syntax held (is_some old.lookup.callback) refl options_are
       can.stands prefix_is_its) d
       in
       subst (λ (t : List ℕ). Decides step
-      (bracket_context (setting_of t (rules_from old.options held (is_some old.lookup.callback)))
+      (bracket_context (setting_of t (rules_from old.syntax held (is_some old.lookup.callback)))
       (above_cursor t tree)) (closing_at t (tables_of held) tree.nodes old.waiting.spent could_be ix) left
       old.lookup.limit
       new.lookup.limit (uses_of held.footdefs) (uses_of new.lookup.tables.footdefs) old.waiting.spent new.waiting.spent
@@ -285,7 +285,7 @@ module _ {C : Type 0} (step : C → Question → Option Answer → C → Type 0)
       MayClose old.text.now (tables_of old.lookup.tables) tree.nodes first ix context_here closing_here d.left_then
       d.becomes)
   closes_here first left was_read =
-      may_close step old.text.now (rules_from old.options old.lookup.tables (is_some old.lookup.callback))
+      may_close step old.text.now (rules_from old.syntax old.lookup.tables (is_some old.lookup.callback))
       (above_cursor old.text.now tree)
       (tables_of old.lookup.tables) tree.nodes first ix left could_be old.lookup.limit mid.lookup.limit
       (uses_of old.lookup.tables.footdefs)

@@ -24,8 +24,7 @@ use Rattle.markdown_brackets.specs.BracketDecision.{closer_ends_at, decided, for
 use Rattle.markdown_brackets.specs.BracketDecision.{past_second, question_at, second_end, start_of_first_past}
 use Rattle.markdown_brackets.specs.BracketDecision.{wikilink_in}
 use Rattle.markdown_brackets.proofs.ClosingBracketLemmas.{IsFull, IsOwn, either, found_cases}
-use Rattle.markdown_base.specs.EnabledOptions.{wikilinks_on}
-use Rattle.markdown_brackets.specs.BracketOptions.{footnote_style}
+use Rattle.markdown_brackets.specs.FootnoteUse.{footnote_style}
 use Rattle.markdown_brackets.specs.LeftList.{Entry, Split, bracket_taken, inside, opens_bracket, opens_wikilink}
 use Rattle.markdown_brackets.specs.LeftList.{trees_onto, without_bracket, without_wikilink}
 use Rattle.markdown_brackets.specs.LinkTail.{LinkTail, link_tail}
@@ -175,7 +174,7 @@ module _ (source : List ℕ) (w : BracketContext) (c : Closing ℕ) (may : MayGo
       → CanGoOn source c end
   second_on nil end e s = absurd (cc s)
   second_on (node a below after) end e s = by
-      (wikilinks_on w.setting.rules.options && is_closing_bracket (open_body a.part.shape)) s
+      (w.setting.rules.syntax.wikilinks && is_closing_bracket (open_body a.part.shape)) s
     where
       by : (b : Bool) → (if b then Some (end_of a) else None) ≡ Some end → CanGoOn source c end
       by true s = let same : end_of a ≡ end = cc in subst (CanGoOn source c) same (may.doubled a below after e)
@@ -227,7 +226,7 @@ may_go_on source tables nodes w c f k starts ordered text utf8 = record {
   labelled = λ i h. goes_on_there source tables nodes c f k i (ends_there source tables nodes i f
       (subst (λ (rest : Forest (TreeNode ℕ)). closer_ends_at i rest ≡ true) k.rest_is h));
   emptied = λ e.
-      let stands = collapsed_stands (footnote_style w.setting.rules.options) (lines w) w.above.in_table (block_text w)
+      let stands = collapsed_stands (footnote_style w.setting.rules.syntax) (lines w) w.above.in_table (block_text w)
       (end_of c.node)
       (option_map as_item (first_root c.rest)) (option_map as_item (first_root (past_second c.rest))) e in
       let closes = subst (λ (rest : Forest (TreeNode ℕ)). stands_at (end_of c.node + 1) is_closing_bracket

@@ -25,9 +25,8 @@ use Rattle.markdown_document.specs.PlacedNodes.{IsPlaced}
 use Rattle.markdown_document.specs.Setting.{Rules, Setting, setting_of}
 use Rattle.markdown_document.specs.Tables.{Tables, tables_of}
 use Rattle.markdown_spans.specs.AfterLess.{Markup, autolink, html_markup, markup_at}
-use Rattle.markdown_base.specs.EnabledOptions.{gfm_footnotes_on}
-use Rattle.markdown_base.specs.ExtendedOptions.{is_extended}
-use Rattle.markdown_base.specs.declared.options.Options.{Options}
+use Rattle.markdown_base.specs.Syntax.{gfm_footnotes}
+use Rattle.markdown_base.specs.declared.syntax.Syntax.{Syntax}
 use Rattle.markdown_spans.specs.Finds.{Find, Passed, end_of_markup, markup, markup_found, nothing, passed, prefix_below}
 use Rattle.markdown_spans.specs.PrefixView.{length_by}
 use Rattle.markdown_spans.specs.declared.prefixes.ContainerPrefix.{ContainerPrefix}
@@ -95,24 +94,24 @@ next_starts source tables nodes i ix ready =
 -- what was scanned with the prefix of all nodes that were entered is what is found below the blocks
 pub scanned_is : (place : ChainPlace) (prefix : ContainerPrefix) (tree : Arena Item) (rules : Rules) (start at : ℕ)
     (found : Option Markup) → prefix.containers.now ≡ place.containers.now
-    → prefix.gfm_footnotes ≡ gfm_footnotes_on place.options → rules.options ≡ place.options → IsPlaceOf place tree
-    → found ≡ markup_at (λ rest. Some (length_by prefix rest)) (is_extended place.options)
+    → prefix.gfm_footnotes ≡ gfm_footnotes place.syntax → rules.syntax ≡ place.syntax → IsPlaceOf place tree
+    → found ≡ markup_at (λ rest. Some (length_by prefix rest)) place.syntax.addresses
     (take place.block_end place.text.now) start at
     → markup_at (λ bytes. Some
     (prefix_below (setting_of place.text.now rules) (above_cursor place.text.now tree) bytes))
-    (is_extended rules.options) (take (above_cursor place.text.now tree).block_end place.text.now) start at ≡ found
+    rules.syntax.addresses (take (above_cursor place.text.now tree).block_end place.text.now) start at ≡ found
 scanned_is place prefix tree rules start at found here gfm same stands is =
     let s = setting_of place.text.now rules in
     let above = above_cursor place.text.now tree in
     let by : (bytes : List ℕ) → length_by prefix bytes ≡ prefix_below s above bytes =
-    prefix_is prefix place tree s here gfm (ap gfm_footnotes_on same) refl stands in
+    prefix_is prefix place tree s here gfm (ap gfm_footnotes same) refl stands in
     let rule : (λ rest. Some (length_by prefix rest)) ≡ (λ rest. Some (prefix_below s above rest)) =
     fun_ext (λ bytes. ap (λ (n : ℕ). Some n) (by bytes)) in
-    sym (is ∙ (ap (λ (skipped : List ℕ → Option ℕ). markup_at skipped (is_extended place.options)
+    sym (is ∙ (ap (λ (skipped : List ℕ → Option ℕ). markup_at skipped place.syntax.addresses
     (take place.block_end place.text.now) start at) rule
-    ∙ (ap (λ (options : Options). markup_at (λ bytes. Some (prefix_below s above bytes)) (is_extended options)
+    ∙ (ap (λ (syntax : Syntax). markup_at (λ bytes. Some (prefix_below s above bytes)) syntax.addresses
     (take place.block_end place.text.now) start at) (sym same)
-    ∙ ap (λ (end : ℕ). markup_at (λ bytes. Some (prefix_below s above bytes)) (is_extended rules.options)
+    ∙ ap (λ (end : ℕ). markup_at (λ bytes. Some (prefix_below s above bytes)) rules.syntax.addresses
     (take end place.text.now) start at) stands.block_end)))
 
 -- a `<` before the block's end that the next item follows was scanned, and this was found
@@ -125,9 +124,9 @@ pub record IsScanned (place : ChainPlace) (tree : Arena Item) (held : Allocated)
   pub follows : option_map_or (λ n. (item_at tree.nodes n).start == (item_at tree.nodes ix).end)
       (sibling_of tree.nodes ix) false ≡ true
   pub here : prefix.containers.now ≡ place.containers.now
-  pub gfm : prefix.gfm_footnotes ≡ gfm_footnotes_on place.options
+  pub gfm : prefix.gfm_footnotes ≡ gfm_footnotes place.syntax
   pub utf8 : IsUtf8 (take place.block_end place.text.now)
-  pub value : found ≡ markup_at (λ rest. Some (length_by prefix rest)) (is_extended place.options)
+  pub value : found ≡ markup_at (λ rest. Some (length_by prefix rest)) place.syntax.addresses
       (take place.block_end place.text.now) (item_at tree.nodes ix).start (item_at tree.nodes ix).end
 
 -- so it is where the item was copied, and the text cut
@@ -136,8 +135,8 @@ pub is_scanned : {place : ChainPlace} {tree : Arena Item} {held : Allocated} {ix
     → CanReadItem place tree held ix → (item_at tree.nodes ix).body ≡ body.MaybeHtml → item ≡ item_at tree.nodes ix
     → item.end ≤ place.block_end
     → next ≡ sibling_of tree.nodes ix → true ≡ option_map_or (λ n. (item_at tree.nodes n).start == item.end) next false
-    → prefix.containers.now ≡ place.containers.now → prefix.gfm_footnotes ≡ gfm_footnotes_on place.options → text
-    ≡ slice_range place.text.now 0 place.block_end → IsUtf8 text → addresses ≡ is_extended place.options
+    → prefix.containers.now ≡ place.containers.now → prefix.gfm_footnotes ≡ gfm_footnotes place.syntax → text
+    ≡ slice_range place.text.now 0 place.block_end → IsUtf8 text → addresses ≡ place.syntax.addresses
     → found ≡ markup_at (λ rest. Some (length_by prefix rest)) addresses text item.start item.end
     → IsScanned place tree held ix prefix found
 is_scanned {place} {tree} {held} {ix} {found} {item} {next} {text} {addresses} prefix can opener same inside after
@@ -157,9 +156,9 @@ is_scanned {place} {tree} {held} {ix} {found} {item} {next} {text} {addresses} p
       utf8 = subst IsUtf8 whole utf8;
       value = value
           ∙ (ap (λ (b : Bool). markup_at (λ rest. Some (length_by prefix rest)) b text item.start item.end) on
-          ∙ (ap (λ (xs : List ℕ). markup_at (λ rest. Some (length_by prefix rest)) (is_extended place.options) xs
+          ∙ (ap (λ (xs : List ℕ). markup_at (λ rest. Some (length_by prefix rest)) place.syntax.addresses xs
           item.start item.end) whole
-          ∙ ap (λ (i : Item). markup_at (λ rest. Some (length_by prefix rest)) (is_extended place.options)
+          ∙ ap (λ (i : Item). markup_at (λ rest. Some (length_by prefix rest)) place.syntax.addresses
           (take place.block_end place.text.now) i.start i.end) same));
     }
 
@@ -177,7 +176,7 @@ found_by place tree held ix rules =
 -- it is what was scanned
 pub scan_finds : (place : ChainPlace) (tree : Arena Item) (held : Allocated) (ix : ℕ) (prefix : ContainerPrefix)
     (found : Option Markup) (rules : Rules) → IsScanned place tree held ix prefix found
-    → rules.options ≡ place.options → found_by place tree held ix rules ≡ markup_or_nothing found
+    → rules.syntax ≡ place.syntax → found_by place tree held ix rules ≡ markup_or_nothing found
 scan_finds place tree held ix prefix found rules is same =
     let s = setting_of place.text.now rules in
     let item = item_at tree.nodes ix in
@@ -215,7 +214,7 @@ none_past_block place tree held ix rules item can opener same past =
 
     none : markup_at (λ bytes. Some
         (prefix_below (setting_of place.text.now rules) (above_cursor place.text.now tree) bytes))
-        (is_extended rules.options) (take (above_cursor place.text.now tree).block_end place.text.now) start
+        rules.syntax.addresses (take (above_cursor place.text.now tree).block_end place.text.now) start
         (item_at tree.nodes ix).end ≡ None
     none =
         let last = can.stands.block_end in
@@ -225,7 +224,7 @@ none_past_block place tree held ix rules item can opener same past =
         omega (arith, length-take (above_cursor place.text.now tree).block_end place.text.now, last, long, end, past) in
         none_past_end (λ bytes. Some
         (prefix_below (setting_of place.text.now rules) (above_cursor place.text.now tree) bytes))
-        (is_extended rules.options) (take (above_cursor place.text.now tree).block_end place.text.now) start
+        rules.syntax.addresses (take (above_cursor place.text.now tree).block_end place.text.now) start
         (item_at tree.nodes ix).end beyond (omega (arith, long))
 
     by_next : (follows : Bool) → markup_found (setting_of place.text.now rules) (above_cursor place.text.now tree)
@@ -243,7 +242,7 @@ scan_ends place tree held ix prefix m is =
     let lies = lies_at is.can.ready in
     let before : item.end ≤ length (take place.block_end place.text.now)
     = (boundary_before place.text.now place.block_end item.end lies.end is.inside).0 in
-    markup_ends (λ rest. Some (length_by prefix rest)) (is_extended place.options)
+    markup_ends (λ rest. Some (length_by prefix rest)) place.syntax.addresses
     (take place.block_end place.text.now) item.start item.end m (omega (arith, long)) before (sym is.value)
 
 -- so it can be put in place
@@ -297,7 +296,7 @@ reads_text {place} {tree} {held} {ix} {rules} {rest} {new} can opener none p =
 -- where markup is found, the item is read as the trees that replace it
 pub reads_found : (place : ChainPlace) (tree : Arena Item) (held : Allocated) (ix : ℕ) (prefix : ContainerPrefix)
     (m : Markup) (rules : Rules) (rest : Continuation) (new : List (Node Item)) (tables' : Tables)
-    → IsScanned place tree held ix prefix (Some m) → rules.options ≡ place.options
+    → IsScanned place tree held ix prefix (Some m) → rules.syntax ≡ place.syntax
     → Puts place.text.now ix (standing_for place.text.now rules m) (Some (end_of_markup m)) rest tree.nodes new
     (tables_of held) tables'
     → ReadsItem (setting_of place.text.now rules) (above_cursor place.text.now tree) ix rest tree.nodes new

@@ -142,11 +142,11 @@ other_read (Ok rest) step place ix tree tree' old new can kind kept reads = reco
 }
 other_read (Err fault) step place ix tree tree' old new can kind kept reads = tt
 
--- an item was read without a search, by any rules with the options of its place
+-- an item was read without a search, by any rules with the syntax of its place
 pub only_reads : {C E : Type 0} (r : Result Continuation E) (place : ChainPlace) (tree : Arena Item)
     (old new : Resolver C) (ix : ℕ)
     (tree' : Arena Item) → CanReadOther place tree old ix → IfOk r (λ rest. tree' ≡ record tree { nodes = tree'.nodes })
-    → IfOk r (λ rest. (rules : Rules) → rules.options ≡ place.options
+    → IfOk r (λ rest. (rules : Rules) → rules.syntax ≡ place.syntax
     → ReadsItem (setting_of place.text.now rules) (above_cursor place.text.now tree) ix rest tree.nodes tree'.nodes
     (tables_of old.lookup.tables) (tables_of new.lookup.tables))
     → new.code_closers ≡ old.code_closers → new.math_closers ≡ old.math_closers → new.work ≡ old.work
@@ -154,9 +154,9 @@ pub only_reads : {C E : Type 0} (r : Result Continuation E) (place : ChainPlace)
 only_reads (Ok rest) place tree old new ix tree' can place_is reads code math work =
     let result : Result Continuation Fault = Ok rest in
     let read = reads_by_rules result place old.text.now
-    (rules_from old.options old.lookup.tables (is_some old.lookup.callback)) tree ix
+    (rules_from old.syntax old.lookup.tables (is_some old.lookup.callback)) tree ix
     tree'.nodes (tables_of old.lookup.tables) (tables_of new.lookup.tables) can.chain.ready can.text
-    can.options reads in
+    can.syntax reads in
     record {
       item = read.reads;
       learned = record {

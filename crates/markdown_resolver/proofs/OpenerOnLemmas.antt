@@ -17,7 +17,6 @@ use Rattle.markdown_base.specs.WellFormed.{MarkupIsThere, StandsOverMarkup}
 use Rattle.markdown_base.specs.declared.item.Item.{Item}
 use Rattle.markdown_base.specs.declared.item.ItemBody.{ItemBody}
 use Rattle.markdown_base.specs.declared.node.Node.{Node}
-use Rattle.markdown_base.specs.EnabledOptions.{wikilinks_on}
 use Rattle.markdown_brackets.specs.ReadChain.{is_next}
 use Rattle.markdown_brackets.specs.LeftList.{Entry, OpenerState, gone, live, trees_onto, waits, all_done}
 use Rattle.markdown_brackets.specs.HeldOpeners.{held_as, wikilinks_of}
@@ -244,7 +243,7 @@ pub reads_on_opener : {C : Type 0} (step : C → Question → Option Answer → 
     → (item_at old.nodes ix).body ≡ opener_body is_image
     → Puts s.text ix (literal s.text) None rest old.nodes new.nodes old.tables old.tables
     → brackets' ≡ waiting.live_opener (record { node = ix; is_image = is_image }) ∷ brackets
-    → wikilinks' ≡ (if wikilinks_on s.rules.options && option_map_or (λ n. is_opener (item_at old.nodes n).body)
+    → wikilinks' ≡ (if s.rules.syntax.wikilinks && option_map_or (λ n. is_opener (item_at old.nodes n).body)
     (sibling_of old.nodes ix) false
     then waiting.live_opener (record { node = ix; is_image = is_image }) ∷ wikilinks else wikilinks)
     → ReadsOn step s above first (Some ix) rest.next left old new spent spent brackets' wikilinks'
@@ -262,7 +261,7 @@ reads_on_opener {C} step s above first ix rest left is_image old new spent brack
     old.nodes new.nodes first ix rest left is_image stands is puts in
     let text = as_text s.text a in
     let b = numbered_node s.text old.tables new.nodes ix in
-    let follows = wikilinks_on s.rules.options && is_next is_opener after_it in
+    let follows = s.rules.syntax.wikilinks && is_next is_opener after_it in
     let mark : OpenerState = record { is_image = is_image; bracket = live; wikilink = if follows then live else gone }
     in
     let left_then : List (Entry ℕ) = waits mark b ∷ left in
@@ -316,7 +315,7 @@ reads_on_opener {C} step s above first ix rest left is_image old new spent brack
             ∙ ap (λ (held : List Waiting). waiting.live_opener (record { node = ix; is_image = is_image }) ∷ held)
             held.brackets_are;
         wikilinks_are =
-            wikilinks_are ∙ ap (λ (b : Bool). if wikilinks_on s.rules.options && b then waiting.live_opener
+            wikilinks_are ∙ ap (λ (b : Bool). if s.rules.syntax.wikilinks && b then waiting.live_opener
             (record { node = ix; is_image = is_image }) ∷ wikilinks else wikilinks) (sym is_next_opener)
             ∙ ap (λ (held : List Waiting). if follows then waiting.live_opener
             (record { node = ix; is_image = is_image }) ∷ held else held)

@@ -8,7 +8,6 @@ use Rattle.markdown_base.specs.BlockTree.{item_at}
 use Rattle.markdown_base.specs.Questions.{Question, Answer}
 use Rattle.markdown_base.specs.declared.item.Item.{Item}
 use Rattle.markdown_base.specs.declared.item.ItemBody.{ItemBody}
-use Rattle.markdown_base.specs.EnabledOptions.{wikilinks_on}
 use Rattle.markdown_brackets.specs.LeftList.{Entry}
 use Rattle.markdown_brackets.specs.Openers as waiting
 use Rattle.markdown_brackets.specs.Openers.{Waiting}
@@ -87,7 +86,7 @@ pub reads_opener : {C E : Type 0} (step : C → Question → Option Answer → C
     → IfOk r (λ rest. IsOpened tree tree' ix rest) → IfOk r (λ rest. tree' ≡ record tree { nodes = tree'.nodes })
     → OnOk r (openers.brackets ≡ waiting.live_opener (record { node = ix; is_image = is_image }) ∷
     old.waiting.openers.brackets) → OnOk r (openers.wikilinks
-    ≡ (if wikilinks_on old.options && option_map_or (λ n. is_opener (item_at tree.nodes n).body)
+    ≡ (if old.syntax.wikilinks && option_map_or (λ n. is_opener (item_at tree.nodes n).body)
     (sibling_of tree.nodes ix) false
     then waiting.live_opener (record { node = ix; is_image = is_image }) ∷ old.waiting.openers.wikilinks else
     old.waiting.openers.wikilinks)) → IfOk r (λ rest. ReadsBracket step place ix rest tree tree' old

@@ -6,7 +6,6 @@ use Rattle.std.specs.Prelude.{if◌then◌else◌, unwrap_or, nat_lt, ◌⊎◌}
 use Rattle.std.specs.Option.{option_map}
 use Rattle.std.proofs.lemmas.Bool.{eqb-true}
 use Rattle.std.proofs.lemmas.Bool.Decides.{nat_tests}
-use Rattle.markdown_base.specs.EnabledOptions.{wikilinks_on}
 use Rattle.markdown_base.specs.Event.{LinkView}
 use Rattle.markdown_base.specs.Forest.{Forest, nil, node}
 use Rattle.markdown_base.specs.declared.item.ItemBody.{ItemBody}
@@ -171,7 +170,7 @@ module _ {A : Type 0} where
         → end_of c.node ≤ end
     second_later nil end h e = cc e
     second_later (node a below after) end h e =
-        by (wikilinks_on w.setting.rules.options && is_closing_bracket (open_body a.part.shape)) e
+        by (w.setting.rules.syntax.wikilinks && is_closing_bracket (open_body a.part.shape)) e
       where
         by : (b : Bool) → (if b then Some (end_of a) else None) ≡ Some end → end_of c.node ≤ end
         by true e = let same : end_of a ≡ end = cc e in omega (arith, h.0, h.1, same)

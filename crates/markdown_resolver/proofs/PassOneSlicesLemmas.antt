@@ -7,7 +7,6 @@ use Rattle.std.specs.List.{AllByRecursion}
 use Rattle.std.specs.Option.{option_and_then, option_map, option_map_or}
 use Rattle.std.proofs.lemmas.Bool.{cases_lt}
 use Rattle.markdown_base.specs.Event.{EventView, LinkView, code, display_math, image, inline_math, link}
-use Rattle.markdown_base.specs.ExtendedOptions.{is_extended}
 use Rattle.markdown_base.specs.Forest.{Forest, nil, node, roots}
 use Rattle.markdown_base.specs.declared.item.Item.{Item}
 use Rattle.markdown_base.specs.declared.item.ItemBody.{ItemBody}
@@ -536,7 +535,7 @@ module _ {A : Type 0} (s : Setting) (above : EnclosingBlocks) where
       skipped = λ bytes. Some (prefix_below s above bytes)
 
       addresses : Bool
-      addresses = is_extended s.rules.options
+      addresses = s.rules.syntax.addresses
 
       of_markup : (m : Markup) → AddressIn s.text (end_of a) m → FindsSlice a (markup m)
       of_markup (autolink kind end bytes) h = h

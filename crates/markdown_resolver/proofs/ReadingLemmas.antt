@@ -166,19 +166,19 @@ reads_alone (Err fault) s above ix old new tables tables' ready reads = record {
   looks = λ failed visits. tt;
 }
 
--- so it is by the rules of a setting, where it is so by any rules with its options
+-- so it is by the rules of a setting, where it is so by any rules with its syntax
 pub reads_by_rules : {E : Type 0} (r : Result Continuation E) (place : ChainPlace) (source : List ℕ) (rules : Rules)
     (tree : Arena Item)
     (ix : ℕ) (new : List (Node Item)) (tables tables' : Tables) → CanResolve place.text.now tables tree.nodes (Some ix)
-    → place.text.now ≡ source → place.options ≡ rules.options
-    → IfOk r (λ rest. (rules : Rules) → rules.options ≡ place.options
+    → place.text.now ≡ source → place.syntax ≡ rules.syntax
+    → IfOk r (λ rest. (rules : Rules) → rules.syntax ≡ place.syntax
     → ReadsItem (setting_of place.text.now rules) (above_cursor place.text.now tree) ix rest tree.nodes new tables
     tables') → ReadsAlone r (setting_of source rules) (above_cursor source tree) ix tree.nodes new tables tables'
-reads_by_rules r place source rules tree ix new tables tables' ready same options reads =
+reads_by_rules r place source rules tree ix new tables tables' ready same syntax reads =
     subst (λ (t : List ℕ). ReadsAlone r (setting_of t rules) (above_cursor t tree) ix tree.nodes new tables tables')
     same
     (reads_alone r (setting_of place.text.now rules) (above_cursor place.text.now tree) ix tree.nodes new tables tables'
-    ready (IfOk-weaker r _ _ (λ rest by_any. by_any rules (sym options)) reads))
+    ready (IfOk-weaker r _ _ (λ rest by_any. by_any rules (sym syntax)) reads))
 
 -- searches have examined some items of a chain, of which some are left: none of those, unless one has failed
 pub record LookedUpTo (failed : Bool) (old now all rest : ℕ) : Type 0 where

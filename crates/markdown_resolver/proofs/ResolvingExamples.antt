@@ -2,7 +2,9 @@
 -- images of brackets and leaves what waits for pairing, and then that is paired.
 use Rattle.std.proofs.Common.{◌≡◌, ℕ, ◌+◌, Bool, true, false, List, [], ◌∷◌, Some, None, length, refl}
 use Rattle.std.specs.Prelude.{codes, slice_range}
-use Rattle.markdown_base.specs.ExtendedOptions.{extended_bit}
+use Rattle.markdown_base.specs.Syntax.{commonmark, full_syntax}
+use Rattle.markdown_base.specs.EnabledOptions.{no_options}
+use Rattle.markdown_base.specs.declared.syntax.Syntax.{Syntax}
 use Rattle.markdown_base.specs.Event.{EventView, LinkView, code, inline_math, inline_html, emphasis, image, link}
 use Rattle.markdown_base.specs.Forest.{Forest, nil, node}
 use Rattle.markdown_base.specs.declared.item.Item.{Item}
@@ -31,10 +33,10 @@ use Rattle.markdown_resolver.specs.PassOne.{Outcome, pass_one}
 use Rattle.markdown_resolver.specs.Resolved.{all_paired, resolved}
 
 -- nothing is defined; the chain is a paragraph's
-abbrev setting_by : (options : ℕ) → (asks : Bool) → List ℕ → Setting
-setting_by options asks source =
+abbrev setting_by : Syntax → (asks : Bool) → List ℕ → Setting
+setting_by syntax asks source =
     setting_of source (record {
-      options = record { 0 = options };
+      syntax = syntax;
       definitions = λ label. None;
       is_footnote = λ name. false;
       asks = asks;
@@ -42,7 +44,7 @@ setting_by options asks source =
 
 -- footnotes are enabled in GitHub's style, and there is no callback
 abbrev setting : List ℕ → Setting
-setting source = setting_by 4 false source
+setting source = setting_by (record commonmark { footnotes = true }) false source
 
 abbrev in_paragraph : List ℕ → EnclosingBlocks
 in_paragraph source = record { block_end = length source; in_table = false; bodies = body.Paragraph ∷ [] }
@@ -151,7 +153,7 @@ abbrev address_in_link : List ℕ
 address_in_link = codes "[a <b@c.d>](u)"
 
 row_address : (state : ReferenceState)
-    → (pass_one (setting_by extended_bit false address_in_link) no_notes (in_paragraph address_in_link)
+    → (pass_one (setting_by (full_syntax no_options) false address_in_link) no_notes (in_paragraph address_in_link)
     (chain_of address_in_link (opener 0 ∷ plain_text 1 3 ∷ less 3 ∷ plain_text 4 10 ∷ closer 10 ∷ plain_text 11 14
     ∷ [])) state).forest
     ≡ node (over 0 14 (enclosed (link (inline_to (codes "u"))) (sliced ∷ [])))
@@ -251,7 +253,8 @@ row_run_into_link state = refl
 
 -- a wikilink, where they are enabled
 row_wikilink : (state : ReferenceState)
-    → (pass_one (setting_by 32768 false (codes "[[a]]")) no_notes (in_paragraph (codes "[[a]]"))
+    → (pass_one (setting_by (record commonmark { wikilinks = true }) false (codes "[[a]]")) no_notes
+    (in_paragraph (codes "[[a]]"))
     (chain_of (codes "[[a]]") (opener 0 ∷ opener 1 ∷ plain_text 2 3 ∷ closer 3 ∷ closer 4 ∷ [])) state).forest
     ≡ node (over 0 5 (enclosed (link (wikilink_to (codes "a"))) [])) (node (text_at (codes "[[a]]") 2 3) nil nil) nil
 unfolding pass_one read_chain read_tree closed decided
@@ -260,7 +263,8 @@ row_wikilink state = refl
 -- the callback is asked for what is not defined, with the form of the reference, and its answer is used
 abbrev asks_one : Outcome (Unit {0})
 asks_one =
-    pass_one (setting_by 4 true (codes "[a]")) no_notes (in_paragraph (codes "[a]"))
+    pass_one (setting_by (record commonmark { footnotes = true }) true (codes "[a]")) no_notes
+    (in_paragraph (codes "[a]"))
     (chain_of (codes "[a]") (opener 0 ∷ plain_text 1 2 ∷ closer 2 ∷ []))
     (record { limit = 100; answers = Some (record { destination = codes "u"; title = [] }) ∷ []; uses = λ name. 0 })
 

@@ -131,12 +131,12 @@ module _ {A : Type 0} (s : Setting) where
       h.2,
     );
     one = λ d x v inside rest c i h.
-        put_around s.text i (spanned s.text (layer_of_one (extensions_of s.rules.options) d) x v) inside rest
-        (one_refers (extensions_of s.rules.options) d _) (joined_first s.text inside (node v nil rest) h.2)
+        put_around s.text i (spanned s.text (layer_of_one (extensions_of s.rules.syntax) d) x v) inside rest
+        (one_refers (extensions_of s.rules.syntax) d _) (joined_first s.text inside (node v nil rest) h.2)
         (joined_rest s.text inside (node v nil rest) h.2).2;
     two = λ d x y v w inside rest c i h.
-        put_around s.text i (spanned s.text (layer_of_two (extensions_of s.rules.options) d) y w) inside rest
-        (two_refers (extensions_of s.rules.options) d _)
+        put_around s.text i (spanned s.text (layer_of_two (extensions_of s.rules.syntax) d) y w) inside rest
+        (two_refers (extensions_of s.rules.syntax) d _)
         (joined_first s.text inside (node v nil (node w nil rest)) h.2.2)
         (joined_rest s.text inside (node v nil (node w nil rest)) h.2.2).2.2;
   }

@@ -2,7 +2,7 @@
 use Rattle.std.specs.Prelude.{◌≡◌, ℕ, List, Some}
 use Rattle.std.specs.Str.{IsCharBoundary, IsUtf8}
 use Rattle.markdown_base.specs.Arena.{Arena}
-use Rattle.markdown_base.specs.EnabledOptions.{gfm_footnotes_on}
+use Rattle.markdown_base.specs.Syntax.{gfm_footnotes}
 use Rattle.markdown_base.specs.declared.item.Item.{Item}
 use Rattle.markdown_brackets.specs.LeftList.{Entry}
 use Rattle.markdown_brackets.specs.Openers.{Waiting}
@@ -23,8 +23,8 @@ pub record IsPlaceOf (place : ChainPlace) (tree : Arena Item) : Type 0 where
   pub in_table : place.in_table ≡ (above_cursor place.text.now tree).in_table
   -- its containers have the prefixes of all blocks above it
   pub containers : (bytes : List ℕ)
-      → prefix_length (gfm_footnotes_on place.options) (bodies_of place.containers.now) bytes
-      ≡ prefix_length (gfm_footnotes_on place.options) (above_cursor place.text.now tree).bodies bytes
+      → prefix_length (gfm_footnotes place.syntax) (bodies_of place.containers.now) bytes
+      ≡ prefix_length (gfm_footnotes place.syntax) (above_cursor place.text.now tree).bodies bytes
   pub boundary : IsCharBoundary place.text.now place.block_end
   pub utf8 : IsUtf8 place.text.now
 

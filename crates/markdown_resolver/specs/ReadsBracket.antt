@@ -29,7 +29,7 @@ use Rattle.markdown_base.specs.declared.fault.Fault.{Fault}
 
 -- the setting of a resolver
 abbrev pub setting_by : {C : Type 0} → Resolver C → Setting
-setting_by r = setting_of r.text.now (rules_from r.options r.lookup.tables (is_some r.lookup.callback))
+setting_by r = setting_of r.text.now (rules_from r.syntax r.lookup.tables (is_some r.lookup.callback))
 
 -- the stage of a resolver, with the chain in a tree
 abbrev pub resolver_state_by : {C : Type 0} → Arena Item → Resolver C → ResolverState C
@@ -51,14 +51,14 @@ pub record CanReadNode {C : Type 0} (place : ChainPlace) (tree : Arena Item) (r 
   pub left : List (Entry ℕ)
   pub was_read : WasReadTo place tree r first ix left
   pub text : place.text.now ≡ r.text.now
-  pub options : place.options ≡ r.options
+  pub syntax : place.syntax ≡ r.syntax
   pub learned : HasLearned r tree.nodes (Some ix)
 
 -- a resolver can read the item of a node, which is not a bracket
 pub record CanReadOther {C : Type 0} (place : ChainPlace) (tree : Arena Item) (r : Resolver C) (ix : ℕ) : Type 0 where
   pub chain : CanReadItem place tree r.lookup.tables ix
   pub text : place.text.now ≡ r.text.now
-  pub options : place.options ≡ r.options
+  pub syntax : place.syntax ≡ r.syntax
   pub learned : HasLearned r tree.nodes (Some ix)
 
 -- it was decided what the `]` of a node becomes: after any left list there, it is what pass one decides

@@ -22,10 +22,10 @@ pub record CanResolveBelow (text : List ℕ) (tables : Tables) (tree : Arena Ite
   pub unread : IsUnread (trees_from text tables tree.nodes (Some first))
   pub above : AreAbove text tree.nodes (Some first) tree.spine
 
--- a resolver has kept the text, the options and the reference definitions
+-- a resolver has kept the text, the syntax and the reference definitions
 pub record KeepsInput {C : Type 0} (old new : Resolver C) : Type 0 where
   pub text : new.text ≡ old.text
-  pub options : new.options ≡ old.options
+  pub syntax : new.syntax ≡ old.syntax
   pub definitions : new.lookup.tables.refdefs ≡ old.lookup.tables.refdefs
 
 -- what reading a chain with this number of items makes of the counts

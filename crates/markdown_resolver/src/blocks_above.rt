@@ -2,16 +2,16 @@
 ghost use Rattle.std.specs.Prelude.{◌≡◌, ◌≤◌, ◌<◌, ℕ, Bool, List, Option, false, length, map, take};
 ghost use Rattle.markdown_base.specs.Arena.{Arena};
 ghost use Rattle.markdown_base.specs.BlockTree.{item_at};
-ghost use Rattle.markdown_base.specs.EnabledOptions.{gfm_footnotes_on};
+ghost use Rattle.markdown_base.specs.Syntax.{gfm_footnotes};
 ghost use Rattle.markdown_base.specs.declared.item.Item.{Item};
 ghost use Rattle.markdown_resolver.specs.BlocksAbove.{IsKnownAt, blocks_in, place_inside, up_to_block};
 ghost use Rattle.markdown_resolver.specs.ChainPlace.{IsPlaceOf};
 ghost use Rattle.markdown_resolver.specs.Chains.{AreAbove};
 
 use markdown_base::item::Item;
-use markdown_base::options::Options;
+use markdown_base::syntax::Syntax;
 use markdown_base::tree::Tree;
-use markdown_document::chain_place::{ChainPlace, gfm_footnotes};
+use markdown_document::chain_place::ChainPlace;
 use markdown_spans::prefixes::has_prefix;
 use std::alloc::{AllocError, Global};
 use std::marker::Model;
@@ -89,11 +89,11 @@ impl BlocksAbove {
     ghost use Rattle.markdown_resolver.specs.BlocksAbove.{Above, IsKnownOf};
 
     /// Returns what is known before a walk: no node was entered.
-    pub fn new(alloc: Global, options: Options) -> BlocksAbove
-        ensures { IsKnownOf (gfm_footnotes_on options) [] result }
+    pub fn new(alloc: Global, syntax: Syntax) -> BlocksAbove
+        ensures { IsKnownOf (gfm_footnotes syntax) [] result }
     {
         BlocksAbove {
-            gfm_footnotes: gfm_footnotes(options),
+            gfm_footnotes: syntax.gfm_footnotes(),
             containers: Vec::new(alloc),
             searched: 0,
             block: 0,
@@ -171,17 +171,17 @@ impl BlocksAbove {
         &self,
         tree: &Tree<Item>,
         text: &'a str,
-        options: Options,
+        syntax: Syntax,
         block: usize,
     ) -> ChainPlace<'a, '_>
         requires above { (first : Option ℕ)
             × AreAbove text.now tree.now.nodes first tree.now.spine }
-        requires known { IsKnownAt (gfm_footnotes_on options) tree.now.nodes tree.now.spine
+        requires known { IsKnownAt (gfm_footnotes syntax) tree.now.nodes tree.now.spine
             self.now }
         requires block { block ≡ up_to_block (map (item_at tree.now.nodes) tree.now.spine) }
         ensures place { IsPlaceOf result tree.now }
         ensures text { result.text.now ≡ text.now }
-        ensures options { result.options ≡ options }
+        ensures syntax { result.syntax ≡ syntax }
     {
         let (block_end, in_table) = end_at(tree, block, text.as_bytes().len());
         ChainPlace {
@@ -189,7 +189,7 @@ impl BlocksAbove {
             block_end,
             in_table,
             containers: &self.containers,
-            options,
+            syntax,
         }
     }
 }

@@ -9,7 +9,6 @@ ghost use Rattle.markdown_base.specs.CowText.{text_of};
 ghost use Rattle.markdown_base.specs.declared.item.ItemBody.TheVariants as body;
 ghost use Rattle.markdown_brackets.specs.declared.closing_bracket.ClosedBracket.TheVariants.{Wikilinked};
 ghost use Rattle.markdown_brackets.specs.BracketDecision.{BracketContext, Becomes, Closing, a_footnote, a_link};
-ghost use Rattle.markdown_base.specs.EnabledOptions.{wikilinks_on};
 ghost use Rattle.markdown_brackets.specs.DecisionView.{IsBecome, opener_of};
 ghost use Rattle.markdown_brackets.specs.LeftList.{Entry, Split, inside};
 ghost use Rattle.markdown_brackets.specs.LookupView.{target_view};
@@ -31,14 +30,13 @@ use markdown_base::cow_str::CowStr;
 use markdown_base::fault::Fault;
 use markdown_base::index::LinkIndex;
 use markdown_base::item::{Item, ItemBody};
-use markdown_base::options::Options;
+use markdown_base::syntax::Syntax;
 use markdown_base::tag::LinkType;
 use markdown_base::tree::Tree;
 use markdown_brackets::chain_openers::ChainOpeners;
 use markdown_brackets::closing_bracket::ClosedBracket;
 use markdown_brackets::look_up::Target;
 use markdown_brackets::openers::Opener;
-use markdown_brackets::options::wikilinks_on;
 use markdown_brackets::wikilink_nodes::ShownNodes;
 use markdown_defs::Allocations;
 
@@ -77,7 +75,7 @@ fn leads_to_opener(tree: &Tree<Item>, link: Option<usize>) -> bool
 pub(crate) fn open_bracket(
     tree: &mut Tree<Item>,
     openers: &mut ChainOpeners,
-    options: Options,
+    syntax: Syntax,
     ix: usize,
     is_image: bool,
 ) -> Result<Continuation, Fault>
@@ -92,7 +90,7 @@ pub(crate) fn open_bracket(
         openers.new.brackets
         ≡ waiting.live_opener (record { node = ix; is_image = is_image }) ∷ openers.old.brackets) }
     ensures wikilinks { OnOk result (openers.new.wikilinks
-        ≡ (if wikilinks_on options
+        ≡ (if syntax.wikilinks
         && option_map_or (λ n.
         is_opener (item_at tree.old.nodes n).body) (sibling_of tree.old.nodes ix) false
         then waiting.live_opener (record { node = ix; is_image = is_image }) ∷ openers.old.wikilinks
@@ -101,7 +99,7 @@ pub(crate) fn open_bracket(
 {
     let opener = Opener { node: ix, is_image };
     openers.brackets.push(opener)?;
-    if wikilinks_on(options) && leads_to_opener(tree, tree.next(ix)) {
+    if syntax.wikilinks && leads_to_opener(tree, tree.next(ix)) {
         openers.wikilinks.push(opener)?;
     }
     Ok(make_literal(tree, ix))

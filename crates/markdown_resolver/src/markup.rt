@@ -62,7 +62,7 @@ impl<'a, F: BrokenLinkCallback<'a>> Resolver<'a, F> {
             text,
             start: item.start,
             at: item.end,
-            addresses: place.options.is_extended(),
+            addresses: place.syntax.addresses,
         };
         match scan_after_less(self.alloc, &less, scanner, &prefix)? {
             None => Ok(make_literal(tree, ix)),

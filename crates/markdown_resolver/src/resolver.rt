@@ -7,7 +7,7 @@ use crate::continuation::Continuation;
 use crate::found::make_literal;
 use markdown_base::fault::Fault;
 use markdown_base::item::{Item, ItemBody};
-use markdown_base::options::Options;
+use markdown_base::syntax::Syntax;
 use markdown_base::tree::Tree;
 use markdown_brackets::bracket_reader::BracketReader;
 use markdown_brackets::closing_bracket::ClosedBracket;
@@ -30,7 +30,7 @@ use std::alloc::Global;
 pub struct Resolver<'a, F> {
     pub alloc: Global,
     pub text: &'a str,
-    pub options: Options,
+    pub syntax: Syntax,
     /// What labels are looked up in, and the other entries that items refer to by number.
     pub lookup: LabelLookup<'a, F>,
     pub work: Work,
@@ -49,7 +49,7 @@ impl<'a, F: BrokenLinkCallback<'a>> Resolver<'a, F> {
     ghost use Rattle.std.specs.Prelude.{OnErr, is_some, take, false, None, []};
     ghost use Rattle.markdown_base.specs.ArenaForest.{Spells, forest_at, links_of};
     ghost use Rattle.markdown_base.specs.BlockTree.{item_at};
-    ghost use Rattle.markdown_base.specs.EnabledOptions.{gfm_footnotes_on};
+    ghost use Rattle.markdown_base.specs.Syntax.{gfm_footnotes};
     ghost use Rattle.markdown_brackets.specs.Reference.{is_closing_bracket};
     ghost use Rattle.markdown_brackets.specs.SpentEnds.{is_spent};
     ghost use Rattle.markdown_base.specs.Item.{is_open};
@@ -176,7 +176,7 @@ impl<'a, F: BrokenLinkCallback<'a>> Resolver<'a, F> {
     {
         match bracket {
             BracketKind::Opener { is_image } => {
-                open_bracket(tree, &mut self.waiting.openers, self.options, ix, is_image)
+                open_bracket(tree, &mut self.waiting.openers, self.syntax, ix, is_image)
             }
             BracketKind::Closer => self.close_bracket(tree, place, ix),
         }
@@ -267,7 +267,7 @@ impl<'a, F: BrokenLinkCallback<'a>> Resolver<'a, F> {
         requires can_ask { IfSome self.old.lookup.callback F.can_ask }
         requires ready { CanResolveBelow self.old.text.now (tables_of self.old.lookup.tables)
             tree.old first }
-        requires above { IsKnownAt (gfm_footnotes_on self.old.options) tree.old.nodes
+        requires above { IsKnownAt (gfm_footnotes self.old.syntax) tree.old.nodes
             tree.old.spine above.old }
         ensures reads { IfOk result (λ _.
             ReadsChain F.answers first tree.old tree.new self.old self.new) }
@@ -281,12 +281,12 @@ impl<'a, F: BrokenLinkCallback<'a>> Resolver<'a, F> {
         ensures counts { ReadCounts (items_from tree.old.nodes (Some first)) self.old.work
             self.new.work }
         ensures kept { ChangesForChain self.old self.new }
-        ensures above { IsKnownAt (gfm_footnotes_on self.old.options) tree.old.nodes tree.old.spine
+        ensures above { IsKnownAt (gfm_footnotes self.old.syntax) tree.old.nodes tree.old.spine
             above.new }
     {
         self.begin_chain();
         let block = above.up_to_innermost(tree);
-        let place = above.place(tree, self.text, self.options, block);
+        let place = above.place(tree, self.text, self.syntax, block);
         let mut scanner = RawHtmlScanner::new(self.text[..place.block_end].as_bytes());
         let mut at = Some(first);
         'chain: while let Some(ix) = at {
@@ -316,12 +316,12 @@ impl<'a, F: BrokenLinkCallback<'a>> Resolver<'a, F> {
         requires can_ask { IfSome self.old.lookup.callback F.can_ask }
         requires ready { CanResolveBelow self.old.text.now (tables_of self.old.lookup.tables)
             tree.old first }
-        requires above { IsKnownAt (gfm_footnotes_on self.old.options) tree.old.nodes
+        requires above { IsKnownAt (gfm_footnotes self.old.syntax) tree.old.nodes
             tree.old.spine above.old }
         requires open { is_open (item_at tree.old.nodes first).body ≡ true }
         ensures resolves { IfOk result (λ _. ResolvesChain F.answers
             (setting_of self.old.text.now
-            (rules_from self.old.options self.old.lookup.tables (is_some self.old.lookup.callback)))
+            (rules_from self.old.syntax self.old.lookup.tables (is_some self.old.lookup.callback)))
             first tree.old tree.new self.old.lookup.tables self.new.lookup.tables
             self.old.lookup.limit self.new.lookup.limit
             self.old.lookup.callback self.new.lookup.callback self.old.work self.new.work) }
@@ -330,20 +330,20 @@ impl<'a, F: BrokenLinkCallback<'a>> Resolver<'a, F> {
         ensures refused { IfErr result (λ fault. fault ≡ Fault.Memory) }
         ensures stops { IfErr result (λ _. StopsIn F.answers
             (setting_of self.old.text.now
-            (rules_from self.old.options self.old.lookup.tables (is_some self.old.lookup.callback)))
+            (rules_from self.old.syntax self.old.lookup.tables (is_some self.old.lookup.callback)))
             (above_cursor self.old.text.now tree.old) first
             (resolver_state tree.old self.old.lookup.tables self.old.lookup.limit
             self.old.lookup.callback) self.new.lookup.callback
             self.old.work self.new.work) }
         ensures again { IfSome self.new.lookup.callback F.can_ask }
         ensures kept { KeepsInput self.old self.new }
-        ensures above { IsKnownAt (gfm_footnotes_on self.old.options) tree.old.nodes tree.old.spine
+        ensures above { IsKnownAt (gfm_footnotes self.old.syntax) tree.old.nodes tree.old.spine
             above.new }
     {
         self.read_chain(tree, above, first)?;
         let source = ChainText {
             text: self.text,
-            options: self.options,
+            syntax: self.syntax,
         };
         pair_chain(tree, &mut self.open_runs, source, first, &mut self.work)?;
         Ok(())

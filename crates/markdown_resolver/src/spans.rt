@@ -14,7 +14,7 @@ ghost use Rattle.markdown_document.specs.Tables.{Tables, tables_of, text_at};
 ghost use Rattle.markdown_spans.specs.ChainInArena.{HasChain};
 ghost use Rattle.markdown_spans.specs.Closers.{is_dollar};
 ghost use Rattle.markdown_spans.specs.CodeText.{span_origin};
-ghost use Rattle.markdown_base.specs.EnabledOptions.{gfm_footnotes_on};
+ghost use Rattle.markdown_base.specs.Syntax.{gfm_footnotes};
 ghost use Rattle.markdown_spans.specs.Finds.{is_escaped};
 ghost use Rattle.markdown_spans.specs.MathOpening.{dollar_at};
 ghost use Rattle.markdown_resolver.specs.ChainPlace.{IsPlaceOf};
@@ -47,7 +47,7 @@ fn text_between<'a>(
     requires { CanCut place.now.text.now content.start content.end }
     ensures value { IfOk result (λ made. (tree : Arena Item) (rules : Rules)
         → IsPlaceOf place.now tree
-        → gfm_footnotes_on rules.options ≡ gfm_footnotes_on place.now.options
+        → gfm_footnotes rules.syntax ≡ gfm_footnotes place.now.syntax
         → text_of made ≡ text_between (setting_of place.now.text.now rules)
         (above_cursor place.now.text.now tree)
         kind content.start content.end) }
@@ -164,7 +164,7 @@ impl<'a, F: BrokenLinkCallback<'a>> Resolver<'a, F> {
             (slice_range place.now.text.now content.start content.end))) }
         ensures text { IfOk result (λ cow. (tree : Arena Item) (rules : Rules)
             → IsPlaceOf place.now tree
-            → gfm_footnotes_on rules.options ≡ gfm_footnotes_on place.now.options
+            → gfm_footnotes rules.syntax ≡ gfm_footnotes place.now.syntax
             → text_at self.new.lookup.tables.cows cow.0
             ≡ text_between (setting_of place.now.text.now rules)
             (above_cursor place.now.text.now tree) kind content.start content.end) }

@@ -1,6 +1,7 @@
 -- What code spans, math spans, autolinks and raw HTML make of small chains.
 use Rattle.std.proofs.Common.{◌≡◌, ℕ, ◌+◌, Bool, true, false, List, [], ◌∷◌, Option, Some, None, length, refl}
 use Rattle.std.specs.Prelude.{codes, nat_le, if◌then◌else◌}
+use Rattle.markdown_base.specs.Syntax.{commonmark}
 use Rattle.markdown_base.specs.Event.{EventView, code, inline_math, display_math, inline_html, link}
 use Rattle.markdown_base.specs.Forest.{Forest, nil, node}
 use Rattle.markdown_base.specs.declared.item.Item.{Item}
@@ -21,7 +22,12 @@ use Rattle.markdown_spans.specs.Finds.{address, node_over, read_tree, text_node}
 abbrev setting : List ℕ → Setting
 setting source = record {
   text = source;
-  rules = record { options = record { 0 = 4 }; definitions = λ label. None; is_footnote = λ name. false; asks = false };
+  rules = record {
+    syntax = record commonmark { footnotes = true };
+    definitions = λ label. None;
+    is_footnote = λ name. false;
+    asks = false;
+  };
 }
 
 -- a paragraph, and one in a block quote

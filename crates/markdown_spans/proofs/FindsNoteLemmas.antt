@@ -12,7 +12,6 @@ use Rattle.markdown_document.specs.Document.{Notes, TreeNode}
 use Rattle.markdown_document.specs.TreeNodes.{annotate, annotated}
 use Rattle.markdown_document.specs.Setting.{Setting}
 use Rattle.markdown_document.specs.Waiting.{is_quiet}
-use Rattle.markdown_base.specs.ExtendedOptions.{is_extended}
 use Rattle.markdown_spans.specs.AfterLess.{Markup, autolink, html_markup, markup_at}
 use Rattle.markdown_document.specs.ChainRest.{as_item, begun_at, start_of, end_of, next_starts_at, open_body, past}
 use Rattle.markdown_document.specs.ChainRest.{past_byte}
@@ -205,7 +204,7 @@ module _ {A B : Type 0} (f : A → B) where
       ≡ annotate_find (markup_found s above a is_followed)
   markup_found_annotate s above a false = refl
   markup_found_annotate s above a true =
-      markup_or_annotate (markup_at (λ bytes. Some (prefix_below s above bytes)) (is_extended s.rules.options)
+      markup_or_annotate (markup_at (λ bytes. Some (prefix_below s above bytes)) s.rules.syntax.addresses
       (take above.block_end s.text) (start_of a) (end_of a))
 
   find_by_annotate : (s : Setting) (above : EnclosingBlocks) (b : ItemBody) (a : TreeNode A)

@@ -3,8 +3,7 @@
 use Rattle.std.specs.Prelude.{ℕ, ◌+◌, ◌-◌, Bool, true, false, List, [], ◌∷◌, Option, Some, None}
 use Rattle.std.specs.Prelude.{slice_range, take}
 use Rattle.std.specs.Option.{option_map_or}
-use Rattle.markdown_base.specs.EnabledOptions.{gfm_footnotes_on}
-use Rattle.markdown_base.specs.ExtendedOptions.{is_extended}
+use Rattle.markdown_base.specs.Syntax.{gfm_footnotes}
 use Rattle.markdown_base.specs.Event.{LinkView, code, inline_html, link}
 use Rattle.markdown_base.specs.Forest.{Forest, nil, node, roots}
 use Rattle.markdown_base.specs.declared.item.ItemBody.{ItemBody}
@@ -29,7 +28,7 @@ use Rattle.markdown_spans.specs.declared.span_text.SpanKind.TheVariants.{Code, M
 
 -- the length in bytes of the prefix after a line ending, by the blocks above
 abbrev pub prefix_below : Setting → EnclosingBlocks → List ℕ → ℕ
-prefix_below s above bytes = prefix_length (gfm_footnotes_on s.rules.options) above.bodies bytes
+prefix_below s above bytes = prefix_length (gfm_footnotes s.rules.syntax) above.bodies bytes
 
 -- the text of a span, and its origin
 pub record SpanText : Type 0 where
@@ -74,7 +73,7 @@ math_found s above a after (Some m) =
 abbrev pub markup_found : {A : Type 0} → Setting → EnclosingBlocks → TreeNode A → (is_followed : Bool) → Find A
 markup_found s above a false = nothing
 markup_found s above a true = option_map_or markup
-    (markup_at (λ bytes. Some (prefix_below s above bytes)) (is_extended s.rules.options) (take above.block_end s.text)
+    (markup_at (λ bytes. Some (prefix_below s above bytes)) s.rules.syntax.addresses (take above.block_end s.text)
     (start_of a) (end_of a)) nothing
 
 -- what is found at an item with this body, from the chain after it. Each body of kind `undecided_span` has its case:

@@ -2,13 +2,13 @@
 ghost use Rattle.std.specs.Prelude.{◌≡◌, ◌≤◌, None, Some, if◌then◌else◌, length, take, IfSome, IsTrue};
 ghost use Rattle.std.specs.List.{list_all};
 ghost use Rattle.std.specs.Char.{is_ascii};
-ghost use Rattle.markdown_base.specs.EnabledOptions.{gfm_footnotes_on};
+ghost use Rattle.markdown_base.specs.Syntax.{gfm_footnotes};
 ghost use Rattle.markdown_spans.specs.ContainerPrefix.{has_prefix, past_indent, past_marker_next, past_block};
 ghost use Rattle.markdown_scan.specs.LineView.{line_left};
 ghost use Rattle.markdown_scan.specs.LineStart.{leading_space};
 
 use markdown_base::item::{Item, ItemBody};
-use markdown_document::chain_place::{ChainPlace, gfm_footnotes};
+use markdown_document::chain_place::ChainPlace;
 use markdown_scan::line_rule::LineRule;
 use markdown_scan::line_start::LineStart;
 
@@ -71,11 +71,11 @@ impl<'t> ContainerPrefix<'t> {
     /// Returns the prefixes of the lines of a chain at a place.
     pub fn new(place: &ChainPlace<'_, 't>) -> ContainerPrefix<'t>
         ensures containers { result.containers.now ≡ place.now.containers.now }
-        ensures footnotes { result.gfm_footnotes ≡ gfm_footnotes_on place.now.options }
+        ensures footnotes { result.gfm_footnotes ≡ gfm_footnotes place.now.syntax }
     {
         ContainerPrefix {
             containers: place.containers,
-            gfm_footnotes: gfm_footnotes(place.options),
+            gfm_footnotes: place.syntax.gfm_footnotes(),
         }
     }
 

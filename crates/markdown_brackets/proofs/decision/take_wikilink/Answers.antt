@@ -7,11 +7,11 @@ use Rattle.markdown_brackets.specs.Reference.{is_closing_bracket}
 use Rattle.markdown_brackets.proofs.TakeWikilinkLemmas.{none_by_next, none_by_off, takes}
 use Rattle.markdown_brackets.proofs.decision.take_wikilink.Goals as goal
 
-pub returns-then-not-wikilinks_on : goal.returns-then-not-wikilinks_on
-returns-then-not-wikilinks_on g c skipped bodies definitions footnotes asks left cl s h =
+pub returns-then-not-at : goal.returns-then-not-at
+returns-then-not-at g c skipped bodies definitions footnotes asks left cl s h =
     none_by_off c.args.at.now.tree.now.nodes c.args.at.now.node left cl s
     (bracket_context_at c.args.at.now.place.now skipped bodies definitions footnotes asks)
-    c.args.wikilinks.now h (sym c.wikilinks_on.ensures ∙ c.if-not-wikilinks_on.true)
+    c.args.wikilinks.now h c.if-not-at.true
 
 pub returns-in_default : goal.returns-in_default
 returns-in_default g c skipped bodies definitions footnotes asks left cl s h =
@@ -39,7 +39,7 @@ returns g c skipped bodies definitions footnotes asks left cl s h =
     takes nodes c.args.at.now.node left cl s w c.in-Some.next (sym c.next.ensures.value ∙ c.in-Some.is)
     (ap (λ (i : Item). is_closing_bracket i.body) (sym (c.item-second.ensures no_item))
     ∙ (sym c.is_closing_bracket.ensures ∙ c.if-not-is_closing_bracket.false))
-    (sym c.wikilinks_on.ensures ∙ c.if-not-wikilinks_on.false)
+    c.if-not-at.false
     c.take_nearest-taken.result c.args.wikilinks.now c.take_nearest-taken.new.self h c.take_nearest-taken.ensures
     c.try_wikilink.result
     (λ o t. rw (c.item-second.ensures no_item) at (c.try_wikilink.ensures w cl o refl refl t))

@@ -47,7 +47,7 @@ returns-in-None-clause-comes g c =
     let rule = g.R.LineRule.skipped at.rule.now in
     ok_map c.try_reference.result _ _ c.try_reference.ensures.comes (λ found comes skipped bodies o opener start.
     let w = bracket_context_by place skipped bodies c.args.lookup.now in
-    found_as (other_written (entity_names place.options) place.in_table o
+    found_as (other_written (entity_names place.syntax) place.in_table o
     (reference_at nodes place rule at.node w o (could_be_at nodes at.node c.args.spent.now)
     ((item_at nodes c.args.opener.node).end - 1))
     (tail_ahead nodes place rule at.node) (rw c.in-None.is at c.in_ok-tail.ensures.value))

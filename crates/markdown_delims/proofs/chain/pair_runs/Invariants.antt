@@ -10,7 +10,7 @@ use Rattle.markdown_delims.proofs.chain.pair_runs.Given as goal
 
 abbrev pub invariant-trees : goal.invariant-trees
 invariant-trees l =
-    (s : Setting) (tables : Tables) (f : Forest ℕ) → extensions_of s.rules.options ≡ l.source.extensions → s.text
+    (s : Setting) (tables : Tables) (f : Forest ℕ) → extensions_of s.rules.syntax ≡ l.source.extensions → s.text
     ≡ l.source.text.now
     → (c : IsChainAt s tables l.fn.tree.nodes l.first l.count f)
     → RunsRead s tables l.fn.tree l.first l.count f c l.tree l.fn.openers l.openers l.last l.cur

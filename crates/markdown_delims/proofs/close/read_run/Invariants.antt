@@ -13,7 +13,7 @@ invariant-turns l =
     record {
       goes_on :
           (h : Chain) (rs : List (Read ℕ)) (vs : List (TreeNode ℕ)) (after : Forest (TreeNode ℕ))
-          → extensions_of h.setting.rules.options ≡ l.extensions
+          → extensions_of h.setting.rules.syntax ≡ l.extensions
           → StandsAt h l.fn.tree rs l.fn.last l.fn.met vs after → AreOpen l.fn.openers.runs rs
           → ClosingAt h l.fn.met vs rs after l.fn.tree l.tree l.fn.openers l.openers l.closer l.before;
       some : 0 < l.closer.count;

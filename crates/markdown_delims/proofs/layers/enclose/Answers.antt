@@ -51,7 +51,7 @@ layers-init c =
 pub layers-preserved : goal.layers-preserved
 layers-preserved c =
     let p = c.requires.stands in
-    let more : (h : Chain) (g : ChainParts) → extensions_of h.setting.rules.options ≡ c.args.extensions
+    let more : (h : Chain) (g : ChainParts) → extensions_of h.setting.rules.syntax ≡ c.args.extensions
     → Encloses h g c.args.tree.now c.args.opener c.args.closer (inner_of c.args.opener c.args.tree.now)
     → LayersAt h g c.args.tree.now c.put_node.new.tree c.args.opener.run.delimiter
     (record c.layers.opener { count = c.layers.opener.count - 2 })

@@ -10,7 +10,7 @@ abbrev pub invariant-layers : goal.invariant-layers
 invariant-layers l =
     record {
       layers :
-          (h : Chain) (g : ChainParts) → extensions_of h.setting.rules.options ≡ l.extensions
+          (h : Chain) (g : ChainParts) → extensions_of h.setting.rules.syntax ≡ l.extensions
           → Encloses h g l.fn.tree l.fn.opener l.fn.closer (inner_of l.fn.opener l.fn.tree)
           → LayersAt h g l.fn.tree l.tree l.delimiter l.opener l.closer l.left l.inner;
       some : 0 < l.left;

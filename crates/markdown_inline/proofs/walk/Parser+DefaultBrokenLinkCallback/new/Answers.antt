@@ -1,4 +1,4 @@
--- The options of the call are none.
+-- No extension is enabled.
 use Rattle.markdown_inline.proofs.walk.Parser+DefaultBrokenLinkCallback.new.Goals as goal
 
 pub returns-clause-left : goal.returns-clause-left

@@ -2,7 +2,7 @@
 use Rattle.markdown_document.specs.Tables.{tables_of}
 use Rattle.std.proofs.Common.{ap, refl, ◌∙◌}
 use Rattle.markdown_base.specs.Arena.{Arena}
-use Rattle.markdown_base.specs.EnabledOptions.{gfm_footnotes_on}
+use Rattle.markdown_base.specs.Syntax.{gfm_footnotes}
 use Rattle.markdown_base.specs.declared.item.Item.{Item}
 use Rattle.markdown_inline.specs.ParserLeft.{parser_setting}
 use Rattle.markdown_inline.proofs.ParserLemmas.{above_chain, before_chain, moved_give, moved_past, moved_skip}
@@ -46,8 +46,8 @@ invariant_of-self-in-Ok g c =
     in
     let before = rw h.1 at c.resolve_chain.ensures.above in
     record {
-      entered = rw c.in-Ok.ensures.kept.options (entered_chain (parser_setting s)
-          (gfm_footnotes_on s.resolver.options) s.stands h.0 (rw h.1 at c.in-Ok.ensures.resolves) before);
+      entered = rw c.in-Ok.ensures.kept.syntax (entered_chain (parser_setting s)
+          (gfm_footnotes s.resolver.syntax) s.stands h.0 (rw h.1 at c.in-Ok.ensures.resolves) before);
       stands = rw c.in-Ok.ensures.kept.text
           (stands_chain g.F.BrokenLinkCallback.answers (parser_setting s) s.tree c.resolve_chain.new.tree
           s.resolver.lookup.tables c.resolve_chain.new.self.lookup.tables c.in-Ok-Chain.first
@@ -69,8 +69,8 @@ pub invariant_of-self-in-Err-resolve_chain : goal.invariant_of-self-in-Err-resol
 invariant_of-self-in-Err-resolve_chain g c =
     let s = c.args.self.now in
     record {
-      entered = rw c.resolve_chain.ensures.kept.options (none_above c.stop.new.self c.resolve_chain.new.above
-          (gfm_footnotes_on s.resolver.options) (ap (λ (t : Arena Item). t.spine) c.stop.ensures)
+      entered = rw c.resolve_chain.ensures.kept.syntax (none_above c.stop.new.self c.resolve_chain.new.above
+          (gfm_footnotes s.resolver.syntax) (ap (λ (t : Arena Item). t.spine) c.stop.ensures)
           c.resolve_chain.ensures.above.style c.clear.ensures);
       stands = stands_ended c.resolve_chain.new.self.text.now (tables_of c.resolve_chain.new.self.lookup.tables)
           c.stop.new.self
@@ -81,7 +81,7 @@ pub invariant_of-self-in-Err : goal.invariant_of-self-in-Err
 invariant_of-self-in-Err g c =
     let s = c.args.self.now in
     record {
-      entered = none_above c.stop-in-Err.new.self c.take_step.new.above (gfm_footnotes_on s.resolver.options)
+      entered = none_above c.stop-in-Err.new.self c.take_step.new.above (gfm_footnotes s.resolver.syntax)
           (ap (λ (t : Arena Item). t.spine) c.stop-in-Err.ensures) (c.take_step.ensures.style ∙ s.entered.style)
           c.clear-in-Err.ensures;
       stands = stands_ended c.args.self.now.resolver.text.now (tables_of c.args.self.now.resolver.lookup.tables)
@@ -104,7 +104,7 @@ returns-in-Ok-Skip-clause-moves g c =
     (c.in-Ok-Skip.ensures.gives s.resolver.text.now s.resolver.lookup.tables s.stands)
     in
     moved_skip g.F.BrokenLinkCallback.answers s _
-    (record { text = refl; options = refl; callback = refl; limit = refl; work = refl }) h
+    (record { text = refl; syntax = refl; callback = refl; limit = refl; work = refl }) h
 
 pub returns-in-Ok-Leaf-clause-moves : goal.returns-in-Ok-Leaf-clause-moves
 returns-in-Ok-Leaf-clause-moves g c =
@@ -113,7 +113,7 @@ returns-in-Ok-Leaf-clause-moves g c =
     (c.in-Ok-Leaf.ensures.gives s.resolver.text.now s.resolver.lookup.tables s.stands)
     in
     moved_past s _ c.in-Ok-Leaf.item _
-    (record { text = refl; options = refl; callback = refl; limit = refl; work = refl }) refl h
+    (record { text = refl; syntax = refl; callback = refl; limit = refl; work = refl }) refl h
 
 pub returns-in-Ok-Start-clause-moves : goal.returns-in-Ok-Start-clause-moves
 returns-in-Ok-Start-clause-moves g c =
@@ -122,7 +122,7 @@ returns-in-Ok-Start-clause-moves g c =
     (c.in-Ok-Start.ensures.gives s.resolver.text.now s.resolver.lookup.tables s.stands)
     in
     moved_past s _ c.in-Ok-Start.item _
-    (record { text = refl; options = refl; callback = refl; limit = refl; work = refl }) refl h
+    (record { text = refl; syntax = refl; callback = refl; limit = refl; work = refl }) refl h
 
 pub returns-in-Ok-End-clause-moves : goal.returns-in-Ok-End-clause-moves
 returns-in-Ok-End-clause-moves g c =
@@ -130,7 +130,7 @@ returns-in-Ok-End-clause-moves g c =
     let h = rw c.in-Ok-End.field-0-is at
     (c.in-Ok-End.ensures.gives s.resolver.text.now s.resolver.lookup.tables s.stands) in
     moved_give s _ _ (range_of c.in-Ok-End.item)
-    (record { text = refl; options = refl; callback = refl; limit = refl; work = refl }) h
+    (record { text = refl; syntax = refl; callback = refl; limit = refl; work = refl }) h
 
 pub returns-in-Ok-clause-moves : goal.returns-in-Ok-clause-moves
 returns-in-Ok-clause-moves g c =
@@ -139,7 +139,7 @@ returns-in-Ok-clause-moves g c =
     (c.in-Ok-Chain.ensures.gives s.resolver.text.now s.resolver.lookup.tables s.stands)
     in
     moved_chain g.F.BrokenLinkCallback.answers c.args.self.now _ c.in-Ok-Chain.first c.in-Ok.ensures.kept.text
-    c.in-Ok.ensures.kept.options
+    c.in-Ok.ensures.kept.syntax
     c.args.self.now.stands h.0 (rw h.1 at c.in-Ok.ensures.resolves)
 
 pub returns-in-Err-resolve_chain-clause-moves : goal.returns-in-Err-resolve_chain-clause-moves

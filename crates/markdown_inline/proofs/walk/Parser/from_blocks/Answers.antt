@@ -18,9 +18,8 @@ pub returns-clause-left : goal.returns-clause-left
 returns-clause-left g c answers =
     let parts = c.into_parts-tree.ensures.parts in
     let held : HoldsParts c.into_parts-tree.result.3 c.in_ok-tables.tables = c.in_ok-tables.ensures.holds in
-    let options = c.with_extended-options.ensures ∙ rw (c.is_extended-extended.ensures, parts.1) refl in
-    starts_left c.args.blocks _ answers parts.0 options (rw parts.3 at held) c.into_parts-tree.result.2 parts.2
-    c.reset.ensures
+    starts_left c.args.blocks _ answers parts.0 c.syntax-syntax.ensures (rw parts.3 at held)
+    c.into_parts-tree.result.2 parts.2 c.reset.ensures
     (c.max.ensures ∙ ap (λ (text : List ℕ). max (length text) 100000) parts.0)
 
 pub returns-clause-text : goal.returns-clause-text

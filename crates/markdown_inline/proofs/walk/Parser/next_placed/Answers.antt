@@ -27,7 +27,7 @@ returns-in-Leaf-clause-gives g c =
     (record {
       took = record {
         text = refl;
-        options = refl;
+        syntax = refl;
         callback = refl;
         limit = refl;
         work = refl;

@@ -1,7 +1,7 @@
 -- The Start is that of the item; where it is refused the walk is over.
 use Rattle.std.proofs.Common.{refl, ap}
 use Rattle.markdown_base.specs.Arena.{Arena}
-use Rattle.markdown_base.specs.EnabledOptions.{gfm_footnotes_on}
+use Rattle.markdown_base.specs.Syntax.{gfm_footnotes}
 use Rattle.markdown_base.specs.declared.item.Item.{Item}
 use Rattle.markdown_defs.specs.Allocations.{Allocated}
 use Rattle.markdown_document.specs.Tables.{tables_of}
@@ -20,7 +20,7 @@ invariant_of-self g c = record {
 
 pub invariant_of-self-in-Err : goal.invariant_of-self-in-Err
 invariant_of-self-in-Err g c = record {
-  entered = none_above c.stop.new.self c.args.self.now.above (gfm_footnotes_on c.args.self.now.resolver.options)
+  entered = none_above c.stop.new.self c.args.self.now.above (gfm_footnotes c.args.self.now.resolver.syntax)
       (ap (λ (t : Arena Item). t.spine) c.stop.ensures) c.args.self.now.entered.style c.clear.ensures;
   stands = stands_ended c.args.self.now.resolver.text.now (tables_of c.start_tag.new.tables) c.stop.new.self
       (stopped c.args.self.now.tree c.stop.new.self c.stop.ensures);
@@ -30,7 +30,7 @@ pub returns-in-Ok-clause-begun : goal.returns-in-Ok-clause-begun
 returns-in-Ok-clause-begun g c = record {
   took = record {
     text = refl;
-    options = refl;
+    syntax = refl;
     callback = refl;
     limit = refl;
     work = refl;

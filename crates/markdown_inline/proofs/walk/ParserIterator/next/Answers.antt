@@ -27,7 +27,7 @@ returns-in-Leaf-clause-steps g c =
     (record {
       took = record {
         text = refl;
-        options = refl;
+        syntax = refl;
         callback = refl;
         limit = refl;
         work = refl;

@@ -30,7 +30,7 @@ returns g c =
     record {
       decides = decides_here g.F.BrokenLinkCallback.answers c.args.place.now c.new-rule.result c.args.tree.now
           c.args.self.now _ c.args.ix
-          c.decide_bracket.result c.requires.ready.text c.requires.ready.options prefix c.requires.closes
+          c.decide_bracket.result c.requires.ready.text c.requires.ready.syntax prefix c.requires.closes
           c.decide_bracket.ensures.decides;
       nothing_asked = c.decide_bracket.ensures.nothing_asked;
       again = c.decide_bracket.ensures.again;

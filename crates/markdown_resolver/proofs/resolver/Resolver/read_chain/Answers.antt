@@ -37,7 +37,7 @@ chain-init g c =
     let b = c.begin_chain.new.self in
     rw c.begin_chain.ensures.kept (record {
       reads = up_to_none g.F.BrokenLinkCallback.answers
-          (setting_of s.text.now (rules_from s.options s.lookup.tables (is_some s.lookup.callback)))
+          (setting_of s.text.now (rules_from s.syntax s.lookup.tables (is_some s.lookup.callback)))
           c.args.first c.args.tree.now s.lookup.tables s.lookup.limit s.lookup.callback b.waiting.spent
           b.waiting.openers.brackets b.waiting.openers.wikilinks c.requires.ready.ready c.requires.ready.unread
           c.begin_chain.ensures.spent c.begin_chain.ensures.brackets c.begin_chain.ensures.wikilinks;
@@ -61,8 +61,8 @@ read_item-requires g c κs =
     ∙ ap (λ (r : Resolver g.row.F.Denot). r.text.now) c.begin_chain.ensures.kept in
     let can = can_read_on i.reads c.requires.ready.above c.place-place.result c.in-Some.ix c.in-Some.is text
     c.place-place.ensures.place in
-    let options : c.begin_chain.new.self.options ≡ c.chain.self.options = ap (λ (r : Resolver g.row.F.Denot). r.options)
-    c.begin_chain.ensures.kept ∙ sym (ap (λ (r : Resolver g.row.F.Denot). r.options) i.kept) in (
+    let syntax : c.begin_chain.new.self.syntax ≡ c.chain.self.syntax = ap (λ (r : Resolver g.row.F.Denot). r.syntax)
+    c.begin_chain.ensures.kept ∙ sym (ap (λ (r : Resolver g.row.F.Denot). r.syntax) i.kept) in (
       (refl, tt),
       (
         i.can_ask,
@@ -72,7 +72,7 @@ read_item-requires g c κs =
             left = i.reads.reads.left_then;
             was_read = can;
             text = text ∙ sym (ap (λ (r : Resolver g.row.F.Denot). r.text.now) i.kept);
-            options = c.place-place.ensures.options ∙ options;
+            syntax = c.place-place.ensures.syntax ∙ syntax;
             learned = subst (λ (l : Option ℕ). HasLearned c.chain.self c.chain.tree.nodes l) c.in-Some.is i.learned;
           },
           i.scanner,
@@ -89,13 +89,13 @@ returns-in-Err-clause-stops g c =
     ∙ ap (λ (r : Resolver g.row.F.Denot). r.text.now) c.begin_chain.ensures.kept in
     let can = can_read_on i.reads c.requires.ready.above c.place-place.result c.in-Some.ix c.in-Some.is text
     c.place-place.ensures.place in
-    let same = same_setting s.text.now at.text.now s.options at.options s.lookup.tables at.lookup.tables
+    let same = same_setting s.text.now at.text.now s.syntax at.syntax s.lookup.tables at.lookup.tables
     (is_some s.lookup.callback) (is_some at.lookup.callback)
-    (ap (λ (r : Resolver g.row.F.Denot). r.text.now) i.kept) (ap (λ (r : Resolver g.row.F.Denot). r.options) i.kept)
+    (ap (λ (r : Resolver g.row.F.Denot). r.text.now) i.kept) (ap (λ (r : Resolver g.row.F.Denot). r.syntax) i.kept)
     (ap (λ (r : Resolver g.row.F.Denot). r.lookup.tables.refdefs) i.kept)
     i.footnotes (still_asks i.reads c.requires.ready.above) in
     rw c.count_items.ensures (up_to_stops i.reads c.requires.ready.above
-    (setting_of at.text.now (rules_from at.options at.lookup.tables (is_some at.lookup.callback))) c.in-Some.ix
+    (setting_of at.text.now (rules_from at.syntax at.lookup.tables (is_some at.lookup.callback))) c.in-Some.ix
     c.read_item.new.self.lookup.callback same
     c.in-Some.is (c.in-Err.ensures.stops.at_node c.args.first i.reads.reads.left_then can))
 
@@ -115,14 +115,14 @@ chain-preserved g c =
     ∙ ap (λ (r : Resolver g.row.F.Denot). r.text.now) c.begin_chain.ensures.kept in
     let can = can_read_on i.reads c.requires.ready.above c.place-place.result ix c.in-Some.is text
     c.place-place.ensures.place in
-    let same = same_setting s.text.now at.text.now s.options at.options s.lookup.tables at.lookup.tables
+    let same = same_setting s.text.now at.text.now s.syntax at.syntax s.lookup.tables at.lookup.tables
     (is_some s.lookup.callback) (is_some at.lookup.callback)
-    (ap (λ (r : Resolver g.row.F.Denot). r.text.now) i.kept) (ap (λ (r : Resolver g.row.F.Denot). r.options) i.kept)
+    (ap (λ (r : Resolver g.row.F.Denot). r.text.now) i.kept) (ap (λ (r : Resolver g.row.F.Denot). r.syntax) i.kept)
     (ap (λ (r : Resolver g.row.F.Denot). r.lookup.tables.refdefs) i.kept)
     i.footnotes (still_asks i.reads c.requires.ready.above) in
     rw c.count_read.ensures (record {
       reads = up_to_more i.reads c.requires.ready.above
-          (setting_of at.text.now (rules_from at.options at.lookup.tables (is_some at.lookup.callback))) ix rest.next
+          (setting_of at.text.now (rules_from at.syntax at.lookup.tables (is_some at.lookup.callback))) ix rest.next
           new.tree new.self.lookup.tables new.self.lookup.limit new.self.lookup.callback
           new.self.waiting.spent new.self.waiting.openers.brackets new.self.waiting.openers.wikilinks same c.in-Some.is
           reads.goes_on.place_is (reads.goes_on.reads c.args.first i.reads.reads.left_then can) reads.goes_on.unread;

@@ -12,7 +12,7 @@ use Rattle.markdown_resolver.specs.ReadsBracket.{HasLearned}
 abbrev pub invariant-chain : goal.invariant-chain
 invariant-chain g l = record {
   reads : ReadsUpTo g.F.BrokenLinkCallback.answers (setting_of l.fn.self.text.now
-      (rules_from l.fn.self.options l.fn.self.lookup.tables (is_some l.fn.self.lookup.callback))) l.first l.at
+      (rules_from l.fn.self.syntax l.fn.self.lookup.tables (is_some l.fn.self.lookup.callback))) l.first l.at
       l.fn.tree l.tree l.fn.self.lookup.tables l.self.lookup.tables l.fn.self.lookup.limit l.self.lookup.limit
       l.fn.self.lookup.callback l.self.lookup.callback l.self.waiting.spent
       l.self.waiting.openers.brackets l.self.waiting.openers.wikilinks;

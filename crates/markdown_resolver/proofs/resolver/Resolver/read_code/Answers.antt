@@ -15,7 +15,7 @@ use Rattle.markdown_resolver.proofs.SpanLooksLemmas.{code_search, code_up_to, no
 use Rattle.markdown_resolver.proofs.SpanLooksLemmas.{search_stops, something_looks}
 use Rattle.markdown_resolver.proofs.resolver.Resolver.read_code.Goals as goal
 use Rattle.std.specs.Prelude.{Result, Ok, is_some}
-use Rattle.markdown_base.specs.EnabledOptions.{gfm_footnotes_on}
+use Rattle.markdown_base.specs.Syntax.{gfm_footnotes}
 use Rattle.markdown_base.specs.declared.fault.Fault.{Fault}
 use Rattle.markdown_spans.specs.declared.span_text.SpanKind.{SpanKind}
 use Rattle.markdown_resolver.proofs.ReadingLemmas.{reads_by_rules, stops_at_none}
@@ -41,10 +41,10 @@ returns-in_default-clause-reads g c =
     let closes : ClosesCode nodes ix None = subst (ClosesCode nodes ix) c.in_default.is found.found in
     let puts = c.make_literal.ensures.puts place.text.now tables ready in
     let result : Result Continuation Fault = Ok c.make_literal.result in
-    let read = reads_by_rules result place s.text.now (rules_from s.options s.lookup.tables (is_some s.lookup.callback))
+    let read = reads_by_rules result place s.text.now (rules_from s.syntax s.lookup.tables (is_some s.lookup.callback))
     tree ix
     c.make_literal.new.tree.nodes tables tables ready c.requires.ready.text
-    c.requires.ready.options
+    c.requires.ready.syntax
     (λ rules same. let set : Setting = setting_of place.text.now rules in
     reads_item ready (nothing_reads set (above_cursor set.text tree) tables nodes ix o.0 o.1 ready o.2 closes) puts) in
     record {
@@ -105,12 +105,12 @@ returns-clause-reads g c =
     let text = rw (c.item.ensures no_item, c.item-2.ensures no_item) at c.in_ok-cow.ensures.text in
     let origin = rw (c.item.ensures no_item, c.item-2.ensures no_item, stands.in_table)
     at c.in_ok-cow.ensures.stored.origin_is in
-    let read = reads_by_rules result place s.text.now (rules_from s.options s.lookup.tables (is_some s.lookup.callback))
+    let read = reads_by_rules result place s.text.now (rules_from s.syntax s.lookup.tables (is_some s.lookup.callback))
     tree ix
-    c.put_code.new.tree.nodes tables tables' ready c.requires.ready.text c.requires.ready.options
+    c.put_code.new.tree.nodes tables tables' ready c.requires.ready.text c.requires.ready.syntax
     (λ rules same. let set : Setting = setting_of place.text.now rules in
     reads_item ready (code_reads set (above_cursor set.text tree) tables tables' nodes ix x o.0 o.1 c.in_ok-cow.cow
-    ready o.2 here.closes (text tree rules stands (ap gfm_footnotes_on same)) origin) was_put) in
+    ready o.2 here.closes (text tree rules stands (ap gfm_footnotes same)) origin) was_put) in
     record {
       item = read.reads;
       learned = rw c.store_text.ensures.kept (record {

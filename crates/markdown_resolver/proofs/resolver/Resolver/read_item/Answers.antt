@@ -46,7 +46,7 @@ read_other-requires g c κs =
     let can = c.requires.ready in (
       (refl, tt),
       (
-        record { chain = can_read_item can.was_read; text = can.text; options = can.options; learned = can.learned },
+        record { chain = can_read_item can.was_read; text = can.text; syntax = can.syntax; learned = can.learned },
         c.requires.scanner,
       ),
     )

@@ -35,10 +35,10 @@ returns-then-item-place-clause-reads g c =
     let held = s.lookup.tables in
     let same = c.item-item.ensures no_item in
     let puts = c.make_literal.ensures.puts place.text.now (tables_of held) c.requires.ready.chain.ready in
-    let reads : (rules : Rules) → rules.options ≡ place.options
+    let reads : (rules : Rules) → rules.syntax ≡ place.syntax
     → ReadsItem (setting_of place.text.now rules) (above_cursor place.text.now tree) c.args.ix c.make_literal.result
     tree.nodes c.make_literal.new.tree.nodes (tables_of held)
-    (tables_of held) = λ rules options. elim c.then-item-place.branch [
+    (tables_of held) = λ rules syntax. elim c.then-item-place.branch [
       | then-item-place-via-then-item-place w ↦ reads_text c.requires.ready.chain c.requires.opener
           (none_past_block place tree held c.args.ix rules c.item-item.result.now c.requires.ready.chain
           c.requires.opener same w.if-item-place.true) puts
@@ -84,7 +84,7 @@ put_markup-requires g c =
     let scanned = is_scanned prefix c.requires.ready.chain c.requires.opener
     (c.item-item.ensures no_item) c.if-item-place.false c.next.ensures.value c.if-not-starts_at.ensures
     c.new-prefix.ensures.containers c.new-prefix.ensures.footnotes c.range-text.ensures.value c.range-text.utf8
-    c.is_extended.ensures value in
+    refl value in
     (place.text.now, markup_stands scanned)
 
 pub returns-in-None-clause-reads : goal.returns-in-None-clause-reads
@@ -98,12 +98,12 @@ returns-in-None-clause-reads g c =
     let scanned = is_scanned prefix c.requires.ready.chain c.requires.opener
     (c.item-item.ensures no_item) c.if-item-place.false c.next.ensures.value c.if-not-starts_at.ensures
     c.new-prefix.ensures.containers c.new-prefix.ensures.footnotes c.range-text.ensures.value c.range-text.utf8
-    c.is_extended.ensures value in
+    refl value in
     let result : Result Continuation Fault = Ok c.make_literal-in-None.result in
     only_reads result place tree s s c.args.ix c.make_literal-in-None.new.tree c.requires.ready
     c.make_literal-in-None.ensures.place
-    (λ rules options. reads_text
-    c.requires.ready.chain c.requires.opener (scan_finds place tree held c.args.ix prefix None rules scanned options)
+    (λ rules syntax. reads_text
+    c.requires.ready.chain c.requires.opener (scan_finds place tree held c.args.ix prefix None rules scanned syntax)
     (c.make_literal-in-None.ensures.puts place.text.now (tables_of held) c.requires.ready.chain.ready)) refl refl refl
 
 pub returns-in-Some-clause-reads : goal.returns-in-Some-clause-reads
@@ -118,12 +118,12 @@ returns-in-Some-clause-reads g c =
     let scanned = is_scanned prefix c.requires.ready.chain c.requires.opener
     (c.item-item.ensures no_item) c.if-item-place.false c.next.ensures.value c.if-not-starts_at.ensures
     c.new-prefix.ensures.containers c.new-prefix.ensures.footnotes c.range-text.ensures.value c.range-text.utf8
-    c.is_extended.ensures value in
+    refl value in
     let new : Resolver g.row.F.Denot = record s { lookup = record s.lookup { tables = c.put_markup.new.tables } } in
     only_reads c.put_markup.result place tree s new c.args.ix c.put_markup.new.tree c.requires.ready
-    c.put_markup.ensures.place (if_ok c.put_markup.result _ _ (λ next puts. λ rules options.
+    c.put_markup.ensures.place (if_ok c.put_markup.result _ _ (λ next puts. λ rules syntax.
     reads_found place tree held c.args.ix prefix m rules next c.put_markup.new.tree.nodes
-    (tables_of c.put_markup.new.tables) scanned options
+    (tables_of c.put_markup.new.tables) scanned syntax
     (puts place.text.now rules (markup_stands scanned))) c.put_markup.ensures.puts) refl refl refl
 
 pub returns-in-Some-clause-stops : goal.returns-in-Some-clause-stops

@@ -20,7 +20,7 @@ use Rattle.markdown_resolver.proofs.SpanLooksLemmas.{search_stops, something_loo
 use Rattle.markdown_resolver.proofs.resolver.Resolver.read_math.Goals as goal
 use Rattle.std.proofs.lemmas.Result.{IfOk-from_err, err_from_is_err_and}
 use Rattle.std.specs.Prelude.{Result, Ok, is_some}
-use Rattle.markdown_base.specs.EnabledOptions.{gfm_footnotes_on}
+use Rattle.markdown_base.specs.Syntax.{gfm_footnotes}
 use Rattle.markdown_base.specs.declared.fault.Fault.{Fault}
 use Rattle.markdown_spans.specs.declared.span_text.SpanKind.{SpanKind}
 use Rattle.markdown_resolver.proofs.ReadingLemmas.{reads_by_rules, stops_at_none}
@@ -53,10 +53,10 @@ returns-in_default-clause-reads g c =
     let closes : ClosesMath nodes ix None = subst (ClosesMath nodes ix) c.in_default.is found.found in
     let puts = c.make_literal.ensures.puts place.text.now tables ready in
     let result : Result Continuation Fault = Ok c.make_literal.result in
-    let read = reads_by_rules result place s.text.now (rules_from s.options s.lookup.tables (is_some s.lookup.callback))
+    let read = reads_by_rules result place s.text.now (rules_from s.syntax s.lookup.tables (is_some s.lookup.callback))
     tree ix
     c.make_literal.new.tree.nodes tables tables ready c.requires.ready.text
-    c.requires.ready.options
+    c.requires.ready.syntax
     (λ rules same. let set : Setting = setting_of place.text.now rules in
     reads_item ready (no_math_reads set (above_cursor set.text tree) tables nodes ix d.opens d.closes d.context ready
     d.is closes) puts) in
@@ -137,12 +137,12 @@ returns-clause-reads g c =
     (ap (λ (i : Item). i.start) (c.item-2.ensures no_item))) in
     let text = rw (start, c.item.ensures no_item) at c.in_ok-cow.ensures.text in
     let origin = rw (start, c.item.ensures no_item, stands.in_table) at c.in_ok-cow.ensures.stored.origin_is in
-    let read = reads_by_rules result place s.text.now (rules_from s.options s.lookup.tables (is_some s.lookup.callback))
+    let read = reads_by_rules result place s.text.now (rules_from s.syntax s.lookup.tables (is_some s.lookup.callback))
     tree ix
-    c.put_found.new.tree.nodes tables tables' ready c.requires.ready.text c.requires.ready.options
+    c.put_found.new.tree.nodes tables tables' ready c.requires.ready.text c.requires.ready.syntax
     (λ rules same. let set : Setting = setting_of place.text.now rules in
     reads_item ready (math_reads set (above_cursor set.text tree) tables tables' nodes ix m d.opens d.closes d.context
-    c.in_ok-cow.cow ready d.is here.closes (text tree rules stands (ap gfm_footnotes_on same)) origin) was_put) in
+    c.in_ok-cow.cow ready d.is here.closes (text tree rules stands (ap gfm_footnotes same)) origin) was_put) in
     record {
       item = read.reads;
       learned = rw c.store_text.ensures.kept (record {

@@ -24,7 +24,7 @@ pair_chain-requires g c =
 pub returns-in_err-read_chain-clause-stops : goal.returns-in_err-read_chain-clause-stops
 returns-in_err-read_chain-clause-stops g c =
     let s = c.args.self.now in
-    let rules = rules_from s.options s.lookup.tables (is_some s.lookup.callback) in
+    let rules = rules_from s.syntax s.lookup.tables (is_some s.lookup.callback) in
     let read = c.read_chain.ensures.counts in
     if_err c.from_residual.result (stops_resolving _ _ _ _ _ _ s.work c.read_chain.new.self.work
     c.in_err-read_chain.ensures.stops (λ later. read_in_part (setting_of s.text.now rules)
@@ -45,7 +45,7 @@ returns-in_err-pair_chain-clause-stops g c =
 pub returns-clause-resolves : goal.returns-clause-resolves
 returns-clause-resolves g c =
     let s = c.args.self.now in
-    let rules = rules_from s.options s.lookup.tables (is_some s.lookup.callback) in
+    let rules = rules_from s.syntax s.lookup.tables (is_some s.lookup.callback) in
     let setting = setting_of s.text.now rules in
     let after = c.read_chain.new.self in
     let mid = resolver_state c.read_chain.new.tree after.lookup.tables after.lookup.limit after.lookup.callback in
