@@ -1,3 +1,2 @@
--- Lemmas that callers cite, re-exported from the crates below, and those of the calls here.
+-- Lemmas that callers cite, re-exported from the crates below.
 pub mod CallerLemmas
-pub mod CorrectLemmas

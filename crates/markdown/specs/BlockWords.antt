@@ -1,8 +1,8 @@
 -- Definitions for clauses on block results, trees and items, re-exported so that a caller names this crate alone.
 
 -- a block result
-pub use Rattle.markdown_blocks.specs.Blocks.{text_of_blocks, block_options, block_extended, block_arena, block_parts}
-pub use Rattle.markdown_blocks.specs.Blocks.{IsOfEntry, IsOfText, IsOfExtended, source_for}
+pub use Rattle.markdown_blocks.specs.Blocks.{text_of_blocks, block_options, block_source, block_arena, block_parts}
+pub use Rattle.markdown_blocks.specs.Blocks.{IsBlocksOf}
 pub use Rattle.markdown_blocks.specs.declared.blocks.Blocks.{Blocks}
 pub use Rattle.markdown_base.specs.WellFormed.{IsWellFormed, KeepsRules, AllKeepRules, PartCounts, counts_of}
 pub use Rattle.markdown_base.specs.Coverage.{Covers, is_covered, is_in_block, is_inside}
@@ -13,7 +13,7 @@ pub use Rattle.markdown_builder.specs.Shown.{Shown, shown_result}
 pub use Rattle.markdown_block_rules.specs.BlockResults.{IsBlockResult}
 pub use Rattle.markdown_block_rules.specs.BlockRules.{block_tree, block_definitions, block_footnotes}
 pub use Rattle.markdown_builder.specs.BuilderView.{Definition}
-pub use Rattle.markdown_lines.specs.BlockBeginnings.{Source}
+pub use Rattle.markdown_base.specs.Source.{Source, source_as}
 -- a tree, as nodes by number and as a forest of items
 pub use Rattle.markdown_base.specs.Arena.{Arena, items_of, child_of, sibling_of}
 pub use Rattle.markdown_base.specs.ArenaChanges.{innermost, single, changed_at, follower, led_to, appended}

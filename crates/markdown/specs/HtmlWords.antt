@@ -9,11 +9,8 @@ pub use Rattle.markdown_out.specs.ImageHtml.{ImagesHaveParts, AreMatched, alt_te
 pub use Rattle.markdown_out.specs.HtmlCorrect.{items, IsRendered, StopsAtError, IsOwnFault}
 pub use Rattle.markdown_out.specs.HtmlCorrect.{IsCutShort, IsCutAtEnd, GoesTooDeep}
 -- the HTML of a text, and of what is left of a parser
-pub use Rattle.markdown_render.specs.HtmlOfText.{html_of_text}
-pub use Rattle.markdown_render.specs.Rendering.{views_of, IsRenderingOf, IsTooDeepOf}
-pub use Rattle.markdown_render.specs.Rendering.{IsEntryRenderingOf, IsEntryTooDeepOf}
-pub use Rattle.markdown_render.specs.RenderingFor.{AreEventsFor, IsRenderingFor, AreFirstEventsFor, IsTooDeepFor}
-pub use Rattle.markdown_render.specs.RenderingFor.{IsEntryRenderingFor, IsEntryTooDeepFor}
-pub use Rattle.markdown_render.specs.RenderingFor.{IsExtendedRenderingFor, IsExtendedTooDeepFor}
+pub use Rattle.markdown_render.specs.HtmlOfText.{IsTextTooDeep, html_of_text, views_of}
+pub use Rattle.markdown_render.specs.Rendering.{Renders}
+pub use Rattle.markdown_render.specs.RenderingFor.{AreEventsFor, AreFirstEventsFor, IsHtmlFor, IsTooDeepFor}
 pub use Rattle.markdown_render.specs.ParserHtml.{IsHtmlOfAll, IsHtmlOfFirst}
-pub use Rattle.markdown_render.specs.Merged.{IsMergedHtmlOf, IsMergeTooDeep}
+pub use Rattle.markdown_render.specs.Merged.{IsMergedHtmlOf, IsMergeTooDeep, merged_html_of_text}

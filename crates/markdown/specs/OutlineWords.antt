@@ -10,5 +10,7 @@ pub use Rattle.markdown_outline.specs.OutlineRead.{IsOutlineOfAll, MeetsError, N
 -- the entries of a block result
 pub use Rattle.markdown_outline.specs.TreeOutline.{AreEntriesOf, HeadingsApart, HeadingsOfTextsApart, tree_entries}
 pub use Rattle.markdown_outline.specs.TreeOutline.{own_entry, tree_level}
+-- the outline of a text, by definition
+pub use Rattle.markdown_outline.specs.OutlineOfText.{outline_of_text}
 -- a law of merges
 pub use Rattle.markdown_outline.specs.OutlineLaws.{MergingKeepsOutline, merge_items}

@@ -2,7 +2,7 @@
 
 -- the reading of a block result
 pub use Rattle.markdown_inline.specs.Elements.{Element, question, event, Placed, events_of, questions_of}
-pub use Rattle.markdown_inline.specs.ParserLeft.{reading_of, expansion_limit, findable_definitions, options_read}
+pub use Rattle.markdown_inline.specs.ParserLeft.{reading_of, expansion_limit, findable_definitions}
 pub use Rattle.markdown_document.specs.Origins.{Origin, sliced, inlined, made, IsSliceWithin}
 pub use Rattle.markdown_document.specs.LinkOrigins.{LinkOrigins, destination_origin, IsLinkFrom, IsTitleFrom}
 pub use Rattle.markdown_document.specs.Places.{follows_pipe, origin_start}
@@ -10,7 +10,7 @@ pub use Rattle.markdown_document.specs.LinkOrigins.{LeadsToSlice, titles_for}
 pub use Rattle.markdown_document.specs.LinkTitle.{Title, title_at, title_origin}
 -- the reading of a text, by definition
 pub use Rattle.markdown_inline.specs.DocumentOfText.{document_of}
-pub use Rattle.markdown_inline.specs.ReadingOfText.{reading_of_text, events_of_text, rules_of_text}
+pub use Rattle.markdown_inline.specs.ReadingOfText.{reading_of_text, events_of_text, rules_of_text, defined_by}
 pub use Rattle.markdown_inline.specs.TextLaw.{TextLaw}
 -- the tree of a block result, and the reading of it
 pub use Rattle.markdown_inline.specs.ResolvedDocument.{Resolution, Resolving, resolved_blocks, resolved_document}
@@ -23,7 +23,7 @@ pub use Rattle.markdown_document.specs.Document.{Shape, leaf, enclosed, plain, b
 -- what is left of a parser
 pub use Rattle.markdown_inline.specs.ParserLeft.{parser_text, parser_definitions, parser_callback, parser_work}
 pub use Rattle.markdown_inline.specs.ParserLeft.{parser_steps, parser_counts, offset_parser}
-pub use Rattle.markdown_inline.specs.ParserLeft.{ReadsEntry, ReadsText, ReadsExtended, ReadsBlocks, IsOver}
+pub use Rattle.markdown_inline.specs.ParserLeft.{ReadsText, ReadsBlocks, IsOver}
 unfoldable pub use Rattle.markdown_inline.specs.ParserLeft.{elements}
 pub use Rattle.markdown_inline.specs.declared.walk.Parser.{Parser}
 pub use Rattle.markdown_inline.specs.declared.walk.OffsetIter.{OffsetIter}

@@ -18,9 +18,5 @@ pub use Rattle.markdown_safe.specs.SafeSource.{safe_source, safe_steps, placed_s
 pub use Rattle.markdown_safe.specs.declared.adapter.Safe.{Safe}
 pub use Rattle.markdown_safe.specs.declared.adapter.SafeWithOffset.{SafeWithOffset}
 -- the safe HTML of a text
-pub use Rattle.markdown_safe.specs.SafeRendering.{safe_html_of_text}
-pub use Rattle.markdown_safe.specs.SafeRendering.{IsSafeRenderingFor, IsSafeTooDeepFor, IsSafeRenderingOf}
-pub use Rattle.markdown_safe.specs.SafeRendering.{IsSafeTooDeepOf}
-pub use Rattle.markdown_safe.specs.SafeRendering.{IsSafeEntryRenderingFor, IsSafeEntryTooDeepFor}
-pub use Rattle.markdown_safe.specs.SafeRendering.{IsSafeEntryRenderingOf, IsSafeEntryTooDeepOf}
-pub use Rattle.markdown_safe.specs.SafeRendering.{IsSafeExtendedRenderingFor, IsSafeExtendedTooDeepFor}
+pub use Rattle.markdown_safe.specs.SafeRendering.{IsSafeHtmlFor, IsSafeTextTooDeep, IsSafeTooDeepFor, safe_html_of_text}
+pub use Rattle.markdown_safe.specs.SafeTexts.{TextsAreSafe, TextsAreTrees}

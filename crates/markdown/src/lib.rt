@@ -40,13 +40,13 @@ pub mod merge {
 pub mod html {
     pub use crate::rendering::to_html;
     pub use markdown_out::html::push_html;
-    pub use markdown_render::{merged_html, render};
+    pub use markdown_render::{merged_html, render, render_source};
 }
 
 /// Safe HTML of untrusted input: events made safe, and the HTML of a text's.
 pub mod safe {
     pub use crate::rendering::to_safe_html;
-    pub use markdown_safe::{Safe, SafeWithOffset, safe_event, safe_html};
+    pub use markdown_safe::{Safe, SafeWithOffset, safe_event, safe_html, safe_html_source};
 }
 
 /// The full reading: CommonMark but for what DIFFERENCES names, and the extensions. `Parser::new_extended` and
@@ -58,12 +58,11 @@ pub mod extended {
 
 /// Tables of headings, of events with their source ranges and of block results.
 pub mod outline {
-    pub use markdown_outline::{Entry, outline, outline_of};
+    pub use markdown_outline::{Entry, outline, outline_of, outline_source};
 }
 
 /// Laws of the definitions that the contracts cite: functions without code, each called for its clause.
 pub mod laws {
-    pub use markdown_base::laws::an_entry_keeps_the_options;
     pub use markdown_defs::laws::{
         a_key_finds_the_first_match, a_name_finds_what_matches, matching_keys_agree,
         matching_names_agree, names_are_tested_by_matching,
@@ -90,7 +89,7 @@ pub mod laws {
     pub use markdown_render::merged::{offsets_can_be_merged, parsers_can_be_merged};
     pub use markdown_safe::laws::{
         each_less_than_begins_a_tag, html_of_a_safe_iterator_is_safe,
-        html_of_nested_events_is_a_tree, html_of_safe_events_is_safe,
+        html_of_nested_events_is_a_tree, html_of_safe_events_is_safe, safe_html_of_texts_is_safe,
     };
 }
 
@@ -103,6 +102,7 @@ pub use markdown_base::event::Event;
 pub use markdown_base::fault::Fault;
 pub use markdown_base::inline_str::{InlineStr, StringTooLongError};
 pub use markdown_base::options::Options;
+pub use markdown_base::syntax::Syntax;
 pub use markdown_base::tag::{
     Alignment, BlockQuoteKind, CodeBlockKind, HeadingLevel, InvalidHeadingLevel, LinkType,
     MetadataBlockKind, Tag, TagEnd,

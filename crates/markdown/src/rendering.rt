@@ -1,4 +1,6 @@
 //! Texts to HTML in one call, without a callback.
+ghost use Rattle.markdown_base.specs.Source.{source_as};
+ghost use Rattle.markdown_base.specs.Syntax.{full_syntax};
 ghost use Rattle.markdown.specs.Correct.{Correct, CorrectAndSafe};
 
 use markdown_base::fault::Fault;
@@ -15,7 +17,7 @@ use std::alloc::Global;
 ///
 /// `Memory` if an allocation fails, and `Depth` where more than 2^64 - 1 Starts are open in one image.
 pub fn to_html(alloc: Global, text: &str, options: Options) -> Result<String, Fault>
-    ensures { Correct text.entry.now options result }
+    ensures { Correct (source_as (full_syntax options) text.entry.now) result }
 {
     render_extended(alloc, text, options, None::<DefaultBrokenLinkCallback>)
 }
@@ -26,7 +28,7 @@ pub fn to_html(alloc: Global, text: &str, options: Options) -> Result<String, Fa
 ///
 /// `Memory` if an allocation fails, and `Depth` where more than 2^64 - 1 Starts are open in one image.
 pub fn to_safe_html(alloc: Global, text: &str, options: Options) -> Result<String, Fault>
-    ensures { CorrectAndSafe text.entry.now options result }
+    ensures { CorrectAndSafe (source_as (full_syntax options) text.entry.now) result }
 {
     safe_html_extended(alloc, text, options, None::<DefaultBrokenLinkCallback>)
 }

@@ -1,6 +1,7 @@
 -- Examples: a text, and its HTML.
 use Rattle.std.specs.Prelude.{◌≡◌, ℕ, List, map}
-use Rattle.markdown_block_laws.specs.ExampleTrees.{commonmark}
+use Rattle.markdown_base.specs.Source.{source_as}
+use Rattle.markdown_base.specs.Syntax.{commonmark}
 use Rattle.markdown_render.specs.HtmlOfText.{html_of_text}
 
 pub record HtmlExample : Type 0 where
@@ -12,7 +13,7 @@ with_html text html = record { text = text; html = html }
 
 -- a text with the HTML that it has
 abbrev pub html_as_defined : List ℕ → HtmlExample
-html_as_defined text = with_html text (html_of_text (commonmark text))
+html_as_defined text = with_html text (html_of_text (source_as commonmark text))
 
 -- the examples have the HTML that is written with them
 abbrev pub HaveHtml : List HtmlExample → Type 0

@@ -9,20 +9,25 @@ use Rattle.markdown_base.specs.Questions.{Question, Answer, Answers}
 use Rattle.markdown_base.specs.declared.event.Event.{Event}
 use Rattle.markdown_base.specs.declared.fault.Fault.{Fault}
 use Rattle.markdown_base.specs.declared.fault.Fault.TheVariants.{Memory}
+use Rattle.markdown_base.specs.Source.{Source}
+use Rattle.markdown_blocks.specs.Blocks.{IsBlocksOf}
 use Rattle.markdown_blocks.specs.declared.blocks.Blocks.{Blocks}
 use Rattle.markdown_defs.specs.Callback.{Asks}
 use Rattle.markdown_inline.specs.Balanced.{ranged}
 use Rattle.markdown_inline.specs.Elements.{Element, Placed, events_of}
 use Rattle.markdown_inline.specs.NextGives.{NextGives, IsPlacedOf}
-use Rattle.markdown_inline.specs.ParserLeft.{ReadsBlocks, elements, offset_parser, parser_callback, parser_text}
+use Rattle.markdown_inline.specs.ParserLeft.{ReadsBlocks, ReadsText, elements, offset_parser, parser_callback}
+use Rattle.markdown_inline.specs.ParserLeft.{parser_text}
 use Rattle.markdown_inline.specs.ParserLeft.{reading_of}
 use Rattle.markdown_inline.specs.ResolvedDocument.{resolved_blocks}
 use Rattle.markdown_inline.specs.Runs.{AreOf, GaveRest}
 use Rattle.markdown_inline.specs.declared.walk.OffsetIter.{OffsetIter}
+use Rattle.markdown_inline.proofs.ReadingOfTextLemmas.{text-law}
 use Rattle.markdown_inline.proofs.RunLemmas.{GaveFirst, gave_none, gave_more, gave_rest}
 use Rattle.markdown_inline.proofs.WholeReadingLemmas.{block_tree-law}
 use Rattle.markdown_outline.specs.Outline.{Ranged, EntryView, entries_of}
 use Rattle.markdown_outline.specs.OutlineRead.{IsOutlineOfAll, MeetsError, event_items, ranged_view}
+use Rattle.markdown_outline.specs.OutlineOfText.{outline_of_text}
 use Rattle.markdown_outline.specs.TreeOutline.{AreEntriesOf, HeadingsApart}
 use Rattle.markdown_outline.proofs.TreeOutlineLemmas.{outline_of_trees}
 use Rattle.markdown_outline.proofs.TreeHeadingsLemmas.{blocks_apart}
@@ -103,6 +108,19 @@ module _ {F : Type 0} (step : F → Question → Option Answer → F → Type 0)
       outline_reads blocks o entries reads nobody outline answers
       ∙ ap (λ (es : List Placed). entries_of (ranged es)) law.events
       ∙ outline_of_trees (resolved_blocks blocks false answers).trees (blocks_apart blocks false answers apart) law.both
+
+  -- of a block result of a source they are those of the source
+  pub entries_of_source : (s : Source) (blocks : Blocks) (o : OffsetIter F) (entries : List EntryView)
+      → IsBlocksOf s blocks → ReadsBlocks blocks (offset_parser o) → parser_callback (offset_parser o) ≡ None
+      → IsOutlineOfAll Steps o entries → entries ≡ outline_of_text s
+  entries_of_source s blocks o entries of reads nobody outline =
+      outline_reads blocks o entries reads nobody outline []
+      ∙ ap (λ (es : List Element). entries_of (ranged (events_of es))) (text-law s blocks of false [])
+
+  -- and so they are of a new parser
+  pub entries_of_text : (s : Source) (o : OffsetIter F) (entries : List EntryView) → ReadsText s (offset_parser o)
+      → parser_callback (offset_parser o) ≡ None → IsOutlineOfAll Steps o entries → entries ≡ outline_of_text s
+  entries_of_text s o entries reads = entries_of_source s reads.blocks o entries reads.of_text reads.of_blocks
 
   -- an error is one of memory
   pub fault_of_memory : (o : OffsetIter F) (fault : Fault) → MeetsError Steps o fault → fault ≡ Memory

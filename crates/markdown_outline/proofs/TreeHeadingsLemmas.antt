@@ -231,4 +231,4 @@ held_apart nil h = tt
 held_apart (node a below after) h = (λ e. inline_nones below (h.0 e), held_apart below h.1, held_apart after h.2)
 
 pub texts_apart : HeadingsOfTextsApart
-texts_apart extended text options blocks o = held_apart (tree_of (block_arena blocks).nodes) o.headings_hold_inline
+texts_apart s blocks of = held_apart (tree_of (block_arena blocks).nodes) of.by_rules.headings_hold_inline

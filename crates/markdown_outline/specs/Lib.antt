@@ -3,5 +3,6 @@ pub mod Outline
 pub mod OutlineRead
 pub mod OutlineLaws
 pub mod TreeOutline
+pub mod OutlineOfText
 -- the terms of private clauses
 pub mod OutlineSoFar

@@ -1,12 +1,12 @@
 -- The headings of the tree of a document: an entry for each, in preorder, with its level and its range, and with the
 -- text of the events of what is below it.
-use Rattle.std.specs.Prelude.{◌≡◌, ℕ, Bool, false, IsTrue, List, [], ◌∷◌, ◌++◌, Option, Some, None}
+use Rattle.std.specs.Prelude.{◌≡◌, ℕ, false, IsTrue, List, [], ◌∷◌, ◌++◌, Option, Some, None}
 use Rattle.std.specs.declared.ops.Range.{Range}
 use Rattle.markdown_base.specs.BlockTree.{tree_of}
 use Rattle.markdown_base.specs.Forest.{Forest, nil, node, Throughout, Each}
 use Rattle.markdown_base.specs.Questions.{Answers}
-use Rattle.markdown_base.specs.declared.options.Options.{Options}
-use Rattle.markdown_blocks.specs.Blocks.{block_arena, IsOfEntry}
+use Rattle.markdown_base.specs.Source.{Source}
+use Rattle.markdown_blocks.specs.Blocks.{IsBlocksOf, block_arena}
 use Rattle.markdown_blocks.specs.declared.blocks.Blocks.{Blocks}
 use Rattle.markdown_builder.specs.HeadingsHoldInline.{is_heading_block}
 use Rattle.markdown_document.specs.Document.{Shape, enclosed, TreeNode}
@@ -43,7 +43,6 @@ abbrev pub AreEntriesOf : Blocks → List EntryView → Type 0
 AreEntriesOf blocks entries = (answers : Answers)
     → entries ≡ tree_entries (resolved_blocks blocks false answers).trees
 
--- in the block result of a text, of either entry, no heading contains another
+-- in the block result of a source no heading contains another
 abbrev pub HeadingsOfTextsApart : Type 0
-HeadingsOfTextsApart = (extended : Bool) (text : List ℕ) (options : Options) (blocks : Blocks)
-    → IsOfEntry extended text options blocks → HeadingsApart blocks
+HeadingsOfTextsApart = (s : Source) (blocks : Blocks) → IsBlocksOf s blocks → HeadingsApart blocks

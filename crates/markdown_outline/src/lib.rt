@@ -7,8 +7,10 @@ mod entry;
 mod headings;
 pub mod laws;
 mod of_blocks;
+mod of_text;
 mod read;
 
 pub use entry::Entry;
 pub use of_blocks::outline_of;
+pub use of_text::outline_source;
 pub use read::outline;

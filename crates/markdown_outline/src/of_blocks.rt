@@ -1,7 +1,10 @@
 //! `outline_of`: the outline of a block result.
 ghost use Rattle.std.specs.Prelude.{◌≡◌, IfOk, IfErr, map};
 ghost use Rattle.markdown_base.specs.declared.fault.Fault.TheVariants.{Memory};
+ghost use Rattle.markdown_base.specs.Source.{Source};
+ghost use Rattle.markdown_blocks.specs.Blocks.{IsBlocksOf};
 ghost use Rattle.markdown_outline.specs.Outline.{entry_view};
+ghost use Rattle.markdown_outline.specs.OutlineOfText.{outline_of_text};
 ghost use Rattle.markdown_outline.specs.TreeOutline.{AreEntriesOf, HeadingsApart};
 
 use crate::entry::Entry;
@@ -29,6 +32,8 @@ use std::alloc::Global;
 pub fn outline_of(alloc: Global, blocks: Blocks<'_>) -> Result<Vec<Entry>, Fault>
     ensures entries { IfOk result (λ entries.
         HeadingsApart blocks.entry → AreEntriesOf blocks.entry (map entry_view entries.items)) }
+    ensures of_text { IfOk result (λ entries. (s : Source) → IsBlocksOf s blocks.entry
+        → map entry_view entries.items ≡ outline_of_text s) }
     ensures refused { IfErr result (λ fault. fault ≡ Memory) }
 {
     let nobody: Option<DefaultBrokenLinkCallback> = None;

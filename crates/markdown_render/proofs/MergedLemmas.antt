@@ -1,24 +1,27 @@
 -- What `push_html` writes for a merge over a parser is the HTML of the merge of the events that were left.
-use Rattle.std.proofs.Common.{◌≡◌, ◌⊎◌, ℕ, List, [], map, Option, Result, false, ap, inl, inr, refl, subst}
+use Rattle.std.proofs.Common.{◌≡◌, ◌⊎◌, ℕ, List, [], map, Option, None, Result, false, ap, inl, inr, refl, subst, ◌∙◌}
 use Rattle.std.specs.Iterator.{Count}
-use Rattle.markdown_base.specs.Event.{event_view}
+use Rattle.markdown_base.specs.Event.{EventView, event_view}
+use Rattle.markdown_base.specs.Source.{Source}
 use Rattle.markdown_base.specs.declared.event.Event.{Event}
 use Rattle.markdown_base.specs.declared.fault.Fault.{Fault}
 use Rattle.markdown_base.specs.declared.fault.Fault.TheVariants.{Memory, Blocks, Depth}
 use Rattle.markdown_base.specs.Questions.{Question, Answer}
 use Rattle.markdown_inline.specs.NextGives.{NextGives, IsEventOf}
+use Rattle.markdown_inline.specs.ParserLeft.{ReadsText, parser_callback}
 use Rattle.markdown_inline.specs.declared.walk.Parser.{Parser}
+use Rattle.markdown_out.specs.EventHtml.{html_of}
 use Rattle.markdown_out.specs.HtmlCorrect.{IsOwnFault, IsRendered, StopsAtError}
 use Rattle.markdown_out.specs.MergeNext.{MergeState, formed_view}
 use Rattle.markdown_out.specs.MergeState.{stream_state}
-use Rattle.markdown_out.specs.OutLaws.{StaysEnded, merge_steps, IsNewMerge, IsRenderedMerged}
+use Rattle.markdown_out.specs.OutLaws.{StaysEnded, merge_steps, merged_events, IsNewMerge, IsRenderedMerged}
 use Rattle.markdown_out.specs.OutLaws.{GoesTooDeepMerged, IsRefusedMerged, StopsAtErrorMerged}
 use Rattle.markdown_out.specs.EventRanges.{bare, nowhere}
 use Rattle.markdown_out.specs.TextForms.{Formed, boxed_through}
 use Rattle.markdown_out.specs.declared.merge.TextMergeStream.{TextMergeStream}
 use Rattle.markdown_out.proofs.RenderedMergeLemmas.{deep-merged, rendered-merged, stopped-merged}
-use Rattle.markdown_render.specs.Merged.{IsMergedHtmlOf, IsMergeTooDeep}
-use Rattle.markdown_render.proofs.RenderingLemmas.{drained, first_drained, memory_alone}
+use Rattle.markdown_render.specs.Merged.{IsMergedHtmlOf, IsMergeTooDeep, merged_html_of_text}
+use Rattle.markdown_render.proofs.RenderingLemmas.{drained, events_alone, first_drained, memory_alone, read_by_rules}
 
 -- a parser stays ended
 stays_ended : {F : Type 0} (step : F → Question → Option Answer → F → Type 0) (p : Parser F)
@@ -115,3 +118,11 @@ module _ {F : Type 0} (step : F → Question → Option Answer → F → Type 0)
       subst (λ (q : Parser F). (fault ≡ Memory) ⊎ ((fault ≡ Depth) × IsMergeTooDeep step q))
       (ap (λ (s : MergeState (Parser F) (Formed (Unit {0}))). s.iter) is)
       (faults m (begun_of m p is) old new fault stops)
+
+-- without a callback the HTML of a new parser's merge is that of the text's
+pub merged_alone : {F : Type 0} (step : F → Question → Option Answer → F → Type 0) (s : Source) (p : Parser F)
+    (html : List ℕ) → IsMergedHtmlOf step p html → ReadsText s p → parser_callback p ≡ None
+    → html ≡ merged_html_of_text s
+merged_alone step s p html r reads none =
+    r.merged ∙ ap (λ (es : List EventView). html_of (merged_events es))
+    (events_alone step (parser_callback p) s r.events (read_by_rules step s p reads r.events r.left) none)

@@ -4,30 +4,27 @@ use Rattle.std.proofs.Common.{inr, ap, refl, subst, sym, ◌∙◌, append_assoc
 use Rattle.std.proofs.lemmas.List.{map-append}
 use Rattle.std.specs.Iterator.{Drains, Yields}
 use Rattle.std.specs.Prelude.{is_some}
-use Rattle.std.specs.Str.{IsUtf8}
 use Rattle.markdown_base.specs.Event.{EventView, event_view}
 use Rattle.markdown_base.specs.Questions.{Question, Answer, Answers}
 use Rattle.markdown_base.specs.declared.event.Event.{Event}
 use Rattle.markdown_base.specs.declared.fault.Fault.{Fault}
 use Rattle.markdown_base.specs.declared.fault.Fault.TheVariants.{Memory, Blocks, Depth}
-use Rattle.markdown_base.specs.declared.options.Options.{Options}
-use Rattle.markdown_blocks.specs.Blocks.{source_for}
+use Rattle.markdown_base.specs.Source.{Source}
 use Rattle.markdown_defs.specs.Callback.{Asks}
 use Rattle.markdown_inline.specs.Elements.{Placed, events_of, questions_of}
 use Rattle.markdown_inline.specs.NextGives.{NextGives, IsEventOf}
-use Rattle.markdown_inline.specs.ParserLeft.{ReadsEntry, elements, parser_text, parser_callback, reading_of}
+use Rattle.markdown_inline.specs.ParserLeft.{ReadsText, elements, parser_text, parser_callback}
 use Rattle.markdown_inline.specs.ReadingOfText.{events_of_text, reading_of_text}
 use Rattle.markdown_inline.specs.Runs.{AreOf}
 use Rattle.markdown_inline.specs.declared.walk.Parser.{Parser}
 use Rattle.markdown_inline.proofs.RunLemmas.{GaveFirst, gave_none, gave_more, gave_rest}
-use Rattle.markdown_lines.specs.BlockBeginnings.{Source}
 use Rattle.markdown_out.specs.EventHtml.{html_of}
 use Rattle.markdown_out.specs.HtmlCorrect.{GoesTooDeep, IsRendered, StopsAtError, IsOwnFault, items}
 use Rattle.markdown_out.specs.LookBacks.{IsTooDeep}
 use Rattle.markdown_render.specs.ParserHtml.{IsHtmlOfAll, IsHtmlOfFirst}
-use Rattle.markdown_render.specs.Rendering.{views_of, IsEntryRenderingOf, IsEntryTooDeepOf, IsTooDeepOf}
+use Rattle.markdown_render.specs.HtmlOfText.{IsTextTooDeep, html_of_text, views_of}
 use Rattle.markdown_render.specs.RenderingFor.{AreEventsFor, AreFirstEventsFor}
-use Rattle.markdown_render.specs.RenderingFor.{IsEntryRenderingFor, IsEntryTooDeepFor, IsTooDeepFor}
+use Rattle.markdown_render.specs.RenderingFor.{IsHtmlFor, IsTooDeepFor}
 use Rattle.markdown_render.specs.declared.run.Failure.TheVariants as failure
 
 -- events of a reading are compared by what is seen of them
@@ -142,138 +139,100 @@ module _ {F : Type 0} (step : F → Question → Option Answer → F → Type 0)
   events_alone (Some f) s events r none = absurd (cc none)
 
   -- a new parser's events are those of the reading that is defined of its text
-  pub read_by_rules : (extended : Bool) (text : List ℕ) (options : Options) (p : Parser F)
-      → ReadsEntry extended text options p → (events : List EventView)
+  pub read_by_rules : (s : Source) (p : Parser F) → ReadsText s p → (events : List EventView)
       → AreEventsFor step (parser_callback p) (elements p) events
-      → AreEventsFor step (parser_callback p)
-      (reading_of_text (source_for extended text options) (is_some (parser_callback p))) events
-  read_by_rules extended text options p of events d = record {
+      → AreEventsFor step (parser_callback p) (reading_of_text s (is_some (parser_callback p))) events
+  read_by_rules s p of events d = record {
     answers = d.answers;
     after = d.after;
-    asked = rw (← of.by_rules d.answers) d.asked;
-    are = λ later. rw (← of.by_rules (d.answers ++ later)) (d.are later);
+    asked = rw (← of.left d.answers) d.asked;
+    are = λ later. rw (← of.left (d.answers ++ later)) (d.are later);
   }
 
-  -- and where all of a document's reading was left, that of the document
-  pub of_document : (extended : Bool) (text : List ℕ) (options : Options) (p : Parser F) (old new : List ℕ)
-      → ReadsEntry extended text options p → IsRendered Steps p old new
-      → (html : List ℕ) × (new ≡ old ++ html) × IsEntryRenderingFor extended step (parser_callback p) text options html
-  of_document extended text options p old new of r =
-      let d = drained p r.events r.read in (
-        html_of (map event_view r.events),
-        r.stands,
-        record {
-          blocks = of.blocks;
-          of_text = of.of_text;
-          events = map event_view r.events;
-          read = record {
-            answers = d.answers;
-            after = d.after;
-            asked = rw (← of.left d.answers) d.asked;
-            are = λ later. rw (← of.left (d.answers ++ later)) (d.are later);
-          };
-          rendered = refl;
-          by_rules = read_by_rules extended text options p of (map event_view r.events) d;
-          alone = λ nobody.
-              ap html_of (events_alone (parser_callback p) (source_for extended text options)
-              (map event_view r.events) (read_by_rules extended text options p of (map event_view r.events) d)
-              nobody);
-        },
-      )
+  -- and so are its first events
+  pub first_by_rules : (s : Source) (p : Parser F) → ReadsText s p → (events : List EventView)
+      → AreFirstEventsFor step (parser_callback p) (elements p) events
+      → AreFirstEventsFor step (parser_callback p) (reading_of_text s (is_some (parser_callback p))) events
+  first_by_rules s p of events f = record {
+    questions = f.questions;
+    answers = f.answers;
+    after = f.after;
+    asked = f.asked;
+    first_asked = λ later. let a = f.first_asked later in
+        (a.0, ap questions_of (sym (of.left (f.answers ++ later))) ∙ a.1);
+    are_first = λ later. let a = f.are_first later in
+        (a.0, ap views_of (sym (of.left (f.answers ++ later))) ∙ a.1);
+  }
+
+  -- without a callback they are the first of those that are defined of the text
+  pub first_alone : (s : Source) (events : List EventView)
+      → AreFirstEventsFor step None (reading_of_text s false) events
+      → (missing : List EventView) × (map (λ e. e.0) (events_of_text s) ≡ events ++ missing)
+  first_alone s events f =
+      let none = unasked f.questions f.answers f.after f.asked in
+      let a = f.are_first [] in
+      (a.0, ap (λ (given : Answers). views_of (reading_of_text s false (given ++ []))) (sym none) ∙ a.1)
+
+  -- and where all of a text's reading was left, its HTML is that of the text
+  pub of_text : (s : Source) (p : Parser F) (old new : List ℕ) → ReadsText s p → IsRendered Steps p old new
+      → (html : List ℕ) × (new ≡ old ++ html) × IsHtmlFor step (parser_callback p) s html
+  of_text s p old new of r = (
+    html_of (map event_view r.events),
+    r.stands,
+    record {
+      events = map event_view r.events;
+      read = read_by_rules s p of (map event_view r.events) (drained p r.events r.read);
+      is = refl;
+    },
+  )
 
   -- which is all of the string where that was empty before, for the callback that the parser was given
-  pub rendering : (extended : Bool) (text old new : List ℕ) (options : Options) (callback : Option F) (p : Parser F)
+  pub rendering : (s : Source) (old new : List ℕ) (callback : Option F) (p : Parser F)
       → old ≡ [] → parser_callback p ≡ callback
-      → (html : List ℕ) × (new ≡ old ++ html) × IsEntryRenderingFor extended step (parser_callback p) text options html
-      → IsEntryRenderingFor extended step callback text options new
-  rendering extended text old new options callback p empty holds (html, stands, is) =
+      → (html : List ℕ) × (new ≡ old ++ html) × IsHtmlFor step (parser_callback p) s html
+      → IsHtmlFor step callback s new
+  rendering s old new callback p empty holds (html, stands, is) =
       let alone : new ≡ html = stands ∙ ap (λ bytes. bytes ++ html) empty in
-      subst (λ (c : Option F). IsEntryRenderingFor extended step c text options new) holds
-      (subst (IsEntryRenderingFor extended step (parser_callback p) text options) (sym alone) is)
+      subst (λ (c : Option F). IsHtmlFor step c s new) holds
+      (subst (IsHtmlFor step (parser_callback p) s) (sym alone) is)
 
-  -- among the first events of a document's reading too many Starts are open
-  too_deep : (extended : Bool) (text : List ℕ) (options : Options) (callback : Option F) (p : Parser F)
-      (events : List EventView) → ReadsEntry extended text options p → parser_callback p ≡ callback
-      → AreFirstEventsFor step (parser_callback p) (elements p) events → IsTooDeep events
-      → IsEntryTooDeepFor extended step callback text options
-  too_deep extended text options callback p events of holds f deep =
-      let here : IsEntryTooDeepFor extended step (parser_callback p) text options = record {
-        blocks = of.blocks;
-        of_text = of.of_text;
-        events = events;
-        read = record {
-          questions = f.questions;
-          answers = f.answers;
-          after = f.after;
-          asked = f.asked;
-          first_asked = λ later. let a = f.first_asked later in
-              (a.0, ap questions_of (sym (of.left (f.answers ++ later))) ∙ a.1);
-          are_first = λ later. let a = f.are_first later in (
-            a.0,
-            ap views_of (sym (of.left (f.answers ++ later)))
-                ∙ a.1,
-          );
-        };
-        deep = deep;
-      } in
-      subst (λ (c : Option F). IsEntryTooDeepFor extended step c text options) holds here
-
-  -- so rendering fails by memory, or there
-  own_faults : (extended : Bool) (text old new : List ℕ) (options : Options) (callback : Option F) (p : Parser F)
-      (fault : Fault) → ReadsEntry extended text options p → parser_callback p ≡ callback
+  -- rendering fails by memory, or where among the first events too many Starts are open
+  own_faults : (s : Source) (old new : List ℕ) (p : Parser F) (fault : Fault) → ReadsText s p
       → IsOwnFault Steps p old new fault
-      → (fault ≡ Memory) ⊎ ((fault ≡ Depth) × IsEntryTooDeepFor extended step callback text options)
-  own_faults extended text old new options callback p Memory of holds own = inl refl
-  own_faults extended text old new options callback p Depth of holds own =
-      let d = of_deep p old new own in inr (refl, too_deep extended text options callback p d.0 of holds d.1.left d.2)
-  own_faults extended text old new options callback p Blocks of holds own = absurd own
+      → (fault ≡ Memory) ⊎ ((fault ≡ Depth) × IsTooDeepFor step (parser_callback p) s)
+  own_faults s old new p Memory of own = inl refl
+  own_faults s old new p Depth of own =
+      let d = of_deep p old new own in
+      inr (refl, record { events = d.0; read = first_by_rules s p of d.0 d.1.left; deep = d.2 })
+  own_faults s old new p Blocks of own = absurd own
 
-  pub faults : (extended : Bool) (text old new : List ℕ) (options : Options) (callback : Option F) (p : Parser F)
-      (fault : Fault) → ReadsEntry extended text options p → parser_callback p ≡ callback
+  pub faults : (s : Source) (old new : List ℕ) (callback : Option F) (p : Parser F) (fault : Fault) → ReadsText s p
+      → parser_callback p ≡ callback
       → StopsAtError Steps p old new fault ⊎ IsOwnFault Steps p old new fault
-      → (fault ≡ Memory) ⊎ ((fault ≡ Depth) × IsEntryTooDeepFor extended step callback text options)
-  faults extended text old new options callback p fault of holds (inl s) =
-      inl (memory_alone p s.left s.events fault s.read)
-  faults extended text old new options callback p fault of holds (inr own) =
-      own_faults extended text old new options callback p fault of holds own
+      → (fault ≡ Memory) ⊎ ((fault ≡ Depth) × IsTooDeepFor step callback s)
+  faults s old new callback p fault of holds (inl stopped) =
+      inl (memory_alone p stopped.left stopped.events fault stopped.read)
+  faults s old new callback p fault of holds (inr own) =
+      subst (λ (c : Option F). (fault ≡ Memory) ⊎ ((fault ≡ Depth) × IsTooDeepFor step c s)) holds
+      (own_faults s old new p fault of own)
 
-  -- so the rendering is the same for all answers
-  pub rendering_alone : (extended : Bool) (text html : List ℕ) (options : Options) → IsUtf8 text
-      → IsEntryRenderingFor extended step None text options html
-      → IsEntryRenderingOf extended text options html
-  rendering_alone extended text html options utf8 r =
-      let none = unasked _ r.read.answers r.read.after r.read.asked in
-      record {
-        is_text = utf8;
-        blocks = r.blocks;
-        of_text = r.of_text;
-        rendered = λ answers. r.rendered ∙ ap html_of (sym (rw none at (r.read.are answers)));
-        by_rules = r.alone refl;
-      }
+  -- without a callback the HTML is that which is defined of the text
+  pub html_alone : (callback : Option F) (s : Source) (html : List ℕ) → IsHtmlFor step callback s html
+      → callback ≡ None → html ≡ html_of_text s
+  html_alone callback s html r none = r.is ∙ ap html_of (events_alone callback s r.events r.read none)
 
-  -- and so is where too many Starts are open
-  pub too_deep_alone : (extended : Bool) (text : List ℕ) (options : Options) → IsUtf8 text
-      → IsEntryTooDeepFor extended step None text options → IsEntryTooDeepOf extended text options
-  too_deep_alone extended text options utf8 d =
-      let none = unasked d.read.questions d.read.answers d.read.after d.read.asked in
-      record {
-        is_text = utf8;
-        blocks = d.blocks;
-        of_text = d.of_text;
-        events = d.events;
-        are_first = λ answers.
-            let a = d.read.are_first answers in (
-              a.0,
-              ap (λ (given : Answers). views_of (reading_of d.blocks false (given ++ answers))) (sym none) ∙ a.1,
-            );
-        deep = d.deep;
-      }
+  -- and rendering fails by memory, or where the text is too deep
+  pub faults_alone : (callback : Option F) (s : Source) (fault : Fault)
+      → (fault ≡ Memory) ⊎ ((fault ≡ Depth) × IsTooDeepFor step callback s) → callback ≡ None
+      → (fault ≡ Memory) ⊎ ((fault ≡ Depth) × IsTextTooDeep s)
+  faults_alone callback s fault (inl e) none = inl e
+  faults_alone None s fault (inr (e, d)) none =
+      let first = first_alone s d.events d.read in
+      inr (e, record { given = d.events; missing = first.0; whole = first.1; deep = d.deep })
+  faults_alone (Some f) s fault (inr d) none = absurd (cc none)
 
-  -- so the program's rendering fails by memory, or there
-  pub failed_alone : (text : List ℕ) (options : Options) (fault : Fault) → IsUtf8 text
-      → (fault ≡ Memory) ⊎ ((fault ≡ Depth) × IsTooDeepFor step None text options)
-      → (failure.Fault fault ≡ failure.Fault Memory) ⊎ ((failure.Fault fault ≡ failure.Fault Depth)
-      × IsTooDeepOf text options)
-  failed_alone text options fault utf8 (inl e) = inl (ap failure.Fault e)
-  failed_alone text options fault utf8 (inr (e, deep)) =
-      inr (ap failure.Fault e, too_deep_alone false text options utf8 deep)
+-- a fault of rendering is one of the program
+pub failed : (s : Source) (fault : Fault) → (fault ≡ Memory) ⊎ ((fault ≡ Depth) × IsTextTooDeep s)
+    → (failure.Fault fault ≡ failure.Fault Memory) ⊎ ((failure.Fault fault ≡ failure.Fault Depth) × IsTextTooDeep s)
+failed s fault (inl e) = inl (ap failure.Fault e)
+failed s fault (inr (e, deep)) = inr (ap failure.Fault e, deep)

@@ -1,7 +1,9 @@
 -- The HTML of what is left of a parser, with neighbouring texts merged.
-use Rattle.std.specs.Prelude.{◌≡◌, ℕ, List, ◌++◌, Option}
+use Rattle.std.specs.Prelude.{◌≡◌, ℕ, List, ◌++◌, Option, map}
 use Rattle.markdown_base.specs.Event.{EventView}
 use Rattle.markdown_base.specs.Questions.{Question, Answer}
+use Rattle.markdown_base.specs.Source.{Source}
+use Rattle.markdown_inline.specs.ReadingOfText.{events_of_text}
 use Rattle.markdown_inline.specs.ParserLeft.{parser_callback, elements}
 use Rattle.markdown_inline.specs.declared.walk.Parser.{Parser}
 use Rattle.markdown_out.specs.EventHtml.{html_of}
@@ -24,3 +26,7 @@ pub record IsMergeTooDeep {F : Type 0} (step : F → Question → Option Answer 
   pub missing : List EventView
   pub prefix : merged_events events ≡ given ++ missing
   pub deep : IsTooDeep given
+
+-- the HTML of the merge of a text's events, where no callback is asked
+abbrev pub merged_html_of_text : Source → List ℕ
+merged_html_of_text s = html_of (merged_events (map (λ e. e.0) (events_of_text s)))

@@ -3,7 +3,6 @@
 #![tactic(auto)]
 
 pub mod command;
-pub mod extended;
 pub mod laws;
 pub mod merged;
 pub mod pushed;
@@ -11,6 +10,5 @@ pub mod rendering;
 pub mod run;
 pub mod words;
 
-pub use extended::render_extended;
 pub use merged::merged_html;
-pub use rendering::render;
+pub use rendering::{render, render_extended, render_source};

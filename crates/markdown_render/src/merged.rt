@@ -1,11 +1,12 @@
 //! Parsers under merges, which join neighbouring texts.
-ghost use Rattle.std.specs.Prelude.{◌≡◌, ◌⊎◌, IfOk, IfErr, IfSome, string_bytes};
+ghost use Rattle.std.specs.Prelude.{◌≡◌, ◌⊎◌, IfOk, IfErr, IfSome, None, string_bytes};
 ghost use Rattle.std.specs.Iterator.{at_most};
+ghost use Rattle.markdown_base.specs.Source.{Source};
 ghost use Rattle.markdown_inline.specs.NextGives.{NextGives, IsEventOf, IsPlacedOf};
-ghost use Rattle.markdown_inline.specs.ParserLeft.{parser_callback, parser_steps, offset_parser};
+ghost use Rattle.markdown_inline.specs.ParserLeft.{ReadsText, parser_callback, parser_steps, offset_parser};
 ghost use Rattle.markdown_out.specs.MergeNext.{CanMerge};
 ghost use Rattle.markdown_out.specs.OutLaws.{StaysEnded};
-ghost use Rattle.markdown_render.specs.Merged.{IsMergedHtmlOf, IsMergeTooDeep};
+ghost use Rattle.markdown_render.specs.Merged.{IsMergedHtmlOf, IsMergeTooDeep, merged_html_of_text};
 
 use crate::pushed::push_items;
 use markdown_blocks::Fault;
@@ -37,7 +38,8 @@ pub fn offsets_can_be_merged<'input, F: BrokenLinkCallback<'input>>(iter: &Offse
         iter.now }
 {}
 
-/// Returns the HTML of what is left of a parser, with neighbouring texts merged.
+/// Returns the HTML of what is left of a parser, with neighbouring texts merged: of a new parser without a callback, that
+/// of the text.
 ///
 /// # Errors
 ///
@@ -48,6 +50,8 @@ pub fn merged_html<'input, F: BrokenLinkCallback<'input>>(
 ) -> Result<String, Fault>
     requires { IfSome (parser_callback parser) F.can_ask }
     ensures html { IfOk result (λ html. IsMergedHtmlOf F.answers parser.entry (string_bytes html)) }
+    ensures alone { (s : Source) → ReadsText s parser.entry → parser_callback parser.entry ≡ None
+        → IfOk result (λ html. string_bytes html ≡ merged_html_of_text s) }
     ensures faults { IfErr result (λ fault. (fault ≡ Fault.Memory)
         ⊎ ((fault ≡ Fault.Depth) × IsMergeTooDeep F.answers parser.entry)) }
 {

@@ -1,13 +1,15 @@
 //! The program, over any reader and two writers.
-ghost use Rattle.std.specs.Prelude.{◌≡◌, ◌≢◌, ◌≤◌, ◌⊎◌, ℕ, List, map, None, string_bytes};
+ghost use Rattle.std.specs.Prelude.{◌≡◌, ◌≢◌, ◌≤◌, ◌⊎◌, ℕ, map, None, string_bytes};
 ghost use Rattle.std.specs.Prelude.{Result, IfOk, IfErr, IfSome, OnErr, OnOk};
 ghost use Rattle.std.specs.Str.{IsUtf8};
 ghost use Rattle.std.specs.IoError.{error_kind};
 ghost use Rattle.std.specs.Io.KnownBytes.{Appends, IsAtEnd};
 ghost use Rattle.markdown_base.specs.EnabledOptions.{no_options};
-ghost use Rattle.markdown_render.specs.Rendering.{IsRenderingOf, IsTooDeepOf};
+ghost use Rattle.markdown_base.specs.Source.{source_as};
+ghost use Rattle.markdown_base.specs.Syntax.{profile_syntax};
+ghost use Rattle.markdown_render.specs.HtmlOfText.{IsTextTooDeep, html_of_text};
 ghost use Rattle.markdown_render.specs.Words.{turned_on};
-ghost use Rattle.markdown_render.specs.Outcome.{status_of, AppendsKnownPrefix, Leaves};
+ghost use Rattle.markdown_render.specs.Outcome.{status_of, AppendsKnownPrefix, LeavesHtml};
 ghost use Rattle.markdown_render.specs.declared.run.Failure.{Failure};
 
 use crate::rendering::render;
@@ -93,10 +95,12 @@ pub fn read_text<R: Read>(alloc: Global, input: &mut R) -> Result<String, Failur
 }
 
 /// Returns the HTML of a text with these options, without a callback.
-fn rendered(alloc: Global, text: &str, options: Options) -> Result<String, Failure>
-    ensures html { IfOk result (λ html. IsRenderingOf text.now options (string_bytes html)) }
+fn html_of(alloc: Global, text: &str, options: Options) -> Result<String, Failure>
+    ensures html { IfOk result (λ html.
+        string_bytes html ≡ html_of_text (source_as (profile_syntax options) text.now)) }
     ensures failed { IfErr result (λ failure. (failure ≡ Failure.Fault Fault.Memory)
-        ⊎ ((failure ≡ Failure.Fault Fault.Depth) × IsTooDeepOf text.now options)) }
+        ⊎ ((failure ≡ Failure.Fault Fault.Depth)
+        × IsTextTooDeep (source_as (profile_syntax options) text.now))) }
 {
     Ok(render(alloc, text, options, None::<DefaultBrokenLinkCallback>)?)
 }
@@ -158,13 +162,13 @@ pub fn convert<R: Read, W: Write>(
     input: &mut R,
     out: &mut W,
 ) -> Result<(), Failure>
-    ensures leaves { Leaves W.contents options (R.remaining input.old) (R.remaining input.new)
+    ensures leaves { LeavesHtml W.contents options (R.remaining input.old) (R.remaining input.new)
         out.old out.new result }
     ensures not_text { IfSome (R.remaining input.old) (λ bytes.
         (IsUtf8 bytes → ⊥) → (result ≢ Ok tt) × (out.new ≡ out.old)) }
 {
     let text = read_text(alloc, input)?;
-    let html = rendered(alloc, text.as_str(), options)?;
+    let html = html_of(alloc, text.as_str(), options)?;
     print(out, html.as_str())
 }
 
@@ -203,8 +207,8 @@ pub fn run<R: Read, W: Write, E: Write>(
     ensures outcome { IfSome (turned_on (map string_bytes words.now) no_options)
         (λ options. (outcome : Result (Unit {0}) Failure)
         × (result ≡ status_of outcome)
-        × Leaves W.contents options (R.remaining input.old) (R.remaining input.new) out.old out.new
-        outcome) }
+        × LeavesHtml W.contents options (R.remaining input.old) (R.remaining input.new) out.old
+        out.new outcome) }
     ensures status { IfSome (turned_on (map string_bytes words.now) no_options) (λ options. result
         ≤ 1) }
     ensures not_text { IfSome (turned_on (map string_bytes words.now) no_options) (λ options.
@@ -213,8 +217,8 @@ pub fn run<R: Read, W: Write, E: Write>(
     ensures printed { result ≡ 0
         → IfSome (turned_on (map string_bytes words.now) no_options) (λ options.
         IfSome (R.remaining input.old) (λ bytes.
-        (html : List ℕ) × IsRenderingOf bytes options html
-        × Appends (W.contents out.old) (W.contents out.new) html)) }
+        IsUtf8 bytes × Appends (W.contents out.old) (W.contents out.new)
+        (html_of_text (source_as (profile_syntax options) bytes)))) }
     ensures quiet { result ≡ 0 → err.new ≡ err.old }
 {
     match options_of(words) {

@@ -8,3 +8,4 @@ pub mod NestedEvents
 pub mod SafeItems
 pub mod SafeSource
 pub mod SafeRendering
+pub mod SafeTexts

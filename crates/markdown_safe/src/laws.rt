@@ -5,6 +5,7 @@ ghost use Rattle.markdown_base.specs.Event.{EventView};
 ghost use Rattle.markdown_base.specs.declared.fault.Fault.{Fault};
 ghost use Rattle.markdown_out.specs.EventHtml.{html_of, open_html};
 ghost use Rattle.markdown_out.specs.HtmlCorrect.{IsOwnFault, IsRendered, StopsAtError};
+ghost use Rattle.markdown_safe.specs.SafeTexts.{TextsAreSafe, TextsAreTrees};
 ghost use Rattle.markdown_safe.specs.HtmlTree.{IsSafeTree};
 ghost use Rattle.markdown_safe.specs.NestedEvents.{AreNested, tables_are_whole};
 ghost use Rattle.markdown_safe.specs.SafeEvents.{safe_events};
@@ -49,4 +50,10 @@ pub fn each_less_than_begins_a_tag()
 pub fn html_of_nested_events_is_a_tree()
     ensures { (events : List EventView) → AreNested events → tables_are_whole events ≡ true
         → IsSafeTree (html_of (safe_events events)) }
+{}
+
+/// States that the safe HTML of every text is safe, and where the tables among its events are whole, a tree.
+pub fn safe_html_of_texts_is_safe()
+    ensures safe { TextsAreSafe }
+    ensures trees { TextsAreTrees }
 {}

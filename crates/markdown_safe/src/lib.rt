@@ -3,12 +3,10 @@
 
 pub mod adapter;
 pub mod events;
-pub mod extended;
 pub mod laws;
 pub mod rendering;
 mod url;
 
 pub use adapter::{Safe, SafeWithOffset};
 pub use events::safe_event;
-pub use extended::safe_html_extended;
-pub use rendering::safe_html;
+pub use rendering::{safe_html, safe_html_extended, safe_html_source};

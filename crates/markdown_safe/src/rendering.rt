@@ -1,22 +1,22 @@
 //! Rendering a text safely: the HTML of the safe events of its reading.
-ghost use Rattle.std.specs.Prelude.{◌≡◌, ◌⊎◌, IfOk, IfErr, IfSome, string_bytes};
+ghost use Rattle.std.specs.Prelude.{◌≡◌, ◌⊎◌, IfOk, IfErr, IfSome, None, string_bytes};
+ghost use Rattle.markdown_base.specs.Source.{source_as};
+ghost use Rattle.markdown_base.specs.Syntax.{full_syntax, profile_syntax};
+ghost use Rattle.markdown_render.specs.Rendering.{Renders};
 ghost use Rattle.markdown_safe.specs.SafeHtml.{IsSafeHtml};
-ghost use Rattle.markdown_safe.specs.SafeRendering.{IsSafeRenderingFor, IsSafeTooDeepFor};
+ghost use Rattle.markdown_safe.specs.SafeRendering.{IsSafeHtmlFor, IsSafeTextTooDeep, IsSafeTooDeepFor};
+ghost use Rattle.markdown_safe.specs.SafeRendering.{safe_html_of_text};
 
 use crate::adapter::Safe;
 use markdown_base::fault::Fault;
 use markdown_base::options::Options;
+use markdown_base::syntax::Syntax;
 use markdown_defs::BrokenLinkCallback;
 use markdown_inline::walk::Parser;
 use markdown_render::pushed::push_items;
 use std::alloc::Global;
 
-/// Returns safe HTML of a text. The callback, where there is one, is called for each link label that has no definition;
-/// what it answers is made safe too.
-///
-/// # Errors
-///
-/// `Memory` if an allocation fails, and `Depth` where more than 2^64 - 1 Starts are open in one image.
+/// Returns safe HTML of a text, by the port's profile, as `safe_html_source` does.
 pub fn safe_html<'input, F: BrokenLinkCallback<'input>>(
     alloc: Global,
     text: &'input str,
@@ -25,13 +25,60 @@ pub fn safe_html<'input, F: BrokenLinkCallback<'input>>(
 ) -> Result<String, Fault>
     requires { IfSome callback F.can_ask }
     ensures safe { IfOk result (λ html. IsSafeHtml (string_bytes html)) }
-    ensures html { IfOk result (λ html.
-        IsSafeRenderingFor F.answers callback text.entry.now options (string_bytes html)) }
+    ensures html { IfOk result (λ html. IsSafeHtmlFor F.answers callback
+        (source_as (profile_syntax options) text.entry.now) (string_bytes html)) }
+    ensures alone { callback ≡ None → Renders safe_html_of_text IsSafeTextTooDeep
+        (source_as (profile_syntax options) text.entry.now) result }
+    ensures faults { IfErr result (λ fault. (fault ≡ Fault.Memory)
+        ⊎ ((fault ≡ Fault.Depth) × IsSafeTooDeepFor F.answers callback
+        (source_as (profile_syntax options) text.entry.now))) }
+{
+    safe_html_source(alloc, text, Syntax::profile(options), callback)
+}
+
+/// Returns safe HTML of a text, by the full reading, as `safe_html_source` does.
+pub fn safe_html_extended<'input, F: BrokenLinkCallback<'input>>(
+    alloc: Global,
+    text: &'input str,
+    options: Options,
+    callback: Option<F>,
+) -> Result<String, Fault>
+    requires { IfSome callback F.can_ask }
+    ensures safe { IfOk result (λ html. IsSafeHtml (string_bytes html)) }
+    ensures html { IfOk result (λ html. IsSafeHtmlFor F.answers callback
+        (source_as (full_syntax options) text.entry.now) (string_bytes html)) }
+    ensures alone { callback ≡ None → Renders safe_html_of_text IsSafeTextTooDeep
+        (source_as (full_syntax options) text.entry.now) result }
     ensures faults { IfErr result (λ fault. (fault ≡ Fault.Memory) ⊎ ((fault ≡ Fault.Depth)
-        × IsSafeTooDeepFor F.answers callback text.entry.now options)) }
+        × IsSafeTooDeepFor F.answers callback (source_as (full_syntax options) text.entry.now))) }
+{
+    safe_html_source(alloc, text, Syntax::full(options), callback)
+}
+
+/// Returns safe HTML of a text of which `syntax` is read. The callback, where there is one, is called for each link label
+/// that has no definition; what it answers is made safe too. Without one the HTML is a function of the text and of what
+/// is read of it.
+///
+/// # Errors
+///
+/// `Memory` if an allocation fails, and `Depth` where more than 2^64 - 1 Starts are open in one image.
+pub fn safe_html_source<'input, F: BrokenLinkCallback<'input>>(
+    alloc: Global,
+    text: &'input str,
+    syntax: Syntax,
+    callback: Option<F>,
+) -> Result<String, Fault>
+    requires { IfSome callback F.can_ask }
+    ensures safe { IfOk result (λ html. IsSafeHtml (string_bytes html)) }
+    ensures html { IfOk result (λ html.
+        IsSafeHtmlFor F.answers callback (source_as syntax text.entry.now) (string_bytes html)) }
+    ensures alone { callback ≡ None → Renders safe_html_of_text IsSafeTextTooDeep
+        (source_as syntax text.entry.now) result }
+    ensures faults { IfErr result (λ fault. (fault ≡ Fault.Memory) ⊎ ((fault ≡ Fault.Depth)
+        × IsSafeTooDeepFor F.answers callback (source_as syntax text.entry.now))) }
 {
     let mut html = String::new(alloc);
-    let parser = Parser::new_with_broken_link_callback(alloc, text, options, callback)?;
+    let parser = Parser::of_source(alloc, text, syntax, callback)?;
     push_items(alloc, &mut html, Safe::new(alloc, parser))?;
     Ok(html)
 }

@@ -1,33 +1,28 @@
 -- What a parser returns with ranges, up to its first None, is all that was left of it.
 use Rattle.std.proofs.Common.{◌≡◌, ℕ, List, [], ◌∷◌, ◌++◌, map, Err, Option, None, Result}
-use Rattle.std.proofs.Common.{ap, refl, sym, ◌∙◌, is_some, Bool, false}
+use Rattle.std.proofs.Common.{ap, refl, sym, ◌∙◌, is_some}
 use Rattle.std.proofs.lemmas.List.Folds.{flat_map-map}
 use Rattle.std.specs.Iterator.{Drains, Yields}
 use Rattle.std.specs.List.{flat_map}
-use Rattle.std.specs.Str.{IsUtf8}
+use Rattle.markdown_base.specs.Source.{Source}
 use Rattle.markdown_base.specs.Questions.{Question, Answer, Answers}
 use Rattle.markdown_base.specs.declared.fault.Fault.{Fault}
 use Rattle.markdown_base.specs.declared.fault.Fault.TheVariants.{Memory}
-use Rattle.markdown_base.specs.declared.options.Options.{Options}
-use Rattle.markdown_blocks.specs.Blocks.{IsOfEntry, source_for}
-use Rattle.markdown_blocks.specs.declared.blocks.Blocks.{Blocks}
 use Rattle.markdown_defs.specs.Callback.{Asks}
 use Rattle.markdown_inline.specs.Balanced.{ranged}
 use Rattle.markdown_inline.specs.Elements.{Element, event, events_of}
 use Rattle.markdown_inline.specs.Elements.{Placed as Read}
 use Rattle.markdown_inline.specs.NextGives.{NextGives, IsPlacedOf}
-use Rattle.markdown_inline.specs.ParserLeft.{ReadsEntry, elements, parser_callback, offset_parser, reading_of}
+use Rattle.markdown_inline.specs.ParserLeft.{ReadsText, elements, parser_callback, offset_parser}
 use Rattle.markdown_inline.specs.declared.walk.OffsetIter.{OffsetIter}
 use Rattle.markdown_inline.specs.declared.walk.Parser.{Parser}
-use Rattle.markdown_inline.specs.ReadingOfText.{reading_of_text}
-use Rattle.markdown_inline.proofs.ReadingOfTextLemmas.{text-law}
+use Rattle.markdown_inline.specs.ReadingOfText.{events_of_text, reading_of_text}
 use Rattle.markdown_inline.proofs.RunLemmas.{events_of-questions}
 use Rattle.markdown_json.specs.JsonLines.{PlacedEvent, IsWritten, StopsAtError, placed_items, lines_of}
 use Rattle.markdown_json.specs.Json.{line_json}
-use Rattle.markdown_text_json.specs.OutlineJson.{heading_lines, outline_lines}
-use Rattle.markdown_outline.specs.Outline.{EntryView, Ranged, entries_of}
-use Rattle.markdown_outline.specs.OutlineRead.{IsOutlineOfAll, ranged_view}
-use Rattle.markdown_text_json.specs.TextJson.{AreEntryLinesOf, placed_line, reading_lines}
+use Rattle.markdown_outline.specs.Outline.{Ranged}
+use Rattle.markdown_outline.specs.OutlineRead.{ranged_view}
+use Rattle.markdown_text_json.specs.TextJson.{json_of_text, placed_line}
 
 -- with no callback nothing is asked, and there is none afterwards
 unasked : {F : Type 0} (step : F → Question → Option Answer → F → Type 0) (after : Option F) (questions : List Question)
@@ -83,57 +78,20 @@ module _ {F : Type 0} (step : F → Question → Option Answer → F → Type 0)
       ) refl
 
   -- so they are those of the text, where all of its reading was left
-  events_of_text : (extended : Bool) (p : Parser F) (o : OffsetIter F) (text : List ℕ) (options : Options)
-      (given : List PlacedEvent) → offset_parser o ≡ p → (reads : ReadsEntry extended text options p)
-      → parser_callback p ≡ None
-      → Drains Steps o (placed_items given)
-      → (answers : Answers) → map ranged_view given ≡ ranged (events_of (reading_of reads.blocks false answers))
-  events_of_text extended p o text options given is reads none all answers =
-      let left = reads.left answers ∙ ap (λ (c : Option F). reading_of reads.blocks (is_some c) answers) none in
-      sym (drained o given all (ap (λ (q : Parser F). parser_callback q) is ∙ none) answers)
-      ∙ ap (λ (q : Parser F). ranged (events_of (elements q answers))) is
+  given_of_text : (s : Source) (p : Parser F) (o : OffsetIter F) (given : List PlacedEvent) → offset_parser o ≡ p
+      → ReadsText s p → parser_callback p ≡ None → Drains Steps o (placed_items given)
+      → map ranged_view given ≡ ranged (events_of_text s)
+  given_of_text s p o given is reads none all =
+      let left = reads.left [] ∙ ap (λ (c : Option F). reading_of_text s (is_some c) []) none in
+      sym (drained o given all (ap (λ (q : Parser F). parser_callback q) is ∙ none) [])
+      ∙ ap (λ (q : Parser F). ranged (events_of (elements q []))) is
       ∙ ap (λ (es : List Element). ranged (events_of es)) left
 
-  -- lines of a block result are those of the reading that is defined of its text
-  lines_by_rules : (lines : List Element → List ℕ) (extended : Bool) (text json : List ℕ) (options : Options)
-      (blocks : Blocks) → IsOfEntry extended text options blocks
-      → ((answers : Answers) → json ≡ lines (reading_of blocks false answers))
-      → json ≡ lines (reading_of_text (source_for extended text options) false [])
-  lines_by_rules lines extended text json options blocks of are =
-      are [] ∙ ap lines (text-law extended text options blocks of false [])
-
-  pub json_of_text : (extended : Bool) (p : Parser F) (o : OffsetIter F) (text old new : List ℕ) (options : Options)
-      → IsUtf8 text → offset_parser o ≡ p → ReadsEntry extended text options p → parser_callback p ≡ None → old ≡ []
-      → IsWritten Steps o old new → AreEntryLinesOf reading_lines extended text options new
-  json_of_text extended p o text old new options utf8 is reads none empty w =
-      let written : (answers : Answers) → new ≡ reading_lines (reading_of reads.blocks false answers) = λ answers.
+  -- and what is written is their lines
+  pub json_written : (s : Source) (p : Parser F) (o : OffsetIter F) (old new : List ℕ) → offset_parser o ≡ p
+      → ReadsText s p → parser_callback p ≡ None → old ≡ [] → IsWritten Steps o old new → new ≡ json_of_text s
+  json_written s p o old new is reads none empty w =
       w.stands ∙ ap (λ bytes. bytes ++ lines_of w.events) empty
       ∙ lines_seen w.events
-      ∙ ap (flat_map ranged_line) (events_of_text extended p o text options w.events is reads none w.read answers)
-      ∙ lines_placed (events_of (reading_of reads.blocks false answers)) in
-      record {
-        is_text = utf8;
-        blocks = reads.blocks;
-        of_text = reads.of_text;
-        written = written;
-        by_rules = lines_by_rules reading_lines extended text new options reads.blocks reads.of_text written;
-      }
-
-  -- and the entries of them are those of the text
-  pub outline_of_text : (extended : Bool) (p : Parser F) (o : OffsetIter F) (text old new : List ℕ)
-      (entries : List EntryView) (options : Options)
-      → IsUtf8 text → offset_parser o ≡ p → ReadsEntry extended text options p → parser_callback p ≡ None → old ≡ []
-      → IsOutlineOfAll Steps o entries → new ≡ old ++ outline_lines entries
-      → AreEntryLinesOf heading_lines extended text options new
-  outline_of_text extended p o text old new entries options utf8 is reads none empty all stands =
-      let written : (answers : Answers) → new ≡ heading_lines (reading_of reads.blocks false answers) = λ answers.
-      stands ∙ ap (λ bytes. bytes ++ outline_lines entries) empty
-      ∙ ap outline_lines (all.are
-      ∙ ap entries_of (events_of_text extended p o text options all.events is reads none all.read answers)) in
-      record {
-        is_text = utf8;
-        blocks = reads.blocks;
-        of_text = reads.of_text;
-        written = written;
-        by_rules = lines_by_rules heading_lines extended text new options reads.blocks reads.of_text written;
-      }
+      ∙ ap (flat_map ranged_line) (given_of_text s p o w.events is reads none w.read)
+      ∙ lines_placed (events_of_text s)

@@ -2,13 +2,11 @@
 //! the program that prints events, over any reader and two writers.
 #![tactic(auto)]
 
-pub mod extended;
 pub mod outline;
 pub mod outline_lines;
 pub mod run;
 pub mod text;
 
-pub use extended::{outline_json_extended, text_json_extended};
-pub use outline::outline_json;
+pub use outline::{outline_json, outline_json_extended, outline_json_source};
 pub use outline_lines::push_outline;
-pub use text::text_json;
+pub use text::{text_json, text_json_extended, text_json_source};

@@ -1,14 +1,16 @@
 //! The program that prints events, over any reader and two writers.
-ghost use Rattle.std.specs.Prelude.{◌≡◌, ◌≢◌, ◌≤◌, ℕ, List, map, None, string_bytes};
+ghost use Rattle.std.specs.Prelude.{◌≡◌, ◌≢◌, ◌≤◌, map, None, string_bytes};
 ghost use Rattle.std.specs.Prelude.{Result, IfOk, IfErr, IfSome};
 ghost use Rattle.std.specs.Str.{IsUtf8};
 ghost use Rattle.std.specs.Io.KnownBytes.{Appends};
 ghost use Rattle.markdown_base.specs.EnabledOptions.{no_options};
+ghost use Rattle.markdown_base.specs.Source.{source_as};
+ghost use Rattle.markdown_base.specs.Syntax.{profile_syntax};
 ghost use Rattle.markdown_base.specs.declared.fault.Fault.TheVariants.{Memory};
 ghost use Rattle.markdown_render.specs.Outcome.{status_of};
 ghost use Rattle.markdown_render.specs.Words.{turned_on};
 ghost use Rattle.markdown_render.specs.declared.run.Failure.{Failure};
-ghost use Rattle.markdown_text_json.specs.TextJson.{IsJsonOf};
+ghost use Rattle.markdown_text_json.specs.TextJson.{json_of_text};
 ghost use Rattle.markdown_text_json.specs.JsonOutcome.{LeavesJson};
 
 use crate::text::text_json;
@@ -20,7 +22,8 @@ use std::io::{Read, Write};
 
 /// Returns the lines of the events of a text with these options.
 fn lines(alloc: Global, text: &str, options: Options) -> Result<String, Failure>
-    ensures json { IfOk result (λ json. IsJsonOf text.now options (string_bytes json)) }
+    ensures json { IfOk result (λ json.
+        string_bytes json ≡ json_of_text (source_as (profile_syntax options) text.now)) }
     ensures refused { IfErr result (λ failure. failure ≡ Failure.Fault Memory) }
 {
     Ok(text_json(alloc, text, options)?)
@@ -78,8 +81,8 @@ pub fn run<R: Read, W: Write, E: Write>(
     ensures printed { result ≡ 0
         → IfSome (turned_on (map string_bytes words.now) no_options) (λ options.
         IfSome (R.remaining input.old) (λ bytes.
-        (json : List ℕ) × IsJsonOf bytes options json
-        × Appends (W.contents out.old) (W.contents out.new) json)) }
+        IsUtf8 bytes × Appends (W.contents out.old) (W.contents out.new)
+        (json_of_text (source_as (profile_syntax options) bytes)))) }
     ensures quiet { result ≡ 0 → err.new ≡ err.old }
 {
     match options_of(words) {

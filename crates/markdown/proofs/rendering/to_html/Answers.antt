@@ -1,7 +1,8 @@
 -- The HTML is the one that is defined of the text.
-use Rattle.markdown.proofs.CorrectLemmas.{correct}
+use Rattle.std.proofs.Common.{refl}
 use Rattle.markdown.proofs.rendering.to_html.Goals as goal
 
 pub returns : goal.returns
-returns c = correct _ c.args.options c.args.text.now c.utf8.text c.render_extended.result c.render_extended.ensures.html
-    c.render_extended.ensures.faults
+returns c =
+    let alone = c.render_extended.ensures.alone refl in
+    record { html = alone.output; faults = alone.faults }

@@ -1,9 +1,9 @@
-use Rattle.markdown_render.proofs.RenderingLemmas.{of_all, of_deep, of_document, of_first}
+use Rattle.markdown_render.proofs.RenderingLemmas.{of_all, of_deep, of_first, of_text}
 use Rattle.markdown_render.proofs.laws.html_of_a_parser_is_that_of_its_reading.Goals as goal
 
 pub returns-clause-document : goal.returns-clause-document
-returns-clause-document g c extended text options old new reads rendered =
-    of_document g.F.BrokenLinkCallback.answers extended text options c.args.parser.now old new reads rendered
+returns-clause-document g c s old new reads rendered =
+    of_text g.F.BrokenLinkCallback.answers s c.args.parser.now old new reads rendered
 
 pub returns-clause-rest : goal.returns-clause-rest
 returns-clause-rest g c old new rendered = of_all g.F.BrokenLinkCallback.answers c.args.parser.now old new rendered
