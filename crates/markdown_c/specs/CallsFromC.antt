@@ -1,17 +1,23 @@
 -- A call from C: its outcome, the number that it returns, and what the buffer then holds.
 use Rattle.std.specs.Prelude.{◌≡◌, ℕ, ◌+◌, ℤ, Bool, true, false, ◌==◌, pos, negsuc, nat_le, ◌++◌, List, length, drop}
 use Rattle.std.specs.Prelude.{if◌then◌else◌}
-use Rattle.std.specs.Prelude.{Result, Ok, Err, String, string_bytes}
+use Rattle.std.specs.Prelude.{Result, Ok, Err, String, string_bytes, map}
 use Rattle.std.specs.Int.RustNames.{bit_and}
 use Rattle.std.specs.Str.{IsUtf8}
 use Rattle.markdown_base.specs.declared.fault.Fault.{Fault}
 use Rattle.markdown_base.specs.declared.fault.Fault.TheVariants as fault
-use Rattle.markdown_base.specs.declared.options.Options.{Options}
-use Rattle.markdown_render.specs.Rendering.{IsEntryRenderingOf, IsEntryTooDeepOf}
+use Rattle.markdown_base.specs.Source.{Source, source_as}
+use Rattle.markdown_base.specs.Syntax.{full_syntax, profile_syntax}
+use Rattle.markdown_base.specs.declared.syntax.Syntax.{Syntax}
+use Rattle.markdown_inline.specs.ReadingOfText.{events_of_text}
+use Rattle.markdown_render.specs.HtmlOfText.{IsTextTooDeep, html_of_text}
 use Rattle.markdown_render.specs.Words.{of_bits}
-use Rattle.markdown_safe.specs.SafeRendering.{IsSafeEntryRenderingOf, IsSafeEntryTooDeepOf}
-use Rattle.markdown_text_json.specs.TextJson.{AreEntryLinesOf, reading_lines}
-use Rattle.markdown_text_json.specs.OutlineJson.{heading_lines}
+use Rattle.markdown_safe.specs.HtmlTree.{IsSafeTree}
+use Rattle.markdown_safe.specs.NestedEvents.{tables_are_whole}
+use Rattle.markdown_safe.specs.SafeHtml.{IsSafeHtml}
+use Rattle.markdown_safe.specs.SafeRendering.{IsSafeTextTooDeep, safe_html_of_text}
+use Rattle.markdown_text_json.specs.TextJson.{json_of_text}
+use Rattle.markdown_text_json.specs.OutlineJson.{outline_json_of_text}
 use Rattle.markdown_c.specs.declared.readings.Refusal.{Refusal}
 use Rattle.markdown_c.specs.declared.readings.Refusal.TheVariants.{NotUtf8, Memory, Depth, UnknownOption}
 
@@ -42,39 +48,45 @@ extended_flag = 0x4000_0000
 abbrev pub are_known : (bits : ℕ) → Bool
 are_known bits = bit_and bits (extension_flags + profile_flag + extended_flag) == bits
 
--- the bits ask for the full reading
-abbrev pub read_in_full : (bits : ℕ) → Bool
-read_in_full bits = bit_and bits profile_flag == 0
+-- what is read of a text by these bits: all, or what the port's profile reads
+abbrev pub syntax_by_bits : (bits : ℕ) → Syntax
+syntax_by_bits bits =
+    if bit_and bits profile_flag == 0 then full_syntax (of_bits bits) else profile_syntax (of_bits bits)
 
 -- what a call has to write is that of the text, or there is nothing, for this reason
-abbrev pub IsOutcome : (IsOf : Bool → List ℕ → Options → List ℕ → Type 0)
-    → (TooDeep : Bool → List ℕ → Options → Type 0) → (bits : ℕ) → (text : List ℕ) → Result (List ℕ) Refusal → Type 0
-IsOutcome IsOf TooDeep bits text (Ok whole) =
-    (are_known bits ≡ true) × IsOf (read_in_full bits) text (of_bits bits) whole
-IsOutcome IsOf TooDeep bits text (Err UnknownOption) = are_known bits ≡ false
-IsOutcome IsOf TooDeep bits text (Err NotUtf8) = IsUtf8 text → ⊥
-IsOutcome IsOf TooDeep bits text (Err Memory) = Unit {0}
-IsOutcome IsOf TooDeep bits text (Err Depth) = TooDeep (read_in_full bits) text (of_bits bits)
+abbrev pub IsOutcome : (IsOf : Source → List ℕ → Type 0) → (IsDeep : Source → Type 0) → (bits : ℕ) → (text : List ℕ)
+    → Result (List ℕ) Refusal → Type 0
+IsOutcome IsOf IsDeep bits text (Ok written) =
+    (are_known bits ≡ true) × IsUtf8 text × IsOf (source_as (syntax_by_bits bits) text) written
+IsOutcome IsOf IsDeep bits text (Err UnknownOption) = are_known bits ≡ false
+IsOutcome IsOf IsDeep bits text (Err NotUtf8) = IsUtf8 text → ⊥
+IsOutcome IsOf IsDeep bits text (Err Memory) = Unit {0}
+IsOutcome IsOf IsDeep bits text (Err Depth) = IsDeep (source_as (syntax_by_bits bits) text)
 
 -- no text is too deep for lines
-abbrev pub NeverTooDeep : Bool → List ℕ → Options → Type 0
-NeverTooDeep full text options = ⊥
+abbrev pub NeverTooDeep : Source → Type 0
+NeverTooDeep s = ⊥
 
--- the HTML of a text, by what the bits ask for, or why there is none
+-- the HTML of a text, or why there is none
 abbrev pub IsHtmlOutcome : (bits : ℕ) → (text : List ℕ) → Result (List ℕ) Refusal → Type 0
-IsHtmlOutcome = IsOutcome IsEntryRenderingOf IsEntryTooDeepOf
+IsHtmlOutcome = IsOutcome (λ s html. html ≡ html_of_text s) IsTextTooDeep
 
--- the safe HTML
+-- the safe HTML, which is safe, and a tree where the tables among the events of the text are whole
+pub record IsSafeHtmlOf (s : Source) (html : List ℕ) : Type 0 where
+  pub is : html ≡ safe_html_of_text s
+  pub safe : IsSafeHtml html
+  pub tree : tables_are_whole (map (λ e. e.0) (events_of_text s)) ≡ true → IsSafeTree html
+
 abbrev pub IsSafeHtmlOutcome : (bits : ℕ) → (text : List ℕ) → Result (List ℕ) Refusal → Type 0
-IsSafeHtmlOutcome = IsOutcome IsSafeEntryRenderingOf IsSafeEntryTooDeepOf
+IsSafeHtmlOutcome = IsOutcome IsSafeHtmlOf IsSafeTextTooDeep
 
 -- the lines of the events
 abbrev pub IsJsonOutcome : (bits : ℕ) → (text : List ℕ) → Result (List ℕ) Refusal → Type 0
-IsJsonOutcome = IsOutcome (AreEntryLinesOf reading_lines) NeverTooDeep
+IsJsonOutcome = IsOutcome (λ s lines. lines ≡ json_of_text s) NeverTooDeep
 
 -- the lines of the headings
 abbrev pub IsOutlineOutcome : (bits : ℕ) → (text : List ℕ) → Result (List ℕ) Refusal → Type 0
-IsOutlineOutcome = IsOutcome (AreEntryLinesOf heading_lines) NeverTooDeep
+IsOutlineOutcome = IsOutcome (λ s lines. lines ≡ outline_json_of_text s) NeverTooDeep
 
 -- the status of a refusal: -1, -2, -3 and -4
 abbrev pub refusal_status : Refusal → ℤ

@@ -3,12 +3,13 @@ use Rattle.std.proofs.Common.{◌≡◌, ℕ, List, [], ◌∷◌, map, Ok, Err,
 use Rattle.std.proofs.Common.{sym, ◌∙◌}
 use Rattle.std.specs.Iterator.{Drains}
 use Rattle.std.specs.Prelude.{is_some}
-use Rattle.markdown.specs.DefsWords.{Question, Answer, Answers}
+use Rattle.std.proofs.lemmas.Simd.{map-map}
+use Rattle.markdown.specs.DefsWords.{Question, Answer}
 use Rattle.markdown.specs.EventWords.{Event, EventView, Fault, event_view}
 use Rattle.markdown.specs.HtmlWords.{IsRendered, items, html_of, views_of}
-use Rattle.markdown.specs.OptionWords.{Options}
+use Rattle.markdown.specs.OptionWords.{Source}
 use Rattle.markdown.specs.ReadingWords.{IsEventOf, NextGives, Parser, ReadsText, elements, parser_callback}
-use Rattle.markdown.specs.ReadingWords.{reading_of}
+use Rattle.markdown.specs.ReadingWords.{Placed, events_of_text, reading_of_text}
 use Rattle.markdown.proofs.CallerLemmas.{drained_unasked}
 
 -- what an iterator of events returns
@@ -59,17 +60,17 @@ module _ (change : EventView → EventView) {S : Type 0} (reads : S → Option I
     all_changed {steps = steps} {m = m} r source kept k ends maps =
         one_by_one steps source kept ends maps m r.events k r.read
 
--- so what is written of a new parser without a callback is the HTML of the reading, each event changed
+-- so what is written of a new parser without a callback is the HTML of the text's events, each changed
 pub written : (change : EventView → EventView) {F M : Type 0} (step : F → Question → Option Answer → F → Type 0)
-    {steps : M → Option Item → M → Type 0} {m : M}
-    {text old html : List ℕ} {options : Options} {p q : Parser F} (r : IsRendered steps m old html) → old ≡ []
-    → (reads : ReadsText text options p) → parser_callback p ≡ None → q ≡ p
+    {steps : M → Option Item → M → Type 0} {m : M} {s : Source} {old html : List ℕ} {p q : Parser F}
+    (r : IsRendered steps m old html) → old ≡ [] → (reads : ReadsText s p) → parser_callback p ≡ None → q ≡ p
     → AreChanged change (NextGives step IsEventOf) q r.events
-    → (answers : Answers) → html ≡ html_of (map change (views_of (reading_of reads.blocks false answers)))
-written change {F} step {p = p} r empty reads nobody same (read, d, are) answers =
+    → html ≡ html_of (map (λ e. change e.0) (events_of_text s))
+written change {F} step {s = s} {p = p} r empty reads nobody same (read, d, are) =
     let from : Drains (NextGives step IsEventOf) p (items read) =
     subst (λ (it : Parser F). Drains (NextGives step IsEventOf) it (items read)) same d in
-    let whole : elements p answers ≡ reading_of reads.blocks false answers =
-    reads.left answers ∙ ap (λ asks. reading_of reads.blocks asks answers) (ap is_some nobody) in
+    let whole : elements p [] ≡ reading_of_text s false [] =
+    reads.left [] ∙ ap (λ asks. reading_of_text s asks []) (ap is_some nobody) in
     rw empty at r.stands ∙ ap html_of (are
-    ∙ ap (map change) (sym (drained_unasked step p read from nobody answers) ∙ ap views_of whole))
+    ∙ (ap (map change) (sym (drained_unasked step p read from nobody []) ∙ ap views_of whole)
+    ∙ map-map change (λ (e : Placed). e.0) (events_of_text s)))

@@ -7,7 +7,7 @@ use Rattle.std.specs.Option.{option_map, option_to_list}
 use Rattle.std.specs.declared.ops.Range.{Range}
 use Rattle.markdown.specs.DefsWords.{Answers, Asks, Question}
 use Rattle.markdown.specs.EventWords.{Event, event_view}
-use Rattle.markdown.specs.OptionWords.{no_options}
+use Rattle.markdown.specs.OptionWords.{commonmark, source_as}
 use Rattle.markdown.specs.ReadingWords.{GaveRest, IsPlacedOf, OffsetIter, Parser, Ranged, ReadsText, elements}
 use Rattle.markdown.specs.ReadingWords.{offset_parser, parser_callback, questions_of, viewed}
 use Rattle.markdown_callers.specs.LinkChecker.{CountsQuestion, CountsQuestions, event_target, greatest_count}
@@ -76,7 +76,7 @@ counted old (q ∷ questions) (answer ∷ answers) after bound (then, step, more
 -- so the count of a callback that was asked about a whole text is that of its questions
 pub counts_questions : (text : List ℕ) (p : Parser UndefinedLabels) (o : OffsetIter UndefinedLabels)
     (given : List (Event × Range ℕ)) (old : UndefinedLabels) (after : Option UndefinedLabels)
-    → ReadsText text no_options p → parser_callback p ≡ Some old → old.count ≡ 0 → offset_parser o ≡ p
+    → ReadsText (source_as commonmark text) p → parser_callback p ≡ Some old → old.count ≡ 0 → offset_parser o ≡ p
     → GaveRest IsPlacedOf CountsQuestion (offset_parser o) given after
     → (new : UndefinedLabels) × (after ≡ Some new) × CountsQuestions text new.count
 counts_questions text p o given old after reads holds zero begun all =

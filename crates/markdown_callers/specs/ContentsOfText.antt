@@ -1,18 +1,13 @@
 -- The headings of a text, and its table of contents.
-use Rattle.std.specs.Prelude.{◌≡◌, ℕ, List}
-use Rattle.markdown.specs.OutlineWords.{EntryView, entries_of}
-use Rattle.markdown.specs.ReadingWords.{Ranged}
+use Rattle.std.specs.Prelude.{ℕ, List}
+use Rattle.markdown.specs.OptionWords.{commonmark, source_as}
+use Rattle.markdown.specs.OutlineWords.{EntryView, outline_of_text}
 use Rattle.markdown_contents.specs.Contents.{contents_of}
-use Rattle.markdown_callers.specs.TextReading.{AreEventsOf}
 
--- these are the headings of a text
-pub record AreHeadingsOf (text : List ℕ) (entries : List EntryView) : Type 0 where
-  pub events : List Ranged
-  pub read : AreEventsOf text events
-  pub are : entries ≡ entries_of events
+-- the headings of a text with no extension enabled
+abbrev pub headings_in : (text : List ℕ) → List EntryView
+headings_in text = outline_of_text (source_as commonmark text)
 
--- this is the table of contents of a text
-pub record IsContentsOf (text list : List ℕ) : Type 0 where
-  pub entries : List EntryView
-  pub headings : AreHeadingsOf text entries
-  pub is : list ≡ contents_of entries
+-- their table of contents
+abbrev pub contents_in : (text : List ℕ) → List ℕ
+contents_in text = contents_of (headings_in text)

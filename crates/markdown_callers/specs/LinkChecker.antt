@@ -1,13 +1,13 @@
 -- What a link checker reports: the destinations of a text's links and images, and the number of its
 -- undefined link labels.
-use Rattle.std.specs.Prelude.{◌≡◌, ℕ, ◌+◌, ◌-◌, ◌^◌, min, List, length, Option, Some, None}
+use Rattle.std.specs.Prelude.{◌≡◌, ℕ, ◌+◌, ◌-◌, ◌^◌, min, List, length, map, Option, Some, None}
 use Rattle.std.specs.List.{filter_map}
 use Rattle.std.specs.Option.{option_map}
 use Rattle.std.specs.declared.ops.Range.{Range}
 use Rattle.markdown.specs.DefsWords.{Answer, Question}
 use Rattle.markdown.specs.EventWords.{text_of, EventView, start, TagView, link, image}
 use Rattle.markdown.specs.ReadingWords.{Ranged}
-use Rattle.markdown_callers.specs.TextReading.{AreEventsOf, AreQuestionsOf}
+use Rattle.markdown_callers.specs.TextReading.{placed_events, questions_in}
 use Rattle.markdown_callers.specs.declared.link_checker.FoundLink.{FoundLink}
 use Rattle.markdown_callers.specs.declared.link_checker.UndefinedLabels.{UndefinedLabels}
 
@@ -38,11 +38,9 @@ targets_of events = filter_map event_target events
 abbrev pub link_target : FoundLink → Target
 link_target l = (text_of l.destination, l.range)
 
--- these are the targets of a text
-pub record AreLinksOf (text : List ℕ) (targets : List Target) : Type 0 where
-  pub events : List Ranged
-  pub read : AreEventsOf text events
-  pub are : targets ≡ targets_of events
+-- the targets of a text
+abbrev pub links_in : (text : List ℕ) → List Target
+links_in text = targets_of (placed_events text)
 
 -- the greatest `u64`
 abbrev pub greatest_count : ℕ
@@ -53,8 +51,8 @@ abbrev pub CountsQuestion : UndefinedLabels → Question → Option Answer → U
 CountsQuestion old question answer new =
     (answer ≡ None) × (new.count ≡ min (old.count + 1) greatest_count)
 
--- this is the number of questions of the reading of a text, up to the greatest count
+-- this is the number of questions of a text, of which none is answered, up to the greatest count
 pub record CountsQuestions (text : List ℕ) (count : ℕ) : Type 0 where
   pub questions : List Question
-  pub asked : AreQuestionsOf text questions
+  pub asked : questions ≡ questions_in text (map (λ q. None) questions)
   pub counted : count ≡ min (length questions) greatest_count

@@ -1,13 +1,11 @@
 -- The HTML of a text, with the address of a site before each destination that is a path from the site's root.
-use Rattle.std.specs.Prelude.{◌≡◌, ◌++◌, ◌&&◌, ℕ, Bool, false, not, List, map, Result, Ok, Err, codes, nat_eq}
+use Rattle.std.specs.Prelude.{◌≡◌, ◌++◌, ◌&&◌, ℕ, Bool, not, List, map, Result, Ok, Err, codes, nat_eq}
 use Rattle.std.specs.Prelude.{if◌then◌else◌}
 use Rattle.std.specs.List.{starts_with}
-use Rattle.markdown.specs.BlockWords.{Blocks, IsOfText}
-use Rattle.markdown.specs.DefsWords.{Answers}
 use Rattle.markdown.specs.EventWords.{Event, EventView, event_view, start, TagView, link, image, Fault}
-use Rattle.markdown.specs.HtmlWords.{html_of, views_of}
-use Rattle.markdown.specs.OptionWords.{no_options}
-use Rattle.markdown.specs.ReadingWords.{reading_of}
+use Rattle.markdown.specs.HtmlWords.{html_of}
+use Rattle.markdown.specs.OptionWords.{commonmark, source_as}
+use Rattle.markdown.specs.ReadingWords.{events_of_text}
 
 -- a destination is a path from the root: it begins with one slash; two slashes begin the name of a host
 abbrev pub is_root_relative : List ℕ → Bool
@@ -35,9 +33,6 @@ IsItemAtSite site (Ok e) (Ok made) = event_view made ≡ event_at_site site (eve
 IsItemAtSite site (Ok e) (Err fault) = fault ≡ Fault.Memory
 IsItemAtSite site (Err fault) made = made ≡ Err fault
 
--- this is the HTML of the events of a block result of the text, each changed so
-pub record IsHtmlAtSite (text site html : List ℕ) : Type 0 where
-  pub blocks : Blocks
-  pub of_text : IsOfText text no_options blocks
-  pub written : (answers : Answers)
-      → html ≡ html_of (map (event_at_site site) (views_of (reading_of blocks false answers)))
+-- the HTML of a text, each event changed so
+abbrev pub html_at_site : (site text : List ℕ) → List ℕ
+html_at_site site text = html_of (map (λ e. event_at_site site e.0) (events_of_text (source_as commonmark text)))

@@ -1,11 +1,11 @@
 -- The lines and columns of a text, and the positions of its raw HTML.
-use Rattle.std.specs.Prelude.{◌≡◌, ℕ, zero, suc, ◌+◌, min, Bool, true, false, not, ◌==◌, ◌&&◌, ◌||◌}
+use Rattle.std.specs.Prelude.{ℕ, zero, suc, ◌+◌, min, Bool, true, false, not, ◌==◌, ◌&&◌, ◌||◌}
 use Rattle.std.specs.Prelude.{List, [], ◌∷◌, count_by, filter, length, map, slice_index}
 use Rattle.std.specs.List.{prefix_len}
 use Rattle.markdown.specs.ByteWords.{carriage_return, line_feed}
 use Rattle.markdown.specs.EventWords.{EventView, html, inline_html}
 use Rattle.markdown.specs.ReadingWords.{Ranged}
-use Rattle.markdown_callers.specs.TextReading.{AreEventsOf}
+use Rattle.markdown_callers.specs.TextReading.{placed_events}
 use Rattle.markdown_callers.specs.declared.linter.LineColumn.{LineColumn}
 
 -- whether a line ends with the byte at an offset: a line feed, or a carriage return with no line feed
@@ -46,8 +46,6 @@ is_html other = false
 abbrev pub html_positions : List ℕ → List Ranged → List LineColumn
 html_positions text events = map (λ e. position_at text e.1.start) (filter (λ e. is_html e.0) events)
 
--- these are the positions of the raw HTML in the events of a text
-pub record AreHtmlPositionsOf (text : List ℕ) (positions : List LineColumn) : Type 0 where
-  pub events : List Ranged
-  pub read : AreEventsOf text events
-  pub are : positions ≡ html_positions text events
+-- the positions of the raw HTML in a text
+abbrev pub html_positions_in : (text : List ℕ) → List LineColumn
+html_positions_in text = html_positions text (placed_events text)

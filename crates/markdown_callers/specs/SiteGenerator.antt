@@ -1,12 +1,10 @@
 -- A page: the HTML of the events of a text, where soft breaks are hard and headings are one level down.
-use Rattle.std.specs.Prelude.{◌≡◌, ℕ, false, List, map, Result, Ok, Err}
-use Rattle.markdown.specs.BlockWords.{Blocks, IsOfText}
-use Rattle.markdown.specs.DefsWords.{Answers}
+use Rattle.std.specs.Prelude.{◌≡◌, ℕ, List, map, Result, Ok, Err}
 use Rattle.markdown.specs.EventWords.{Event, EventView, event_view, start, end, soft_break, hard_break, heading}
 use Rattle.markdown.specs.EventWords.{Fault, HeadingLevel, TagEnd}
-use Rattle.markdown.specs.HtmlWords.{html_of, views_of}
-use Rattle.markdown.specs.OptionWords.{Options}
-use Rattle.markdown.specs.ReadingWords.{reading_of}
+use Rattle.markdown.specs.HtmlWords.{html_of}
+use Rattle.markdown.specs.OptionWords.{Source}
+use Rattle.markdown.specs.ReadingWords.{events_of_text}
 
 -- the level below a level; level 6 for level 6
 abbrev pub one_below : HeadingLevel → HeadingLevel
@@ -30,8 +28,6 @@ IsItemOnPage (Ok e) (Ok made) = event_view made ≡ event_on_page (event_view e)
 IsItemOnPage (Ok e) (Err fault) = ⊥
 IsItemOnPage (Err fault) made = made ≡ Err fault
 
--- this is the HTML of the events of a block result of the text with these options, each as a page has it
-pub record IsPageOf (text : List ℕ) (options : Options) (html : List ℕ) : Type 0 where
-  pub blocks : Blocks
-  pub of_text : IsOfText text options blocks
-  pub written : (answers : Answers) → html ≡ html_of (map event_on_page (views_of (reading_of blocks false answers)))
+-- the page of a text: the HTML of its events, each as a page has it
+abbrev pub page_of_text : Source → List ℕ
+page_of_text s = html_of (map (λ e. event_on_page e.0) (events_of_text s))

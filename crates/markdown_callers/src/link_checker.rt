@@ -3,7 +3,7 @@
 ghost use Rattle.std.specs.Prelude.{◌≡◌, IfOk, IfErr, map};
 ghost use Rattle.std.specs.Option.{option_map};
 ghost use Rattle.markdown.specs.EventWords.{event_view, tag_view, text_of};
-ghost use Rattle.markdown_callers.specs.LinkChecker.{AreLinksOf, CountsQuestions};
+ghost use Rattle.markdown_callers.specs.LinkChecker.{CountsQuestions, links_in};
 ghost use Rattle.markdown_callers.specs.LinkChecker.{event_target, link_target, tag_destination};
 
 use markdown::{BrokenLink, BrokenLinkCallback, CowStr, Event, Fault, Options, Parser, Tag};
@@ -47,7 +47,7 @@ fn link_at<'a>(event: Event<'a>, range: Range<usize>) -> Option<FoundLink<'a>>
 /// `Fault::Memory`.
 pub fn links<'a>(alloc: Global, source: &'a str) -> Result<Vec<FoundLink<'a>>, Fault>
     ensures links { IfOk result (λ links.
-        AreLinksOf source.entry.now (map link_target links.items)) }
+        map link_target links.items ≡ links_in source.entry.now) }
     ensures refused { IfErr result (λ fault. fault ≡ Fault.Memory) }
 {
     let parser = Parser::new(alloc, source)?;

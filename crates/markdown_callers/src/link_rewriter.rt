@@ -2,7 +2,7 @@
 //! `https://bread.example`, is put before it, so that it leads there from anywhere.
 ghost use Rattle.std.specs.Prelude.{◌≡◌, IfOk, IfErr, string_bytes};
 ghost use Rattle.markdown.specs.EventWords.{event_view, tag_view, text_of};
-ghost use Rattle.markdown_callers.specs.LinkRewriter.{IsHtmlAtSite, IsItemAtSite};
+ghost use Rattle.markdown_callers.specs.LinkRewriter.{IsItemAtSite, html_at_site};
 ghost use Rattle.markdown_callers.specs.LinkRewriter.{destination_at_site, is_root_relative, tag_at_site};
 
 use markdown::html::push_html;
@@ -11,7 +11,7 @@ use std::alloc::{AllocError, Global};
 
 /// Returns the HTML of a text, with the site's address before each destination that is a path from its root.
 pub fn html_at_site(alloc: Global, source: &str, site: &str) -> Result<String, Fault>
-    ensures { IfOk result (λ html. IsHtmlAtSite source.now site.now (string_bytes html)) }
+    ensures { IfOk result (λ html. string_bytes html ≡ html_at_site site.now source.now) }
 {
     let parser = Parser::new(alloc, source)?;
     let mut html = String::new(alloc);

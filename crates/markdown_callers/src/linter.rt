@@ -1,7 +1,7 @@
 //! A linter: the line and column of each piece of raw HTML in a text.
 ghost use Rattle.std.specs.Prelude.{◌≡◌, ◌<◌, IfOk, IfErr, length};
 ghost use Rattle.markdown.specs.EventWords.{event_view};
-ghost use Rattle.markdown_callers.specs.Linter.{AreHtmlPositionsOf, ends_line_at, is_html, position_at};
+ghost use Rattle.markdown_callers.specs.Linter.{html_positions_in, ends_line_at, is_html, position_at};
 
 use markdown::{Event, Fault, Parser};
 use std::alloc::Global;
@@ -58,7 +58,8 @@ fn is_raw_html(event: &Event<'_>) -> bool
 /// Returns where the raw HTML of a text begins: each tag or comment in a paragraph, and each line of
 /// an HTML block. The only error is `Fault::Memory`.
 pub fn raw_html(alloc: Global, source: &str) -> Result<Vec<LineColumn>, Fault>
-    ensures positions { IfOk result (λ positions. AreHtmlPositionsOf source.now positions.items) }
+    ensures positions { IfOk result (λ positions.
+        positions.items ≡ html_positions_in source.now) }
     ensures refused { IfErr result (λ fault. fault ≡ Fault.Memory) }
 {
     let parser = Parser::new(alloc, source)?;

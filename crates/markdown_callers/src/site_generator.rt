@@ -1,19 +1,21 @@
 //! A site generator: lines break where they do in the source, and headings move down below the title of the site.
 ghost use Rattle.std.specs.Prelude.{◌≡◌, IfOk, string_bytes};
 ghost use Rattle.markdown.specs.EventWords.{event_view};
-ghost use Rattle.markdown_callers.specs.SiteGenerator.{IsItemOnPage, IsPageOf, event_on_page, one_below};
+ghost use Rattle.markdown.specs.OptionWords.{profile_syntax, source_as};
+ghost use Rattle.markdown_callers.specs.SiteGenerator.{IsItemOnPage, event_on_page, one_below, page_of_text};
 
 use markdown::html::push_html;
 use markdown::{Event, Fault, HeadingLevel, Options, Parser, Tag, TagEnd};
 use std::alloc::Global;
 
-/// Returns the HTML of a page.
+/// Returns the page of a text.
 ///
 /// # Errors
 ///
 /// `Memory` if an allocation fails, and `Depth` as `push_html` returns it.
 pub fn page_html(alloc: Global, source: &str, options: Options) -> Result<String, Fault>
-    ensures { IfOk result (λ html. IsPageOf source.now options (string_bytes html)) }
+    ensures { IfOk result (λ html.
+        string_bytes html ≡ page_of_text (source_as (profile_syntax options) source.now)) }
 {
     let parser = Parser::new_ext(alloc, source, options)?;
     let mut html = String::new(alloc);

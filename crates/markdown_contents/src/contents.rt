@@ -48,7 +48,7 @@ fn plain_anchor(alloc: Global, text: &str) -> Result<String, Fault>
 }
 
 /// Returns an anchor that has occurred `times` times before: followed by that number, unless it is 0.
-fn numbered(alloc: Global, anchor: &str, times: usize) -> Result<String, Fault>
+fn with_number(alloc: Global, anchor: &str, times: usize) -> Result<String, Fault>
     ensures anchor { IfOk result (λ made. string_bytes made ≡ with_number anchor.now times) }
     ensures refused { IfErr result (λ fault. fault ≡ Fault.Memory) }
 {
@@ -72,7 +72,7 @@ fn next_anchor(
 {
     let plain = plain_anchor(alloc, text)?;
     let before = times.get(plain.as_str()).copied().unwrap_or(0);
-    let anchor = numbered(alloc, plain.as_str(), before)?;
+    let anchor = with_number(alloc, plain.as_str(), before)?;
     times.insert(plain, before + 1)?;
     Ok(anchor)
 }

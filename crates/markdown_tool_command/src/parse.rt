@@ -19,7 +19,7 @@ use std::alloc::{AllocError, Global};
 pub const VERSION: &str = "0.10.0";
 
 /// Returns an argument with a value, by its name, where help calls the value `value`.
-fn valued<'a>(alloc: Global, name: &'a str, value: &'a str) -> Arg<'a>
+fn option_with_value<'a>(alloc: Global, name: &'a str, value: &'a str) -> Arg<'a>
     ensures rule { rule_of result ≡ valued name.entry.now }
     ensures local { result.global ≡ false }
 {
@@ -39,7 +39,7 @@ fn to<'a>(alloc: Global, names: &'a [&'a str]) -> Arg<'a>
     ensures rule { rule_of result ≡ to_rule (Names names.entry) }
     ensures local { result.global ≡ false }
 {
-    valued(alloc, "to", "FORMAT")
+    option_with_value(alloc, "to", "FORMAT")
         .short('t')
         .value_parser(names)
         .default_value("html")
@@ -51,7 +51,7 @@ fn extension<'a>(alloc: Global, names: &'a [&'a str]) -> Arg<'a>
     ensures rule { rule_of result ≡ extension_rule (Names names.entry) }
     ensures local { result.global ≡ false }
 {
-    valued(alloc, "extension", "NAME")
+    option_with_value(alloc, "extension", "NAME")
         .short('e')
         .value_parser(names)
         .action(ArgAction::Append)
@@ -63,7 +63,7 @@ fn output<'a>(alloc: Global) -> Arg<'a>
     ensures rule { rule_of result ≡ output_rule }
     ensures local { result.global ≡ false }
 {
-    valued(alloc, "output", "FILE")
+    option_with_value(alloc, "output", "FILE")
         .short('o')
         .default_value(STANDARD)
         .help("The file to write; - is standard output")
@@ -105,10 +105,10 @@ fn with_page<'a>(alloc: Global, command: Command<'a>) -> Result<Command<'a>, All
     let full_page = flag(alloc, "full-page")
         .short('f')
         .help("Write a whole page of HTML");
-    let title = valued(alloc, "title", "TITLE").help(
+    let title = option_with_value(alloc, "title", "TITLE").help(
         "The title of the page [default: the name of the first file]",
     );
-    let css = valued(alloc, "css", "URL").help("The style sheet of the page");
+    let css = option_with_value(alloc, "css", "URL").help("The style sheet of the page");
     let paged = command.arg(full_page)?;
     let titled = paged.arg(title)?;
     titled.arg(css)

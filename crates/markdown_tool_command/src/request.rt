@@ -70,7 +70,7 @@ impl From<AllocError> for Refusal {
 }
 
 /// Returns a text of its own, where there is one.
-fn owned(alloc: Global, text: Option<&str>) -> Result<Option<String>, AllocError>
+fn copy_of(alloc: Global, text: Option<&str>) -> Result<Option<String>, AllocError>
     ensures { IfOk result (λ copy.
         option_map string_bytes copy ≡ option_map (λ t. t.now) text.entry) }
 {
@@ -156,8 +156,8 @@ fn page_asked(alloc: Global, matches: &ArgMatches<'_>) -> Result<Option<Page>, A
     if !is_given(matches, "full-page") {
         return Ok(None);
     }
-    let title = owned(alloc, value_of(matches, "title"))?;
-    let style = owned(alloc, value_of(matches, "css"))?;
+    let title = copy_of(alloc, value_of(matches, "title"))?;
+    let style = copy_of(alloc, value_of(matches, "css"))?;
     Ok(Some(Page { title, style }))
 }
 

@@ -3,30 +3,28 @@ use Rattle.std.proofs.Common.{◌≡◌, ◌⊎◌, ℕ, List, [], ◌∷◌, Op
 use Rattle.std.proofs.Common.{inl, inr, string_bytes}
 use Rattle.markdown_tool_command.specs.declared.request.Request.{Request}
 use Rattle.markdown_tool_output.specs.Conversion.{Converts, EndsConversion, exit_status}
-use Rattle.markdown_tool_output.specs.Outputs.{IsOutputOf}
+use Rattle.markdown_tool_output.specs.Outputs.{output_of}
 use Rattle.markdown_tool_output.specs.Steps.{FileStep, ReadsAlone, Takes, all_read, writes}
 use Rattle.markdown_tool_output.proofs.StepsLemmas.{takes_more}
 
 module _ (request : Request) (old between new : Option (List FileStep)) where
-  converts : (texts : List (List ℕ)) (output : List ℕ) → IsOutputOf request texts output
-      → Takes old between (all_read (map string_bytes request.inputs.items) texts)
-      → Takes between new (writes (string_bytes request.output) output ∷ []) → Converts request old new
-  converts texts output is read written = record {
+  converts : (texts : List (List ℕ)) → Takes old between (all_read (map string_bytes request.inputs.items) texts)
+      → Takes between new (writes (string_bytes request.output) (output_of request texts) ∷ [])
+      → Converts request old new
+  converts texts read written = record {
     texts = texts;
-    output = output;
-    is = is;
     steps = takes_more old between new (all_read (map string_bytes request.inputs.items) texts)
-        (writes (string_bytes request.output) output ∷ []) read written;
+        (writes (string_bytes request.output) (output_of request texts) ∷ []) read written;
   }
 
   -- of names, texts and an output that are passed by reference
   pub converts_by : (names texts given : List (String Global)) (output name text : List ℕ)
       → names ≡ request.inputs.items → given ≡ texts → name ≡ string_bytes request.output → text ≡ output
-      → IsOutputOf request (map string_bytes given) output
+      → output ≡ output_of request (map string_bytes given)
       → Takes old between (all_read (map string_bytes names) (map string_bytes texts))
       → Takes between new (writes name text ∷ []) → Converts request old new
   converts_by names texts given output name text are same named is of_texts read written =
-      converts (map string_bytes texts) output (rw same at of_texts) (rw are at read) (rw (named, is) at written)
+      converts (map string_bytes texts) (rw are at read) (rw (named, is, rw same at of_texts) at written)
 
 -- the exit status of an outcome
 pub ends : {A E : Type 0} (request : Request) (outcome : Result A E) (status : ℕ) (old new : Option (List FileStep))

@@ -3,5 +3,4 @@ pub mod AppendLemmas
 pub mod ConversionLemmas
 pub mod FileTextLemmas
 pub mod OutputsLemmas
-pub mod RenderingLemmas
 pub mod StepsLemmas

@@ -3,41 +3,42 @@ use Rattle.std.proofs.Common.{◌≡◌, ◌∙◌, ℕ, ◌+◌, ◌<◌, ◌�
 use Rattle.std.proofs.Common.{String, Global, inl, inr, refl, sym, ap, subst, append-nil, append_assoc}
 use Rattle.std.proofs.lemmas.List.{drop_more, drop_all, get_or-map, length-map}
 use Rattle.markdown.specs.EventWords.{Fault}
-use Rattle.markdown.specs.OptionWords.{Options}
+use Rattle.markdown.specs.OptionWords.{Syntax, source_as}
 use Rattle.markdown_tool_command.specs.declared.choices.Format.{Format}
 use Rattle.markdown_tool_output.specs.FileText.{without_mark}
-use Rattle.markdown_tool_output.specs.Outputs.{AreOutputs, IsFaultOfText, IsFaultOfTexts, IsOutputOfText}
+use Rattle.markdown_tool_output.specs.Outputs.{IsFaultOfText, IsFaultOfTexts, file_source, output_of_text, outputs_of}
 
-module _ (format : Format) (options : Options) (texts : List (String Global)) where
-  -- what is written so far serves for all texts: with what is written for those from this one on, it is that of all
+module _ (format : Format) (syntax : Syntax) (texts : List (String Global)) where
+  -- what is written for these
+  abbrev outputs : List (String Global) → List ℕ
+  outputs some = outputs_of format syntax (map string_bytes some)
+
+  -- what is written so far, with what is written for the texts from this one on, is what is written for all
   abbrev pub Serves : (at : ℕ) → (so_far : List ℕ) → Type 0
-  Serves at so_far = (rest : List ℕ) → AreOutputs format options (map string_bytes (drop at texts)) rest
-      → AreOutputs format options (map string_bytes texts) (so_far ++ rest)
+  Serves at so_far = so_far ++ outputs (drop at texts) ≡ outputs texts
 
   -- and with what is written for this one, it serves for those after it
   pub serves_more : (at : ℕ) (text : String Global) (so_far so_far' part : List ℕ) → at < length texts
-      → text ≡ get_or texts at text → IsOutputOfText format options (without_mark (string_bytes text)) part
+      → text ≡ get_or texts at text → part ≡ output_of_text format (file_source syntax (string_bytes text))
       → so_far' ≡ so_far ++ part → Serves at so_far → Serves (at + 1) so_far'
-  serves_more at text so_far so_far' part l is made more before rest are =
-      subst (AreOutputs format options (map string_bytes texts))
-      (sym (append_assoc so_far part rest) ∙ ap (λ s. s ++ rest) (sym more))
-      (before (part ++ rest) (subst (λ (ts : List (String Global)).
-      AreOutputs format options (map string_bytes ts) (part ++ rest))
+  serves_more at text so_far so_far' part l is made more before =
+      ap (λ s. s ++ outputs (drop (at + 1) texts)) more
+      ∙ append_assoc so_far part (outputs (drop (at + 1) texts))
+      ∙ ap (λ p. so_far ++ (p ++ outputs (drop (at + 1) texts))) made
+      ∙ ap (λ (some : List (String Global)). so_far ++ outputs some)
       (sym (drop_more texts at text l ∙ ap (λ (t : String Global). t ∷ drop (at + 1) texts) (sym is)))
-      (part, rest, refl, made, are)))
+      ∙ before
 
   -- where no text is left, it is what is written for all
-  pub serves_all : (at : ℕ) (so_far : List ℕ) → length texts ≤ at → Serves at so_far
-      → AreOutputs format options (map string_bytes texts) so_far
+  pub serves_all : (at : ℕ) (so_far : List ℕ) → length texts ≤ at → Serves at so_far → so_far ≡ outputs texts
   serves_all at so_far l before =
-      subst (AreOutputs format options (map string_bytes texts)) (append-nil so_far)
-      (before [] (subst (λ (ts : List (String Global)). AreOutputs format options (map string_bytes ts) [])
-      (sym (drop_all at texts l)) refl))
+      sym (append-nil so_far)
+      ∙ ap (λ (some : List (String Global)). so_far ++ outputs some) (sym (drop_all at texts l)) ∙ before
 
   -- the fault of one of the texts
   fault_in : (at : ℕ) (text : String Global) (fault : Fault) → at < length texts → text ≡ get_or texts at text
-      → IsFaultOfText format options (without_mark (string_bytes text)) fault
-      → IsFaultOfTexts format options (map string_bytes texts) fault
+      → IsFaultOfText format (file_source syntax (string_bytes text)) fault
+      → IsFaultOfTexts format syntax (map string_bytes texts) fault
   fault_in at text fault l is (inl memory) = inl memory
   fault_in at text fault l is (inr (depth, deep)) = inr (
     depth,
@@ -52,6 +53,7 @@ module _ (format : Format) (options : Options) (texts : List (String Global)) wh
 
   pub fault_of_one : (at : ℕ) (text : String Global) (given : List ℕ) (fault : Fault) → at < length texts
       → text ≡ get_or texts at text → given ≡ without_mark (string_bytes text)
-      → IsFaultOfText format options given fault → IsFaultOfTexts format options (map string_bytes texts) fault
-  fault_of_one at text given fault l is same why =
-      fault_in at text fault l is (subst (λ (t : List ℕ). IsFaultOfText format options t fault) same why)
+      → IsFaultOfText format (source_as syntax given) fault
+      → IsFaultOfTexts format syntax (map string_bytes texts) fault
+  fault_of_one at text given fault l is same why = fault_in at text fault l is
+      (subst (λ (t : List ℕ). IsFaultOfText format (source_as syntax t) fault) same why)

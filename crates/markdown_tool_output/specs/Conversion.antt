@@ -7,16 +7,15 @@ use Rattle.clap.specs.declared.error.kind.ErrorKind.TheVariants as kind
 use Rattle.markdown_tool_command.specs.CommandLine.{IsRefusedFor, IsRequestFor}
 use Rattle.markdown_tool_command.specs.Requests.{standard}
 use Rattle.markdown_tool_command.specs.declared.request.Request.{Request}
-use Rattle.markdown_tool_output.specs.Outputs.{IsOutputOf}
+use Rattle.markdown_tool_output.specs.Outputs.{output_of}
 use Rattle.markdown_tool_output.specs.Steps.{ReadsAlone, FileStep, Takes, all_read, writes}
 
 -- all files of a request are read, and then the output of their texts is to be written
 pub record Converts (request : Request) (old new : Option (List FileStep)) : Type 0 where
   pub texts : List (List ℕ)
-  pub output : List ℕ
-  pub is : IsOutputOf request texts output
   pub steps : Takes old new
-      (all_read (map string_bytes request.inputs.items) texts ++ writes (string_bytes request.output) output ∷ [])
+      (all_read (map string_bytes request.inputs.items) texts
+      ++ writes (string_bytes request.output) (output_of request texts) ∷ [])
 
 -- the exit status of an outcome: 0 where nothing failed
 abbrev pub exit_status : {A E : Type 0} → Result A E → ℕ

@@ -1,12 +1,11 @@
 -- What is written for texts, by format, and for a request.
-use Rattle.std.specs.Prelude.{◌≡◌, ◌⊎◌, ℕ, true, List, [], ◌∷◌, ◌++◌, Option, Some, None, map, string_bytes}
-use Rattle.std.specs.List.{Any}
-use Rattle.markdown.specs.BlockWords.{Blocks, IsOfEntry}
+use Rattle.std.specs.Prelude.{◌≡◌, ◌⊎◌, ℕ, List, [], ◌∷◌, Option, Some, None, map, string_bytes}
+use Rattle.std.specs.List.{Any, flat_map}
 use Rattle.markdown.specs.EventWords.{Fault}
-use Rattle.markdown.specs.HtmlWords.{IsEntryRenderingOf, IsEntryTooDeepOf}
-use Rattle.markdown.specs.OptionWords.{Options}
-use Rattle.markdown.specs.OutlineWords.{AreEntriesOf, EntryView}
-use Rattle.markdown.specs.SafeWords.{IsSafeEntryRenderingOf, IsSafeEntryTooDeepOf}
+use Rattle.markdown.specs.HtmlWords.{IsTextTooDeep, html_of_text}
+use Rattle.markdown.specs.OptionWords.{Source, Syntax, full_syntax, source_as}
+use Rattle.markdown.specs.OutlineWords.{outline_of_text}
+use Rattle.markdown.specs.SafeWords.{IsSafeTextTooDeep, safe_html_of_text}
 use Rattle.markdown_base.specs.declared.fault.Fault.TheVariants as fault_kind
 use Rattle.markdown_tool_command.specs.Requests.{page_texts, standard}
 use Rattle.markdown_tool_command.specs.declared.choices.Format.{Format}
@@ -14,50 +13,43 @@ use Rattle.markdown_tool_command.specs.declared.choices.Format.TheVariants.{Html
 use Rattle.markdown_tool_command.specs.declared.request.Page.{Page}
 use Rattle.markdown_tool_command.specs.declared.request.Request.{Request}
 use Rattle.markdown_contents.specs.Contents.{contents_of}
-use Rattle.markdown_text_json.specs.OutlineJson.{IsExtendedOutlineJsonOf}
-use Rattle.markdown_text_json.specs.TextJson.{IsExtendedJsonOf}
+use Rattle.markdown_text_json.specs.OutlineJson.{outline_json_of_text}
+use Rattle.markdown_text_json.specs.TextJson.{json_of_text}
 use Rattle.markdown_tool_output.specs.FileText.{without_mark}
 use Rattle.markdown_tool_output.specs.PageHtml.{page_html}
 
--- this is the table of contents of the headings of a block result of the text, of the full reading
-pub record IsExtendedContentsOf (text : List ℕ) (options : Options) (list : List ℕ) : Type 0 where
-  pub blocks : Blocks
-  pub of_text : IsOfEntry true text options blocks
-  pub entries : List EntryView
-  pub headings : AreEntriesOf blocks entries
-  pub is : list ≡ contents_of entries
-
--- this is what is written for a text
-abbrev pub IsOutputOfText : Format → Options → (text output : List ℕ) → Type 0
-IsOutputOfText Html options text output = IsEntryRenderingOf true text options output
-IsOutputOfText SafeHtml options text output = IsSafeEntryRenderingOf true text options output
-IsOutputOfText Events options text output = IsExtendedJsonOf text options output
-IsOutputOfText Outline options text output = IsExtendedOutlineJsonOf text options output
-IsOutputOfText Contents options text output = IsExtendedContentsOf text options output
+-- what is written for a text
+abbrev pub output_of_text : Format → Source → List ℕ
+output_of_text Html s = html_of_text s
+output_of_text SafeHtml s = safe_html_of_text s
+output_of_text Events s = json_of_text s
+output_of_text Outline s = outline_json_of_text s
+output_of_text Contents s = contents_of (outline_of_text s)
 
 -- a text is too deep: for HTML alone
-abbrev pub IsTooDeepText : Format → Options → (text : List ℕ) → Type 0
-IsTooDeepText Html options text = IsEntryTooDeepOf true text options
-IsTooDeepText SafeHtml options text = IsSafeEntryTooDeepOf true text options
-IsTooDeepText Events options text = ⊥
-IsTooDeepText Outline options text = ⊥
-IsTooDeepText Contents options text = ⊥
+abbrev pub IsTooDeepText : Format → Source → Type 0
+IsTooDeepText Html s = IsTextTooDeep s
+IsTooDeepText SafeHtml s = IsSafeTextTooDeep s
+IsTooDeepText Events s = ⊥
+IsTooDeepText Outline s = ⊥
+IsTooDeepText Contents s = ⊥
 
 -- this is why nothing is written for a text: an allocation was refused, or the text is too deep
-abbrev pub IsFaultOfText : Format → Options → (text : List ℕ) → Fault → Type 0
-IsFaultOfText format options text fault =
-    (fault ≡ fault_kind.Memory) ⊎ ((fault ≡ fault_kind.Depth) × IsTooDeepText format options text)
+abbrev pub IsFaultOfText : Format → Source → Fault → Type 0
+IsFaultOfText format s fault = (fault ≡ fault_kind.Memory) ⊎ ((fault ≡ fault_kind.Depth) × IsTooDeepText format s)
 
--- this is what is written for texts, one after another, each without a byte order mark
-abbrev pub AreOutputs : Format → Options → (texts : List (List ℕ)) → (outputs : List ℕ) → Type 0
-AreOutputs format options [] outputs = outputs ≡ []
-AreOutputs format options (text ∷ texts) outputs = (first rest : List ℕ) × (outputs ≡ first ++ rest)
-    × IsOutputOfText format options (without_mark text) first × AreOutputs format options texts rest
+-- the source that a file's text is: without a byte order mark
+abbrev pub file_source : Syntax → (text : List ℕ) → Source
+file_source syntax text = source_as syntax (without_mark text)
+
+-- what is written for texts, one after another
+abbrev pub outputs_of : Format → Syntax → (texts : List (List ℕ)) → List ℕ
+outputs_of format syntax texts = flat_map (λ text. output_of_text format (file_source syntax text)) texts
 
 -- this is why nothing is written for texts
-abbrev pub IsFaultOfTexts : Format → Options → (texts : List (List ℕ)) → Fault → Type 0
-IsFaultOfTexts format options texts fault = (fault ≡ fault_kind.Memory)
-    ⊎ ((fault ≡ fault_kind.Depth) × Any (λ text. IsTooDeepText format options (without_mark text)) texts)
+abbrev pub IsFaultOfTexts : Format → Syntax → (texts : List (List ℕ)) → Fault → Type 0
+IsFaultOfTexts format syntax texts fault = (fault ≡ fault_kind.Memory)
+    ⊎ ((fault ≡ fault_kind.Depth) × Any (λ text. IsTooDeepText format (file_source syntax text)) texts)
 
 -- the name of the first file
 abbrev pub first_of_names : List (List ℕ) → List ℕ
@@ -72,8 +64,7 @@ abbrev pub in_page : Option Page → (name outputs : List ℕ) → List ℕ
 in_page None name outputs = outputs
 in_page (Some page) name outputs = page_html (page_texts page) name outputs
 
--- this is what is written for a request whose files hold these texts
-pub record IsOutputOf (request : Request) (texts : List (List ℕ)) (output : List ℕ) : Type 0 where
-  pub outputs : List ℕ
-  pub are : AreOutputs request.format request.options texts outputs
-  pub stands : output ≡ in_page request.page (first_name request) outputs
+-- what is written for a request whose files hold these texts: they are read in full
+abbrev pub output_of : Request → (texts : List (List ℕ)) → List ℕ
+output_of request texts =
+    in_page request.page (first_name request) (outputs_of request.format (full_syntax request.options) texts)

@@ -1,55 +1,33 @@
 //! What is written for a request: a function of the request and of the texts alone.
-ghost use Rattle.std.specs.Prelude.{◌≡◌, ◌⊎◌, IfOk, IfErr, map, string_bytes};
-ghost use Rattle.markdown_tool_output.specs.Outputs.{AreOutputs, IsExtendedContentsOf, IsFaultOfText, IsFaultOfTexts};
-ghost use Rattle.markdown_tool_output.specs.Outputs.{IsOutputOf, IsOutputOfText, first_name};
-ghost use Rattle.markdown_tool_command.specs.declared.choices.Format.{Format};
+ghost use Rattle.std.specs.Prelude.{◌≡◌, IfOk, IfErr, map, string_bytes};
+ghost use Rattle.markdown.specs.OptionWords.{full_syntax, source_as};
+ghost use Rattle.markdown.specs.OutlineWords.{outline_of_text};
+ghost use Rattle.markdown_contents.specs.Contents.{contents_of};
+ghost use Rattle.markdown_tool_output.specs.Outputs.{IsFaultOfText, IsFaultOfTexts, first_name};
+ghost use Rattle.markdown_tool_output.specs.Outputs.{output_of, output_of_text, outputs_of};
 
 use crate::page::page_html;
 use crate::text::without_mark;
-use markdown::blocks::Blocks;
-use markdown::extended::{render_extended, safe_html_extended};
-use markdown::laws::headings_of_texts_are_apart;
-use markdown::outline::outline_of;
-use markdown::{DefaultBrokenLinkCallback, Fault, Options};
+use markdown::html::render_source;
+use markdown::outline::outline_source;
+use markdown::safe::safe_html_source;
+use markdown::{DefaultBrokenLinkCallback, Fault, Syntax};
 use markdown_contents::list_of;
-use markdown_text_json::{outline_json_extended, text_json_extended};
+use markdown_text_json::{outline_json_source, text_json_source};
 use markdown_tool_command::{Format, Request, STANDARD};
 use std::alloc::Global;
 
-/// Returns the table of contents of a text, by the full reading.
-///
-/// # Errors
-///
-/// `Memory` if an allocation fails; there is no other error.
-pub fn contents_extended(alloc: Global, text: &str, options: Options) -> Result<String, Fault>
-    ensures list { IfOk result (λ list. IsExtendedContentsOf text.now options (string_bytes list)) }
+/// Returns the table of contents of a text of which `syntax` is read.
+fn contents_source(alloc: Global, text: &str, syntax: Syntax) -> Result<String, Fault>
+    ensures list { IfOk result (λ list.
+        string_bytes list ≡ contents_of (outline_of_text (source_as syntax text.now))) }
     ensures refused { IfErr result (λ fault. fault ≡ Fault.Memory) }
 {
-    let blocks = Blocks::of_extended(alloc, text, options)?;
-    headings_of_texts_are_apart();
-    let headings = outline_of(alloc, blocks)?;
+    let headings = outline_source(alloc, text, syntax)?;
     list_of(alloc, headings.as_slice())
 }
 
-/// Returns the HTML of a text, by the full reading.
-fn html_of(alloc: Global, options: Options, text: &str) -> Result<String, Fault>
-    ensures html { IfOk result (λ html.
-        IsOutputOfText Format.Html options text.now (string_bytes html)) }
-    ensures faults { IfErr result (IsFaultOfText Format.Html options text.now) }
-{
-    render_extended(alloc, text, options, None::<DefaultBrokenLinkCallback>)
-}
-
-/// Returns the safe HTML of a text, by the full reading.
-fn safe_html_of(alloc: Global, options: Options, text: &str) -> Result<String, Fault>
-    ensures html { IfOk result (λ html.
-        IsOutputOfText Format.SafeHtml options text.now (string_bytes html)) }
-    ensures faults { IfErr result (IsFaultOfText Format.SafeHtml options text.now) }
-{
-    safe_html_extended(alloc, text, options, None::<DefaultBrokenLinkCallback>)
-}
-
-/// Returns what is written in a format for one text, by the full reading.
+/// Returns what is written in a format for one text of which `syntax` is read.
 ///
 /// # Errors
 ///
@@ -57,19 +35,20 @@ fn safe_html_of(alloc: Global, options: Options, text: &str) -> Result<String, F
 pub fn output_of_text(
     alloc: Global,
     format: Format,
-    options: Options,
+    syntax: Syntax,
     text: &str,
 ) -> Result<String, Fault>
     ensures output { IfOk result (λ output.
-        IsOutputOfText format options text.now (string_bytes output)) }
-    ensures faults { IfErr result (IsFaultOfText format options text.now) }
+        string_bytes output ≡ output_of_text format (source_as syntax text.now)) }
+    ensures faults { IfErr result (IsFaultOfText format (source_as syntax text.now)) }
 {
+    let nobody = None::<DefaultBrokenLinkCallback>;
     match format {
-        Format::Html => html_of(alloc, options, text),
-        Format::SafeHtml => safe_html_of(alloc, options, text),
-        Format::Events => text_json_extended(alloc, text, options),
-        Format::Outline => outline_json_extended(alloc, text, options),
-        Format::Contents => contents_extended(alloc, text, options),
+        Format::Html => render_source(alloc, text, syntax, nobody),
+        Format::SafeHtml => safe_html_source(alloc, text, syntax, nobody),
+        Format::Events => text_json_source(alloc, text, syntax),
+        Format::Outline => outline_json_source(alloc, text, syntax),
+        Format::Contents => contents_source(alloc, text, syntax),
     }
 }
 
@@ -77,16 +56,16 @@ pub fn output_of_text(
 fn outputs_of(
     alloc: Global,
     format: Format,
-    options: Options,
+    syntax: Syntax,
     texts: &[String],
 ) -> Result<String, Fault>
-    ensures outputs { IfOk result (λ outputs. AreOutputs format options
-        (map string_bytes texts.now) (string_bytes outputs)) }
-    ensures faults { IfErr result (IsFaultOfTexts format options (map string_bytes texts.now)) }
+    ensures outputs { IfOk result (λ outputs.
+        string_bytes outputs ≡ outputs_of format syntax (map string_bytes texts.now)) }
+    ensures faults { IfErr result (IsFaultOfTexts format syntax (map string_bytes texts.now)) }
 {
     let mut outputs = String::new(alloc);
     'texts: for text in texts {
-        let output = output_of_text(alloc, format, options, without_mark(text.as_str()))?;
+        let output = output_of_text(alloc, format, syntax, without_mark(text.as_str()))?;
         outputs.push_str(output.as_str())?;
     }
     Ok(outputs)
@@ -99,12 +78,13 @@ fn outputs_of(
 ///
 /// Those of `output_of_text`, for one of the texts.
 pub fn output_of(alloc: Global, request: &Request, texts: &[String]) -> Result<String, Fault>
-    ensures output { IfOk result (λ output. IsOutputOf request.now (map string_bytes texts.now)
-        (string_bytes output)) }
-    ensures faults { IfErr result (IsFaultOfTexts request.now.format request.now.options
-        (map string_bytes texts.now)) }
+    ensures output { IfOk result (λ output.
+        string_bytes output ≡ output_of request.now (map string_bytes texts.now)) }
+    ensures faults { IfErr result (IsFaultOfTexts request.now.format
+        (full_syntax request.now.options) (map string_bytes texts.now)) }
 {
-    let outputs = outputs_of(alloc, request.format, request.options, texts)?;
+    let syntax = Syntax::full(request.options);
+    let outputs = outputs_of(alloc, request.format, syntax, texts)?;
     match &request.page {
         Some(page) => page_html(alloc, page, first_name(request), outputs.as_str()),
         None => Ok(outputs),

@@ -1,37 +1,22 @@
--- The lines of the headings, of bytes that are text, in the way that the bits ask for.
-use Rattle.std.proofs.Common.{true, false, sym, ◌∙◌}
+-- What is returned without a callback, of bytes that are text, as the bits ask.
+use Rattle.std.proofs.Common.{inl, ◌≡◌}
 use Rattle.std.proofs.lemmas.Result.{err_from_is_err_and}
-use Rattle.markdown_text_json.specs.OutlineJson.{heading_lines}
-use Rattle.markdown_text_json.specs.TextJson.{AreEntryLinesOf}
-use Rattle.markdown_c.proofs.OutcomeLemmas.{lines_of_text, lines_refused}
+use Rattle.markdown_text_json.specs.OutlineJson.{outline_json_of_text}
+use Rattle.markdown_c.specs.CallsFromC.{NeverTooDeep}
+use Rattle.markdown_c.proofs.OutcomeLemmas.{refused_of, written_of}
 use Rattle.markdown_c.proofs.readings.outline_of.Goals as goal
 
-pub returns-in_ok-outline_json_extended : goal.returns-in_ok-outline_json_extended
-returns-in_ok-outline_json_extended c =
-    lines_of_text _ c.args.bytes.now _ _ true c.in_ok-options.ensures.known c.in_ok-text.ensures.text
-    (sym c.if-read_in_full.true ∙ c.read_in_full.ensures)
-    (AreEntryLinesOf heading_lines) _ c.in_ok-outline_json_extended.ensures.json
+pub returns : goal.returns
+returns c =
+    written_of (λ s lines. lines ≡ outline_json_of_text s) NeverTooDeep _
+    c.args.bytes.now _ _ c.in_ok-syntax.ensures.known c.in_ok-text.ensures.text _
+    c.in_ok-outline_json_source.ensures.json
 
-pub returns-in_ok-outline_json : goal.returns-in_ok-outline_json
-returns-in_ok-outline_json c =
-    lines_of_text _ c.args.bytes.now _ _ false c.in_ok-options.ensures.known c.in_ok-text.ensures.text
-    (sym c.if-read_in_full.false ∙ c.read_in_full.ensures)
-    (AreEntryLinesOf heading_lines) _ c.in_ok-outline_json.ensures.json
-
-pub returns-in_err-outline_json_extended : goal.returns-in_err-outline_json_extended
-returns-in_err-outline_json_extended c =
-    let p = err_from_is_err_and c.from_residual-in_err-outline_json_extended.result
-    c.from_residual-in_err-outline_json_extended.ensures.1 in
+pub returns-in_err-outline_json_source : goal.returns-in_err-outline_json_source
+returns-in_err-outline_json_source c =
+    let p = err_from_is_err_and c.from_residual-in_err-outline_json_source.result
+    c.from_residual-in_err-outline_json_source.ensures.1 in
     rw (p.1, p.2)
-    (lines_refused _ c.args.bytes.now _ _ true c.in_ok-options.ensures.known c.in_ok-text.ensures.text
-    (sym c.if-read_in_full.true ∙ c.read_in_full.ensures)
-    (AreEntryLinesOf heading_lines) _ c.in_err-outline_json_extended.ensures.refused)
-
-pub returns-in_err-outline_json : goal.returns-in_err-outline_json
-returns-in_err-outline_json c =
-    let p = err_from_is_err_and c.from_residual-in_err-outline_json.result
-    c.from_residual-in_err-outline_json.ensures.1 in
-    rw (p.1, p.2)
-    (lines_refused _ c.args.bytes.now _ _ false c.in_ok-options.ensures.known c.in_ok-text.ensures.text
-    (sym c.if-read_in_full.false ∙ c.read_in_full.ensures)
-    (AreEntryLinesOf heading_lines) _ c.in_err-outline_json.ensures.refused)
+    (refused_of (λ s lines. lines ≡ outline_json_of_text s) NeverTooDeep _
+    c.args.bytes.now _ _ c.in_ok-syntax.ensures.known c.in_ok-text.ensures.text _
+    (inl c.in_err-outline_json_source.ensures.refused))

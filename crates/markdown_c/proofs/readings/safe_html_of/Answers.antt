@@ -1,30 +1,27 @@
--- The safe rendering without a callback, of bytes that are text, in the way that the bits ask for.
-use Rattle.std.proofs.Common.{true, false, sym, ◌∙◌}
+-- What is returned without a callback, of bytes that are text, as the bits ask.
+use Rattle.std.proofs.Common.{refl}
 use Rattle.std.proofs.lemmas.Result.{err_from_is_err_and}
-use Rattle.markdown_c.proofs.OutcomeLemmas.{safe_html_of_text, safe_html_refused}
+use Rattle.markdown_safe.specs.SafeRendering.{IsSafeTextTooDeep}
+use Rattle.markdown_safe.proofs.SafeRenderingLemmas.{tree_alone}
+use Rattle.markdown_c.specs.CallsFromC.{IsSafeHtmlOf}
+use Rattle.markdown_c.proofs.OutcomeLemmas.{refused_of, written_of}
 use Rattle.markdown_c.proofs.readings.safe_html_of.Goals as goal
 
-pub returns-in_ok-safe_html_extended : goal.returns-in_ok-safe_html_extended
-returns-in_ok-safe_html_extended c =
-    safe_html_of_text _ c.args.bytes.now _ _ true c.in_ok-options.ensures.known c.in_ok-text.ensures.text
-    (sym c.if-read_in_full.true ∙ c.read_in_full.ensures) _ _ c.in_ok-safe_html_extended.ensures.html
+pub returns : goal.returns
+returns c =
+    written_of IsSafeHtmlOf IsSafeTextTooDeep _
+    c.args.bytes.now _ _ c.in_ok-syntax.ensures.known c.in_ok-text.ensures.text _
+    (record {
+      is = (c.in_ok-safe_html_source.ensures.alone refl).output;
+      safe = c.in_ok-safe_html_source.ensures.safe;
+      tree = tree_alone _ _ _ c.in_ok-safe_html_source.ensures.html;
+    })
 
-pub returns-in_ok-safe_html : goal.returns-in_ok-safe_html
-returns-in_ok-safe_html c =
-    safe_html_of_text _ c.args.bytes.now _ _ false c.in_ok-options.ensures.known c.in_ok-text.ensures.text
-    (sym c.if-read_in_full.false ∙ c.read_in_full.ensures) _ _ c.in_ok-safe_html.ensures.html
-
-pub returns-in_err-safe_html_extended : goal.returns-in_err-safe_html_extended
-returns-in_err-safe_html_extended c =
-    let p = err_from_is_err_and c.from_residual-in_err-safe_html_extended.result
-    c.from_residual-in_err-safe_html_extended.ensures.1 in
+pub returns-in_err-safe_html_source : goal.returns-in_err-safe_html_source
+returns-in_err-safe_html_source c =
+    let p = err_from_is_err_and c.from_residual-in_err-safe_html_source.result
+    c.from_residual-in_err-safe_html_source.ensures.1 in
     rw (p.1, p.2)
-    (safe_html_refused _ c.args.bytes.now _ _ true c.in_ok-options.ensures.known c.in_ok-text.ensures.text
-    (sym c.if-read_in_full.true ∙ c.read_in_full.ensures) _ _ c.in_err-safe_html_extended.ensures.faults)
-
-pub returns-in_err-safe_html : goal.returns-in_err-safe_html
-returns-in_err-safe_html c =
-    let p = err_from_is_err_and c.from_residual-in_err-safe_html.result c.from_residual-in_err-safe_html.ensures.1 in
-    rw (p.1, p.2)
-    (safe_html_refused _ c.args.bytes.now _ _ false c.in_ok-options.ensures.known c.in_ok-text.ensures.text
-    (sym c.if-read_in_full.false ∙ c.read_in_full.ensures) _ _ c.in_err-safe_html.ensures.faults)
+    (refused_of IsSafeHtmlOf IsSafeTextTooDeep _
+    c.args.bytes.now _ _ c.in_ok-syntax.ensures.known c.in_ok-text.ensures.text _
+    (c.in_err-safe_html_source.ensures.alone refl).faults)

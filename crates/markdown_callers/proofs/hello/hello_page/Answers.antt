@@ -1,12 +1,14 @@
 -- What is written is the HTML that is defined of the text.
-use Rattle.std.proofs.Common.{Result, Ok, Err}
-use Rattle.std.specs.Prelude.{IfOk, string_bytes}
-use Rattle.markdown_callers.proofs.HelloLemmas.{written}
+use Rattle.std.proofs.Common.{◌≡◌, ◌∙◌, ap, refl}
+use Rattle.std.proofs.lemmas.Result.{IfOk-weaker}
+use Rattle.std.specs.Prelude.{codes, string_bytes}
+use Rattle.markdown.specs.HtmlWords.{html_of_text}
+use Rattle.markdown.specs.OptionWords.{Options, profile_syntax, source_as}
+use Rattle.markdown_callers.proofs.HelloLemmas.{computed}
 use Rattle.markdown_callers.proofs.hello.hello_page.Goals as goal
 
-if_ok : {A E : Type 0} {P Q : A → Type 0} (r : Result A E) → IfOk r P → ((a : A) → P a → Q a) → IfOk r Q
-if_ok (Ok a) p more = more a p
-if_ok (Err e) p more = tt
-
 pub returns : goal.returns
-returns c = if_ok _ c.render.ensures.html (λ html r. written _ _ (string_bytes html) c.empty.ensures r)
+returns c =
+    IfOk-weaker c.render.result _ _ (λ html is. is
+    ∙ (ap (λ (o : Options). html_of_text (source_as (profile_syntax o) (codes "hello world"))) c.empty.ensures
+    ∙ computed)) (c.render.ensures.alone refl).output

@@ -50,11 +50,7 @@ returns-clause-links c =
     ∙ ap (λ (left : List (Event × Range ℕ)). c.loop-event.yielded ++ left) (sym empty)
     ∙ i.taken
     ∙ c.into_iter-event-iterator.ensures.into_iter_gives.0 in
-    record {
-      events = viewed c.in_ok-events.events.items;
-      read = are_events _ c.args.source.now c.in_ok-parser.parser c.into_offset_iter.result c.in_ok-events.events.items
-          _
-          c.in_ok-parser.ensures.left c.in_ok-parser.ensures.callback c.into_offset_iter.ensures
-          c.in_ok-events.ensures.all;
-      are = i.found ∙ ap (λ (es : List (Event × Range ℕ)). targets_of (viewed es)) all;
-    }
+    i.found ∙ (ap (λ (es : List (Event × Range ℕ)). targets_of (viewed es)) all
+    ∙ ap targets_of (are_events _ c.args.source.now c.in_ok-parser.parser c.into_offset_iter.result
+    c.in_ok-events.events.items _ c.in_ok-parser.ensures.left c.in_ok-parser.ensures.callback
+    c.into_offset_iter.ensures c.in_ok-events.ensures.all))

@@ -12,12 +12,8 @@ returns c =
     let r = c.in_ok-push_html.ensures.ok in
     let left = c.in_ok-parser.ensures.left in
     let site = c.args.site.now in
-    record {
-      blocks = left.blocks;
-      of_text = left.of_text;
-      written = written (event_at_site site) _ r c.new-html.ensures.bytes left c.in_ok-parser.ensures.callback
-          c.map-events.ensures.source (all_changed (event_at_site site) (NextGives _ IsEventOf)
-          (IsItemAtSite site) (changes_at_site site) r map_source
-          (λ m. map_callee m ≡ map_callee c.map-events.result) refl (λ s t h. h.0)
-          (λ s t y k h. (h.0, h.1, search rules, search rules)));
-    }
+    written (event_at_site site) _ r c.new-html.ensures.bytes left c.in_ok-parser.ensures.callback
+    c.map-events.ensures.source (all_changed (event_at_site site) (NextGives _ IsEventOf)
+    (IsItemAtSite site) (changes_at_site site) r map_source
+    (λ m. map_callee m ≡ map_callee c.map-events.result) refl (λ s t h. h.0)
+    (λ s t y k h. (h.0, h.1, search rules, search rules)))

@@ -30,13 +30,9 @@ loop-event-preserved c =
 pub returns-clause-positions : goal.returns-clause-positions
 returns-clause-positions c =
     let h : length c.deref-event-items.result.now ≤ c.loop-event.event-index = c.loop-event-test.false in
-    record {
-      events = viewed c.in_ok-events.events.items;
-      read = are_events _ c.args.source.now c.in_ok-parser.parser c.into_offset_iter.result c.in_ok-events.events.items
-          _
-          c.in_ok-parser.ensures.left c.in_ok-parser.ensures.callback c.into_offset_iter.ensures
-          c.in_ok-events.ensures.all;
-      are = (rw take_all at c.loop-event.invariant)
-          ∙ ap (λ (es : List (Event × Range ℕ)). html_positions c.args.source.now (viewed es))
-          c.deref-event-items.ensures.value;
-    }
+    (rw take_all at c.loop-event.invariant)
+    ∙ (ap (λ (es : List (Event × Range ℕ)). html_positions c.args.source.now (viewed es))
+    c.deref-event-items.ensures.value
+    ∙ ap (html_positions c.args.source.now) (are_events _ c.args.source.now c.in_ok-parser.parser
+    c.into_offset_iter.result c.in_ok-events.events.items _ c.in_ok-parser.ensures.left
+    c.in_ok-parser.ensures.callback c.into_offset_iter.ensures c.in_ok-events.ensures.all))

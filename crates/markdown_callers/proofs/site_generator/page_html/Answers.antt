@@ -11,10 +11,6 @@ pub returns : goal.returns
 returns c =
     let r = c.in_ok-push_html.ensures.ok in
     let left = c.in_ok-parser.ensures.left in
-    record {
-      blocks = left.blocks;
-      of_text = left.of_text;
-      written = written event_on_page _ r c.new-html.ensures.bytes left c.in_ok-parser.ensures.callback
-          c.map.ensures.source (all_changed event_on_page (NextGives _ IsEventOf) IsItemOnPage changes_on_page r
-          map_source (λ m. Unit {0}) tt (λ s t h. h.0) (λ s t y k h. (h.0, h.1, search rules, tt)));
-    }
+    written event_on_page _ r c.new-html.ensures.bytes left c.in_ok-parser.ensures.callback
+    c.map.ensures.source (all_changed event_on_page (NextGives _ IsEventOf) IsItemOnPage changes_on_page r
+    map_source (λ m. Unit {0}) tt (λ s t h. h.0) (λ s t y k h. (h.0, h.1, search rules, tt)))

@@ -1,4 +1,4 @@
--- What was done to files where something failed.
+-- What was done to files: the output that was to be written is that of the texts, and before it files were only read.
 use Rattle.std.proofs.Common.{inl, inr, map, string_bytes}
 use Rattle.std.proofs.lemmas.Result.{err_from_is_err_and}
 use Rattle.markdown_tool_output.proofs.ConversionLemmas.{converts_by}
@@ -11,6 +11,13 @@ returns-in_err-output-clause-err g c =
     rw p.1
     (inr (reads_all (map string_bytes c.as_slice.result.now) (map string_bytes c.in_ok-texts.texts.items) _ _
     c.in_ok-texts.ensures.read))
+
+pub returns-in-Ok-clause-ok : goal.returns-in-Ok-clause-ok
+returns-in-Ok-clause-ok g c =
+    converts_by c.args.request.now _ _ _ c.as_slice.result.now c.in_ok-texts.texts.items c.as_slice-2.result.now
+    (string_bytes c.in_ok-output.output) _ _ c.as_slice.ensures.value c.as_slice-2.ensures.value
+    c.as_str.ensures.value c.as_str-2.ensures.value c.in_ok-output.ensures.output c.in_ok-texts.ensures.read
+    c.write.ensures.tried
 
 pub returns-clause-err : goal.returns-clause-err
 returns-clause-err g c =
