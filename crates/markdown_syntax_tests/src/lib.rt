@@ -7,8 +7,6 @@ mod chains;
 #[cfg(test)]
 mod definitions;
 #[cfg(test)]
-mod entries;
-#[cfg(test)]
 mod grown;
 #[cfg(test)]
 mod links;

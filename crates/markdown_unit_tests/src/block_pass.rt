@@ -2,6 +2,7 @@
 use markdown_base::block_parts::BlockParts;
 use markdown_base::item::{Item, ItemBody};
 use markdown_base::options::Options;
+use markdown_base::syntax::Syntax;
 use markdown_base::tree::Tree;
 use markdown_plain::blocks;
 use markdown_test_helpers::documents::random_text;
@@ -25,7 +26,7 @@ fn name_of(alloc: Global, body: ItemBody) -> Result<String, AllocError> {
 
 /// Returns the items of a text's blocks.
 fn listed(alloc: Global, text: &str) -> Result<String, AllocError> {
-    let (mut tree, parts) = blocks(alloc, text, Options::empty())?;
+    let (mut tree, parts) = blocks(alloc, text, Syntax::profile(Options::empty()))?;
     let mut list = String::new(alloc);
     let done = push_items(alloc, &mut list, &mut tree, name_of);
     drop(tree);
@@ -99,7 +100,7 @@ fn breaks(rt: HostRuntime) -> Result<(), Fail> {
 #[test]
 fn nothing_is_named(rt: HostRuntime) -> Result<(), Fail> {
     let text = "a  \nb\\\n\nc";
-    let (tree, parts) = blocks(rt.alloc(), text, Options::empty())?;
+    let (tree, parts) = blocks(rt.alloc(), text, Syntax::profile(Options::empty()))?;
     let nodes = tree.len();
     let named = [
         parts.definitions.len(),
@@ -157,7 +158,7 @@ fn count_in_parts(text: &str, parts: &BlockParts<'_>) -> usize {
 
 /// Checks that each letter `é` of a text is in an item, in an info string or in a definition, and in only one.
 fn keeps_letters(alloc: Global, text: &str, options: Options) -> Result<(), Fail> {
-    let (mut tree, parts) = blocks(alloc, text, options)?;
+    let (mut tree, parts) = blocks(alloc, text, Syntax::profile(options))?;
     let in_items = count_in_items(text, &mut tree);
     let in_parts = count_in_parts(text, &parts);
     drop(tree);

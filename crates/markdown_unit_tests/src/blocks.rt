@@ -51,27 +51,27 @@ fn what_was_checked_comes_back(rt: HostRuntime) -> Result<(), Fail> {
     )
 }
 
-/// Returns whether a block result is of the full reading, and its options.
-fn entry_and_options(blocks: Blocks<'_>) -> (bool, Options) {
-    let extended = blocks.is_extended();
+/// Returns whether entities are read in full, as they are by the full reading alone, and the options.
+fn reading_and_options(blocks: Blocks<'_>) -> (bool, Options) {
+    let full = blocks.syntax().entities;
     let (_, options, tree, parts) = blocks.into_parts();
     drop(tree);
     drop(parts);
-    (extended, options)
+    (full, options)
 }
 
 #[test]
-fn an_entry_and_all_options_come_back(rt: HostRuntime) -> Result<(), Fail> {
+fn a_reading_and_all_options_come_back(rt: HostRuntime) -> Result<(), Fail> {
     let alloc = rt.alloc();
     let all = Options::from_bits_retain(u32::MAX);
     let text = Blocks::of_text(alloc, "a", all)?;
-    gives("of_text", entry_and_options(text), (false, all))?;
+    gives("of_text", reading_and_options(text), (false, all))?;
     let extended = Blocks::of_extended(alloc, "a", all)?;
-    gives("of_extended", entry_and_options(extended), (true, all))?;
+    gives("of_extended", reading_and_options(extended), (true, all))?;
     let made = Blocks::checked(alloc, "a", all, Tree::new(alloc)?, no_parts(alloc))?;
-    gives("checked", entry_and_options(made), (false, all))?;
+    gives("checked", reading_and_options(made), (false, all))?;
     let made = Blocks::checked_extended(alloc, "a", all, Tree::new(alloc)?, no_parts(alloc))?;
-    gives("checked_extended", entry_and_options(made), (true, all))
+    gives("checked_extended", reading_and_options(made), (true, all))
 }
 
 /// Returns a body as `Debug` prints it.

@@ -7,6 +7,7 @@ use crate::block_rules::is_well_formed;
 use markdown_base::cow_str::CowStr;
 use markdown_base::item::{Item, ItemBody};
 use markdown_base::options::Options;
+use markdown_base::syntax::Syntax;
 use markdown_base::tree::Tree;
 use markdown_builder::builder::Builder;
 use markdown_items::items;
@@ -49,7 +50,7 @@ fn place(
     alloc: Global,
     start: usize,
     end: usize,
-    options: Options,
+    syntax: Syntax,
 ) -> Result<(), AllocError>
     requires outside { builder.old.leaf ≡ false }
     requires fresh { builder.old.at ≡ 0 }
@@ -60,7 +61,7 @@ fn place(
 {
     builder.open(ItemBody::Paragraph)?;
     builder.skip(start);
-    items(builder, alloc, end, options)?;
+    items(builder, alloc, end, syntax)?;
     builder.skip(builder.text().as_bytes().len());
     if !builder.is_in_row() {
         builder.close();
@@ -74,13 +75,13 @@ fn part_listed(
     text: &str,
     start: usize,
     end: usize,
-    options: Options,
+    syntax: Syntax,
 ) -> Result<String, AllocError> {
     if !text.is_char_boundary(start) || !text.is_char_boundary(end) || start > end {
         return Ok(String::new(alloc));
     }
     let mut builder = Builder::new(alloc, text)?;
-    place(&mut builder, alloc, start, end, options)?;
+    place(&mut builder, alloc, start, end, syntax)?;
     if !builder.open_blocks().is_empty() {
         drop(builder);
         return Ok(String::new(alloc));
@@ -93,15 +94,19 @@ fn part_listed(
 }
 
 /// Returns the items of a whole text as one line.
-fn listed(alloc: Global, text: &str, options: Options) -> Result<String, AllocError> {
-    part_listed(alloc, text, 0, text.as_bytes().len(), options)
+fn listed(alloc: Global, text: &str, syntax: Syntax) -> Result<String, AllocError> {
+    part_listed(alloc, text, 0, text.as_bytes().len(), syntax)
 }
 
 /// Checks the items of each text, with GFM's options.
 fn compare(alloc: Global, table: &[(&str, &str)]) -> Result<(), Fail> {
     let mut rows = Rows::new();
     for (text, want) in table {
-        rows.gives_text(text, listed(alloc, text, Options::ENABLE_GFM)?, want);
+        rows.gives_text(
+            text,
+            listed(alloc, text, Syntax::profile(Options::ENABLE_GFM))?,
+            want,
+        );
     }
     rows.end()
 }
@@ -245,10 +250,10 @@ static NAMES_OF_HTML: [(&str, &str); 5] = [
 
 #[test]
 fn names_of_html(rt: HostRuntime) -> Result<(), Fail> {
-    let options = Options::ENABLE_GFM.with_extended(true);
+    let syntax = Syntax::full(Options::ENABLE_GFM);
     let mut rows = Rows::new();
     for &(text, want) in &NAMES_OF_HTML {
-        rows.gives_text(text, listed(rt.alloc(), text, options)?, want);
+        rows.gives_text(text, listed(rt.alloc(), text, syntax)?, want);
     }
     rows.end()
 }
@@ -298,10 +303,10 @@ static DASHES_AND_DOTS: [(&str, &str); 9] = [
 
 #[test]
 fn dashes_and_dots(rt: HostRuntime) -> Result<(), Fail> {
-    let options = Options::ENABLE_SMART_PUNCTUATION.with_extended(true);
+    let syntax = Syntax::full(Options::ENABLE_SMART_PUNCTUATION);
     let mut rows = Rows::new();
     for &(text, want) in &DASHES_AND_DOTS {
-        rows.gives_text(text, listed(rt.alloc(), text, options)?, want);
+        rows.gives_text(text, listed(rt.alloc(), text, syntax)?, want);
     }
     rows.end()
 }
@@ -309,51 +314,59 @@ fn dashes_and_dots(rt: HostRuntime) -> Result<(), Fail> {
 #[test]
 fn options_add_items(rt: HostRuntime) -> Result<(), Fail> {
     let mut rows = Rows::new();
-    for &(text, options, want) in &[
+    for &(text, syntax, want) in &[
         (
             "~a~~",
-            Options::ENABLE_STRIKETHROUGH,
+            Syntax::profile(Options::ENABLE_STRIKETHROUGH),
             "MaybeEmphasis(1, true, false) 0..1;Text 1..2;MaybeEmphasis(2, false, true) 2..3;\
             MaybeEmphasis(1, false, true) 3..4;",
         ),
         (
             "a~b",
-            Options::ENABLE_SUBSCRIPT,
+            Syntax::profile(Options::ENABLE_SUBSCRIPT),
             "Text 0..1;MaybeEmphasis(1, true, true) 1..2;Text 2..3;",
         ),
-        ("a~~~b", Options::ENABLE_SUBSCRIPT, "Text 0..5;"),
-        ("a^b", Options::ENABLE_SUBSCRIPT, "Text 0..3;"),
+        (
+            "a~~~b",
+            Syntax::profile(Options::ENABLE_SUBSCRIPT),
+            "Text 0..5;",
+        ),
+        (
+            "a^b",
+            Syntax::profile(Options::ENABLE_SUBSCRIPT),
+            "Text 0..3;",
+        ),
         (
             "a^^b",
-            Options::ENABLE_SUPERSCRIPT,
+            Syntax::profile(Options::ENABLE_SUPERSCRIPT),
             "Text 0..1;MaybeEmphasis(2, true, true) 1..2;MaybeEmphasis(1, true, true) 2..3;Text 3..4;",
         ),
         (
             "\"a's\"",
-            Options::ENABLE_SMART_PUNCTUATION,
+            Syntax::profile(Options::ENABLE_SMART_PUNCTUATION),
             "MaybeSmartQuote(34, true, false) 0..1;Text 1..2;MaybeSmartQuote(39, false, false) 2..3;\
             Text 3..4;MaybeSmartQuote(34, false, true) 4..5;",
         ),
         // the port's profile has no dashes, and the full reading only with smart punctuation
-        ("a--b...", Options::ENABLE_SMART_PUNCTUATION, "Text 0..7;"),
         (
             "a--b...",
-            Options::ENABLE_GFM.with_extended(true),
+            Syntax::profile(Options::ENABLE_SMART_PUNCTUATION),
             "Text 0..7;",
         ),
+        ("a--b...", Syntax::full(Options::ENABLE_GFM), "Text 0..7;"),
         (
             "$a$",
-            Options::ENABLE_MATH,
+            Syntax::profile(Options::ENABLE_MATH),
             "MaybeMath(true, false, 0) 0..1;Text 1..2;MaybeMath(false, true, 0) 2..3;",
         ),
         (
             "a$$ $",
-            Options::ENABLE_MATH,
+            Syntax::profile(Options::ENABLE_MATH),
             "Text 0..1;MaybeMath(true, true, 0) 1..2;MaybeMath(false, true, 0) 2..3;Text 3..4;\
             MaybeMath(false, false, 0) 4..5;",
         ),
     ] {
-        rows.gives_text(text, listed(rt.alloc(), text, options)?, want);
+        rows.gives_text(text, listed(rt.alloc(), text, syntax)?, want);
     }
     rows.end()
 }
@@ -387,7 +400,13 @@ fn a_line_is_read_alone(rt: HostRuntime) -> Result<(), Fail> {
         ("a\\*", 0, 2, "Text 0..2;"),
         ("a``", 0, 2, "Text 0..1;MaybeCode(1, false) 1..2;"),
     ] {
-        let list = part_listed(rt.alloc(), text, start, end, Options::ENABLE_GFM)?;
+        let list = part_listed(
+            rt.alloc(),
+            text,
+            start,
+            end,
+            Syntax::profile(Options::ENABLE_GFM),
+        )?;
         rows.gives_text(text, list, want);
     }
     rows.end()
@@ -400,12 +419,12 @@ fn place_cut(builder: &mut Builder<'_>, alloc: Global, cut: usize) -> Result<(),
     requires boundary { IsCharBoundary builder.old.text cut }
 {
     builder.open(ItemBody::Paragraph)?;
-    items(builder, alloc, cut, Options::ENABLE_GFM)?;
+    items(builder, alloc, cut, Syntax::profile(Options::ENABLE_GFM))?;
     items(
         builder,
         alloc,
         builder.text().as_bytes().len(),
-        Options::ENABLE_GFM,
+        Syntax::profile(Options::ENABLE_GFM),
     )?;
     if !builder.is_in_row() {
         builder.close();

@@ -4,6 +4,7 @@ use markdown_base::block_parts::LinkDef;
 use markdown_base::cow_str::CowStr;
 use markdown_base::item::ItemBody;
 use markdown_base::options::Options;
+use markdown_base::syntax::Syntax;
 use markdown_plain::blocks;
 use markdown_test_helpers::rows::Rows;
 use markdown_test_helpers::trees::push_items;
@@ -52,7 +53,7 @@ fn push_definitions(
 
 /// Returns the items of a text's blocks, and then the definitions.
 fn listed(alloc: Global, text: &str, options: Options) -> Result<String, AllocError> {
-    let (mut tree, parts) = blocks(alloc, text, options)?;
+    let (mut tree, parts) = blocks(alloc, text, Syntax::profile(options))?;
     let mut list = String::new(alloc);
     let items_done = push_items(alloc, &mut list, &mut tree, printed);
     let definitions_done = push_definitions(alloc, &mut list, &parts.definitions);
