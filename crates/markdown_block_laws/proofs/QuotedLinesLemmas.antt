@@ -11,6 +11,7 @@ use Rattle.std.proofs.lemmas.Bool.{true≢false}
 use Rattle.std.proofs.lemmas.Option.{same_Some}
 use Rattle.std.proofs.lemmas.Bool.Decides.{Decides-eqb, nat_tests}
 use Rattle.std.proofs.lemmas.Slice.Eq.{starts_is}
+use Rattle.markdown_scan.specs.ContainerParts.{past_quote}
 use Rattle.markdown_scan.specs.Beginnings.{begins_with}
 use Rattle.markdown_base.specs.Forest.{Forest}
 use Rattle.markdown_lines.specs.declared.block_start.Before.{Before}
@@ -22,7 +23,6 @@ use Rattle.markdown_lines.specs.BlockBeginnings.{Beginning, begins, begins_after
 use Rattle.markdown_lines.specs.BlockBeginnings.{quote_in_line}
 use Rattle.markdown_lines.specs.MetadataBlocks.{line_opens}
 use Rattle.markdown_block_rules.specs.BlockGrowth.{Block, begun_in, goes_on, line_block}
-use Rattle.markdown_block_rules.specs.BlockGrowth.{past_quote}
 use Rattle.markdown_block_laws.specs.BlockLaws.{QuotedLinesMakeQuote, lone, quote_from, rest_of}
 use Rattle.markdown_block_laws.specs.BlockLaws.{with_lines}
 use Rattle.markdown_scan.specs.LineStart.{LineLeft, Space, column_after, leading_space, no_space, past_marker}

@@ -10,8 +10,9 @@ use Rattle.markdown_lines.specs.BlockBeginnings.{begins}
 use Rattle.markdown_block_rules.specs.BlockGrowth.{Block, Kind, content_of, goes_on, is_nil, is_text, item_container}
 use Rattle.markdown_block_rules.specs.BlockGrowth.{list_container}
 use Rattle.markdown_block_rules.specs.BlockGrowth.{line_block, paragraph_leaf}
-use Rattle.markdown_block_rules.specs.BlockGrowth.{past_indentation, past_quote, quote_container, with_lazy, with_line}
+use Rattle.markdown_block_rules.specs.BlockGrowth.{quote_container, with_lazy, with_line}
 use Rattle.markdown_lines.specs.declared.list_marker.ListMarker.{ListMarker}
+use Rattle.markdown_scan.specs.ContainerParts.{past_indent, past_quote}
 use Rattle.markdown_scan.specs.LineStart.{LineLeft}
 use Rattle.markdown_lines.specs.SourceLines.{SourceLine, is_blank_rest, rest_inside, text_line}
 use Rattle.markdown_builder.specs.TreeLevels.{followed_by}
@@ -95,7 +96,7 @@ IndentedLineGoesIntoItem =
     (s : Source) (list b : Block) (marker : ListMarker) (indent : ℕ) (below : Forest Block) (l : SourceLine)
     (rest : LineLeft)
     → list.kind ≡ list_container marker → b.kind ≡ item_container indent
-    → (is_blank_rest l && is_nil below) ≡ false → past_indentation indent l ≡ Some rest
+    → (is_blank_rest l && is_nil below) ≡ false → past_indent indent l.left ≡ Some rest
     → with_line s (lone list (lone b below)) l
     ≡ lone (to_line l list) (lone (to_line l b) (with_line s below (rest_of l rest)))
 
@@ -103,7 +104,7 @@ IndentedLineGoesIntoItem =
 pub data AreIndented (indent : ℕ) : List SourceLine → List SourceLine → Type 0 where
   no_indented : AreIndented indent [] []
   one_indented : (l : SourceLine) (rest : LineLeft) (lines rests : List SourceLine)
-      → past_indentation indent l ≡ Some rest → AreIndented indent lines rests
+      → past_indent indent l.left ≡ Some rest → AreIndented indent lines rests
       → AreIndented indent (l ∷ lines) (rest_of l rest ∷ rests)
 
 -- the list and the item that begin with a line
@@ -142,7 +143,7 @@ IndentationBeforeTextMayBeLeftOut =
     (s : Source) (list b : Block) (marker : ListMarker) (indent : ℕ) (below grown : Forest Block)
     (deep bare : SourceLine) (rest : LineLeft)
     → list.kind ≡ list_container marker → b.kind ≡ item_container indent
-    → past_indentation indent deep ≡ Some rest → past_indentation indent bare ≡ None
+    → past_indent indent deep.left ≡ Some rest → past_indent indent bare.left ≡ None
     → text_line (rest_of deep rest) ≡ text_line bare
     → goes_on s below (rest_of deep rest) ≡ Some grown → with_lazy (rest_of deep rest) below ≡ Some grown
     → is_blank_rest deep ≡ false → is_blank_rest bare ≡ false → is_text (begins s paragraph.Lazy bare) ≡ true

@@ -21,6 +21,7 @@ use Rattle.markdown_lines.specs.DefinitionRules.{divided}
 use Rattle.markdown_lines.specs.HtmlKinds.{ends_at_blank}
 use Rattle.markdown_lines.specs.MetadataBlocks.{closes_metadata}
 use Rattle.markdown_lines.specs.SourceLines.{SourceLine, cut, is_blank_rest, rest_inside, text_line}
+use Rattle.markdown_scan.specs.ContainerParts.{past_footnote, past_indent, past_quote}
 use Rattle.markdown_scan.specs.Entity.{entity_names}
 use Rattle.markdown_scan.specs.LineStart.{LineLeft, leading_space}
 use Rattle.markdown_block_rules.specs.BlockGrowth as was
@@ -29,7 +30,6 @@ use Rattle.markdown_block_rules.specs.BlockGrowth.{closes, container_with, cut_p
 use Rattle.markdown_block_rules.specs.BlockGrowth.{goes_on, inside_of}
 use Rattle.markdown_block_rules.specs.BlockGrowth.{is_nil, is_text, leaf_with, line_block, new_blocks, next_item}
 use Rattle.markdown_block_rules.specs.BlockGrowth.{begins_but_underline, paragraph_with, paragraph_with_text}
-use Rattle.markdown_block_rules.specs.BlockGrowth.{past_footnote, past_indentation, past_quote}
 use Rattle.markdown_block_rules.specs.BlockGrowth.{table_after, table_of_lines, table_with, with_lazy, with_lazy_text}
 use Rattle.markdown_block_rules.specs.BlockGrowth.{with_line, with_rest}
 use Rattle.markdown_block_rules.specs.TableLines.{alignments_for, fitting, further_line, is_row, may_be_head}
@@ -357,8 +357,11 @@ module _ (s : Source) (l m : SourceLine) (below : Forest Block) (next : m.next �
       (next_fresh s m marker))
   container_grows (was.item_container indent) =
       chosen (Grown s l false below) (is_blank_rest m && is_nil below) None
-      (with_rest s m below inner (past_indentation indent m)) tt (rest_grows (past_indentation indent m))
-  container_grows (was.footnote_container label) = rest_grows (past_footnote s m)
+      (with_rest s m below inner (past_indent indent m.left)) tt (rest_grows (past_indent indent m.left))
+  container_grows (was.footnote_container label) =
+      let part = past_footnote (not s.syntax.old_footnotes) m.left in
+      chosen (Grown s l false below) (is_blank_rest m && s.syntax.old_footnotes) None (with_rest s m below inner part) tt
+      (rest_grows part)
   container_grows other = tt
 
   block_grows : (top : Bool) → (top ≡ true → m ≡ l) → (b : Block)

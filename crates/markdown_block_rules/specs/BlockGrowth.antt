@@ -15,16 +15,16 @@ use Rattle.markdown_base.specs.declared.tag.Alignment.{Alignment}
 use Rattle.markdown_base.specs.declared.tag.BlockQuoteKind.{BlockQuoteKind}
 use Rattle.markdown_base.specs.declared.tag.HeadingLevel.{HeadingLevel}
 use Rattle.markdown_base.specs.declared.tag.MetadataBlockKind.{MetadataBlockKind}
-use Rattle.markdown_scan.specs.Beginnings.{begins_with}
 use Rattle.markdown_lines.specs.declared.block_start.Before.TheVariants as paragraph
 use Rattle.markdown_lines.specs.BlockBeginnings as line
 use Rattle.markdown_base.specs.Source.{Source}
 use Rattle.markdown_lines.specs.BlockBeginnings.{Beginning, begins, break_in_line, first_found, item_in_line}
 use Rattle.markdown_lines.specs.CodeFences.{closes_fence}
 use Rattle.markdown_lines.specs.DefinitionRules.{divided}
+use Rattle.markdown_scan.specs.ContainerParts.{past_footnote, past_indent, past_quote}
 use Rattle.markdown_scan.specs.Entity.{entity_names}
 use Rattle.markdown_lines.specs.HtmlKinds.{ends_at_blank, ends_in}
-use Rattle.markdown_scan.specs.LineStart.{LineLeft, leading_space, past_marker}
+use Rattle.markdown_scan.specs.LineStart.{LineLeft, leading_space}
 use Rattle.markdown_lines.specs.MetadataBlocks.{closes_metadata}
 use Rattle.markdown_lines.specs.SourceLines.{SourceLine, cut, is_blank_rest, lines_of_text, past_white, rest_inside}
 use Rattle.markdown_lines.specs.SourceLines.{end_of_line, stop_of, text_line}
@@ -200,23 +200,6 @@ table_with s l b (paragraph_leaf lines) =
     if is_blank_rest l || not (reads_tables s) then None else table_of_lines s l b b.first [] lines
 table_with s l b other = None
 
--- the rest of a line after what a container takes of it, where the container goes on in it
-abbrev pub past_quote : LineLeft → Option LineLeft
-past_quote left =
-    let space = leading_space 4 left in
-    if nat_lt space.columns 4 && begins_with (codes ">") space.after.bytes then Some (past_marker space.after)
-    else None
-
-abbrev pub past_indentation : ℕ → SourceLine → Option LineLeft
-past_indentation indent l =
-    let space = leading_space indent l.left in
-    if is_blank_rest l || (space.columns == indent) then Some space.after else None
-
--- in the old style a footnote definition ends at a blank line, and has no prefix
-abbrev pub past_footnote : Source → SourceLine → Option LineLeft
-past_footnote s l =
-    if not s.syntax.old_footnotes then past_indentation 4 l else if is_blank_rest l then None else Some l.left
-
 abbrev pub with_lazy_text : SourceLine → Block → Forest Block → Kind → Option (Forest Block)
 with_lazy_text l b below (paragraph_leaf lines) =
     Some (node (record b { last = l.next; kind = paragraph_leaf (lines ++ text_line l ∷ []) }) below nil)
@@ -259,7 +242,8 @@ abbrev pub next_item : Source → SourceLine → ListMarker → Option (Forest B
 next_item s l marker =
     if is_blank_rest l then Some (line_block s l) else another_item s l marker (begins s paragraph.Lazy l)
 
--- what is in a container, with one more line, where the container goes on in it
+-- What is in a container, with one more line, where the container goes on in it. An item that is empty so far ends before
+-- a blank line, and so does a footnote definition in the old style.
 abbrev pub container_with : Source → SourceLine → Forest Block → (SourceLine → Option (Forest Block)) → Kind
     → Option (Forest Block)
 container_with s l below inside quote_container = with_rest s l below inside (past_quote l.left)
@@ -267,8 +251,10 @@ container_with s l below inside (alert_container kind) = with_rest s l below ins
 container_with s l below inside (list_container marker) =
     option_or (inside l) (option_map (followed_by below) (next_item s l marker))
 container_with s l below inside (item_container indent) =
-    if is_blank_rest l && is_nil below then None else with_rest s l below inside (past_indentation indent l)
-container_with s l below inside (footnote_container label) = with_rest s l below inside (past_footnote s l)
+    if is_blank_rest l && is_nil below then None else with_rest s l below inside (past_indent indent l.left)
+container_with s l below inside (footnote_container label) =
+    if is_blank_rest l && s.syntax.old_footnotes then None
+    else with_rest s l below inside (past_footnote (not s.syntax.old_footnotes) l.left)
 container_with s l below inside other = None
 
 -- one block with one more line, where it goes on in it

@@ -14,6 +14,7 @@ pub mod held_line;
 pub mod html_kind;
 pub mod line;
 pub mod line_break;
+mod line_place;
 pub mod line_reader;
 pub mod lines_ahead;
 pub mod list_marker;

@@ -9,13 +9,14 @@ use Rattle.std.specs.List.{list_all}
 use Rattle.std.specs.Option.{option_map}
 use Rattle.markdown_base.specs.Forest.{Forest, nil}
 use Rattle.markdown_builder.specs.TreeLevels.{followed_by}
+use Rattle.markdown_scan.specs.ContainerParts.{past_footnote, past_indent, past_quote}
 use Rattle.markdown_scan.specs.Beginnings.{begins_with}
-use Rattle.markdown_scan.specs.LineStart.{LineLeft, leading_space, past_marker}
+use Rattle.markdown_scan.specs.LineStart.{LineLeft, is_line_over, leading_space, past_marker}
 use Rattle.markdown_base.specs.Source.{Source}
 use Rattle.markdown_lines.specs.Lines.{is_space_or_tab}
 use Rattle.markdown_lines.specs.SourceLines.{SourceLine, is_blank_rest, rest_inside}
 use Rattle.markdown_block_rules.specs.BlockGrowth as was
-use Rattle.markdown_block_rules.specs.BlockGrowth.{Block, Kind, is_nil, past_indentation, past_quote}
+use Rattle.markdown_block_rules.specs.BlockGrowth.{Block, Kind, is_nil}
 use Rattle.markdown_plain.specs.Containers.{content_of}
 use Rattle.markdown_plain.specs.Frames.{Frame, inside_container, is_item, is_quote, reached, reached_past, rebuilt}
 use Rattle.markdown_plain.specs.Frames.{touched}
@@ -63,10 +64,11 @@ not_in_quote l blank =
 
 -- what a container leaves of a line without a marker is as blank as the line
 pub indented_alike : (l m : SourceLine) (indent : ℕ)
-    → option_map (λ rest. rest_inside rest l) (past_indentation indent l) ≡ Some m
+    → option_map (λ rest. rest_inside rest l) (past_indent indent l.left) ≡ Some m
     → is_blank_rest m ≡ is_blank_rest l
 indented_alike l m indent takes =
-    by_test (is_blank_rest l || ((leading_space indent l.left).columns == indent)) takes
+    let space = leading_space indent l.left in
+    by_test ((space.columns == indent) || is_line_over space.after.bytes) takes
   where
     by_test : (test : Bool) → option_map (λ rest. rest_inside rest l)
         (if test then Some (leading_space indent l.left).after else None) ≡ Some m
@@ -75,6 +77,18 @@ indented_alike l m indent takes =
         ap is_blank_rest (sym (same_Some (rest_inside (leading_space indent l.left).after l) m takes))
         ∙ blank_alike indent l.left
     by_test false takes = absurd (none-some m takes)
+
+-- the same in a footnote definition
+pub note_alike : (l m : SourceLine) (gfm : Bool)
+    → option_map (λ rest. rest_inside rest l) (past_footnote gfm l.left) ≡ Some m → is_blank_rest m ≡ is_blank_rest l
+note_alike l m true takes = indented_alike l m 4 takes
+note_alike l m false takes = ap is_blank_rest (sym (same_Some (rest_inside l.left l) m takes))
+
+-- a container in which something is left of a line has not ended before it
+pub goes_on_in : (ends : Bool) (left : Option SourceLine) (m : SourceLine) → (if ends then None else left) ≡ Some m
+    → left ≡ Some m
+goes_on_in true left m takes = absurd (none-some m takes)
+goes_on_in false left m takes = takes
 
 -- a blank line goes past no block quote, and what it leaves is blank
 record TakesBlank (kind : Kind) (m : SourceLine) : Type 0 where
@@ -88,25 +102,11 @@ blank_taken s l m empty was.quote_container blank takes =
 blank_taken s l m empty (was.alert_container kind) blank takes =
     absurd (none-some m (sym (ap (option_map (λ rest. rest_inside rest l)) (not_in_quote l blank)) ∙ takes))
 blank_taken s l m empty (was.item_container indent) blank takes =
-    record { plain = refl; blank = by_test (is_blank_rest l && empty) takes }
-  where
-    by_test : (test : Bool) → (if test then None
-        else option_map (λ rest. rest_inside rest l) (past_indentation indent l)) ≡ Some m → is_blank_rest m ≡ true
-    by_test true takes = absurd (none-some m takes)
-    by_test false takes = indented_alike l m indent takes ∙ blank
+    let inside = goes_on_in (is_blank_rest l && empty) _ m takes in
+    record { plain = refl; blank = indented_alike l m indent inside ∙ blank }
 blank_taken s l m empty (was.footnote_container label) blank takes =
-    record { plain = refl; blank = by_style s.syntax.old_footnotes takes }
-  where
-    left_whole : (white : Bool) → option_map (λ rest. rest_inside rest l) (if white then None else Some l.left) ≡ Some m
-        → is_blank_rest m ≡ true
-    left_whole true takes = absurd (none-some m takes)
-    left_whole false takes = ap is_blank_rest (sym (same_Some (rest_inside l.left l) m takes)) ∙ blank
-
-    by_style : (old : Bool) → option_map (λ rest. rest_inside rest l)
-        (if not old then past_indentation 4 l else if is_blank_rest l then None else Some l.left) ≡ Some m
-        → is_blank_rest m ≡ true
-    by_style false takes = indented_alike l m 4 takes ∙ blank
-    by_style true takes = left_whole (is_blank_rest l) takes
+    let inside = goes_on_in (is_blank_rest l && s.syntax.old_footnotes) _ m takes in
+    record { plain = refl; blank = note_alike l m (not s.syntax.old_footnotes) inside ∙ blank }
 blank_taken s l m empty other blank takes =
     record { plain = refl; blank = ap is_blank_rest (sym (same_Some l m takes)) ∙ blank }
 
@@ -116,7 +116,7 @@ item_taken : (s : Source) (l m : SourceLine) (empty : Bool) (kind : Kind) → is
 item_taken s l m empty (was.item_container indent) item takes blank = by_both (is_blank_rest l) empty refl takes
   where
     by_both : (white empty : Bool) → white ≡ is_blank_rest l → (if white && empty then None
-        else option_map (λ rest. rest_inside rest l) (past_indentation indent l)) ≡ Some m → empty ≡ false
+        else option_map (λ rest. rest_inside rest l) (past_indent indent l.left)) ≡ Some m → empty ≡ false
     by_both white false is takes = refl
     by_both true true is takes = absurd (none-some m takes)
     by_both false true is takes = sym blank ∙ (indented_alike l m indent takes ∙ sym is)

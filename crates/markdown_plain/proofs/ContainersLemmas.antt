@@ -1,31 +1,83 @@
 -- How containers continue, by places in a text and by the rest of the line there.
-use Rattle.std.proofs.Common.{◌≡◌, ℕ, ◌+◌, ◌<◌, ◌≤◌, List, Some, true, ◌==◌, length, drop, slice_range, codes, nat_lt}
-use Rattle.std.proofs.Common.{refl, sym, ◌∙◌, ap, arith, Bool, false, ◌&&◌, None, [], ◌∷◌, zero, suc, nat_le, get_or}
+use Rattle.std.proofs.Common.{◌≡◌, ℕ, ◌+◌, ◌-◌, ◌<◌, ◌≤◌, List, Some, true, ◌==◌, length, drop, slice_range, codes}
+use Rattle.std.proofs.Common.{refl, sym, ◌∙◌, ap, arith, Bool, false, ◌&&◌, ◌||◌, None, [], ◌∷◌, zero, suc, nat_le}
+use Rattle.std.proofs.Common.{get_or, nat_lt, subst}
+use Rattle.std.specs.Option.{IfSome}
 use Rattle.std.proofs.Common.{drop-cons}
 use Rattle.std.proofs.lemmas.Bool.Decides.{nat_tests}
 use Rattle.std.proofs.lemmas.List.{drop_all}
 use Rattle.markdown_builder.specs.declared.open_block.OpenBlock.{OpenBlock}
 use Rattle.markdown_scan.specs.Beginnings.{begins_with}
-use Rattle.markdown_scan.specs.LineStart.{LineLeft, past_one_byte, past_marker, leading_space}
-use Rattle.markdown_scan.specs.LineStart as scan
+use Rattle.markdown_scan.specs.ContainerParts.{past_indent, past_part, past_quote}
+use Rattle.markdown_scan.specs.LineStart.{LineLeft, Space, column_after, is_line_over, leading_space, past_one_byte}
+use Rattle.markdown_scan.specs.LineStart.{space_from, space_width}
+use Rattle.markdown_base.specs.declared.item.ItemBody.{ItemBody}
+use Rattle.markdown_base.specs.declared.item.ItemBody.TheVariants as body
 use Rattle.markdown_lines.specs.declared.position.Position.{Position}
-use Rattle.markdown_lines.specs.declared.space.Space.{Space}
-use Rattle.markdown_lines.specs.Positions.{left_from, IsSpaceAt}
-use Rattle.markdown_plain.specs.Containers.{Reach, is_container, is_innermost, marker_after, past_container}
+use Rattle.markdown_lines.specs.Positions.{left_from}
+use Rattle.markdown_lines.proofs.PositionsLemmas.{rest_of_part}
+use Rattle.markdown_plain.specs.Containers.{Reach, is_container, is_innermost, past_container}
 use Rattle.markdown_plain.specs.Containers.{reach_after, reach_from}
+use Rattle.markdown_plain.proofs.LeafTreesLemmas.{on_test}
 
--- the rest after the marker of a block quote and the space that is a part of it
-pub marker_after_is : (text : List ℕ) (before : scan.Space) (columns : ℕ) (position after : Position) (stop : ℕ)
-    (read : Space) → columns ≡ before.columns → left_from text position stop ≡ before.after → columns < 4
-    → begins_with (codes ">") (slice_range text position.at stop) ≡ true → left_from text after stop
-    ≡ past_one_byte (left_from text position stop)
-    → IsSpaceAt text after stop 1 read → marker_after before ≡ Some (left_from text read.after stop)
-marker_after_is text before columns position after stop read c left few marker past leading_space =
-    let test : nat_lt before.columns 4 ≡ true = grind (arith, nat_tests) in
-    let begins = ap (λ (l : LineLeft). begins_with (codes ">") l.bytes) (sym left) ∙ marker in
-    let later : past_marker before.after ≡ left_from text read.after stop = ap (λ (l : LineLeft). past_marker l)
-    (sym left) ∙ (ap (λ (l : LineLeft). (scan.leading_space 1 l).after) (sym past) ∙ sym leading_space.after) in
-    rw (test, begins) (ap (λ (l : LineLeft). Some l) later)
+-- what is left of a line is the text from there to where the line's content ends
+abbrev pub IsUpTo : List ℕ → ℕ → LineLeft → Type 0
+IsUpTo text stop left = left.bytes ≡ slice_range text left.scanned stop
+
+module _ (text : List ℕ) (stop : ℕ) where
+  next_up_to : (scanned : ℕ) (bytes : List ℕ) → bytes ≡ slice_range text scanned stop
+      → drop 1 bytes ≡ slice_range text (scanned + 1) stop
+  next_up_to scanned bytes is = ap (drop 1) is ∙ rest_of_part text scanned stop 1
+
+  space_from_up_to : (n scanned column : ℕ) (bytes : List ℕ) → bytes ≡ slice_range text scanned stop
+      → IsUpTo text stop (space_from n scanned column bytes).after
+  space_from_up_to n scanned column [] is = is
+  space_from_up_to n scanned column (b ∷ bytes) is =
+      let next = next_up_to scanned (b ∷ bytes) is in
+      on_test (λ (s : Space). IsUpTo text stop s.after) ((n == 0) || (space_width column b == 0)) _ _ (λ none. is)
+      (λ some. on_test (λ (s : Space). IsUpTo text stop s.after) (nat_lt n (space_width column b)) _ _ (λ cut. next)
+      (λ whole. space_from_up_to (n - space_width column b) (scanned + 1) (column_after column b) bytes next))
+
+  space_up_to : (n : ℕ) (left : LineLeft) → IsUpTo text stop left → IsUpTo text stop (leading_space n left).after
+  space_up_to n left is =
+      on_test (λ (s : Space). IsUpTo text stop s.after) (nat_le n left.owed) _ _ (λ owed. is)
+      (λ more. space_from_up_to (n - left.owed) left.scanned left.column left.bytes is)
+
+  quote_up_to : (left : LineLeft) → IsUpTo text stop left → IfSome (past_quote left) (IsUpTo text stop)
+  quote_up_to left is =
+      let space = leading_space 4 left in
+      let marker = past_one_byte space.after in
+      on_test (λ o. IfSome o (IsUpTo text stop)) (nat_lt space.columns 4 && begins_with (codes ">") space.after.bytes) _ _
+      (λ there. space_up_to 1 marker (next_up_to space.after.scanned space.after.bytes (space_up_to 4 left is)))
+      (λ missing. tt)
+
+  indent_up_to : (n : ℕ) (left : LineLeft) → IsUpTo text stop left → IfSome (past_indent n left) (IsUpTo text stop)
+  indent_up_to n left is =
+      let space = leading_space n left in
+      on_test (λ o. IfSome o (IsUpTo text stop)) ((space.columns == n) || is_line_over space.after.bytes) _ _
+      (λ there. space_up_to n left is) (λ missing. tt)
+
+  part_up_to : (gfm : Bool) (block : ItemBody) (left : LineLeft) → IsUpTo text stop left
+      → IfSome (past_part gfm block left) (IsUpTo text stop)
+  part_up_to gfm (body.BlockQuote kind) left is = quote_up_to left is
+  part_up_to gfm (body.ListItem indent) left is = indent_up_to indent left is
+  part_up_to gfm (body.DefinitionListDefinition indent) left is = indent_up_to indent left is
+  part_up_to true (body.FootnoteDefinition name) left is = indent_up_to 4 left is
+  part_up_to false (body.FootnoteDefinition name) left is = is
+  part_up_to gfm other left is = is
+
+-- so is what is left of it after a container's part
+pub part_reaches : (text : List ℕ) (stop : ℕ) (gfm : Bool) (block : ItemBody) (left after : LineLeft)
+    → IsUpTo text stop left → Some after ≡ past_part gfm block left → IsUpTo text stop after
+part_reaches text stop gfm block left after is part =
+    subst (λ o. IfSome o (IsUpTo text stop)) (sym part) (part_up_to text stop gfm block left is)
+
+-- the place that a reader has reached leaves what the reader does
+pub place_after : (text : List ℕ) (stop : ℕ) (after : LineLeft) (place : Position) → IsUpTo text stop after
+    → place.at ≡ after.scanned → place.column ≡ after.column → place.owed ≡ after.owed
+    → left_from text place stop ≡ after
+place_after text stop after place own at column owed =
+    rw (at, column, owed) (ap (λ (bytes : List ℕ). record after { bytes = bytes }) (sym own))
 
 -- open blocks from a number on are the block with it, and those inside that
 pub inside_of : (blocks : List OpenBlock) (number : ℕ) (or : OpenBlock) → number < length blocks

@@ -8,13 +8,14 @@ use Rattle.std.specs.Prelude.{unwrap_or, if◌then◌else◌, slice_get, ◌-◌
 use Rattle.std.specs.Option.{option_map, option_map_or}
 use Rattle.markdown_base.specs.Forest.{Forest, nil, node}
 use Rattle.markdown_builder.specs.TreeLevels.{followed_by}
+use Rattle.markdown_scan.specs.ContainerParts.{past_footnote, past_indent, past_quote}
 use Rattle.markdown_scan.specs.LineStart.{LineLeft}
 use Rattle.markdown_lines.specs.declared.list_marker.ListMarker.{ListMarker}
 use Rattle.markdown_base.specs.Source.{Source}
 use Rattle.markdown_lines.specs.SourceLines.{SourceLine, is_blank_rest, rest_inside}
 use Rattle.markdown_block_rules.specs.BlockGrowth as was
 use Rattle.markdown_block_rules.specs.BlockGrowth.{Block, Kind, block_with, container_with, goes_on, is_nil, lazily}
-use Rattle.markdown_block_rules.specs.BlockGrowth.{line_block, past_footnote, past_indentation, past_quote, with_lazy}
+use Rattle.markdown_block_rules.specs.BlockGrowth.{line_block, with_lazy}
 use Rattle.markdown_block_rules.specs.BlockGrowth.{with_line, with_rest}
 use Rattle.markdown_plain.specs.Frames.{AreContainers, AreNested, Frame, IsContainer, forgotten, innermost_is}
 use Rattle.markdown_plain.specs.Frames.{inside_container, is_item, is_list, rebuilt, touched}
@@ -183,12 +184,32 @@ rest_taken s below l rest None takes = absurd (none-some rest takes)
 rest_taken s below l rest (Some left) takes =
     ap (λ r. Some (with_line s below r)) (same_Some (rest_inside left l) rest takes)
 
+-- also where it may end before the line
+rest_going_on : (s : Source) (below : Forest Block) (l rest : SourceLine) (ends : Bool) (left : Option LineLeft)
+    → (if ends then None else option_map (λ left. rest_inside left l) left) ≡ Some rest
+    → (if ends then None else with_rest s l below (goes_on s below) left) ≡ Some (with_line s below rest)
+rest_going_on s below l rest true left takes = absurd (none-some rest takes)
+rest_going_on s below l rest false left takes = rest_taken s below l rest left takes
+
 -- and where it takes nothing of it
 rest_missing : (s : Source) (below : Forest Block) (l : SourceLine) (left : Option LineLeft)
     → option_map (λ left. rest_inside left l) left ≡ None
     → with_rest s l below (goes_on s below) left ≡ lazily s l below
 rest_missing s below l None takes = refl
 rest_missing s below l (Some left) takes = absurd (none-some (rest_inside left l) (sym takes))
+
+-- also where it may end before a blank line
+rest_off : (s : Source) (below : Forest Block) (l : SourceLine) (ending : Bool) (left : Option LineLeft)
+    → (if is_blank_rest l && ending then None else option_map (λ left. rest_inside left l) left) ≡ None
+    → (if is_blank_rest l && ending then None else with_rest s l below (goes_on s below) left) ≡ lazily s l below
+rest_off s below l ending left takes = decided (is_blank_rest l) ending refl takes
+  where
+    decided : (blank ending : Bool) → is_blank_rest l ≡ blank
+        → (if blank && ending then None else option_map (λ left. rest_inside left l) left) ≡ None
+        → (if blank && ending then None else with_rest s l below (goes_on s below) left) ≡ lazily s l below
+    decided true true is takes = rw is refl
+    decided true false is takes = rest_missing s below l left takes
+    decided false ending is takes = rest_missing s below l left takes
 
 -- a container other than a list that takes its part of a line goes on, with what is left of the line in it
 takes_rest : (s : Source) (below : Forest Block) (l rest : SourceLine) (kind : Kind) → IsContainer kind
@@ -200,16 +221,10 @@ takes_rest s below l rest (was.alert_container kind) is plain takes =
     rest_taken s below l rest (past_quote l.left) takes
 takes_rest s below l rest (was.list_container marker) is plain takes = absurd (true≢false plain)
 takes_rest s below l rest (was.item_container indent) is plain takes =
-    decided (is_blank_rest l && is_nil below) takes
-  where
-    decided : (ends : Bool)
-        → (if ends then None else option_map (λ left. rest_inside left l) (past_indentation indent l)) ≡ Some rest
-        → (if ends then None else with_rest s l below (goes_on s below) (past_indentation indent l))
-        ≡ Some (with_line s below rest)
-    decided true takes = absurd (none-some rest takes)
-    decided false takes = rest_taken s below l rest (past_indentation indent l) takes
+    rest_going_on s below l rest (is_blank_rest l && is_nil below) (past_indent indent l.left) takes
 takes_rest s below l rest (was.footnote_container label) is plain takes =
-    rest_taken s below l rest (past_footnote s l) takes
+    rest_going_on s below l rest (is_blank_rest l && s.syntax.old_footnotes)
+    (past_footnote (not s.syntax.old_footnotes) l.left) takes
 takes_rest s below l rest other is plain takes = absurd is
 
 -- a container that does not goes on lazily at most
@@ -220,17 +235,9 @@ takes_nothing s below l was.quote_container is takes = rest_missing s below l (p
 takes_nothing s below l (was.alert_container kind) is takes = rest_missing s below l (past_quote l.left) takes
 takes_nothing s below l (was.list_container marker) is takes = absurd (none-some l (sym takes))
 takes_nothing s below l (was.item_container indent) is takes =
-    decided (is_blank_rest l) (is_nil below) refl takes
-  where
-    decided : (blank empty : Bool) → is_blank_rest l ≡ blank
-        → (if blank && empty then None else option_map (λ left. rest_inside left l) (past_indentation indent l))
-        ≡ None
-        → (if blank && empty then None else with_rest s l below (goes_on s below) (past_indentation indent l))
-        ≡ lazily s l below
-    decided true true is takes = rw is refl
-    decided true false is takes = rest_missing s below l (past_indentation indent l) takes
-    decided false empty is takes = rest_missing s below l (past_indentation indent l) takes
-takes_nothing s below l (was.footnote_container label) is takes = rest_missing s below l (past_footnote s l) takes
+    rest_off s below l (is_nil below) (past_indent indent l.left) takes
+takes_nothing s below l (was.footnote_container label) is takes =
+    rest_off s below l s.syntax.old_footnotes (past_footnote (not s.syntax.old_footnotes) l.left) takes
 takes_nothing s below l other is takes = absurd is
 
 -- a list takes nothing of a line
@@ -254,19 +261,21 @@ module _ {A : Type 0} (part : SourceLine → A) (same : (left : LineLeft) (l : S
   left_kept l rest (Some left) takes =
       ap part (sym (same_Some (rest_inside left l) rest takes)) ∙ same left l
 
+  part_kept : (l rest : SourceLine) (ends : Bool) (left : Option LineLeft)
+      → (if ends then None else option_map (λ left. rest_inside left l) left) ≡ Some rest → part rest ≡ part l
+  part_kept l rest true left takes = absurd (none-some rest takes)
+  part_kept l rest false left takes = left_kept l rest left takes
+
   -- what a container leaves of a line has the same part, where it has not to do with what is left
   pub rest_kept : (s : Source) (empty : Bool) (l rest : SourceLine) (kind : Kind)
       → inside_container s l empty kind ≡ Some rest → part rest ≡ part l
   rest_kept s empty l rest was.quote_container takes = left_kept l rest (past_quote l.left) takes
   rest_kept s empty l rest (was.alert_container kind) takes = left_kept l rest (past_quote l.left) takes
-  rest_kept s empty l rest (was.footnote_container label) takes = left_kept l rest (past_footnote s l) takes
-  rest_kept s empty l rest (was.item_container indent) takes = decided (is_blank_rest l && empty) takes
-    where
-      decided : (ends : Bool)
-          → (if ends then None else option_map (λ left. rest_inside left l) (past_indentation indent l)) ≡ Some rest
-          → part rest ≡ part l
-      decided true takes = absurd (none-some rest takes)
-      decided false takes = left_kept l rest (past_indentation indent l) takes
+  rest_kept s empty l rest (was.footnote_container label) takes =
+      part_kept l rest (is_blank_rest l && s.syntax.old_footnotes) (past_footnote (not s.syntax.old_footnotes) l.left)
+      takes
+  rest_kept s empty l rest (was.item_container indent) takes =
+      part_kept l rest (is_blank_rest l && empty) (past_indent indent l.left) takes
   rest_kept s empty l rest other takes = ap part (sym (same_Some l rest takes))
 
 -- such as where the line ends

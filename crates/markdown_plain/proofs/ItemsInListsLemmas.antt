@@ -7,6 +7,7 @@ use Rattle.std.specs.Option.{option_map, option_or}
 use Rattle.markdown_base.specs.Forest.{Forest, nil, node}
 use Rattle.markdown_base.specs.declared.tag.Alignment.{Alignment}
 use Rattle.markdown_builder.specs.TreeLevels.{followed_by}
+use Rattle.markdown_scan.specs.ContainerParts.{past_footnote, past_indent, past_quote}
 use Rattle.markdown_scan.specs.Entity.{entity_names}
 use Rattle.markdown_scan.specs.LineStart.{LineLeft, leading_space}
 use Rattle.markdown_lines.specs.declared.block_start.Before.TheVariants as paragraph
@@ -23,7 +24,6 @@ use Rattle.markdown_block_rules.specs.BlockGrowth.{Block, Kind, another_item, be
 use Rattle.markdown_block_rules.specs.BlockGrowth.{container_with, cut_paragraph, ends_html, goes_on, inside_of}
 use Rattle.markdown_block_rules.specs.BlockGrowth.{is_nil, is_text, leaf_with, line_block, new_blocks, next_item}
 use Rattle.markdown_block_rules.specs.BlockGrowth.{begins_but_underline, paragraph_with, paragraph_with_text}
-use Rattle.markdown_block_rules.specs.BlockGrowth.{past_footnote, past_indentation, past_quote}
 use Rattle.markdown_block_rules.specs.BlockGrowth.{table_after, table_of_lines, table_with, with_lazy, with_lazy_text}
 use Rattle.markdown_block_rules.specs.BlockGrowth.{with_line, with_rest}
 use Rattle.markdown_block_rules.specs.BlockRules.{is_blank_block}
@@ -232,9 +232,12 @@ module _ (s : Source) (m : SourceLine) (below : Forest Block) (inner : SourceLin
       (λ new more. both_placed true below new are more) (next_item s m marker) (next_placed s m marker))
   container_placed (was.item_container indent) are placed =
       chosen (AreItemsInLists false) (is_blank_rest m && is_nil below) None
-      (with_rest s m below inner (past_indentation indent m)) tt
-      (rest_placed are placed (past_indentation indent m))
-  container_placed (was.footnote_container label) are placed = rest_placed are placed (past_footnote s m)
+      (with_rest s m below inner (past_indent indent m.left)) tt
+      (rest_placed are placed (past_indent indent m.left))
+  container_placed (was.footnote_container label) are placed =
+      let part = past_footnote (not s.syntax.old_footnotes) m.left in
+      chosen (AreItemsInLists false) (is_blank_rest m && s.syntax.old_footnotes) None (with_rest s m below inner part) tt
+      (rest_placed are placed part)
   container_placed other are placed = tt
 
   block_placed : (in_list : Bool) (b : Block) → MayBeIn in_list b.kind → AreItemsInLists (is_list b.kind) below

@@ -12,6 +12,8 @@ use Rattle.markdown_base.specs.Forest.{Forest}
 use Rattle.markdown_base.specs.declared.item.ItemBody.{ItemBody}
 use Rattle.markdown_builder.specs.declared.open_block.OpenBlock.{OpenBlock}
 use Rattle.markdown_scan.specs.Beginnings.{begins_with}
+use Rattle.markdown_scan.specs.ContainerParts.{past_footnote, past_indent, past_quote}
+use Rattle.markdown_scan.specs.LineStart.{is_line_over}
 use Rattle.markdown_scan.specs.LineStart.{LineLeft, Space, column_after, leading_space, past_marker, past_one_byte}
 use Rattle.markdown_scan.specs.LineStart.{space_from, space_width}
 use Rattle.markdown_lines.specs.declared.line.Line.{Line}
@@ -25,7 +27,7 @@ use Rattle.markdown_block_rules.proofs.BlockBeginningsLemmas.{either}
 use Rattle.markdown_plain.specs.declared.containers.Reached as code
 use Rattle.markdown_plain.specs.declared.pass.Pass.{Pass}
 use Rattle.markdown_plain.specs.Containers.{Reach, content_of, is_container, is_innermost, past_container}
-use Rattle.markdown_plain.specs.Containers.{past_footnote, past_indent, past_quote, reach_after, reach_from, reach_of}
+use Rattle.markdown_plain.specs.Containers.{reach_after, reach_from, reach_of}
 use Rattle.markdown_plain.specs.Containers.{reach_past, reach_start, whole_line}
 use Rattle.markdown_plain.specs.OpenBlocks as by_body
 use Rattle.markdown_plain.specs.Frames.{Frame, Reached, inside_container, is_list, is_quote, reached, reached_here}
@@ -173,20 +175,15 @@ inside_quote left =
     second true other both = both
     second false other both = absurd (true≢false (sym both))
 
-inside_indent : (indent : ℕ) (blank : Bool) (left : LineLeft)
-    → IfSome (past_indent indent blank left) (IsInside false left)
-inside_indent indent blank left =
+inside_indent : (indent : ℕ) (left : LineLeft) → IfSome (past_indent indent left) (IsInside false left)
+inside_indent indent left =
     let space = leading_space indent left in
-    either (λ o. IfSome o (IsInside false left)) (blank || (space.columns == indent))
+    either (λ o. IfSome o (IsInside false left)) ((space.columns == indent) || is_line_over space.after.bytes)
     (Some space.after) None (inside_space indent false left) tt
 
-inside_footnote : (old blank : Bool) (left : LineLeft)
-    → IfSome (past_footnote old blank left) (IsInside false left)
-inside_footnote old blank left =
-    either (λ o. IfSome o (IsInside false left)) (not old) (past_indent 4 blank left)
-    (if blank then None else Some left) (inside_indent 4 blank left)
-    (either (λ o. IfSome o (IsInside false left)) blank None (Some left) tt
-    (inside_nothing false left))
+inside_footnote : (gfm : Bool) (left : LineLeft) → IfSome (past_footnote gfm left) (IsInside false left)
+inside_footnote true left = inside_indent 4 left
+inside_footnote false left = inside_nothing false left
 
 -- ---- a container, as an open block and as a frame
 
@@ -230,14 +227,12 @@ abbrev AreSameOf : Kind → Bool → Bool → Type 0
 AreSameOf (was.item_container indent) one other = one ≡ other
 AreSameOf kind one other = Unit
 
-both_item : (l : SourceLine) (indent : ℕ) (test : Bool) → BothTake false false l
-    (if test then None else past_indent indent (is_blank_rest l) l.left)
-    (if test then None
-    else option_map (λ rest. rest_inside rest l) (was.past_indentation indent l))
-both_item l indent true = neither
-both_item l indent false =
-    let blank = is_blank_rest l in
-    both_inside false l (past_indent indent blank l.left) (inside_indent indent blank l.left)
+-- also where the container may end before the line
+both_going_on : (l : SourceLine) (ends : Bool) (o : Option LineLeft) → IfSome o (IsInside false l.left)
+    → BothTake false false l (if ends then None else o)
+    (if ends then None else option_map (λ rest. rest_inside rest l) o)
+both_going_on l true o inside = neither
+both_going_on l false o inside = both_inside false l o inside
 
 module _ (s : Source) (l : SourceLine) (texts : List (List ℕ)) where
   both_take : (empty none : Bool) (kind : Kind) (b : ItemBody) → IsBodyOf texts kind b
@@ -252,12 +247,12 @@ module _ (s : Source) (l : SourceLine) (texts : List (List ℕ)) where
   both_take empty none (was.list_container marker) b is same =
       rw is (both l (is_rest_in_list l) (inside_nothing false l.left))
   both_take empty none (was.item_container indent) b is same =
-      rw (is, same) (both_item l indent (is_blank_rest l && none))
+      rw (is, same) (both_going_on l (is_blank_rest l && none) (past_indent indent l.left)
+      (inside_indent indent l.left))
   both_take empty none (was.footnote_container label) b is same =
       let old = s.syntax.old_footnotes in
-      let blank = is_blank_rest l in
-      rw is.1 (both_inside false l (past_footnote old blank l.left)
-      (inside_footnote old blank l.left))
+      rw is.1 (both_going_on l (is_blank_rest l && old) (past_footnote (not old) l.left)
+      (inside_footnote (not old) l.left))
   both_take empty none other b is same = absurd is
 
 is_container_of : (texts : List (List ℕ)) (kind : Kind) (b : ItemBody) → IsBodyOf texts kind b

@@ -11,6 +11,7 @@ use Rattle.std.proofs.lemmas.Option.{none-some, same_Some}
 use Rattle.markdown_base.proofs.ByteListLemmas.{part_length}
 use Rattle.markdown_base.specs.Forest.{Forest}
 use Rattle.markdown_builder.specs.declared.open_block.OpenBlock.{OpenBlock}
+use Rattle.markdown_scan.specs.ContainerParts.{past_indent}
 use Rattle.markdown_scan.specs.LineStart.{LineLeft}
 use Rattle.markdown_base.specs.Source.{Source}
 use Rattle.markdown_lines.specs.Lines.{AllPass, IsLineFrom, is_in_blank_line, is_line_ending, is_space_or_tab}
@@ -22,7 +23,7 @@ use Rattle.markdown_lines.specs.declared.space.Space.{Space}
 use Rattle.markdown_lines.proofs.LinesLemmas.{AllPass-none}
 use Rattle.markdown_lines.proofs.PositionsLemmas.{in_part}
 use Rattle.markdown_block_rules.specs.BlockGrowth as was
-use Rattle.markdown_block_rules.specs.BlockGrowth.{Block, Kind, is_nil, past_indentation}
+use Rattle.markdown_block_rules.specs.BlockGrowth.{Block, Kind, is_nil}
 use Rattle.markdown_block_rules.specs.BlockRules.{block_end}
 use Rattle.markdown_plain.specs.declared.containers.Reached as code
 use Rattle.markdown_plain.specs.declared.pass.Pass.{Pass}
@@ -235,25 +236,10 @@ taken_alike : (s : Source) (l m : SourceLine) (empty : Bool) (kind : Kind) → i
     → inside_container s l empty kind ≡ Some m → is_blank_rest m ≡ is_blank_rest l
 taken_alike s l m empty was.quote_container plain takes = absurd (true≢false plain)
 taken_alike s l m empty (was.alert_container kind) plain takes = absurd (true≢false plain)
-taken_alike s l m empty (was.item_container indent) plain takes = by_test (is_blank_rest l && empty) takes
-  where
-    by_test : (test : Bool) → (if test then None
-        else option_map (λ rest. rest_inside rest l) (past_indentation indent l)) ≡ Some m
-        → is_blank_rest m ≡ is_blank_rest l
-    by_test true takes = absurd (none-some m takes)
-    by_test false takes = indented_alike l m indent takes
-taken_alike s l m empty (was.footnote_container label) plain takes = by_style s.syntax.old_footnotes takes
-  where
-    left_whole : (white : Bool) → option_map (λ rest. rest_inside rest l) (if white then None else Some l.left) ≡ Some m
-        → is_blank_rest m ≡ is_blank_rest l
-    left_whole true takes = absurd (none-some m takes)
-    left_whole false takes = ap is_blank_rest (sym (same_Some (rest_inside l.left l) m takes))
-
-    by_style : (old : Bool) → option_map (λ rest. rest_inside rest l)
-        (if not old then past_indentation 4 l else if is_blank_rest l then None else Some l.left) ≡ Some m
-        → is_blank_rest m ≡ is_blank_rest l
-    by_style false takes = indented_alike l m 4 takes
-    by_style true takes = left_whole (is_blank_rest l) takes
+taken_alike s l m empty (was.item_container indent) plain takes =
+    indented_alike l m indent (goes_on_in (is_blank_rest l && empty) _ m takes)
+taken_alike s l m empty (was.footnote_container label) plain takes =
+    note_alike l m (not s.syntax.old_footnotes) (goes_on_in (is_blank_rest l && s.syntax.old_footnotes) _ m takes)
 taken_alike s l m empty other plain takes = ap is_blank_rest (sym (same_Some l m takes))
 
 -- so is what is left where no block quote goes on

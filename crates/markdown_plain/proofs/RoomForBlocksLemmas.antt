@@ -14,6 +14,7 @@ use Rattle.markdown_plain.specs.Beginning.{HoldsNone}
 use Rattle.markdown_base.specs.Forest.{Forest, nil, node}
 use Rattle.markdown_builder.specs.BuilderView.{BuilderView}
 use Rattle.markdown_builder.specs.TreeLevels.{followed_by}
+use Rattle.markdown_scan.specs.ContainerParts.{past_footnote, past_indent, past_quote}
 use Rattle.markdown_scan.specs.LineStart.{LineLeft}
 use Rattle.markdown_lines.specs.BlockBeginnings as beginning
 use Rattle.markdown_base.specs.Source.{Source}
@@ -26,8 +27,8 @@ use Rattle.markdown_lines.specs.declared.block_start.BlockStart.{BlockStart}
 use Rattle.markdown_lines.specs.declared.list_marker.ListMarker.{ListMarker}
 use Rattle.markdown_block_rules.specs.BlockGrowth as was
 use Rattle.markdown_block_rules.specs.BlockGrowth.{Block, Kind, another_item, begun_by, goes_on, is_nil, is_text}
-use Rattle.markdown_block_rules.specs.BlockGrowth.{lazily, next_item, paragraph_with, past_footnote, past_indentation}
-use Rattle.markdown_block_rules.specs.BlockGrowth.{past_quote, with_lazy}
+use Rattle.markdown_block_rules.specs.BlockGrowth.{lazily, next_item, paragraph_with}
+use Rattle.markdown_block_rules.specs.BlockGrowth.{with_lazy}
 use Rattle.markdown_block_rules.proofs.BlockBeginningsLemmas.{either}
 use Rattle.markdown_plain.specs.declared.beginnings.LineRest.{LineRest}
 use Rattle.markdown_plain.specs.declared.looseness.Looseness.{Looseness}
@@ -165,18 +166,21 @@ under_it l rest None takes = absurd (none-some rest takes)
 under_it l rest (Some left) takes =
     ap (λ (r : SourceLine). r.outermost) (sym (same_Some (rest_inside left l) rest takes))
 
+-- also inside one that may end before the line
+under_going_on : (l rest : SourceLine) (ends : Bool) (o : Option LineLeft)
+    → (if ends then None else option_map (λ left. rest_inside left l) o) ≡ Some rest → rest.outermost ≡ false
+under_going_on l rest true o takes = absurd (none-some rest takes)
+under_going_on l rest false o takes = under_it l rest o takes
+
 under_container : (s : Source) (empty : Bool) (l rest : SourceLine) (kind : Kind) → IsContainer kind
     → inside_container s l empty kind ≡ Some rest → ((l ≡ rest) × (is_list kind ≡ true)) ⊎ (rest.outermost ≡ false)
 under_container s empty l rest was.quote_container is takes = inr (under_it l rest (past_quote l.left) takes)
 under_container s empty l rest (was.alert_container kind) is takes = inr (under_it l rest (past_quote l.left) takes)
-under_container s empty l rest (was.footnote_container label) is takes = inr (under_it l rest (past_footnote s l) takes)
-under_container s empty l rest (was.item_container indent) is takes = inr (decided (is_blank_rest l && empty) takes)
-  where
-    decided : (ends : Bool)
-        → (if ends then None else option_map (λ left. rest_inside left l) (past_indentation indent l)) ≡ Some rest
-        → rest.outermost ≡ false
-    decided true takes = absurd (none-some rest takes)
-    decided false takes = under_it l rest (past_indentation indent l) takes
+under_container s empty l rest (was.footnote_container label) is takes =
+    inr (under_going_on l rest (is_blank_rest l && s.syntax.old_footnotes)
+    (past_footnote (not s.syntax.old_footnotes) l.left) takes)
+under_container s empty l rest (was.item_container indent) is takes =
+    inr (under_going_on l rest (is_blank_rest l && empty) (past_indent indent l.left) takes)
 under_container s empty l rest (was.list_container marker) is takes = inl (same_Some l rest takes, refl)
 under_container s empty l rest other is takes = absurd is
 

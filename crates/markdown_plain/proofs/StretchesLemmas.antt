@@ -8,12 +8,13 @@ use Rattle.std.proofs.Math.Seq.{take-append_seam}
 use Rattle.markdown_base.specs.declared.item.ItemBody.{ItemBody}
 use Rattle.markdown_base.specs.declared.item.ItemBody.TheVariants as body
 use Rattle.markdown_builder.specs.declared.open_block.OpenBlock.{OpenBlock}
-use Rattle.markdown_scan.specs.LineStart.{LineLeft, leading_space}
+use Rattle.markdown_scan.specs.ContainerParts.{past_indent}
+use Rattle.markdown_scan.specs.LineStart.{LineLeft, Space, is_line_over, leading_space}
 use Rattle.markdown_plain.specs.declared.stretches.Stretches.{Stretches}
 use Rattle.markdown_plain.specs.declared.stretches.Taking.{Taking}
 use Rattle.markdown_plain.specs.declared.stretches.Taking.TheVariants as takes
 use Rattle.markdown_plain.specs.OpenBlocks.{outer_of}
-use Rattle.markdown_plain.specs.Containers.{Reach, is_container, past_container, past_indent, reach_after, reach_from}
+use Rattle.markdown_plain.specs.Containers.{Reach, is_container, past_container, reach_after, reach_from}
 use Rattle.markdown_plain.specs.Stretches.{IsOf, TakesNothing, are_alike, begins_stretch, deep_starts, few, is_same}
 use Rattle.markdown_plain.specs.Stretches.{next_of, starts, starts_after, taken_by}
 use Rattle.markdown_plain.proofs.ContainersLemmas.{container_goes_on, inside_of}
@@ -258,12 +259,25 @@ space_of_nothing (suc indent) scanned column =
     rw more refl
 
 past_indent_nothing : (indent : ℕ) (left : LineLeft) → left.owed ≡ 0 → left.bytes ≡ []
-    → past_indent indent true left ≡ Some left
+    → past_indent indent left ≡ Some left
 past_indent_nothing indent left owed over =
     let nothing : left ≡ record { scanned = left.scanned; owed = 0; column = left.column; bytes = [] } =
     ap (λ n. record left { owed = n }) owed ∙ ap (λ (b : List ℕ). record left { owed = 0; bytes = b }) over in
-    subst (λ (l : LineLeft). past_indent indent true l ≡ Some l) (sym nothing)
-    (ap (λ (l : LineLeft). Some l) (space_of_nothing indent left.scanned left.column))
+    let space = leading_space indent (record { scanned = left.scanned; owed = 0; column = left.column; bytes = [] }) in
+    subst (λ (l : LineLeft). past_indent indent l ≡ Some l) (sym nothing)
+    (over_after space left.scanned left.column (space_of_nothing indent left.scanned left.column))
+  where
+    over_after : (space : Space) (scanned column : ℕ)
+        → space.after ≡ record { scanned = scanned; owed = 0; column = column; bytes = [] }
+        → (if (space.columns == indent) || is_line_over space.after.bytes then Some space.after else None)
+        ≡ Some (record { scanned = scanned; owed = 0; column = column; bytes = [] })
+    over_after space scanned column is = rw is (either_way (space.columns == indent))
+      where
+        either_way : (test : Bool)
+            → (if test || true then Some (record { scanned = scanned; owed = 0; column = column; bytes = [] }) else None)
+            ≡ Some (record { scanned = scanned; owed = 0; column = column; bytes = [] })
+        either_way true = refl
+        either_way false = refl
 
 -- a block that takes nothing of a line continues, and leaves what is left
 past_nothing : (old blank : Bool) (block : ItemBody) (left : LineLeft) → TakesNothing blank left (taken_by old block)
@@ -272,8 +286,8 @@ past_nothing old blank (body.List tight character first) left takes = refl
 past_nothing old blank (body.ListItem indent) left takes =
     rw takes.0 (past_indent_nothing indent left takes.1 takes.2)
 past_nothing true blank (body.FootnoteDefinition ix) left takes = rw takes refl
-past_nothing false blank (body.FootnoteDefinition ix) left takes = rw takes.0
-    (past_indent_nothing 4 left takes.1 takes.2)
+past_nothing false blank (body.FootnoteDefinition ix) left takes =
+    rw takes.0 (past_indent_nothing 4 left takes.1 takes.2)
 past_nothing old blank other left takes = absurd takes
 
 -- it is a container

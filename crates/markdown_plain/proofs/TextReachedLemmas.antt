@@ -11,9 +11,10 @@ use Rattle.std.proofs.lemmas.Str.{IsCharBoundary-after_ascii}
 use Rattle.markdown_base.specs.Forest.{Forest, nil, node}
 use Rattle.markdown_builder.specs.TreeLevels.{followed_by}
 use Rattle.markdown_builder.specs.declared.open_block.OpenBlock.{OpenBlock}
+use Rattle.markdown_scan.specs.ContainerParts.{past_footnote, past_indent, past_quote}
 use Rattle.markdown_scan.specs.Beginnings.{begins_with}
 use Rattle.markdown_scan.specs.LineStart.{LineLeft, Space, column_after, leading_space, past_marker, past_one_byte}
-use Rattle.markdown_scan.specs.LineStart.{next_column, space_from, space_width}
+use Rattle.markdown_scan.specs.LineStart.{is_line_over, next_column, space_from, space_width}
 use Rattle.markdown_lines.specs.declared.block_start.Before.TheVariants as paragraph
 use Rattle.markdown_lines.specs.declared.line.Line.{Line}
 use Rattle.markdown_lines.specs.declared.position.Position.{Position}
@@ -27,7 +28,7 @@ use Rattle.markdown_lines.proofs.BlockStartsLemmas.{slice_same}
 use Rattle.markdown_lines.proofs.PositionsLemmas.{in_part}
 use Rattle.markdown_block_rules.specs.BlockGrowth as was
 use Rattle.markdown_block_rules.specs.BlockGrowth.{Block, Kind, content_of, goes_on, is_nil, is_text, lazily}
-use Rattle.markdown_block_rules.specs.BlockGrowth.{leaf_with, past_footnote, past_indentation, past_quote, with_lazy}
+use Rattle.markdown_block_rules.specs.BlockGrowth.{leaf_with, with_lazy}
 use Rattle.markdown_plain.specs.declared.containers.Reached as code
 use Rattle.markdown_plain.specs.declared.pass.Pass.{Pass}
 use Rattle.markdown_plain.specs.Closing.{MayEnd}
@@ -131,19 +132,17 @@ module _ (text : List ℕ) (from : ℕ) (utf8 : IsUtf8 text) where
       second true other both = both
       second false other both = absurd (true≢false (sym both))
 
-  indentation_within : (indent : ℕ) (l : SourceLine) → IsWithin text from l.left
-      → IfSome (past_indentation indent l) (IsWithin text from)
-  indentation_within indent l is =
-      on_test (λ o. IfSome o (IsWithin text from))
-      (is_blank_rest l || ((leading_space indent l.left).columns == indent)) _ _
-      (λ e. space_within indent l.left is) (λ e. tt)
+  indentation_within : (indent : ℕ) (left : LineLeft) → IsWithin text from left
+      → IfSome (past_indent indent left) (IsWithin text from)
+  indentation_within indent left is =
+      let space = leading_space indent left in
+      on_test (λ o. IfSome o (IsWithin text from)) ((space.columns == indent) || is_line_over space.after.bytes) _ _
+      (λ e. space_within indent left is) (λ e. tt)
 
-  footnote_within : (s : Source) (l : SourceLine) → IsWithin text from l.left
-      → IfSome (past_footnote s l) (IsWithin text from)
-  footnote_within s l is =
-      on_test (λ o. IfSome o (IsWithin text from)) (not s.syntax.old_footnotes) _ _
-      (λ e. indentation_within 4 l is)
-      (λ e. on_test (λ o. IfSome o (IsWithin text from)) (is_blank_rest l) _ _ (λ blank. tt) (λ filled. is))
+  footnote_within : (gfm : Bool) (left : LineLeft) → IsWithin text from left
+      → IfSome (past_footnote gfm left) (IsWithin text from)
+  footnote_within true left is = indentation_within 4 left is
+  footnote_within false left is = is
 
   rest_within : (l : SourceLine) (o : Option LineLeft) → IfSome o (IsWithin text from)
       → IfSome (option_map (λ rest. rest_inside rest l) o) (λ m. IsWithin text from m.left)
@@ -156,9 +155,11 @@ module _ (text : List ℕ) (from : ℕ) (utf8 : IsUtf8 text) where
   container_within s l empty (was.alert_container kind) is = rest_within l (past_quote l.left) (quote_within l.left is)
   container_within s l empty (was.item_container indent) is =
       on_test (λ o. IfSome o (λ m. IsWithin text from m.left)) (is_blank_rest l && empty) _ _ (λ e. tt)
-      (λ e. rest_within l (past_indentation indent l) (indentation_within indent l is))
+      (λ e. rest_within l (past_indent indent l.left) (indentation_within indent l.left is))
   container_within s l empty (was.footnote_container label) is =
-      rest_within l (past_footnote s l) (footnote_within s l is)
+      let old = s.syntax.old_footnotes in
+      on_test (λ o. IfSome o (λ m. IsWithin text from m.left)) (is_blank_rest l && old) _ _ (λ e. tt)
+      (λ e. rest_within l (past_footnote (not old) l.left) (footnote_within (not old) l.left is))
   container_within s l empty other is = is
 
   -- so does what is left of it inside the containers that it reaches

@@ -6,8 +6,8 @@ use Rattle.std.specs.List.{prefix_len}
 use Rattle.markdown_base.specs.declared.item.ItemBody.{ItemBody}
 use Rattle.markdown_base.specs.declared.item.ItemBody.TheVariants as body
 use Rattle.markdown_builder.specs.declared.open_block.OpenBlock.{OpenBlock}
-use Rattle.markdown_scan.specs.Beginnings.{begins_with}
-use Rattle.markdown_scan.specs.LineStart.{LineLeft, Space, leading_space, past_marker}
+use Rattle.markdown_scan.specs.ContainerParts.{past_part}
+use Rattle.markdown_scan.specs.LineStart.{LineLeft}
 use Rattle.markdown_lines.specs.declared.line.Line.{Line}
 use Rattle.markdown_lines.specs.declared.position.Position.{Position}
 use Rattle.markdown_lines.specs.Lines.{is_space_or_tab}
@@ -27,34 +27,17 @@ abbrev pub LeftAt : List ℕ → ℕ → Option LineLeft → Option Position →
 LeftAt text stop left None = left ≡ None
 LeftAt text stop left (Some position) = left ≡ Some (left_from text position stop)
 
--- the rest after the marker of a block quote, from the space before it, which has at most three columns
-abbrev pub marker_after : Space → Option LineLeft
-marker_after before =
-    if nat_lt before.columns 4 && begins_with (codes ">") before.after.bytes then Some (past_marker before.after)
-    else None
+-- an open container ends before a line, blank or not: an item that is empty so far ends before a blank one, and so does a
+-- footnote definition in the old style
+abbrev pub ends_before : (old empty blank : Bool) → ItemBody → Bool
+ends_before old empty blank (body.ListItem indent) = blank && empty
+ends_before old empty blank (body.FootnoteDefinition ix) = blank && old
+ends_before old empty blank other = false
 
--- the rest after such a marker, with at most one column of space after it
-abbrev pub past_quote : LineLeft → Option LineLeft
-past_quote left = marker_after (leading_space 4 left)
-
--- the rest after `indent` columns of space, or after at most as many in a blank line
-abbrev pub past_indent : ℕ → Bool → LineLeft → Option LineLeft
-past_indent indent blank left =
-    if blank || ((leading_space indent left).columns == indent) then Some (leading_space indent left).after else None
-
--- the rest after what a footnote definition takes: four columns, or in the old style nothing of a line that is not
--- blank
-abbrev pub past_footnote : Bool → Bool → LineLeft → Option LineLeft
-past_footnote old blank left = if not old then past_indent 4 blank left else if blank then None else Some left
-
--- the rest after what a container takes of a line, blank or not, if it continues in it; an item that is empty so far
--- ends before a blank line
+-- the rest after what an open container takes of a line, blank or not, if it continues in it
 abbrev pub past_container : (old empty blank : Bool) → ItemBody → LineLeft → Option LineLeft
-past_container old empty blank (body.BlockQuote kind) left = past_quote left
-past_container old empty blank (body.ListItem indent) left =
-    if blank && empty then None else past_indent indent blank left
-past_container old empty blank (body.FootnoteDefinition ix) left = past_footnote old blank left
-past_container old empty blank other left = Some left
+past_container old empty blank block left =
+    if ends_before old empty blank block then None else past_part (not old) block left
 
 -- the body is that of a container; lists count as such
 abbrev pub is_container : ItemBody → Bool

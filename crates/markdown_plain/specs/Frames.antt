@@ -1,15 +1,16 @@
 -- Blocks with some of the containers on their right edge apart: those that are open while a line is read. To close a
 -- container is to forget that it is open: the blocks are the same.
-use Rattle.std.specs.Prelude.{◌≡◌, ℕ, ◌-◌, Bool, true, false, ◌&&◌, List, [], ◌∷◌, Option, Some, None, length, take}
+use Rattle.std.specs.Prelude.{◌≡◌, ℕ, ◌-◌, Bool, true, false, not, ◌&&◌, List, [], ◌∷◌, Option, Some, None, length, take}
 use Rattle.std.specs.Prelude.{slice_get, if◌then◌else◌}
 use Rattle.std.specs.Option.{option_map, option_map_or}
 use Rattle.markdown_base.specs.Forest.{Forest, nil, node}
 use Rattle.markdown_base.specs.Source.{Source}
+use Rattle.markdown_scan.specs.ContainerParts.{past_footnote, past_indent, past_quote}
 use Rattle.markdown_lines.specs.SourceLines.{SourceLine, is_blank_rest, rest_inside}
 use Rattle.markdown_builder.specs.TreeLevels.{followed_by}
 use Rattle.markdown_block_rules.specs.BlockGrowth as was
-use Rattle.markdown_block_rules.specs.BlockGrowth.{Block, Kind, goes_on, is_nil, past_footnote, past_indentation}
-use Rattle.markdown_block_rules.specs.BlockGrowth.{past_quote, with_lazy}
+use Rattle.markdown_block_rules.specs.BlockGrowth.{Block, Kind, goes_on, is_nil}
+use Rattle.markdown_block_rules.specs.BlockGrowth.{with_lazy}
 
 -- an open container, and the blocks before it
 pub record Frame : Type 0 where
@@ -78,9 +79,10 @@ room_depth depth frames = if innermost_is is_list (take depth frames) then depth
 -- far. A list takes nothing, and goes on as long as its last item does, or another one follows.
 abbrev pub inside_container : Source → SourceLine → (empty : Bool) → Kind → Option SourceLine
 inside_container s l empty (was.item_container indent) =
-    if is_blank_rest l && empty then None else option_map (λ rest. rest_inside rest l) (past_indentation indent l)
+    if is_blank_rest l && empty then None else option_map (λ rest. rest_inside rest l) (past_indent indent l.left)
 inside_container s l empty (was.footnote_container label) =
-    option_map (λ rest. rest_inside rest l) (past_footnote s l)
+    if is_blank_rest l && s.syntax.old_footnotes then None
+    else option_map (λ rest. rest_inside rest l) (past_footnote (not s.syntax.old_footnotes) l.left)
 inside_container s l empty was.quote_container = option_map (λ rest. rest_inside rest l) (past_quote l.left)
 inside_container s l empty (was.alert_container kind) = option_map (λ rest. rest_inside rest l) (past_quote l.left)
 inside_container s l empty other = Some l

@@ -26,11 +26,11 @@ use markdown_base::syntax::Syntax;
 use markdown_base::tag::BlockQuoteKind;
 use markdown_builder::open_block::OpenBlock;
 use markdown_lines::block_start::ItemStart;
-use markdown_lines::bytes::{bytes_of, content_start};
+use markdown_lines::bytes::content_start;
 use markdown_lines::line::Line;
 use markdown_lines::list_marker::ListMarker;
 use markdown_lines::position::Position;
-use markdown_lines::space::read_space;
+use markdown_scan::container_parts::take_part;
 use std::alloc::AllocError;
 
 /// How far the open containers continue in a line.
@@ -60,59 +60,15 @@ fn is_container(body: ItemBody) -> bool
     }
 }
 
-/// Returns the place after the marker of a block quote, with at most one column of space after it; `None` where there
-/// is no marker.
-#[inline(always)]
-fn past_quote(text: &str, position: Position, stop: usize) -> Option<Position>
-    ensures { spec.LeftAt text.now stop
-        (spec.past_quote (left_from text.now position stop)) result }
+/// Returns whether an open container ends before a line, blank or not: before a blank one, an item that is empty so far, or
+/// a footnote definition in the old style.
+fn ends_before(body: ItemBody, old: bool, empty: bool, blank: bool) -> bool
+    ensures { result ≡ spec.ends_before old empty blank body }
 {
-    let before = read_space(text, position, stop, 4);
-    if before.columns < 4 && bytes_of(text, before.after.at, stop).starts_with(b">") {
-        Some(read_space(text, before.after.past(1), stop, 1).after)
-    } else {
-        None
-    }
-}
-
-/// Returns the place after `indent` columns of space, or, where the line is blank from here on, after at most as many;
-/// `None` where there are fewer.
-fn past_indent(
-    text: &str,
-    position: Position,
-    stop: usize,
-    indent: usize,
-    blank: bool,
-) -> Option<Position>
-    ensures { spec.LeftAt text.now stop
-        (spec.past_indent indent blank (left_from text.now position stop)) result }
-{
-    let found = read_space(text, position, stop, indent);
-    if blank || found.columns == indent {
-        Some(found.after)
-    } else {
-        None
-    }
-}
-
-/// Returns the place after what a footnote definition takes of a line: in GitHub's style four columns of space, in the
-/// old style nothing; `None` where the definition does not continue, in the old style at a blank line.
-fn past_footnote(
-    text: &str,
-    position: Position,
-    stop: usize,
-    old: bool,
-    blank: bool,
-) -> Option<Position>
-    ensures { spec.LeftAt text.now stop
-        (spec.past_footnote old blank (left_from text.now position stop)) result }
-{
-    if !old {
-        past_indent(text, position, stop, 4, blank)
-    } else if blank {
-        None
-    } else {
-        Some(position)
+    match body {
+        ItemBody::ListItem(_) => blank && empty,
+        ItemBody::FootnoteDefinition(_) => blank && old,
+        _ => false,
     }
 }
 
@@ -132,15 +88,14 @@ fn past_container(
         (spec.past_container old empty (nat_le line.stop reached.content) body
         (left_from text.now reached.position line.stop)) result }
 {
-    let blank = reached.content >= line.stop;
-    match body {
-        ItemBody::BlockQuote(_) => past_quote(text, reached.position, line.stop),
-        ItemBody::ListItem(_) if blank && empty => None,
-        ItemBody::ListItem(indent) => past_indent(text, reached.position, line.stop, indent, blank),
-        ItemBody::FootnoteDefinition(_) => {
-            past_footnote(text, reached.position, line.stop, old, blank)
-        }
-        _ => Some(reached.position),
+    if ends_before(body, old, empty, reached.content >= line.stop) {
+        return None;
+    }
+    let mut rest = reached.position.reader(text, line.stop);
+    if take_part(&mut rest, body, !old) {
+        Some(Position::of(&rest))
+    } else {
+        None
     }
 }
 

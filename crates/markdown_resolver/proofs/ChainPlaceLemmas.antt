@@ -19,7 +19,8 @@ use Rattle.markdown_document.specs.ResolverStates.{above_cursor}
 use Rattle.markdown_builder.specs.Shown.{unnumbered}
 use Rattle.markdown_document.specs.Document.{block_of}
 use Rattle.markdown_document.specs.Setting.{Setting}
-use Rattle.markdown_spans.specs.ContainerPrefix.{has_prefix, past_block, past_blocks, prefix_length}
+use Rattle.markdown_spans.specs.ContainerPrefix.{has_prefix, past_blocks, prefix_length}
+use Rattle.markdown_scan.specs.ContainerParts.{past_part}
 use Rattle.markdown_base.specs.Syntax.{gfm_footnotes}
 use Rattle.markdown_spans.specs.Finds.{prefix_below}
 use Rattle.markdown_spans.specs.PrefixView.{bodies_of, length_by}
@@ -63,7 +64,7 @@ no_prefix gfm (body.FootnoteDefinition name) h = cc h
 no_prefix gfm other h = refl
 
 -- what a block takes of a line, and whether it is a cell, does not depend on the part that it refers to
-same_taken : (gfm : Bool) (b : ItemBody) (line : LineLeft) → past_block gfm (unnumbered b) line ≡ past_block gfm b line
+same_taken : (gfm : Bool) (b : ItemBody) (line : LineLeft) → past_part gfm (unnumbered b) line ≡ past_part gfm b line
 same_taken gfm (body.SynthesizeText ix) line = refl
 same_taken gfm (body.FencedCodeBlock ix) line = refl
 same_taken true (body.FootnoteDefinition ix) line = refl
@@ -99,12 +100,12 @@ same_left gfm nodes (ix ∷ deeper) line = by_block (is_block (item_at nodes ix)
     by_block : (is : Bool) → is_block (item_at nodes ix).body ≡ is
         → ((after : LineLeft) → past_blocks gfm (bodies_of (map (item_at nodes) deeper)) after
         ≡ past_blocks gfm (bodies_above nodes deeper)
-        after) → elim (past_block gfm (item_at nodes ix).body line) as (λ x. LineLeft)
+        after) → elim (past_part gfm (item_at nodes ix).body line) as (λ x. LineLeft)
         [ Some after ↦ past_blocks gfm (bodies_of (map (item_at nodes) deeper)) after | None ↦ line ]
         ≡ past_blocks gfm
         (with_block (if is then Some (unnumbered (item_at nodes ix).body) else None) (bodies_above nodes deeper)) line
     by_block true e later =
-        read (past_block gfm (item_at nodes ix).body line) later
+        read (past_part gfm (item_at nodes ix).body line) later
         ∙ sym (ap (λ (found : Option LineLeft). elim found as (λ x. LineLeft)
         [ Some after ↦ past_blocks gfm (bodies_above nodes deeper) after | None ↦ line ])
         (same_taken gfm (item_at nodes ix).body line))
@@ -130,9 +131,9 @@ same_contained gfm (item ∷ items) line =
         → ((after : LineLeft) → past_blocks gfm (bodies_of (containers_in gfm items)) after
         ≡ past_blocks gfm (bodies_of items) after)
         → past_blocks gfm (bodies_of (containers_in gfm (item ∷ items))) line
-        ≡ elim (past_block gfm item.body line) as (λ x. LineLeft)
+        ≡ elim (past_part gfm item.body line) as (λ x. LineLeft)
         [ Some after ↦ past_blocks gfm (bodies_of items) after | None ↦ line ]
-    by_prefix true e later = rw e (read (past_block gfm item.body line) later)
+    by_prefix true e later = rw e (read (past_part gfm item.body line) later)
     by_prefix false e later = rw (e, takes_nothing gfm item.body line e) (later line)
 
 -- the prefix that the containers of a spine give is that of all blocks above

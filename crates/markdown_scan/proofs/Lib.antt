@@ -6,6 +6,7 @@ pub mod LabelTextLemmas
 pub mod LabelWholeLemmas
 pub mod LineStartLemmas
 pub mod LineSpaceLemmas
+pub mod ContainerPartsLemmas
 pub mod BeginsWithLemmas
 pub mod EmailLemmas
 pub mod EntityLemmas

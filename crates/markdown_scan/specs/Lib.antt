@@ -7,6 +7,7 @@ pub mod Beginnings
 pub mod LineStart
 pub mod PastSpace
 pub mod LineView
+pub mod ContainerParts
 pub mod Autolink
 pub mod EmailAutolink
 pub mod Destination

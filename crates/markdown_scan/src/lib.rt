@@ -4,6 +4,7 @@
 pub mod ascii_kinds;
 pub mod autolink;
 mod backslash;
+pub mod container_parts;
 pub mod destination;
 pub mod email;
 pub mod entity;

@@ -67,6 +67,22 @@ impl<'t> LineStart<'t> {
         }
     }
 
+    /// Returns a reader in the middle of a line, of which `scanned` bytes were read and `rest` follows: `column` columns
+    /// after the last tab stop, with `owed` columns left of a tab of which only some were read.
+    pub fn resumed(rest: &'t [u8], scanned: usize, column: usize, owed: usize) -> LineStart<'t>
+        requires before_stop { column < 4 }
+        requires in_memory { scanned + length rest.now < 2 ^ 64 }
+        ensures { line_left result
+            ≡ record { scanned = scanned; owed = owed; column = column; bytes = rest.now } }
+    {
+        LineStart {
+            rest,
+            scanned,
+            owed,
+            column,
+        }
+    }
+
     /// Returns the number of bytes that were scanned.
     pub fn bytes_scanned(&self) -> usize
         ensures { result ≡ (line_left self.now).scanned }
@@ -79,6 +95,14 @@ impl<'t> LineStart<'t> {
         ensures { result ≡ (line_left self.now).owed }
     {
         self.owed
+    }
+
+    /// Returns the number of columns since the last tab stop, with all of a tab of which only some were read.
+    pub fn column(&self) -> usize
+        ensures value { result ≡ (line_left self.now).column }
+        ensures before_stop { result < 4 }
+    {
+        self.column
     }
 
     /// Returns whether a line feed, a carriage return or the end of the bytes comes next.

@@ -3,18 +3,21 @@ use Rattle.std.proofs.Common.{◌≡◌, ℕ, suc, ◌+◌, ◌-◌, ◌≤◌, 
 use Rattle.std.proofs.Common.{false, ◌==◌, ◌||◌, ◌&&◌}
 use Rattle.std.proofs.Common.{length, take, drop, get_or, refl, sym, ◌∙◌, ap, arith, append_assoc, length-append}
 use Rattle.std.proofs.Common.{drop-cons}
-use Rattle.std.specs.Prelude.{nat_lt, nat_le, IfSome, nat_eq, slice_index}
+use Rattle.std.specs.Prelude.{nat_lt, nat_le, IfSome, nat_eq, codes}
 use Rattle.std.specs.List.{list_all, list_any}
 use Rattle.std.specs.Char.{is_ascii}
 use Rattle.std.proofs.Math.Seq.{take-append_seam}
 use Rattle.std.proofs.lemmas.List.{drop_all}
 use Rattle.std.proofs.lemmas.List.Folds.{list_all-append}
+use Rattle.std.proofs.lemmas.Bool.{true≢false}
 use Rattle.std.proofs.lemmas.Bool.Decides.{nat_tests}
 use Rattle.markdown_base.specs.declared.item.ItemBody.{ItemBody}
 use Rattle.markdown_base.specs.declared.item.ItemBody.TheVariants as body
 use Rattle.markdown_scan.specs.LineStart.{LineLeft, space_width, column_after, space_from, leading_space, is_line_over}
-use Rattle.markdown_scan.specs.LineStart.{begins_marker, past_one_byte}
-use Rattle.markdown_spans.specs.ContainerPrefix.{past_marker_next, past_indent, past_block, past_blocks, prefix_length}
+use Rattle.markdown_scan.specs.Beginnings.{begins_with}
+use Rattle.markdown_scan.specs.ContainerParts.{past_indent, past_part, past_quote}
+use Rattle.markdown_scan.specs.LineStart.{past_one_byte}
+use Rattle.markdown_spans.specs.ContainerPrefix.{past_blocks, prefix_length}
 use Rattle.markdown_spans.specs.ContainerPrefix.{has_prefix}
 use Rattle.markdown_base.specs.declared.item.Item.{Item}
 use Rattle.markdown_spans.specs.PrefixView.{bodies_of, length_by}
@@ -89,26 +92,35 @@ space_past line n left past = cases (nat_le n left.owed) refl
 abbrev IfPast : List ℕ → Option LineLeft → Type 0
 IfPast line after = IfSome after (λ left. IsPast line left)
 
-marker_is_taken : (b : ℕ) → (b == 62) ≡ true → is_taken b ≡ true
-marker_is_taken b e = grind (arith, nat_tests)
+marker_is_taken : (b : ℕ) (bytes : List ℕ) → begins_with (codes ">") (b ∷ bytes) ≡ true → is_taken b ≡ true
+marker_is_taken b bytes e = grind (arith, nat_tests, e)
 
-byte_past : (line : List ℕ) (n : ℕ) (bytes : List ℕ) → (slice_index bytes 0 == 62) ≡ true → IsTakenPast line n bytes
+byte_past : (line : List ℕ) (n : ℕ) (bytes : List ℕ) → begins_with (codes ">") bytes ≡ true → IsTakenPast line n bytes
     → IsTakenPast line (n + 1) (drop 1 bytes)
-byte_past line n [] e past = cc
-byte_past line n (b ∷ bytes) e past = one_past line n b bytes (marker_is_taken b e) past
+byte_past line n [] e past = absurd (true≢false (sym e))
+byte_past line n (b ∷ bytes) e past = one_past line n b bytes (marker_is_taken b bytes e) past
 
 second_of : (a b : Bool) → (a && b) ≡ true → b ≡ true
 second_of true b e = e
 second_of false b e = cc
 
-marker_past : (line : List ℕ) (left : LineLeft) → IsPast line left → IfPast line (past_marker_next left)
-marker_past line left past = cases (begins_marker left) refl
+quote_past : (line : List ℕ) (left : LineLeft) → IsPast line left → IfPast line (past_quote left)
+quote_past line left past = cases (near && marked) refl
   where
-    cases : (begins : Bool) → begins_marker left ≡ begins → IfPast line (past_marker_next left)
+    after : LineLeft
+    after = (leading_space 4 left).after
+
+    near : Bool
+    near = nat_lt (leading_space 4 left).columns 4
+
+    marked : Bool
+    marked = begins_with (codes ">") after.bytes
+
+    cases : (there : Bool) → (near && marked) ≡ there → IfPast line (past_quote left)
     cases false e = rw e tt
     cases true e =
-        rw e (space_past line 1 (past_one_byte left)
-        (byte_past line left.scanned left.bytes (second_of (left.owed == 0) (slice_index left.bytes 0 == 62) e) past))
+        rw e (space_past line 1 (past_one_byte after)
+        (byte_past line after.scanned after.bytes (second_of near marked e) (space_past line 4 left past)))
 
 indent_past : (line : List ℕ) (n : ℕ) (left : LineLeft) → IsPast line left → IfPast line (past_indent n left)
 indent_past line n left past = cases
@@ -121,9 +133,8 @@ indent_past line n left past = cases
     cases false e = rw e tt
 
 block_past : (gfm : Bool) (line : List ℕ) (block : ItemBody) (left : LineLeft) → IsPast line left
-    → IfPast line (past_block gfm block left)
-block_past gfm line (body.BlockQuote kind) left past = marker_past line (leading_space 3 left).after
-    (space_past line 3 left past)
+    → IfPast line (past_part gfm block left)
+block_past gfm line (body.BlockQuote kind) left past = quote_past line left past
 block_past gfm line (body.ListItem indent) left past = indent_past line indent left past
 block_past gfm line (body.DefinitionListDefinition indent) left past = indent_past line indent left past
 block_past true line (body.FootnoteDefinition name) left past = indent_past line 4 left past
@@ -133,7 +144,7 @@ pub blocks_past : (gfm : Bool) (line : List ℕ) (blocks : List ItemBody) (left 
     → IsPast line (past_blocks gfm blocks left)
 blocks_past gfm line [] left past = past
 blocks_past gfm line (block ∷ inner) left past =
-    cases (past_block gfm block left) (block_past gfm line block left past)
+    cases (past_part gfm block left) (block_past gfm line block left past)
     (λ after h. blocks_past gfm line inner after h)
   where
     cases : (found : Option LineLeft) → IfPast line found → ((after : LineLeft) → IsPast line after
@@ -203,7 +214,7 @@ length_by_is_ascii prefix line = prefix_is_ascii prefix.gfm_footnotes (bodies_of
 
 -- a block that does not find its part ends the reading
 pub reading_stops : (gfm : Bool) (containers : List Item) (i : ℕ) (line : LineLeft) (d : Item) → i < length containers
-    → None ≡ past_block gfm (get_or containers i d).body line
+    → None ≡ past_part gfm (get_or containers i d).body line
     → past_blocks gfm (bodies_of (drop i containers)) line ≡ line
 reading_stops gfm containers i line d within none =
     rw (drop-cons containers i d within) (ap (λ (found : Option LineLeft). elim found
@@ -223,9 +234,9 @@ record TakesNoByte (line after : LineLeft) : Type 0 where
 ending_is_no_space : (b : ℕ) → ((b == 10) || (b == 13)) ≡ true → ((b == 32) ≡ false) × ((b == 9) ≡ false)
 ending_is_no_space b e = (grind (arith, nat_tests), grind (arith, nat_tests))
 
-ending_begins_no_marker : (bytes : List ℕ) → is_line_over bytes ≡ true → (slice_index bytes 0 == 62) ≡ false
+ending_begins_no_marker : (bytes : List ℕ) → is_line_over bytes ≡ true → begins_with (codes ">") bytes ≡ false
 ending_begins_no_marker [] e = refl
-ending_begins_no_marker (b ∷ bytes) e = grind (arith, nat_tests)
+ending_begins_no_marker (b ∷ bytes) e = grind (arith, nat_tests, e)
 
 second_true : (a : Bool) → (a || true) ≡ true
 second_true true = refl
@@ -267,11 +278,11 @@ second_false false = refl
 
 -- no block takes a byte of it
 no_byte_of_block : (gfm : Bool) (block : ItemBody) (line : LineLeft) → is_line_over line.bytes ≡ true
-    → IfSome (past_block gfm block line) (TakesNoByte line)
+    → IfSome (past_part gfm block line) (TakesNoByte line)
 no_byte_of_block gfm (body.BlockQuote kind) line e =
-    let spaces = no_byte_is_space 3 line e in
-    let none = ending_begins_no_marker (leading_space 3 line).after.bytes (rw spaces.bytes e) in
-    rw (none, second_false ((leading_space 3 line).after.owed == 0)) tt
+    let spaces = no_byte_is_space 4 line e in
+    let none = ending_begins_no_marker (leading_space 4 line).after.bytes (rw spaces.bytes e) in
+    rw (none, second_false (nat_lt (leading_space 4 line).columns 4)) tt
 no_byte_of_block gfm (body.ListItem indent) line e = no_byte_of_indent indent line e
 no_byte_of_block gfm (body.DefinitionListDefinition indent) line e = no_byte_of_indent indent line e
 no_byte_of_block true (body.FootnoteDefinition name) line e = no_byte_of_indent 4 line e
@@ -282,7 +293,7 @@ pub reading_ends_with_line : (gfm : Bool) (blocks : List ItemBody) (line : LineL
     → (past_blocks gfm blocks line).scanned ≡ line.scanned
 reading_ends_with_line gfm [] line e = refl
 reading_ends_with_line gfm (block ∷ inner) line e =
-    cases (past_block gfm block line) (no_byte_of_block gfm block line e)
+    cases (past_part gfm block line) (no_byte_of_block gfm block line e)
     (λ after same. reading_ends_with_line gfm inner after same)
   where
     cases : (found : Option LineLeft) → IfSome found (TakesNoByte line)
@@ -295,7 +306,7 @@ reading_ends_with_line gfm (block ∷ inner) line e =
 
 -- a block without a part takes nothing of a line
 pub takes_nothing : (gfm : Bool) (block : ItemBody) (line : LineLeft) → has_prefix gfm block ≡ false
-    → past_block gfm block line ≡ Some line
+    → past_part gfm block line ≡ Some line
 takes_nothing gfm (body.BlockQuote kind) line none = cc none
 takes_nothing gfm (body.ListItem indent) line none = cc none
 takes_nothing gfm (body.DefinitionListDefinition indent) line none = cc none

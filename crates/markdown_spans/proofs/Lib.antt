@@ -18,3 +18,4 @@ pub mod FindCodeLemmas
 pub mod MathOpeningLemmas
 pub mod FindMathLemmas
 pub mod VisitLemmas
+pub mod CutLinesLemmas

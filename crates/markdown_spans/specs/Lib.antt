@@ -6,6 +6,7 @@ pub mod Closers
 pub mod CloserSearches
 pub mod Finds
 pub mod VisitLaws
+pub mod CutLines
 -- facts about the representation
 pub mod ChainInArena
 pub mod ChainSearch

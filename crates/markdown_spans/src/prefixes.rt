@@ -1,14 +1,13 @@
 //! Container prefixes: the beginning of a line on which a chain continues that belongs to the blocks above the chain.
-ghost use Rattle.std.specs.Prelude.{◌≡◌, ◌≤◌, None, Some, if◌then◌else◌, length, take, IfSome, IsTrue};
+ghost use Rattle.std.specs.Prelude.{◌≡◌, ◌≤◌, length, take, IsTrue};
 ghost use Rattle.std.specs.List.{list_all};
 ghost use Rattle.std.specs.Char.{is_ascii};
 ghost use Rattle.markdown_base.specs.Syntax.{gfm_footnotes};
-ghost use Rattle.markdown_spans.specs.ContainerPrefix.{has_prefix, past_indent, past_marker_next, past_block};
-ghost use Rattle.markdown_scan.specs.LineView.{line_left};
-ghost use Rattle.markdown_scan.specs.LineStart.{leading_space};
+ghost use Rattle.markdown_spans.specs.ContainerPrefix.{has_prefix};
 
 use markdown_base::item::{Item, ItemBody};
 use markdown_document::chain_place::ChainPlace;
+use markdown_scan::container_parts::take_part;
 use markdown_scan::line_rule::LineRule;
 use markdown_scan::line_start::LineStart;
 
@@ -31,37 +30,6 @@ pub fn has_prefix(block: ItemBody, gfm_footnotes: bool) -> bool
         ItemBody::DefinitionListDefinition(_) => true,
         ItemBody::FootnoteDefinition(_) => gfm_footnotes,
         _ => false,
-    }
-}
-
-/// Reads at most 3 columns of space and a block quote marker, and returns whether there was a marker.
-fn take_quote(line: &mut LineStart<'_>) -> bool
-    ensures { (if result then Some (line_left line.new) else None)
-        ≡ past_marker_next (leading_space 3 (line_left line.old)).after }
-{
-    line.scan_space_upto(3);
-    line.scan_blockquote_marker()
-}
-
-/// Reads at most `indent` columns of space, and returns whether there were that many or the line ends after them.
-fn take_indent(line: &mut LineStart<'_>, indent: usize) -> bool
-    ensures { (if result then Some (line_left line.new) else None)
-        ≡ past_indent indent (line_left line.old) }
-{
-    line.scan_space_upto(indent) == indent || line.is_at_eol()
-}
-
-/// Reads a block's part of the prefix, and returns whether it was there.
-fn take_block(line: &mut LineStart<'_>, block: ItemBody, gfm_footnotes: bool) -> bool
-    ensures { (if result then Some (line_left line.new) else None)
-        ≡ past_block gfm_footnotes block (line_left line.old) }
-{
-    match block {
-        ItemBody::BlockQuote(_) => take_quote(line),
-        ItemBody::ListItem(indent) => take_indent(line, indent),
-        ItemBody::DefinitionListDefinition(indent) => take_indent(line, indent),
-        ItemBody::FootnoteDefinition(_) if gfm_footnotes => take_indent(line, 4),
-        _ => true,
     }
 }
 
@@ -93,7 +61,7 @@ impl<'t> ContainerPrefix<'t> {
             if line.is_at_eol() {
                 return scanned;
             }
-            if !take_block(&mut line, container.body, self.gfm_footnotes) {
+            if !take_part(&mut line, container.body, self.gfm_footnotes) {
                 return scanned;
             }
         }

@@ -16,12 +16,12 @@ returns-then-is_at_eol-clause-value c =
     (sym c.is_at_eol.ensures ∙ c.if-is_at_eol.true) in
     c.bytes_scanned-scanned.ensures ∙ sym (ap (λ (left : LineLeft). left.scanned) c.containers.invariant ∙ ends)
 
-pub returns-then-not-take_block-clause-value : goal.returns-then-not-take_block-clause-value
+pub returns-then-not-take_part-clause-value : goal.returns-then-not-take_part-clause-value
 unfolding length_by
-returns-then-not-take_block-clause-value c =
+returns-then-not-take_part-clause-value c =
     let prefix = c.args.self.now in
     let stops = reading_stops prefix.gfm_footnotes prefix.containers.now c.containers.container-index
-    (line_left c.containers.line) _ c.containers-test.true c.if-not-take_block.ensures in
+    (line_left c.containers.line) _ c.containers-test.true c.if-not-take_part.ensures.part in
     c.bytes_scanned-scanned.ensures ∙ ap (λ (left : LineLeft). left.scanned) (sym (c.containers.invariant ∙ stops))
 
 pub returns-clause-value : goal.returns-clause-value
@@ -40,13 +40,13 @@ pub returns-then-is_at_eol-clause-ascii : goal.returns-then-is_at_eol-clause-asc
 returns-then-is_at_eol-clause-ascii c =
     rw (returns-then-is_at_eol-clause-value c) (length_by_is_ascii c.args.self.now c.args.rest.now).ascii
 
-pub returns-then-not-take_block-clause-within : goal.returns-then-not-take_block-clause-within
-returns-then-not-take_block-clause-within c =
-    rw (returns-then-not-take_block-clause-value c) (length_by_is_ascii c.args.self.now c.args.rest.now).within
+pub returns-then-not-take_part-clause-within : goal.returns-then-not-take_part-clause-within
+returns-then-not-take_part-clause-within c =
+    rw (returns-then-not-take_part-clause-value c) (length_by_is_ascii c.args.self.now c.args.rest.now).within
 
-pub returns-then-not-take_block-clause-ascii : goal.returns-then-not-take_block-clause-ascii
-returns-then-not-take_block-clause-ascii c =
-    rw (returns-then-not-take_block-clause-value c) (length_by_is_ascii c.args.self.now c.args.rest.now).ascii
+pub returns-then-not-take_part-clause-ascii : goal.returns-then-not-take_part-clause-ascii
+returns-then-not-take_part-clause-ascii c =
+    rw (returns-then-not-take_part-clause-value c) (length_by_is_ascii c.args.self.now c.args.rest.now).ascii
 
 pub returns-clause-within : goal.returns-clause-within
 returns-clause-within c = rw (returns-clause-value c) (length_by_is_ascii c.args.self.now c.args.rest.now).within
