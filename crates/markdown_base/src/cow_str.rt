@@ -44,7 +44,7 @@ impl<'a> CowStr<'a> {
     }
 
     /// Returns an owned copy of a text, stored inline if it has at most 22 bytes, and otherwise on the heap.
-    fn owned<'b>(alloc: Global, text: &str) -> Result<CowStr<'b>, AllocError>
+    fn copy_of<'b>(alloc: Global, text: &str) -> Result<CowStr<'b>, AllocError>
         ensures text { IfOk result (λ made. text_of made ≡ text.now) }
         ensures owned { IfOk result (λ made. IsBorrowed made → ⊥) }
         ensures short { length text.now ≤ 22 → IsOk result }
@@ -63,7 +63,7 @@ impl<'a> CowStr<'a> {
         ensures short { (IsBoxed self.now → length (text_of self.now) ≤ 22) → IsOk result }
     {
         match self {
-            CowStr::Boxed(boxed) => CowStr::owned(alloc, boxed.as_str()),
+            CowStr::Boxed(boxed) => CowStr::copy_of(alloc, boxed.as_str()),
             CowStr::Borrowed(borrowed) => Ok(CowStr::Borrowed(borrowed)),
             CowStr::Inlined(inlined) => Ok(CowStr::Inlined(*inlined)),
         }
@@ -79,7 +79,7 @@ impl<'a> CowStr<'a> {
     {
         match self {
             CowStr::Boxed(boxed) => Ok(CowStr::Boxed(boxed)),
-            CowStr::Borrowed(borrowed) => CowStr::owned(alloc, borrowed),
+            CowStr::Borrowed(borrowed) => CowStr::copy_of(alloc, borrowed),
             CowStr::Inlined(inlined) => Ok(CowStr::Inlined(inlined)),
         }
     }

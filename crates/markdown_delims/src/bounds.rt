@@ -73,7 +73,7 @@ impl CharacterBounds {
         bounds
     }
 
-    fn lowered(self, len: usize) -> CharacterBounds
+    fn lower_to(self, len: usize) -> CharacterBounds
         ensures { result ≡ character_lowered len self }
     {
         CharacterBounds {
@@ -126,8 +126,8 @@ impl LowerBounds {
     pub fn lower(&mut self, len: usize)
         ensures { self.new ≡ lowered len self.old }
     {
-        self.star = self.star.lowered(len);
-        self.underscore = self.underscore.lowered(len);
+        self.star = self.star.lower_to(len);
+        self.underscore = self.underscore.lower_to(len);
         self.tilde = self.tilde.min(len);
         self.caret = self.caret.min(len);
     }

@@ -105,6 +105,6 @@ pub fn pair_chain(
     };
     let delimiters = quote_chain(tree, first);
     let done = pair_runs(tree, open_runs, marked, first, delimiters);
-    work.count_pairing(delimiters as u128, open_runs.examined());
+    work.count_pairing(delimiters as u128, open_runs.comparisons());
     done
 }

@@ -10,7 +10,7 @@ use markdown_base::item::{Item, ItemBody};
 use markdown_base::tree::Tree;
 
 /// Returns an item with the range from one node's item to another's.
-fn spanned(tree: &Tree<Item>, opener: usize, closer: usize, body: ItemBody) -> Item
+fn item_over(tree: &Tree<Item>, opener: usize, closer: usize, body: ItemBody) -> Item
     requires opener { opener < length tree.now.nodes }
     requires closer { closer < length tree.now.nodes }
     ensures { result
@@ -46,7 +46,7 @@ pub fn enclose(
     let mut inner = tree.next(opener.number + (opener.count - 1));
     'layers: while left > 2 {
         let root = opener.number + (opener.count - 2);
-        let item = spanned(
+        let item = item_over(
             tree,
             root,
             closer.number + 1,
@@ -62,13 +62,13 @@ pub fn enclose(
     if left == 2 {
         let root = opener.number + (opener.count - 2);
         let end = closer.number + 1;
-        let item = spanned(tree, root, end, extensions.layer_of_two(delimiter));
+        let item = item_over(tree, root, end, extensions.layer_of_two(delimiter));
         let rest = tree.next(end);
         put_node(tree, root, item, inner, rest);
         (root, rest)
     } else {
         let root = opener.number + (opener.count - 1);
-        let item = spanned(
+        let item = item_over(
             tree,
             root,
             closer.number,

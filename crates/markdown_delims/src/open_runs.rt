@@ -66,7 +66,7 @@ impl OpenRuns {
     }
 
     /// Returns the number of comparisons of open runs with closers since `new` or the last `clear`.
-    pub fn examined(&self) -> u128
+    pub fn comparisons(&self) -> u128
         ensures value { result ≡ self.now.examined }
         ensures within { self.now.examined ≤ self.now.potential }
     {

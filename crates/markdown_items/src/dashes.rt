@@ -48,12 +48,12 @@ impl Dashes {
         match (self.em, self.en) {
             (1, 0) => Ok(CowStr::from('—')),
             (0, 1) => Ok(CowStr::from('–')),
-            _ => Ok(shortest(self.joined(alloc)?)),
+            _ => Ok(shortest(self.into_string(alloc)?)),
         }
     }
 
     /// Returns the dashes as a string. Fails only if an allocation fails.
-    fn joined(self, alloc: Global) -> Result<String, AllocError>
+    fn into_string(self, alloc: Global) -> Result<String, AllocError>
         ensures { IfOk result (λ made. string_bytes made ≡ dashes_in_utf8 self) }
     {
         let mut text = "—".repeat(alloc, self.em)?;

@@ -102,7 +102,7 @@ fn append_entity(
           (synthesized_item builder.old.at stop (text_in_utf8 characters) ∷ []);
     }) }
 {
-    builder.synthesize(characters.inlined(), stop)
+    builder.synthesize(characters.into_inline(), stop)
 }
 
 /// Appends the dashes for the hyphens up to `stop`. Fails only if an allocation fails.

@@ -88,7 +88,7 @@ pub fn braces_at(text: &str, from: usize, stop: usize) -> Option<Braces>
 
 /// Returns an ATX heading with the attributes at the end of its line, whose content ends before `stop`, and with the
 /// content before them.
-pub fn attributed(text: &str, heading: AtxHeading, stop: usize) -> AtxHeading
+pub fn with_attributes(text: &str, heading: AtxHeading, stop: usize) -> AtxHeading
     ensures { result ≡ attributed (slice_range text.now heading.from stop) heading }
 {
     let content = bytes_of(text, heading.from, stop);

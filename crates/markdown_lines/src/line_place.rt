@@ -25,7 +25,7 @@ impl Position {
     pub fn reader<'t>(self, text: &'t str, stop: usize) -> LineStart<'t>
         ensures { line_left result ≡ left_from text.now self stop }
     {
-        LineStart::resumed(
+        LineStart::at_place(
             bytes_of(text, self.at, stop),
             self.at,
             self.column,

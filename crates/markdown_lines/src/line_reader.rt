@@ -17,7 +17,7 @@ use crate::atx_heading::{AtxHeading, atx_heading};
 use crate::block_start::{Before, Begun, BlockStart, ItemStart};
 use crate::bytes::{byte_or_zero, bytes_of, part_of, white_length};
 use crate::fence::opening_fence;
-use crate::heading_attributes::attributed;
+use crate::heading_attributes::with_attributes;
 use crate::html_kind::html_kind;
 use crate::line::Line;
 use crate::lines_ahead::LinesAhead;
@@ -164,7 +164,7 @@ impl<'a> LineReader<'a> {
         ensures same { ahead.new.text.now ≡ ahead.old.text.now }
     {
         let opening = if outermost {
-            ahead.opened(line, syntax)
+            ahead.opening(line, syntax)
         } else {
             None
         };
@@ -326,7 +326,7 @@ impl<'a> LineReader<'a> {
             ≡ line.whole_heading self.now.syntax (left_at self.now here) heading }
     {
         if self.syntax.attributes {
-            attributed(self.text, heading, self.stop)
+            with_attributes(self.text, heading, self.stop)
         } else {
             heading
         }

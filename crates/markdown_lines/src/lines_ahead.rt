@@ -112,7 +112,7 @@ impl<'a> LinesAhead<'a> {
     }
 
     /// Returns the metadata that a line opens where it is directly under the root.
-    pub fn opened(&mut self, line: Line, syntax: Syntax) -> Option<MetadataBlockKind>
+    pub fn opening(&mut self, line: Line, syntax: Syntax) -> Option<MetadataBlockKind>
         ensures value { result ≡ metadata_opened syntax self.old.text.now
             (slice_range self.old.text.now line.start line.stop) line.next }
         ensures same { self.new.text.now ≡ self.old.text.now }

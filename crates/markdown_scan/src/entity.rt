@@ -45,7 +45,7 @@ impl EntityText {
     ghost use Rattle.markdown_scan.specs.Entity.{text_in_utf8};
 
     /// Returns a copy of the characters that is stored inline.
-    pub fn inlined<'a>(self) -> CowStr<'a>
+    pub fn into_inline<'a>(self) -> CowStr<'a>
         requires { length (text_in_utf8 self) ≤ 22 }
         ensures text { text_of result ≡ text_in_utf8 self }
         ensures inlined { IsInlined result }

@@ -68,7 +68,7 @@ fn escapes_pipe(in_table: bool, c: char, next: &str) -> bool
 }
 
 // Returns an owned text: the given one and a character after it.
-fn joined(alloc: Global, text: &str, c: char) -> Result<String, AllocError>
+fn with_character(alloc: Global, text: &str, c: char) -> Result<String, AllocError>
     ensures { IfOk result (λ own. string_bytes own ≡ text.now ++ encode_utf8 c) }
 {
     let mut own = String::from_str(alloc, text)?;
@@ -121,7 +121,7 @@ impl<'t> LabelText<'t> {
             self.same += c.len_utf8();
             return Ok(());
         }
-        self.own = Some(joined(alloc, &self.source[..self.same], c)?);
+        self.own = Some(with_character(alloc, &self.source[..self.same], c)?);
         Ok(())
     }
 

@@ -69,7 +69,7 @@ impl<'t> LineStart<'t> {
 
     /// Returns a reader in the middle of a line, of which `scanned` bytes were read and `rest` follows: `column` columns
     /// after the last tab stop, with `owed` columns left of a tab of which only some were read.
-    pub fn resumed(rest: &'t [u8], scanned: usize, column: usize, owed: usize) -> LineStart<'t>
+    pub fn at_place(rest: &'t [u8], scanned: usize, column: usize, owed: usize) -> LineStart<'t>
         requires before_stop { column < 4 }
         requires in_memory { scanned + length rest.now < 2 ^ 64 }
         ensures { line_left result

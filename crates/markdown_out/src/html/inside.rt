@@ -18,14 +18,14 @@ use markdown_base::fault::Fault;
 use markdown_base::tag::TagEnd;
 
 /// Returns a text as three pieces, two of them empty. It is escaped for an attribute's value.
-fn escaped(text: &str) -> [Piece<'_>; 3]
+fn attribute_value(text: &str) -> [Piece<'_>; 3]
     ensures { spelled result ≡ attribute_escaped text.now }
 {
     [Piece::Raw(""), Piece::Raw(""), Piece::Attribute(text)]
 }
 
 /// Returns the pieces of math in an attribute's value, between two marks.
-fn marked<'x>(mark: &'x str, text: &'x str) -> [Piece<'x>; 3]
+fn between_marks<'x>(mark: &'x str, text: &'x str) -> [Piece<'x>; 3]
     ensures { spelled result ≡ joined (mark.now ∷ attribute_escaped text.now ∷ mark.now ∷ []) }
 {
     [Piece::Raw(mark), Piece::Attribute(text), Piece::Raw(mark)]
@@ -66,11 +66,11 @@ impl<'a> Writer<'a> {
         ensures { spelled result ≡ joined (alt_parts (view self.now) (event_view event.now)) }
     {
         match event {
-            Event::Text(text) => escaped(text.as_str()),
-            Event::Code(text) => escaped(text.as_str()),
-            Event::InlineHtml(text) => escaped(text.as_str()),
-            Event::InlineMath(text) => marked("$", text.as_str()),
-            Event::DisplayMath(text) => marked("$$", text.as_str()),
+            Event::Text(text) => attribute_value(text.as_str()),
+            Event::Code(text) => attribute_value(text.as_str()),
+            Event::InlineHtml(text) => attribute_value(text.as_str()),
+            Event::InlineMath(text) => between_marks("$", text.as_str()),
+            Event::DisplayMath(text) => between_marks("$$", text.as_str()),
             Event::Html(_) => alone(""),
             Event::SoftBreak | Event::HardBreak | Event::Rule => alone(" "),
             Event::TaskListMarker(true) => alone("[x]"),

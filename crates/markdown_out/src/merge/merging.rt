@@ -26,7 +26,7 @@ pub struct Merging<'a, I, P> {
 }
 
 /// Splits the item of an iterator's result into event and range.
-fn parted<'a, T: MergeItem<'a>>(answer: Option<Result<T, Fault>>) -> Option<Placed<'a, T::At>>
+fn split_item<'a, T: MergeItem<'a>>(answer: Option<Result<T, Fault>>) -> Option<Placed<'a, T::At>>
     ensures view { option_map placed_view result ≡ option_map (formed_view T.parts) answer }
     ensures count { answer_count result ≡ answer_count answer }
 {
@@ -68,7 +68,7 @@ fn advance<'a, T: MergeItem<'a>, I: Iterator<Item = Result<T, Fault>>>(
 {
     let mut held = held;
     'reading: loop {
-        let answer = parted(iter.next());
+        let answer = split_item(iter.next());
         let (step, next) = take_in(alloc, held, answer)?;
         held = next;
         match step {

@@ -136,10 +136,10 @@ returns c =
           c.requires.chain q.ensures.quotes q.ensures.count q.ensures.few c.of.result c.as_bytes.result.now
           c.clear.new.self done.new.openers (ap extensions_of same ∙ extensions) text found in
           let none : c.clear.new.self.examined ≡ 0 = ap (λ o. o.examined) c.clear.ensures in
-          let rises = risen_at_least c.examined.result
+          let rises = risen_at_least c.comparisons.result
           (finds_in (setting_of c.args.source.text.now rules)
           (trees_from c.args.source.text.now tables old.nodes (Some c.args.first)))
-          c.args.work.now.examined (omega (arith, all, none, c.examined.ensures.value)) in
+          c.args.work.now.examined (omega (arith, all, none, c.comparisons.ensures.value)) in
           rw c.count_pairing.ensures rises)
           done.ensures.found;
       examined =
@@ -148,8 +148,8 @@ returns c =
           extensions text done.ensures.paid in
           let none : c.clear.new.self.potential ≡ 0 = ap (λ o. o.potential) c.clear.ensures in
           record {
-            more = c.examined.result;
-            within = omega (arith, paid, none, c.examined.ensures.value, c.examined.ensures.within);
+            more = c.comparisons.result;
+            within = omega (arith, paid, none, c.comparisons.ensures.value, c.comparisons.ensures.within);
             counted = ap (λ (w : Work). w.examined) c.count_pairing.ensures;
           };
       counted = rw (

@@ -61,7 +61,7 @@ layers-preserved c =
     λ h g m e. layers_more _ _ _ _ c.put_node.new.tree _ _ _ _ _ (c.layers.invariant.layers h g m e)
     c.layer_of_two.result
     (layer_by c.layer_of_two.result (λ m. layer_of_two m c.args.opener.run.delimiter) _ _ m c.layer_of_two.ensures) _
-    refl c.layers-test.true (wrote_as _ _ _ _ _ _ _ _ _ c.put_node.ensures c.spanned-item.ensures refl refl) in
+    refl c.layers-test.true (wrote_as _ _ _ _ _ _ _ _ _ c.put_node.ensures c.item_over-item.ensures refl refl) in
     record {
       layers = more;
       some = omega arith;
@@ -75,7 +75,7 @@ returns-then-left-eq2 c h g m e =
     c.layer_of_two-then-left-eq2.result
     (layer_by c.layer_of_two-then-left-eq2.result (λ m. layer_of_two m c.args.opener.run.delimiter) _ _ m
     c.layer_of_two-then-left-eq2.ensures) _ _ _ refl refl c.if-left-eq2.true c.next-rest.ensures.value
-    (wrote_as _ _ _ _ _ _ _ _ _ c.put_node-then-left-eq2.ensures c.spanned-item-then-left-eq2.ensures refl refl)
+    (wrote_as _ _ _ _ _ _ _ _ _ c.put_node-then-left-eq2.ensures c.item_over-item-then-left-eq2.ensures refl refl)
 
 pub returns-else-left-eq2 : goal.returns-else-left-eq2
 returns-else-left-eq2 c h g m e =
@@ -83,4 +83,4 @@ returns-else-left-eq2 c h g m e =
     layers_one _ _ _ _ c.put_node-else-left-eq2.new.tree _ _ _ _ _ (c.layers.invariant.layers h g m e)
     c.layer_of_one.result (layer_by c.layer_of_one.result (λ m. layer_of_one m c.args.opener.run.delimiter) _ _ m
     c.layer_of_one.ensures) _ _ refl (omega (arith, c.layers.invariant.some)) c.next-rest-else-left-eq2.ensures.value
-    (wrote_as _ _ _ _ _ _ _ _ _ c.put_node-else-left-eq2.ensures c.spanned-item-else-left-eq2.ensures refl refl)
+    (wrote_as _ _ _ _ _ _ _ _ _ c.put_node-else-left-eq2.ensures c.item_over-item-else-left-eq2.ensures refl refl)

@@ -17,6 +17,6 @@ returns-then-self c =
     let place : at + (heading.from - at) ≡ heading.from = omega (arith, c.requires) in
     let content = sym (ap (λ n. slice_range reader.text.now n reader.stop) place)
     ∙ sym (rest_of_part reader.text.now at reader.stop (heading.from - at)) in
-    c.attributed.ensures
+    c.with_attributes.ensures
     ∙ (ap (λ (bytes : List ℕ). attributed bytes heading) content
     ∙ then_first reader.syntax.attributes _ heading c.if-self.true)

@@ -16,8 +16,8 @@ returns-in-Give-clause-passes g c =
     let steps = g.I.Iterator.next_gives in
     let after = c.in_ok-step.next in
     let more = merged-more through view steps c.reading.held c.in_ok-step.step after c.next.result
-    c.parted-answer.result
-    c.reading.invariant.merged c.next.ensures.steps c.parted-answer.ensures.view c.in_ok-step.ensures.takes in
+    c.split_item-answer.result
+    c.reading.invariant.merged c.next.ensures.steps c.split_item-answer.ensures.view c.in_ok-step.ensures.takes in
     let given : given_answers c.in_ok-step.step ≡ option_map view c.rebuilt.result ∷ [] =
     ap given_answers c.in-Give.is ∙ ap (λ x. x ∷ []) (sym c.rebuilt.ensures.view) in
     subst (λ given. IsMerged (boxed_through through) view steps (held_items c.args.held) c.args.iter.now given
@@ -33,8 +33,8 @@ reading-preserved g c =
     let after = c.in_ok-step.next in
     let can = c.reading.invariant.can_merge in
     let more = merged-more through view steps c.reading.held c.in_ok-step.step after c.next.result
-    c.parted-answer.result
-    c.reading.invariant.merged c.next.ensures.steps c.parted-answer.ensures.view c.in_ok-step.ensures.takes in
+    c.split_item-answer.result
+    c.reading.invariant.merged c.next.ensures.steps c.split_item-answer.ensures.view c.in_ok-step.ensures.takes in
     let given : given_answers c.in_ok-step.step ≡ [] = ap given_answers c.in-Again.is in
     record {
       merged = subst (λ given. IsMerged (boxed_through through) view steps
@@ -46,7 +46,7 @@ reading-preserved g c =
         arith,
         c.reading.invariant.fewer,
         c.in_ok-step.ensures.takes.counts,
-        c.parted-answer.ensures.count,
+        c.split_item-answer.ensures.count,
         fewer-after steps
             c.next.result can c.next.ensures.steps c.next.ensures.goes,
       );
@@ -62,7 +62,7 @@ reading-smaller g c =
     in
     let smaller : 2 * size (rest c.next.new.self) + held_count c.in_ok-step.next < 2 * size (rest c.reading.iter) +
     held_count c.reading.held
-    = omega (arith, again, takes.needs, takes.holds, takes.counts, c.parted-answer.ensures.count, fewer) in
+    = omega (arith, again, takes.needs, takes.holds, takes.counts, c.split_item-answer.ensures.count, fewer) in
     smaller
 
 pub returns-in-Give-clause-again : goal.returns-in-Give-clause-again
@@ -85,7 +85,7 @@ returns-in-Give-clause-less g c =
       given,
       takes.counts,
       c.rebuilt.ensures.count,
-      c.parted-answer.ensures.count,
+      c.split_item-answer.ensures.count,
       c.reading.invariant.fewer,
       fewer-after steps c.next.result c.reading.invariant.can_merge c.next.ensures.steps c.next.ensures.goes,
     )
@@ -96,4 +96,4 @@ returns-in_err-step-clause-stops g c =
     (reads-item g.I.Iterator.next_gives c.args.iter.now c.reading.iter c.next.new.self
     c.reading.invariant.merged.answers
     c.next.result c.reading.invariant.merged.read c.next.ensures.steps
-    (omega (arith, c.parted-answer.ensures.count, c.in_err-step.ensures.refused)))
+    (omega (arith, c.split_item-answer.ensures.count, c.in_err-step.ensures.refused)))

@@ -44,7 +44,7 @@ invariant_of-self-2-clause-differs c own is =
     let other = rw c.range_from.ensures.value at (c.begins_with.ensures.no c.if-begins_with.false) in
     let whole : same - 0 ≡ same = omega arith in
     let text : string_bytes own ≡ take same source ++ encode_utf8 c.args.c =
-    ap string_bytes (sym (same_Some c.in_ok-joined.field-0 own is))
-    ∙ rw (c.range.ensures.value, whole) at c.in_ok-joined.ensures in
+    ap string_bytes (sym (same_Some c.in_ok-with_character.field-0 own is))
+    ∙ rw (c.range.ensures.value, whole) at c.in_ok-with_character.ensures in
     subst (λ (bytes : List ℕ). IsNoBeginning bytes source) (sym text)
     (no_beginning source (encode_utf8 c.args.c) same other)

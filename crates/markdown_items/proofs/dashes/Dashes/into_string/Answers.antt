@@ -1,7 +1,7 @@
 -- The em dashes, and the en dashes after them.
 use Rattle.std.proofs.Common.{refl}
 use lib.Utf8.{encode}
-use Rattle.markdown_items.proofs.dashes.Dashes.joined.Goals as goal
+use Rattle.markdown_items.proofs.dashes.Dashes.into_string.Goals as goal
 
 pub returns : goal.returns
 unfolding encode
