@@ -360,8 +360,8 @@ module _ (s : Source) (l m : SourceLine) (below : Forest Block) (next : m.next �
       (with_rest s m below inner (past_indent indent m.left)) tt (rest_grows (past_indent indent m.left))
   container_grows (was.footnote_container label) =
       let part = past_footnote (not s.syntax.old_footnotes) m.left in
-      chosen (Grown s l false below) (is_blank_rest m && s.syntax.old_footnotes) None (with_rest s m below inner part) tt
-      (rest_grows part)
+      chosen (Grown s l false below) (is_blank_rest m && s.syntax.old_footnotes) None
+      (with_rest s m below inner part) tt (rest_grows part)
   container_grows other = tt
 
   block_grows : (top : Bool) → (top ≡ true → m ≡ l) → (b : Block)

@@ -242,8 +242,8 @@ abbrev pub next_item : Source → SourceLine → ListMarker → Option (Forest B
 next_item s l marker =
     if is_blank_rest l then Some (line_block s l) else another_item s l marker (begins s paragraph.Lazy l)
 
--- What is in a container, with one more line, where the container goes on in it. An item that is empty so far ends before
--- a blank line, and so does a footnote definition in the old style.
+-- What is in a container, with one more line, where the container goes on in it. An item that is empty so far ends
+-- before a blank line, and so does a footnote definition in the old style.
 abbrev pub container_with : Source → SourceLine → Forest Block → (SourceLine → Option (Forest Block)) → Kind
     → Option (Forest Block)
 container_with s l below inside quote_container = with_rest s l below inside (past_quote l.left)

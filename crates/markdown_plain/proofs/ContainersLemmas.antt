@@ -47,7 +47,8 @@ module _ (text : List ℕ) (stop : ℕ) where
   quote_up_to left is =
       let space = leading_space 4 left in
       let marker = past_one_byte space.after in
-      on_test (λ o. IfSome o (IsUpTo text stop)) (nat_lt space.columns 4 && begins_with (codes ">") space.after.bytes) _ _
+      on_test (λ o. IfSome o (IsUpTo text stop))
+      (nat_lt space.columns 4 && begins_with (codes ">") space.after.bytes) _ _
       (λ there. space_up_to 1 marker (next_up_to space.after.scanned space.after.bytes (space_up_to 4 left is)))
       (λ missing. tt)
 

@@ -1,5 +1,6 @@
 -- What a line makes of blocks of which some containers on the right edge are open: the outer ones go on in it, and what
 -- is left of it inside them goes on with the blocks in the innermost of these, begins an item, or begins other blocks.
+use Rattle.std.proofs.Common.{not}
 use Rattle.std.proofs.Common.{◌≡◌, ℕ, suc, Bool, true, false, ◌&&◌, List, [], ◌∷◌, ◌++◌, Option, Some, None, length}
 use Rattle.std.proofs.Common.{map, refl, sym, ap, ◌∙◌, subst, arith}
 use Rattle.std.proofs.lemmas.Bool.{true≢false}

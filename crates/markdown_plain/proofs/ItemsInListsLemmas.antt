@@ -236,8 +236,8 @@ module _ (s : Source) (m : SourceLine) (below : Forest Block) (inner : SourceLin
       (rest_placed are placed (past_indent indent m.left))
   container_placed (was.footnote_container label) are placed =
       let part = past_footnote (not s.syntax.old_footnotes) m.left in
-      chosen (AreItemsInLists false) (is_blank_rest m && s.syntax.old_footnotes) None (with_rest s m below inner part) tt
-      (rest_placed are placed part)
+      chosen (AreItemsInLists false) (is_blank_rest m && s.syntax.old_footnotes) None
+      (with_rest s m below inner part) tt (rest_placed are placed part)
   container_placed other are placed = tt
 
   block_placed : (in_list : Bool) (b : Block) → MayBeIn in_list b.kind → AreItemsInLists (is_list b.kind) below

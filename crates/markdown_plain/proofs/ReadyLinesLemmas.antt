@@ -37,7 +37,7 @@ use Rattle.markdown_builder.specs.TreeLevels.{followed_by}
 use Rattle.markdown_plain.specs.Paragraphs.{lines_end}
 use Rattle.markdown_plain.specs.ReachedLines.{Before, IsReachedBy, blocks_in, reached_of}
 use Rattle.markdown_plain.specs.Settled.{AreOpen, IsBodyOf}
-use Rattle.markdown_plain.proofs.BlankLinesLemmas.{indented_alike}
+use Rattle.markdown_plain.proofs.BlankLinesLemmas.{goes_on_in, indented_alike, note_alike}
 use Rattle.markdown_plain.proofs.BlanksKnownLemmas.{has_quote as quotes_in}
 use Rattle.markdown_plain.proofs.ClosableLemmas.{innermost_no_row, leaf_end_here, no_task, none_ahead, no_paragraph}
 use Rattle.markdown_plain.proofs.ClosableLemmas.{white_both}

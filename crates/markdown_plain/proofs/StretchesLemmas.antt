@@ -1,4 +1,5 @@
 -- Stretches of open blocks: where they begin, after a block is opened or closed, and that a line may go past one.
+use Rattle.std.proofs.Common.{◌||◌, None}
 use Rattle.std.proofs.Common.{◌≡◌, ℕ, zero, suc, ◌+◌, ◌-◌, ◌<◌, ◌≤◌, max, List, [], ◌∷◌, ◌++◌, Bool, true, false, ◌==◌}
 use Rattle.std.proofs.Common.{Some, length, take, drop, get_or, refl, sym, ap, ◌∙◌, subst, arith, nat_le}
 use Rattle.std.specs.Prelude.{not, if◌then◌else◌}
@@ -261,23 +262,21 @@ space_of_nothing (suc indent) scanned column =
 past_indent_nothing : (indent : ℕ) (left : LineLeft) → left.owed ≡ 0 → left.bytes ≡ []
     → past_indent indent left ≡ Some left
 past_indent_nothing indent left owed over =
-    let nothing : left ≡ record { scanned = left.scanned; owed = 0; column = left.column; bytes = [] } =
+    let nothing : left ≡ empty =
     ap (λ n. record left { owed = n }) owed ∙ ap (λ (b : List ℕ). record left { owed = 0; bytes = b }) over in
-    let space = leading_space indent (record { scanned = left.scanned; owed = 0; column = left.column; bytes = [] }) in
     subst (λ (l : LineLeft). past_indent indent l ≡ Some l) (sym nothing)
-    (over_after space left.scanned left.column (space_of_nothing indent left.scanned left.column))
+    (at_end (leading_space indent empty) (space_of_nothing indent left.scanned left.column))
   where
-    over_after : (space : Space) (scanned column : ℕ)
-        → space.after ≡ record { scanned = scanned; owed = 0; column = column; bytes = [] }
-        → (if (space.columns == indent) || is_line_over space.after.bytes then Some space.after else None)
-        ≡ Some (record { scanned = scanned; owed = 0; column = column; bytes = [] })
-    over_after space scanned column is = rw is (either_way (space.columns == indent))
-      where
-        either_way : (test : Bool)
-            → (if test || true then Some (record { scanned = scanned; owed = 0; column = column; bytes = [] }) else None)
-            ≡ Some (record { scanned = scanned; owed = 0; column = column; bytes = [] })
-        either_way true = refl
-        either_way false = refl
+    empty : LineLeft
+    empty = record { scanned = left.scanned; owed = 0; column = left.column; bytes = [] }
+
+    either_way : (test : Bool) → (if test || true then Some empty else None) ≡ Some empty
+    either_way true = refl
+    either_way false = refl
+
+    at_end : (space : Space) → space.after ≡ empty
+        → (if (space.columns == indent) || is_line_over space.after.bytes then Some space.after else None) ≡ Some empty
+    at_end space is = rw is (either_way (space.columns == indent))
 
 -- a block that takes nothing of a line continues, and leaves what is left
 past_nothing : (old blank : Bool) (block : ItemBody) (left : LineLeft) → TakesNothing blank left (taken_by old block)

@@ -27,8 +27,8 @@ abbrev pub LeftAt : List ℕ → ℕ → Option LineLeft → Option Position →
 LeftAt text stop left None = left ≡ None
 LeftAt text stop left (Some position) = left ≡ Some (left_from text position stop)
 
--- an open container ends before a line, blank or not: an item that is empty so far ends before a blank one, and so does a
--- footnote definition in the old style
+-- an open container ends before a line, blank or not: an item that is empty so far ends before a blank one, and so does
+-- a footnote definition in the old style
 abbrev pub ends_before : (old empty blank : Bool) → ItemBody → Bool
 ends_before old empty blank (body.ListItem indent) = blank && empty
 ends_before old empty blank (body.FootnoteDefinition ix) = blank && old

@@ -41,7 +41,8 @@ marker_is left none = rw none (by_bytes left.bytes)
     by_byte : (b : ℕ) (bytes : List ℕ) → begins_with (codes ">") (b ∷ bytes) ≡ (b == 62)
     by_byte b bytes = grind (arith, nat_tests)
 
-    by_bytes : (bytes : List ℕ) → begins_with (codes ">") bytes ≡ begins_marker (record left { owed = 0; bytes = bytes })
+    by_bytes : (bytes : List ℕ)
+        → begins_with (codes ">") bytes ≡ begins_marker (record left { owed = 0; bytes = bytes })
     by_bytes [] = refl
     by_bytes (b ∷ bytes) = by_byte b bytes
 

@@ -21,7 +21,8 @@ past_indent n left =
     let space = leading_space n left in
     if (space.columns == n) || is_line_over space.after.bytes then Some space.after else None
 
--- the rest of a line after a footnote definition's part: four columns of space in GitHub's style, nothing in the old one
+-- the rest of a line after a footnote definition's part: in GitHub's style four columns of space, in the old one
+-- nothing
 abbrev pub past_footnote : (gfm : Bool) → LineLeft → Option LineLeft
 past_footnote gfm left = if gfm then past_indent 4 left else Some left
 

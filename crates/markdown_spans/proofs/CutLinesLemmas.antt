@@ -1,6 +1,6 @@
 -- The container prefix of a line that is cut: what is read of a cut line is what is read of the line, up to the cut.
-use Rattle.std.proofs.Common.{◌≡◌, ℕ, zero, suc, ◌+◌, ◌-◌, ◌≤◌, ◌<◌, Bool, true, false, List, [], ◌∷◌, Option, Some, None}
-use Rattle.std.proofs.Common.{◌==◌, ◌&&◌, ◌||◌, length, take, drop, codes, refl, sym, ◌∙◌, ap, subst, arith, min}
+use Rattle.std.proofs.Common.{◌≡◌, ℕ, zero, suc, ◌+◌, ◌-◌, ◌≤◌, ◌<◌, Bool, true, false, List, [], ◌∷◌, Option, Some}
+use Rattle.std.proofs.Common.{None, ◌==◌, ◌&&◌, ◌||◌, length, take, drop, codes, refl, sym, ◌∙◌, ap, subst, arith, min}
 use Rattle.std.specs.Prelude.{nat_lt, nat_le, not, if◌then◌else◌, slice_range}
 use Rattle.std.specs.List.{list_all}
 use Rattle.std.proofs.Common.{length-drop}
@@ -15,7 +15,7 @@ use Rattle.markdown_scan.specs.ContainerParts.{past_indent, past_part, past_quot
 use Rattle.markdown_scan.specs.LineStart.{LineLeft, Space, column_after, is_line_over, leading_space, past_marker}
 use Rattle.markdown_scan.specs.LineStart.{past_one_byte, space_from, space_width, wider}
 use Rattle.markdown_spans.specs.ContainerPrefix.{past_blocks, prefix_length}
-use Rattle.markdown_spans.specs.CutLines.{CutLineKeepsPrefix, is_quote, is_white, lacks_space}
+use Rattle.markdown_spans.specs.CutLines.{CutLineKeepsPrefix, is_quote, is_indent, lacks_space}
 use Rattle.markdown_spans.proofs.ContainerPrefixLemmas.{reading_ends_with_line}
 
 -- what is left of a line that is cut after m bytes of it
@@ -121,7 +121,8 @@ space_from_cut (suc m) n scanned column (b ∷ bytes) =
         })
     cases false false e f later = rw (e, f) (record {
       count = 1 + later.count;
-      past = both_read _ next _ 1 later.count (record { scanned = refl; bytes = refl; within = omega arith }) later.past;
+      past = both_read _ next _ 1 later.count (record { scanned = refl; bytes = refl; within = omega arith })
+          later.past;
       same = λ low.
           let rest : suc m - (1 + later.count) ≡ m - later.count = omega arith in
           rw rest (ap (wider (space_width column b)) (later.same (omega (arith, low))));
@@ -147,24 +148,24 @@ space_cut m n left =
       column = later.column;
     })
 
--- Space with fewer columns than are asked for, which does not end with the line. Of the cut line, the space ends with it
--- if only white space is before the cut, and else has fewer columns too.
+-- Space with fewer columns than are asked for, which does not end with the line. Of the cut line, the space ends with
+-- it if only white space is before the cut, and else has fewer columns too.
 abbrev FewInCut : (white : Bool) → ℕ → (end : ℕ) → Space → Type 0
 FewInCut true n end found = (found.after.bytes ≡ []) × (found.after.scanned ≡ end)
 FewInCut false n end found = (found.columns < n) × (is_line_over found.after.bytes ≡ false)
 
-white_has_width : (column b : ℕ) → (space_width column b == 0) ≡ false → is_white b ≡ true
+white_has_width : (column b : ℕ) → (space_width column b == 0) ≡ false → is_indent b ≡ true
 white_has_width column b some = cases (b == 32) (b == 9) refl refl
   where
-    cases : (is_space is_tab : Bool) → (b == 32) ≡ is_space → (b == 9) ≡ is_tab → is_white b ≡ true
+    cases : (is_space is_tab : Bool) → (b == 32) ≡ is_space → (b == 9) ≡ is_tab → is_indent b ≡ true
     cases true t p q = rw p refl
     cases false true p q = rw (p, q) refl
     cases false false p q = let none : (space_width column b == 0) ≡ true = rw (p, q) refl in cc
 
-no_white_has_none : (column b : ℕ) → column < 4 → (space_width column b == 0) ≡ true → is_white b ≡ false
+no_white_has_none : (column b : ℕ) → column < 4 → (space_width column b == 0) ≡ true → is_indent b ≡ false
 no_white_has_none column b low none = cases (b == 32) (b == 9) refl refl
   where
-    cases : (is_space is_tab : Bool) → (b == 32) ≡ is_space → (b == 9) ≡ is_tab → is_white b ≡ false
+    cases : (is_space is_tab : Bool) → (b == 32) ≡ is_space → (b == 9) ≡ is_tab → is_indent b ≡ false
     cases true t p q = absurd (true≢false (sym none ∙ rw p refl))
     cases false true p q =
         let some : (4 - column == 0) ≡ false = grind (arith, nat_tests) in
@@ -173,7 +174,7 @@ no_white_has_none column b low none = cases (b == 32) (b == 9) refl refl
 
 few_from_cut : (m n scanned column : ℕ) (bytes : List ℕ) → column < 4 → (space_from n scanned column bytes).columns < n
     → is_line_over (space_from n scanned column bytes).after.bytes ≡ false
-    → FewInCut (list_all is_white (take m bytes)) n (scanned + length (take m bytes))
+    → FewInCut (list_all is_indent (take m bytes)) n (scanned + length (take m bytes))
     (space_from n scanned column (take m bytes))
 few_from_cut m n scanned column [] low few more = absurd (true≢false more)
 few_from_cut zero n scanned column (b ∷ bytes) low few more = (refl, omega arith)
@@ -194,9 +195,9 @@ few_from_cut (suc m) n scanned column (b ∷ bytes) low few more =
     cases : (zero_asked none part : Bool) → (n == 0) ≡ zero_asked → (space_width column b == 0) ≡ none
         → nat_lt n (space_width column b) ≡ part
         → (rest.columns < n - space_width column b → is_line_over rest.after.bytes ≡ false
-        → FewInCut (list_all is_white (take m bytes)) (n - space_width column b) (scanned + 1 + length (take m bytes))
+        → FewInCut (list_all is_indent (take m bytes)) (n - space_width column b) (scanned + 1 + length (take m bytes))
         (space_from (n - space_width column b) (scanned + 1) (column_after column b) (take m bytes)))
-        → FewInCut (is_white b && list_all is_white (take m bytes)) n (scanned + suc (length (take m bytes)))
+        → FewInCut (is_indent b && list_all is_indent (take m bytes)) n (scanned + suc (length (take m bytes)))
         (space_from n scanned column (b ∷ take m bytes))
     cases true none part e f g later =
         let no_column : n ≡ 0 = grind (arith, nat_tests, e) in
@@ -205,12 +206,12 @@ few_from_cut (suc m) n scanned column (b ∷ bytes) low few more =
         rw (e, f, no_white_has_none column b low f) (omega (arith, rw (e, f) at few), rw (e, f) at more)
     cases false false true e f g later = absurd (omega (arith, rw (e, f, g) at few))
     cases false false false e f g later =
-        rw (e, f, g, white_has_width column b f) (inside (list_all is_white (take m bytes))
+        rw (e, f, g, white_has_width column b f) (inside (list_all is_indent (take m bytes))
         (later (omega (arith, rw (e, f, g) at few)) (rw (e, f, g) at more)))
 
 few_in_cut : (m n : ℕ) (left : LineLeft) → left.column < 4 → (leading_space n left).columns < n
     → is_line_over (leading_space n left).after.bytes ≡ false
-    → FewInCut (list_all is_white (take m left.bytes)) n (left.scanned + length (take m left.bytes))
+    → FewInCut (list_all is_indent (take m left.bytes)) n (left.scanned + length (take m left.bytes))
     (leading_space n (cut m left))
 few_in_cut m n left low few more = cases (nat_le n left.owed) refl
   where
@@ -220,12 +221,12 @@ few_in_cut m n left low few more = cases (nat_le n left.owed) refl
     inside false found end owed is = (omega (arith, is.0, owed), is.1)
 
     cases : (owed : Bool) → nat_le n left.owed ≡ owed
-        → FewInCut (list_all is_white (take m left.bytes)) n (left.scanned + length (take m left.bytes))
+        → FewInCut (list_all is_indent (take m left.bytes)) n (left.scanned + length (take m left.bytes))
         (leading_space n (cut m left))
     cases true e = absurd (omega (arith, rw e at few))
     cases false e =
         let past : left.owed < n = grind (arith, nat_tests, e) in
-        rw e (inside (list_all is_white (take m left.bytes)) _ _ (omega (arith, past))
+        rw e (inside (list_all is_indent (take m left.bytes)) _ _ (omega (arith, past))
         (few_from_cut m (n - left.owed) left.scanned left.column left.bytes low
         (omega (arith, past, rw e at few)) (rw e at more)))
 
@@ -315,7 +316,7 @@ MissingInCut false end found = found ≡ None
 abbrev PartInCut : (quote : Bool) → ℕ → LineLeft → (whole found : Option LineLeft) → Type 0
 PartInCut quote m left (Some after) found = KeptInCut m left after found
 PartInCut quote m left None found =
-    MissingInCut (not quote && list_all is_white (take m left.bytes)) (left.scanned + length (take m left.bytes)) found
+    MissingInCut (not quote && list_all is_indent (take m left.bytes)) (left.scanned + length (take m left.bytes)) found
 
 nothing_taken : (m : ℕ) (left : LineLeft) → KeptInCut m left left (Some (cut m left))
 nothing_taken m left =
@@ -329,7 +330,8 @@ marker_in_cut : (m scanned owed column : ℕ) (bytes : List ℕ) → begins_with
     → KeptInCut m (record { scanned = scanned; owed = owed; column = column; bytes = bytes })
     (past_marker (record { scanned = scanned; owed = owed; column = column; bytes = bytes }))
     (if begins_with (codes ">") (take m bytes)
-    then Some (past_marker (record { scanned = scanned; owed = owed; column = column; bytes = take m bytes })) else None)
+    then Some (past_marker (record { scanned = scanned; owed = owed; column = column; bytes = take m bytes }))
+    else None)
 marker_in_cut m scanned owed column [] marked = absurd (true≢false (sym marked))
 marker_in_cut m scanned owed column (b ∷ bytes) marked = by_cut m
   where
@@ -403,7 +405,8 @@ quote_in_cut m left = cases (near && marked) refl
     none found off = by_test (nat_lt found.columns 4) refl
       where
         by_test : (test : Bool) → nat_lt found.columns 4 ≡ test
-            → (if test && begins_with (codes ">") found.after.bytes then Some (past_marker found.after) else None) ≡ None
+            → (if test && begins_with (codes ">") found.after.bytes then Some (past_marker found.after) else None)
+            ≡ None
         by_test true t =
             let few : found.columns < 4 = grind (arith, nat_tests, t) in
             rw (off few) refl
@@ -423,7 +426,8 @@ quote_in_cut m left = cases (near && marked) refl
           column = λ low. marker.column (first.column low);
         }
 
-    cases : (there : Bool) → (near && marked) ≡ there → PartInCut true m left (past_quote left) (past_quote (cut m left))
+    cases : (there : Bool) → (near && marked) ≡ there
+        → PartInCut true m left (past_quote left) (past_quote (cut m left))
     cases false e = rw e (none (leading_space 4 (cut m left)) (no_marker_in_cut m 4 left (lacks e)))
     cases true e = rw e (kept (first_of near marked e) (second_of near marked e))
 
@@ -440,7 +444,7 @@ indent_in_cut m n left low = cases ((space.columns == n) || is_line_over space.a
     space = leading_space n left
 
     white : Bool
-    white = list_all is_white (take m left.bytes)
+    white = list_all is_indent (take m left.bytes)
 
     end : ℕ
     end = left.scanned + length (take m left.bytes)
@@ -510,14 +514,15 @@ blocks_grow gfm (block ∷ inner) left low =
   where
     cases : (whole found : Option LineLeft) → PartInCut (is_quote block) 0 left whole found
         → ((after : LineLeft) → after.column < 4 → after.scanned ≤ (past_blocks gfm inner after).scanned)
-        → left.scanned ≤ (elim whole as (λ x. LineLeft) [ Some after ↦ past_blocks gfm inner after | None ↦ left ]).scanned
+        → left.scanned
+        ≤ (elim whole as (λ x. LineLeft) [ Some after ↦ past_blocks gfm inner after | None ↦ left ]).scanned
     cases None found part later = omega arith
     cases (Some after) found part later = omega (arith, part.past.scanned, later after (part.column low))
 
 -- the end of the prefix of a line that is cut after m bytes, where that of the line is p
 abbrev end_in_cut : ℕ → LineLeft → (lacks : Bool) → (p : ℕ) → ℕ
 end_in_cut m left lacks p =
-    if lacks && list_all is_white (take (left.scanned + m - p) (drop (p - left.scanned) left.bytes))
+    if lacks && list_all is_indent (take (left.scanned + m - p) (drop (p - left.scanned) left.bytes))
     then left.scanned + length (take m left.bytes) else p
 
 -- it is the same from what is left after some bytes
@@ -551,7 +556,8 @@ blocks_in_cut gfm (block ∷ inner) m left low fits =
     cases (past_part gfm block left) (past_part gfm block (cut m left)) (part_in_cut gfm block m left low) fits
     (λ after k next few. blocks_in_cut gfm inner k after next few)
   where
-    missing : (test : Bool) (found : Option LineLeft) → MissingInCut test (left.scanned + length (take m left.bytes)) found
+    missing : (test : Bool) (found : Option LineLeft)
+        → MissingInCut test (left.scanned + length (take m left.bytes)) found
         → (elim found as (λ x. LineLeft) [ Some after ↦ past_blocks gfm inner after | None ↦ cut m left ]).scanned
         ≡ (if test then left.scanned + length (take m left.bytes) else left.scanned)
     missing true found is =
@@ -571,7 +577,7 @@ blocks_in_cut gfm (block ∷ inner) m left low fits =
     cases None found part fits later =
         let all : left.scanned + m - left.scanned ≡ m = omega arith in
         let none : left.scanned - left.scanned ≡ 0 = omega arith in
-        rw (all, none) (missing (not (is_quote block) && list_all is_white (take m left.bytes)) found part)
+        rw (all, none) (missing (not (is_quote block) && list_all is_indent (take m left.bytes)) found part)
     cases (Some after) found part fits later =
         let next = part.column low in
         let grown = blocks_grow gfm inner after next in

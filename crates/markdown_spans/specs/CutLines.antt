@@ -10,8 +10,8 @@ use Rattle.markdown_scan.specs.LineStart.{LineLeft}
 use Rattle.markdown_spans.specs.ContainerPrefix.{prefix_length}
 
 -- a space or a tab
-abbrev pub is_white : ℕ → Bool
-is_white b = (b == space) || (b == tab)
+abbrev pub is_indent : ℕ → Bool
+is_indent b = (b == space) || (b == tab)
 
 -- the body is that of a block quote
 abbrev pub is_quote : ItemBody → Bool
@@ -31,5 +31,5 @@ CutLineKeepsPrefix = (gfm : Bool) (blocks : List ItemBody) (line : List ℕ) (cu
     → prefix_length gfm blocks line ≤ cut
     → prefix_length gfm blocks (take cut line)
     ≡ (if lacks_space gfm blocks (record { scanned = 0; owed = 0; column = 0; bytes = line })
-    && list_all is_white (slice_range line (prefix_length gfm blocks line) cut) then length (take cut line)
+    && list_all is_indent (slice_range line (prefix_length gfm blocks line) cut) then length (take cut line)
     else prefix_length gfm blocks line)

@@ -29,8 +29,8 @@ returns-then-begins_with-clause-text c =
     ∙ sym c.len_utf8.ensures.value)
     ∙ ap (λ own. own_or own (take same source) ++ encode_utf8 c.args.c) (sym c.in_default.is)
 
-pub returns-in_err-joined-clause-differs : goal.returns-in_err-joined-clause-differs
-returns-in_err-joined-clause-differs c =
+pub returns-in_err-with_character-clause-differs : goal.returns-in_err-with_character-clause-differs
+returns-in_err-with_character-clause-differs c =
     let source = c.args.self.now.source.now in
     let same = c.args.self.now.same in
     let other = rw c.range_from.ensures.value at (c.begins_with.ensures.no c.if-begins_with.false) in
