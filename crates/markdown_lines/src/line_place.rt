@@ -25,11 +25,6 @@ impl Position {
     pub fn reader<'t>(self, text: &'t str, stop: usize) -> LineStart<'t>
         ensures { line_left result ≡ left_from text.now self stop }
     {
-        LineStart::at_place(
-            bytes_of(text, self.at, stop),
-            self.at,
-            self.column,
-            self.owed,
-        )
+        LineStart::at_place(bytes_of(text, 0, stop), self.at, self.column, self.owed)
     }
 }

@@ -1,5 +1,5 @@
 //! The beginning of a line, measured in columns (CommonMark 2.2).
-ghost use Rattle.std.specs.Prelude.{◌≡◌, ◌≤◌, ◌<◌, ◌==◌, ◌+◌, ◌^◌, length, min, if◌then◌else◌, slice_index, IsTrue};
+ghost use Rattle.std.specs.Prelude.{◌≡◌, ◌≤◌, ◌<◌, ◌==◌, drop, min, if◌then◌else◌};
 ghost use Rattle.markdown_scan.specs.LineStart as spec;
 ghost use Rattle.markdown_scan.specs.PastSpace.{past_space};
 
@@ -7,12 +7,11 @@ ghost use Rattle.markdown_scan.specs.PastSpace.{past_space};
 /// some of its columns are read, the others come next.
 #[derive(Drop)]
 pub struct LineStart<'t> {
-    rest: &'t [u8],
+    line: &'t [u8],
     scanned: usize,
     owed: usize,
     column: usize,
     ghost before_stop: { column < 4 },
-    ghost in_memory: { scanned + length rest.now < 2 ^ 64 },
 }
 
 // Returns the columns of a space or a tab, and 0 for any other byte.
@@ -60,23 +59,26 @@ impl<'t> LineStart<'t> {
             ≡ record { scanned = 0; owed = 0; column = 0; bytes = bytes.now } }
     {
         LineStart {
-            rest: bytes,
+            line: bytes,
             scanned: 0,
             owed: 0,
             column: 0,
         }
     }
 
-    /// Returns a reader in the middle of a line, of which `scanned` bytes were read and `rest` follows: `column` columns
-    /// after the last tab stop, with `owed` columns left of a tab of which only some were read.
-    pub fn at_place(rest: &'t [u8], scanned: usize, column: usize, owed: usize) -> LineStart<'t>
-        requires before_stop { column < 4 }
-        requires in_memory { scanned + length rest.now < 2 ^ 64 }
-        ensures { line_left result
-            ≡ record { scanned = scanned; owed = owed; column = column; bytes = rest.now } }
+    /// Returns a reader in the middle of a line, after `scanned` bytes of these: `column` columns after the last tab stop,
+    /// with `owed` columns left of a tab of which only some were read.
+    pub fn at_place(bytes: &'t [u8], scanned: usize, column: usize, owed: usize) -> LineStart<'t>
+        requires { column < 4 }
+        ensures { line_left result ≡ record {
+          scanned = scanned;
+          owed = owed;
+          column = column;
+          bytes = drop scanned bytes.now;
+        } }
     {
         LineStart {
-            rest,
+            line: bytes,
             scanned,
             owed,
             column,
@@ -109,7 +111,7 @@ impl<'t> LineStart<'t> {
     pub fn is_at_eol(&self) -> bool
         ensures { result ≡ spec.is_line_over (line_left self.now).bytes }
     {
-        match self.rest.first() {
+        match self.line.get(self.scanned) {
             None => true,
             Some(byte) => *byte == b'\n' || *byte == b'\r',
         }
@@ -123,7 +125,7 @@ impl<'t> LineStart<'t> {
         ensures columns { result ≡ min most (width_next (line_left self.old)) }
         ensures left { line_left self.new ≡ past_white most (line_left self.old) }
     {
-        let Some((first, tail)) = self.rest.split_first() else {
+        let Some(first) = self.line.get(self.scanned) else {
             return 0;
         };
         let width = space_width(self.column, *first);
@@ -134,7 +136,6 @@ impl<'t> LineStart<'t> {
         self.scanned += 1;
         self.owed = width - columns;
         self.column = column_after(self.column, *first);
-        self.rest = tail;
         columns
     }
 
@@ -175,7 +176,7 @@ impl<'t> LineStart<'t> {
         ensures { line_left result ≡ line_left self.now }
     {
         LineStart {
-            rest: self.rest,
+            line: self.line,
             scanned: self.scanned,
             owed: self.owed,
             column: self.column,
@@ -197,9 +198,8 @@ impl<'t> LineStart<'t> {
         ensures left { line_left self.new ≡ (if result then spec.past_marker (line_left self.old)
             else line_left self.old) }
     {
-        match self.rest.split_first() {
-            Some((b'>', tail)) if self.owed == 0 => {
-                self.rest = tail;
+        match self.line.get(self.scanned) {
+            Some(b'>') if self.owed == 0 => {
                 self.scanned += 1;
                 self.column = next_column(self.column);
                 self.scan_space_upto(1);

@@ -11,4 +11,4 @@ invariant-loop l = record {
 }
 
 abbrev pub decreases-loop : goal.decreases-loop
-decreases-loop l = length l.self.rest.now
+decreases-loop l = length (line_left l.self).bytes
