@@ -109,7 +109,7 @@ extern "C" {
 #define MARKDOWN_SMART (1 << 5)
 
 /** Attributes of headings, `# a {#id .class name=value}`; not in the port's profile. They may have any name, even
- * `onclick`. Safe HTML has none of them.
+ * `onclick`. Safe HTML has the id alone, after `user-content-`.
  */
 #define MARKDOWN_HEADING_ATTRIBUTES (1 << 6)
 
@@ -162,8 +162,9 @@ int64_t markdown_to_html(const uint8_t *text, size_t text_length, uint32_t optio
 /** Renders an untrusted `text` as safe HTML.
  *
  * Raw HTML is shown as text. A destination is empty unless its scheme is `http`, `https`, `mailto` or `tel`, or it has
- * no scheme. The ids of footnotes begin with `user-content-`. Put the HTML into a `div` of a page that is declared to
- * be in UTF-8, and not into a link or a paragraph. Images are loaded from where the text says.
+ * no scheme. The ids of headings and footnotes begin with `user-content-`, and a link to `#x` leads to
+ * `#user-content-x`. Put the HTML into a `div` of a page that is declared to be in UTF-8, and not into a link or a
+ * paragraph. Images are loaded from where the text says.
  *
  * Results and errors are those of `markdown_to_html`.
  */

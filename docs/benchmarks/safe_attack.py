@@ -23,10 +23,10 @@ except ImportError:
 ATTRIBUTES = {
     "a": {"href", "title"}, "img": {"src", "alt", "title"}, "code": {"class"}, "ol": {"start"}, "th": {"style"},
     "td": {"style"}, "sup": {"class"}, "div": {"class", "id"}, "span": {"class"}, "blockquote": {"class"},
-    "input": {"disabled", "type", "checked"},
+    "input": {"disabled", "type", "checked"}, **{f"h{level}": {"id"} for level in range(1, 7)},
 }
 VOID = {"img", "br", "hr", "input"}
-TAGS = VOID | set(ATTRIBUTES) | set("p h1 h2 h3 h4 h5 h6 pre ul li dl dt dd table thead tbody tr em strong del sub".split())
+TAGS = VOID | set(ATTRIBUTES) | set("p pre ul li dl dt dd table thead tbody tr em strong del sub".split())
 CLASSES = {"footnote-reference", "footnote-definition", "footnote-definition-label", "math math-inline", "math math-display"}
 CLASSES |= {f"markdown-alert-{kind}" for kind in ("note", "tip", "important", "warning", "caution")}
 VALUE = r'(?:[^&<>"]|&(?:amp|lt|gt|quot|#x27);)*'

@@ -59,7 +59,7 @@ fn events_made_by_hand(rt: HostRuntime) -> Result<(), Fail> {
         &[
             (
                 &[Sign::FullHeading, Sign::InlineHtml("<svg onload=x>")],
-                "<h2>&lt;svg onload=x&gt;",
+                "<h2 id=\"user-content-i\">&lt;svg onload=x&gt;",
             ),
             (
                 QUOTED_TABLE,

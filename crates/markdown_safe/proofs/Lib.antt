@@ -3,6 +3,7 @@ pub mod SafeHtmlLemmas
 pub mod SafeTagsLemmas
 pub mod SafeEventsLemmas
 pub mod UrlLemmas
+pub mod TargetLemmas
 pub mod TagStartsLemmas
 pub mod HtmlTreeLemmas
 pub mod NestedEventsLemmas

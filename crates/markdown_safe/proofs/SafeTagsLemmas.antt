@@ -1,12 +1,13 @@
 -- What safe events write outside images is safe, with what its tags do: tag by tag.
-use Rattle.std.proofs.Common.{◌≡◌, ◌++◌, ◌==◌, ◌+◌, ℕ, zero, suc, Bool, true, false, not, List, [], ◌∷◌, map}
+use Rattle.std.proofs.Common.{◌≡◌, ◌++◌, ◌==◌, ◌&&◌, ◌+◌, ℕ, zero, suc, Bool, true, false, not, List, [], ◌∷◌, map}
 use Rattle.std.proofs.Common.{refl, sym, ap, ◌∙◌, append_assoc, append-nil, codes, Option, Some, None}
 use Rattle.std.proofs.Common.{if◌then◌else◌, take, arith}
 use Rattle.std.specs.List.{flat_map, list_all, prefix_len, position_or_len}
 use Rattle.std.specs.Char.{is_ascii_whitespace}
 use Rattle.std.specs.Fmt.{decimal}
+use Rattle.std.specs.Option.{option_map}
 use Rattle.std.proofs.lemmas.Bool.{and_parts}
-use Rattle.markdown_base.specs.Bytes.{space}
+use Rattle.markdown_base.specs.Bytes.{number_sign, space}
 use Rattle.markdown_base.specs.Event as event
 use Rattle.markdown_base.specs.Event.{EventView, TagView, start, end, text, code, inline_math, display_math, html}
 use Rattle.markdown_base.specs.Event.{inline_html, footnote_reference, soft_break, hard_break, rule, task_list_marker}
@@ -32,7 +33,8 @@ use Rattle.markdown_safe.specs.SafeUrl.{is_safe_url}
 use Rattle.markdown_safe.specs.SafeHtml.{by_itself, character_bytes, Attribute, HtmlPiece, character}
 use Rattle.markdown_safe.specs.SafeHtml.{start_tag, end_tag, bytes_of_piece, is_safe_piece}
 use Rattle.markdown_safe.specs.SafeHtml.{is_safe_class, tag_bytes, void_tag}
-use Rattle.markdown_safe.specs.SafeEvents.{safe_destination, safe_name, safe_info, safe_tag, safe_event}
+use Rattle.markdown_safe.specs.SafeEvents.{is_name, safe_destination, safe_name, safe_target, safe_info}
+use Rattle.markdown_safe.specs.SafeEvents.{safe_tag, safe_event}
 use Rattle.markdown_safe.proofs.SafeHtmlLemmas.{of_pieces, both, text_safe, attribute_safe, IsValue, value-append}
 use Rattle.markdown_safe.proofs.SafeHtmlLemmas.{value-empty, value-escaped, value-plain, digits_plain, decimal_digits}
 use Rattle.markdown_safe.proofs.SafeHtmlLemmas.{plain_safe, destination-escaped, destination-safe, Turn, opens, closes}
@@ -235,45 +237,84 @@ url_value destination = by_test (is_safe_url destination) refl
     }
     by_test false e = record { read = []; value = value-empty; url = refl }
 
+-- so is the destination of a link
+target_value : (destination : List ℕ) → IsUrlValue (destination_escaped (safe_target destination))
+target_value [] = url_value []
+target_value (b ∷ name) = by_test (b == number_sign && is_name name)
+  where
+    by_test : (t : Bool)
+        → IsUrlValue (destination_escaped (if t then codes "#" ++ safe_name name else safe_destination (b ∷ name)))
+    by_test true = let d = destination-escaped (codes "#" ++ safe_name name) in record {
+      read = d.read;
+      value = d.value;
+      url = destination-safe (destination_escaped (codes "#" ++ safe_name name)) (codes "#" ++ safe_name name) d refl;
+    }
+    by_test false = url_value (b ∷ name)
+
 link_value : (kind : LinkType) (destination : List ℕ)
-    → IsUrlValue (link_scheme kind ++ destination_escaped (safe_destination destination))
+    → IsUrlValue (link_scheme kind ++ destination_escaped (safe_target destination))
 link_value kinds.Email destination =
-    let u = url_value destination in record {
+    let u = target_value destination in record {
       read = codes "mailto:" ++ u.read;
-      value = value-append (codes "mailto:") (destination_escaped (safe_destination destination)) (codes "mailto:")
+      value = value-append (codes "mailto:") (destination_escaped (safe_target destination)) (codes "mailto:")
           u.read
           (value-plain (codes "mailto:") refl) u.value;
       url = refl;
     }
-link_value kind destination = url_value destination
+link_value kind destination = target_value destination
 
 -- a link's Start
 link_safe : (kind : LinkType) (destination title : List ℕ)
-    → IsMarkup (joined (link_parts kind (safe_destination destination) title)) (opens (codes "a") ∷ [])
+    → IsMarkup (joined (link_parts kind (safe_target destination) title)) (opens (codes "a") ∷ [])
 link_safe kind destination [] =
     let u = link_value kind destination in
-    rw (← append_assoc (link_scheme kind) (destination_escaped (safe_destination destination)) (codes "\">"))
+    rw (← append_assoc (link_scheme kind) (destination_escaped (safe_target destination)) (codes "\">"))
     (one (codes "a") (codes "href") _ u.read [] u.value (rw (u.value.safe, u.value.means, u.url) refl)
     (of_pieces [] refl))
 link_safe kind destination (b ∷ title) =
     let u = link_value kind destination in
     let t = value-escaped (b ∷ title) in
-    rw (← append_assoc (link_scheme kind) (destination_escaped (safe_destination destination))
+    rw (← append_assoc (link_scheme kind) (destination_escaped (safe_target destination))
     (codes "\" title=\"" ++ (attribute_escaped (b ∷ title) ++ codes "\">")))
     (two (start_tag (codes "a")) (codes "a") (codes "href") (codes "title") (codes ">") _ u.read _ (b ∷ title) []
     u.value t
     (λ given. refl) (rw (u.value.safe, u.value.means, u.url, t.safe) refl) (of_pieces [] refl))
 
+-- a start tag with an id alone
+with_id : (name id : List ℕ)
+    → is_safe_piece (start_tag name (with_value (codes "id") (value-escaped (safe_name id)) ∷ [])) ≡ true
+    → IsMarkup (codes "<" ++ (name ++ ((codes " id=\"" ++ (attribute_escaped (safe_name id) ++ codes "\""))
+    ++ codes ">"))) (opens name ∷ [])
+with_id name id safe =
+    rw (append_assoc (attribute_escaped (safe_name id)) (codes "\"") (codes ">"))
+    (one name (codes "id") _ (safe_name id) [] (value-escaped (safe_name id)) safe (of_pieces [] refl))
+
 -- a heading's Start
-heading_safe : (fresh : Bool) (l : HeadingLevel)
-    → IsMarkup (joined (heading_parts fresh (record { level = l; id = None; classes = []; attributes = [] })))
-    (opens (level_name l) ∷ [])
-heading_safe fresh level.H1 = line fresh (codes "<h1>") (of_pieces (bare (codes "h1") ∷ []) refl)
-heading_safe fresh level.H2 = line fresh (codes "<h2>") (of_pieces (bare (codes "h2") ∷ []) refl)
-heading_safe fresh level.H3 = line fresh (codes "<h3>") (of_pieces (bare (codes "h3") ∷ []) refl)
-heading_safe fresh level.H4 = line fresh (codes "<h4>") (of_pieces (bare (codes "h4") ∷ []) refl)
-heading_safe fresh level.H5 = line fresh (codes "<h5>") (of_pieces (bare (codes "h5") ∷ []) refl)
-heading_safe fresh level.H6 = line fresh (codes "<h6>") (of_pieces (bare (codes "h6") ∷ []) refl)
+heading_safe : (fresh : Bool) (l : HeadingLevel) (id : Option (List ℕ))
+    → IsMarkup (joined (heading_parts fresh (record {
+      level = l;
+      id = option_map safe_name id;
+      classes = [];
+      attributes = [];
+    }))) (opens (level_name l) ∷ [])
+heading_safe fresh level.H1 None = line fresh (codes "<h1>") (of_pieces (bare (codes "h1") ∷ []) refl)
+heading_safe fresh level.H1 (Some id) = let v = value-escaped (safe_name id) in
+    line fresh _ (with_id (codes "h1") id (rw (v.safe, v.means) refl))
+heading_safe fresh level.H2 None = line fresh (codes "<h2>") (of_pieces (bare (codes "h2") ∷ []) refl)
+heading_safe fresh level.H2 (Some id) = let v = value-escaped (safe_name id) in
+    line fresh _ (with_id (codes "h2") id (rw (v.safe, v.means) refl))
+heading_safe fresh level.H3 None = line fresh (codes "<h3>") (of_pieces (bare (codes "h3") ∷ []) refl)
+heading_safe fresh level.H3 (Some id) = let v = value-escaped (safe_name id) in
+    line fresh _ (with_id (codes "h3") id (rw (v.safe, v.means) refl))
+heading_safe fresh level.H4 None = line fresh (codes "<h4>") (of_pieces (bare (codes "h4") ∷ []) refl)
+heading_safe fresh level.H4 (Some id) = let v = value-escaped (safe_name id) in
+    line fresh _ (with_id (codes "h4") id (rw (v.safe, v.means) refl))
+heading_safe fresh level.H5 None = line fresh (codes "<h5>") (of_pieces (bare (codes "h5") ∷ []) refl)
+heading_safe fresh level.H5 (Some id) = let v = value-escaped (safe_name id) in
+    line fresh _ (with_id (codes "h5") id (rw (v.safe, v.means) refl))
+heading_safe fresh level.H6 None = line fresh (codes "<h6>") (of_pieces (bare (codes "h6") ∷ []) refl)
+heading_safe fresh level.H6 (Some id) = let v = value-escaped (safe_name id) in
+    line fresh _ (with_id (codes "h6") id (rw (v.safe, v.means) refl))
 
 heading_end_safe : (l : HeadingLevel)
     → IsMarkup (joined (codes "</h" ∷ level_digit l ∷ codes ">\n" ∷ [])) (closes (level_name l) ∷ [])
@@ -418,7 +459,7 @@ StartIsSafe past tag = IsMarkup (joined (start_parts past (safe_tag tag))) (star
 
 pub start_safe : (past : Past) (tag : TagView) → StartIsSafe past tag
 start_safe past event.paragraph = line past.fresh (codes "<p>") (of_pieces (bare (codes "p") ∷ []) refl)
-start_safe past (event.heading h) = heading_safe past.fresh h.level
+start_safe past (event.heading h) = heading_safe past.fresh h.level h.id
 start_safe past (event.block_quote kind) = line past.fresh _ (quote_safe kind)
 start_safe past event.indented_code = code_block_safe past.fresh [] refl
 start_safe past (event.fenced_code info) =

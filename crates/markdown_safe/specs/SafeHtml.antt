@@ -84,9 +84,10 @@ is_safe_attribute a = list_all is_in_value a.value
 -- each tag of an element that ends with an end tag: its name, and the attributes that it may have
 abbrev pub element_rules : List (List ℕ × List (List ℕ))
 element_rules =
-    (codes "p", []) ∷ (codes "h1", []) ∷ (codes "h2", []) ∷ (codes "h3", []) ∷ (codes "h4", []) ∷ (codes "h5", [])
-    ∷ (codes "h6", []) ∷ (codes "blockquote", codes "class" ∷ []) ∷ (codes "pre", [])
-    ∷ (codes "code", codes "class" ∷ []) ∷ (codes "ul", []) ∷ (codes "ol", codes "start" ∷ []) ∷ (codes "li", [])
+    (codes "p", []) ∷ (codes "h1", codes "id" ∷ []) ∷ (codes "h2", codes "id" ∷ []) ∷ (codes "h3", codes "id" ∷ [])
+    ∷ (codes "h4", codes "id" ∷ []) ∷ (codes "h5", codes "id" ∷ []) ∷ (codes "h6", codes "id" ∷ [])
+    ∷ (codes "blockquote", codes "class" ∷ []) ∷ (codes "pre", []) ∷ (codes "code", codes "class" ∷ [])
+    ∷ (codes "ul", []) ∷ (codes "ol", codes "start" ∷ []) ∷ (codes "li", [])
     ∷ (codes "dl", []) ∷ (codes "dt", []) ∷ (codes "dd", []) ∷ (codes "table", []) ∷ (codes "thead", [])
     ∷ (codes "tbody", []) ∷ (codes "tr", []) ∷ (codes "th", codes "style" ∷ []) ∷ (codes "td", codes "style" ∷ [])
     ∷ (codes "em", []) ∷ (codes "strong", []) ∷ (codes "del", []) ∷ (codes "sup", codes "class" ∷ [])

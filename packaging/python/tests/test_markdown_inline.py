@@ -30,7 +30,8 @@ class Html(unittest.TestCase):
         self.assertEqual(markdown_inline.html("> [!NOTE]\n> a\n", ["gfm"]), alert)
         self.assertEqual(markdown_inline.html("---\na: b\n---\nc\n", ["yaml"]), "<p>c</p>\n")
         heading = "# a {#b onclick=c}\n"
-        self.assertEqual(markdown_inline.html(heading, ["heading-attributes"]), "<h1>a</h1>\n")
+        safe = '<h1 id="user-content-b">a</h1>\n'
+        self.assertEqual(markdown_inline.html(heading, ["heading-attributes"]), safe)
         trusted = markdown_inline.html(heading, ["heading-attributes"], safe=False)
         self.assertEqual(trusted, '<h1 id="b" onclick="c">a</h1>\n')
 

@@ -66,7 +66,7 @@ impl Extensions {
     /// Alerts: block quotes that begin with `[!NOTE]`, or another of five kinds.
     pub const GFM: Extensions = Extensions(sys::MARKDOWN_GFM);
     /// Attributes of headings: `# a {#id .class name=value}`. Names are the author's, `onclick` too, but in safe HTML, which
-    /// has none of them.
+    /// has the id alone, after `user-content-`.
     pub const HEADING_ATTRIBUTES: Extensions = Extensions(sys::MARKDOWN_HEADING_ATTRIBUTES);
     /// Metadata between `---` lines; HTML shows none of it.
     pub const YAML: Extensions = Extensions(sys::MARKDOWN_YAML);
