@@ -1,5 +1,4 @@
--- Lemmas of outlines: on the entries so far, on what is read, on merges, and on the trees of block results.
-pub mod OutlineSoFarLemmas
+-- Lemmas of outlines: on what is read, on merges, and on the trees of block results.
 pub mod OutlineReadLemmas
 pub mod MergedOutlineLemmas
 pub mod DrainedOutlineLemmas

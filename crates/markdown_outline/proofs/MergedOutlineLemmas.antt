@@ -5,14 +5,14 @@ use Rattle.std.proofs.Common.{refl, sym, ap, subst, ◌∙◌, append_assoc, app
 use Rattle.std.specs.Prelude.{is_some}
 use Rattle.std.specs.List.{flat_map}
 use Rattle.std.specs.declared.ops.Range.{Range}
-use Rattle.markdown_base.specs.Event.{EventView, text}
+use Rattle.markdown_base.specs.Event.{EventView, HeadingView, text}
 use Rattle.markdown_out.specs.Merge.{Item, PlacedText, text_item, text_of_item, Run, alone, texts, before_runs, runs}
 use Rattle.markdown_out.specs.Merge.{last_text}
 use Rattle.markdown_out.specs.Merge.{unless_empty, run_items, merged}
 use Rattle.markdown_out.specs.EventRanges.{through_ranges}
 use Rattle.markdown_out.proofs.MergeLawsLemmas.{IsText, text_or_none}
-use Rattle.markdown_outline.specs.Outline.{Ranged, EntryView, opened_level, ends_heading, text_added, joined_text}
-use Rattle.markdown_outline.specs.Outline.{up_to_end}
+use Rattle.markdown_outline.specs.Outline.{Ranged, EntryView, heading_entry, opened_heading, ends_heading, text_added}
+use Rattle.markdown_outline.specs.Outline.{joined_text, up_to_end}
 use Rattle.markdown_outline.specs.Outline.{opened_entry, entries_from, entries_of}
 use Rattle.markdown_outline.specs.OutlineLaws.{MergingKeepsOutline, merge_items}
 
@@ -45,17 +45,16 @@ same-cons e xs ys same = record { text = by_end (ends_heading e.0); entries = by
     by_end true = refl
     by_end false = ap (λ (t : List ℕ). text_added e.0 ++ t) same.text
 
-    by_level : (o : Option ℕ) → opened_entry o e.1 xs ++ entries_from (is_some o) xs
+    by_heading : (o : Option HeadingView) → opened_entry o e.1 xs ++ entries_from (is_some o) xs
         ≡ opened_entry o e.1 ys ++ entries_from (is_some o) ys
-    by_level None = same.entries false
-    by_level (Some l) =
-        ap (λ (t : List ℕ). record { level = l; text = t; range = e.1 } ∷ entries_from true xs) same.text
-        ∙ ap (λ (es : List EntryView). record { level = l; text = text_before_end ys; range = e.1 } ∷ es)
-        (same.entries true)
+    by_heading None = same.entries false
+    by_heading (Some h) =
+        ap (λ (t : List ℕ). heading_entry h t e.1 ∷ entries_from true xs) same.text
+        ∙ ap (λ (es : List EntryView). heading_entry h (text_before_end ys) e.1 ∷ es) (same.entries true)
 
     by_place : (inside : Bool) → entries_from inside (e ∷ xs) ≡ entries_from inside (e ∷ ys)
     by_place true = same.entries (not (ends_heading e.0))
-    by_place false = by_level (opened_level e.0)
+    by_place false = by_heading (opened_heading e.0)
 
 -- a Text with its range, as an event
 abbrev text_event : PlacedText R → Ranged

@@ -2,7 +2,6 @@
 use Rattle.std.proofs.Common.{◌≡◌, ◌<◌, ◌+◌, ℕ, false, List, [], ◌∷◌, ◌++◌, Ok, Err, Result, Option, Some, None, length}
 use Rattle.std.proofs.Common.{map}
 use Rattle.std.proofs.Common.{refl, sym, ap, subst, ◌∙◌, append_assoc, append-nil}
-use Rattle.std.specs.Prelude.{IsSome}
 use Rattle.std.specs.Iterator.{Yields}
 use Rattle.std.specs.declared.ops.Range.{Range}
 use Rattle.std.proofs.lemmas.List.{map-append}
@@ -12,8 +11,7 @@ use Rattle.markdown_base.specs.declared.fault.Fault.{Fault}
 use Rattle.markdown_outline.specs.Outline.{Ranged, EntryView, entries_from}
 use Rattle.markdown_outline.specs.OutlineRead.{ranged_view, entries_of_events, event_items, IsOutlineOfAll, MeetsError}
 use Rattle.markdown_outline.specs.OutlineRead.{NeedsMemory}
-use Rattle.markdown_outline.specs.OutlineSoFar.{EntriesView, all_entries}
-use Rattle.markdown_outline.proofs.OutlineSoFarLemmas.{open-has_entry}
+use Rattle.markdown_outline.specs.OutlineSoFar.{EntriesView, HasEntry, all_entries}
 
 abbrev Placed : Type 0
 Placed = Event × Range ℕ
@@ -77,12 +75,12 @@ module _ {S : Type 0} (steps : S → Option (Result Placed Fault) → S → Type
         (Yields-more steps it yielded s item u y step);
   }
 
-  -- an allocation was refused at an event inside a heading
+  -- an allocation was refused at an event that is in a heading, or begins one
   pub NeedsMemory-event : (it s u : S) {state : EntriesView} {yielded : List (Result Placed Fault)}
       {item : Result Placed Fault}
       (e : Placed) → Yields steps it yielded s → steps s (Some item) u → item ≡ Ok e → TookIn state yielded
-      → IsSome state.open_entry → NeedsMemory steps it
-  NeedsMemory-event it s u {state} {yielded} {item} e y step is t inside = record {
+      → HasEntry state (ranged_view e ∷ []) → NeedsMemory steps it
+  NeedsMemory-event it s u {state} {yielded} {item} e y step is t has = record {
     events = t.events ++ e ∷ [];
     left = u;
     read = subst (λ (ys : List (Result Placed Fault)). Yields steps it ys u)
@@ -90,8 +88,7 @@ module _ {S : Type 0} (steps : S → Option (Result Placed Fault) → S → Type
         (Yields-more steps it yielded s item u y step);
     has_entry = subst (λ (es : List EntryView). 0 < length es)
         (sym (ap (λ (es : List Ranged). entries_from false es)
-        (map-append ranged_view t.events (e ∷ [])) ∙ t.makes (ranged_view e ∷ [])))
-        (open-has_entry state inside (ranged_view e ∷ []));
+        (map-append ranged_view t.events (e ∷ [])) ∙ t.makes (ranged_view e ∷ []))) has;
   }
 
   -- the entries of the events read
@@ -103,12 +100,12 @@ module _ {S : Type 0} (steps : S → Option (Result Placed Fault) → S → Type
   -- an allocation was refused at the end, where a heading has no End
   pub NeedsMemory-end : (it s : S) {state : EntriesView} {yielded : List (Result Placed Fault)}
       → Yields steps it yielded s
-      → TookIn state yielded → IsSome state.open_entry → NeedsMemory steps it
-  NeedsMemory-end it s {state} y t inside = record {
+      → TookIn state yielded → HasEntry state [] → NeedsMemory steps it
+  NeedsMemory-end it s {state} y t has = record {
     events = t.events;
     left = s;
     read = subst (λ (ys : List (Result Placed Fault)). Yields steps it ys s) t.read y;
-    has_entry = subst (λ (es : List EntryView). 0 < length es) (sym (all-read t)) (open-has_entry state inside []);
+    has_entry = subst (λ (es : List EntryView). 0 < length es) (sym (all-read t)) has;
   }
 
   -- all events were read

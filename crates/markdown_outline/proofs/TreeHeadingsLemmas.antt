@@ -26,14 +26,14 @@ use Rattle.markdown_inline.specs.ResolvedDocument.{Resolving, no_trees, resolved
 use Rattle.markdown_inline.specs.ResolvedDocument.{resolved_document, resolved_tree}
 use Rattle.markdown_inline.specs.ResolvedShapes.{IsMadeShape, IsMadeTag}
 use Rattle.markdown_inline.proofs.ResolvedShapesLemmas.{shapes-law}
-use Rattle.markdown_outline.specs.Outline.{tag_level}
-use Rattle.markdown_outline.specs.TreeOutline.{HeadingsApart, HeadingsOfTextsApart, tree_level}
+use Rattle.markdown_outline.specs.Outline.{tag_heading}
+use Rattle.markdown_outline.specs.TreeOutline.{HeadingsApart, HeadingsOfTextsApart, tree_heading}
 use Rattle.markdown_outline.proofs.TreeOutlineLemmas.{not_heading, NoHeading, reads_below, Apart, AllApart}
 
 -- ---- what chains become
 
 -- what is made is no heading
-made_tag : (tag : TagView) → IsMadeTag tag → not (is_some (tag_level tag)) ≡ true
+made_tag : (tag : TagView) → IsMadeTag tag → not (is_some (tag_heading tag)) ≡ true
 made_tag (heading h) m = absurd m
 made_tag other m = refl
 

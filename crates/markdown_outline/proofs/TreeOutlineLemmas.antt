@@ -5,21 +5,21 @@ use Rattle.std.proofs.Common.{append_assoc, append-nil}
 use Rattle.std.specs.Prelude.{IsTrue, is_some, not, if◌then◌else◌}
 use Rattle.std.specs.declared.ops.Range.{Range}
 use Rattle.std.proofs.lemmas.List.{map-append}
-use Rattle.markdown_base.specs.Event.{EventView, start, end, tag_end, TagView, heading}
+use Rattle.markdown_base.specs.Event.{EventView, HeadingView, start, end, tag_end, TagView, heading}
 use Rattle.markdown_base.specs.Forest.{Forest, nil, node, Throughout, Each}
 use Rattle.markdown_document.specs.Document.{Origin, Shape, leaf, enclosed, plain, backslash_break, unresolved}
 use Rattle.markdown_document.specs.Document.{TreeNode}
 use Rattle.markdown_inline.specs.Balanced.{ranged}
 use Rattle.markdown_inline.specs.Elements.{Placed}
 use Rattle.markdown_inline.specs.TreeReading.{GivesBoth, IsLone, events_in, tree_events}
-use Rattle.markdown_outline.specs.Outline.{Ranged, EntryView, tag_level, opened_level, is_heading, ends_heading}
+use Rattle.markdown_outline.specs.Outline.{Ranged, EntryView, tag_heading, opened_heading, is_heading, ends_heading}
 use Rattle.markdown_outline.specs.Outline.{joined_text}
 use Rattle.markdown_outline.specs.Outline.{up_to_end, opened_entry, entries_from, entries_of}
-use Rattle.markdown_outline.specs.TreeOutline.{tree_level, own_entry, tree_entries}
+use Rattle.markdown_outline.specs.TreeOutline.{tree_heading, own_entry, tree_entries}
 
 -- a tree is no heading
 abbrev pub not_heading : Shape → Bool
-not_heading shape = not (is_some (tree_level shape))
+not_heading shape = not (is_some (tree_heading shape))
 
 -- none of these trees is a heading, at any depth
 abbrev pub NoHeading : {A : Type 0} → Forest (TreeNode A) → Type 0
@@ -43,17 +43,17 @@ AllApart {A} f = Throughout (λ (a : TreeNode A) (below after : Forest (TreeNode
 abbrev pub AllGiveBoth : {A : Type 0} → Forest (TreeNode A) → Type 0
 AllGiveBoth {A} f = Each (λ (a : TreeNode A). GivesBoth a.part.shape) f
 
--- a tag without a level is not a heading
-no_level : (o : Option ℕ) → not (is_some o) ≡ true → o ≡ None
-no_level None h = refl
-no_level (Some l) h = cc h
+-- what is not a heading is none
+none_there : (o : Option HeadingView) → not (is_some o) ≡ true → o ≡ None
+none_there None h = refl
+none_there (Some l) h = cc h
 
 -- the End of a heading ends one, and no other End does
-ends_one : (tag : TagView) (l : ℕ) → tag_level tag ≡ Some l → is_heading (tag_end tag) ≡ true
+ends_one : (tag : TagView) (l : HeadingView) → tag_heading tag ≡ Some l → is_heading (tag_end tag) ≡ true
 ends_one (heading h) l e = refl
 ends_one other l e = cc e
 
-ends_none : (tag : TagView) → tag_level tag ≡ None → is_heading (tag_end tag) ≡ false
+ends_none : (tag : TagView) → tag_heading tag ≡ None → is_heading (tag_end tag) ≡ false
 ends_none (heading h) e = cc e
 ends_none other e = refl
 
@@ -63,7 +63,7 @@ lone_ends_none (start tag) h = absurd h
 lone_ends_none (end tag) h = absurd h
 lone_ends_none other h = refl
 
-lone_opens_none : (e : EventView) → IsLone e → opened_level e ≡ None
+lone_opens_none : (e : EventView) → IsLone e → opened_heading e ≡ None
 lone_opens_none (start tag) h = absurd h
 lone_opens_none (end tag) h = absurd h
 lone_opens_none other h = refl
@@ -88,7 +88,7 @@ tree_stays : (shape : Shape) (range : Range ℕ) (inside after : List Placed) �
 tree_stays (leaf e origins) range inside after n g i l rest = rw (lone_ends_none e g, l rest) refl
 tree_stays (enclosed tag origins) range inside after n g i l rest =
     let close : Placed = (end (tag_end tag), range, []) in
-    let none = ends_none tag (no_level (tag_level tag) n) in
+    let none = ends_none tag (none_there (tag_heading tag) n) in
     let goes_on : up_to_end ((end (tag_end tag), range) ∷ (ranged after ++ rest))
     ≡ (end (tag_end tag), range) ∷ (ranged after ++ up_to_end rest) = rw (none, l rest) refl in
     ap (λ (es : List Ranged). (start tag, range) ∷ es)
@@ -107,7 +107,7 @@ tree_silent : (shape : Shape) (range : Range ℕ) (inside after : List Placed) �
 tree_silent (leaf e origins) range inside after n g i l rest = rw (entries_from, lone_ends_none e g) (l rest)
 tree_silent (enclosed tag origins) range inside after n g i l rest =
     let close : Placed = (end (tag_end tag), range, []) in
-    let none = ends_none tag (no_level (tag_level tag) n) in
+    let none = ends_none tag (none_there (tag_heading tag) n) in
     let goes_on : entries_from true ((end (tag_end tag), range) ∷ (ranged after ++ rest))
     ≡ entries_from true rest = rw (entries_from, none) (l rest) in
     ap (entries_from true) (parted inside (close ∷ after) rest)
@@ -135,7 +135,7 @@ trees_silent (node a below after) n g rest =
 no_entries : {A : Type 0} (f : Forest (TreeNode A)) → NoHeading f → tree_entries f ≡ []
 no_entries nil n = refl
 no_entries (node a below after) n =
-    rw (no_level (tree_level a.part.shape) n.0, no_entries below n.1, no_entries after n.2) refl
+    rw (none_there (tree_heading a.part.shape) n.0, no_entries below n.1, no_entries after n.2) refl
 
 -- outside of headings these events have these entries
 abbrev Have : List Placed → List EntryView → Type 0
@@ -148,10 +148,10 @@ record BelowHas {A : Type 0} (below : Forest (TreeNode A)) : Type 0 where
   stays : NoHeading below → Stays (events_in below)
   silent : NoHeading below → Silent (events_in below)
 
--- a Start and an End with what is between them, by the level of the heading that they are, if they are one
-enclosed_has : {A : Type 0} (tag : TagView) (origins : List Origin) (o : Option ℕ) (range : Range ℕ)
+-- a Start and an End with what is between them, by the heading that they are, if they are one
+enclosed_has : {A : Type 0} (tag : TagView) (origins : List Origin) (o : Option HeadingView) (range : Range ℕ)
     (below : Forest (TreeNode A)) (after : List Placed)
-    (others : List EntryView) → tag_level tag ≡ o → (is_some o ≡ true → NoHeading below) → BelowHas below
+    (others : List EntryView) → tag_heading tag ≡ o → (is_some o ≡ true → NoHeading below) → BelowHas below
     → Have after others
     → Have (tree_events (enclosed tag origins) range (events_in below) after)
     (own_entry o range below ++ (tree_entries below ++ others))
@@ -164,10 +164,10 @@ enclosed_has tag origins None range below after others t n b l rest =
     ∙ ap (λ (es : List EntryView). tree_entries below ++ es) (l rest)
     ∙ sym (append_assoc (tree_entries below) others (entries_from false rest)) in
     rw t outside
-enclosed_has tag origins (Some level) range below after others t n b l rest =
+enclosed_has tag origins (Some h) range below after others t n b l rest =
     let close : Placed = (end (tag_end tag), range, []) in
     let later : List Ranged = ranged after ++ rest in
-    let one = ends_one tag level t in
+    let one = ends_one tag h t in
     let stops : up_to_end ((end (tag_end tag), range) ∷ later) ≡ [] = rw one refl in
     let leaves : entries_from true ((end (tag_end tag), range) ∷ later)
     ≡ entries_from false later = rw (entries_from, one) refl in
@@ -188,11 +188,11 @@ tree_has : {A : Type 0} (shape : Shape) (range : Range ℕ) (below : Forest (Tre
     → BelowHas below
     → Have after others
     → Have (tree_events shape range (events_in below) after)
-    (own_entry (tree_level shape) range below ++ (tree_entries below ++ others))
+    (own_entry (tree_heading shape) range below ++ (tree_entries below ++ others))
 tree_has (leaf e origins) range below after others g n u b l rest = rw (lone_opens_none e g, no_entries below (u refl))
     (l rest)
 tree_has (enclosed tag origins) range below after others g n u b l rest =
-    enclosed_has tag origins (tag_level tag) range below after others refl (λ h. n (rw h refl)) b l rest
+    enclosed_has tag origins (tag_heading tag) range below after others refl (λ h. n (rw h refl)) b l rest
 tree_has plain range below after others g n u b l rest =
     ap (entries_from false) (parted (events_in below) after rest) ∙ b.entries (ranged after ++ rest)
     ∙ ap (λ (es : List EntryView). tree_entries below ++ es) (l rest)

@@ -1,12 +1,14 @@
--- The outline of a list of events with their ranges: an entry for each heading, with its level, its text and its range.
+-- The outline of a list of events with their ranges: an entry for each heading, with its level, its text, its range and
+-- its id.
 use Rattle.std.specs.Prelude.{ℕ, Bool, true, false, not, if◌then◌else◌, List, [], ◌∷◌, ◌++◌, codes, Option, Some, None}
 use Rattle.std.specs.Prelude.{is_some}
 use Rattle.std.specs.List.{flat_map}
+use Rattle.std.specs.Option.{option_map}
 use Rattle.std.specs.String.{string_bytes}
 use Rattle.std.specs.declared.ops.Range.{Range}
 use Rattle.markdown_base.specs.Event.{EventView, start, end, text, code, inline_math, display_math, soft_break}
 use Rattle.markdown_base.specs.Event.{hard_break, html, inline_html, footnote_reference, rule, task_list_marker}
-use Rattle.markdown_base.specs.Event.{TagView, heading}
+use Rattle.markdown_base.specs.Event.{HeadingView, TagView, heading}
 use Rattle.markdown_base.specs.HeadingLevels.{level_number}
 use Rattle.markdown_base.specs.declared.tag.TagEnd.{TagEnd}
 use Rattle.markdown_base.specs.declared.tag.TagEnd.TheVariants as closes
@@ -16,26 +18,33 @@ use Rattle.markdown_outline.specs.declared.entry.Entry.{Entry}
 abbrev pub Ranged : Type 0
 Ranged = EventView × Range ℕ
 
--- an entry, with its text as bytes
+-- an entry, with its texts as bytes
 pub record EntryView : Type 0 where
   -- from 1 to 6
   pub level : ℕ
   pub text : List ℕ
   pub range : Range ℕ
+  -- that of the Start of the heading
+  pub id : Option (List ℕ)
 
 -- the view of an entry
 abbrev pub entry_view : Entry → EntryView
-entry_view e = record { level = e.level; text = string_bytes e.text; range = e.range }
+entry_view e =
+    record { level = e.level; text = string_bytes e.text; range = e.range; id = option_map string_bytes e.id }
 
--- the level of a heading's tag; other tags, new ones too, have none
-abbrev pub tag_level : TagView → Option ℕ
-tag_level (heading h) = Some (level_number h.level)
-tag_level other = None
+-- the entry of a heading with this text and this range
+abbrev pub heading_entry : HeadingView → (words : List ℕ) → Range ℕ → EntryView
+heading_entry h words range = record { level = level_number h.level; text = words; range = range; id = h.id }
 
--- the level of the heading that begins with an event, which is a Start
-abbrev pub opened_level : EventView → Option ℕ
-opened_level (start tag) = tag_level tag
-opened_level other = None
+-- what the tag of a heading holds; other tags, new ones too, are no headings
+abbrev pub tag_heading : TagView → Option HeadingView
+tag_heading (heading h) = Some h
+tag_heading other = None
+
+-- the heading that begins with an event, which is a Start
+abbrev pub opened_heading : EventView → Option HeadingView
+opened_heading (start tag) = tag_heading tag
+opened_heading other = None
 
 -- whether a tag is that of a heading, of any level
 abbrev pub is_heading : TagEnd → Bool
@@ -73,10 +82,9 @@ up_to_end [] = []
 up_to_end (e ∷ events) = if ends_heading e.0 then [] else e ∷ up_to_end events
 
 -- the entry that a Start with this range opens, where it is that of a heading, from the events that follow
-abbrev pub opened_entry : Option ℕ → Range ℕ → List Ranged → List EntryView
+abbrev pub opened_entry : Option HeadingView → Range ℕ → List Ranged → List EntryView
 opened_entry None range events = []
-opened_entry (Some l) range events =
-    record { level = l; text = joined_text (up_to_end events); range = range } ∷ []
+opened_entry (Some h) range events = heading_entry h (joined_text (up_to_end events)) range ∷ []
 
 -- the entries that begin among these events, of which the first is inside a heading or outside. Outside, the Start of a
 -- heading opens an entry; inside, no event does, up to the first End of a heading.
@@ -84,7 +92,7 @@ abbrev pub entries_from : (inside : Bool) → List Ranged → List EntryView
 entries_from inside [] = []
 entries_from true (e ∷ events) = entries_from (not (ends_heading e.0)) events
 entries_from false (e ∷ events) =
-    opened_entry (opened_level e.0) e.1 events ++ entries_from (is_some (opened_level e.0)) events
+    opened_entry (opened_heading e.0) e.1 events ++ entries_from (is_some (opened_heading e.0)) events
 
 -- the entries of a list of events
 abbrev pub entries_of : List Ranged → List EntryView

@@ -1,8 +1,9 @@
--- The headings of the tree of a document: an entry for each, in preorder, with its level and its range, and with the
--- text of the events of what is below it.
+-- The headings of the tree of a document: an entry for each, in preorder, with its level, its range and its id, and
+-- with the text of the events of what is below it.
 use Rattle.std.specs.Prelude.{◌≡◌, ℕ, false, IsTrue, List, [], ◌∷◌, ◌++◌, Option, Some, None}
 use Rattle.std.specs.declared.ops.Range.{Range}
 use Rattle.markdown_base.specs.BlockTree.{tree_of}
+use Rattle.markdown_base.specs.Event.{HeadingView}
 use Rattle.markdown_base.specs.Forest.{Forest, nil, node, Throughout, Each}
 use Rattle.markdown_base.specs.Questions.{Answers}
 use Rattle.markdown_base.specs.Source.{Source}
@@ -13,24 +14,23 @@ use Rattle.markdown_document.specs.Document.{Shape, enclosed, TreeNode}
 use Rattle.markdown_inline.specs.Balanced.{ranged}
 use Rattle.markdown_inline.specs.ResolvedDocument.{resolved_blocks}
 use Rattle.markdown_inline.specs.TreeReading.{events_in}
-use Rattle.markdown_outline.specs.Outline.{EntryView, tag_level, joined_text}
+use Rattle.markdown_outline.specs.Outline.{EntryView, heading_entry, tag_heading, joined_text}
 
--- the level of a heading; other shapes have none
-abbrev pub tree_level : Shape → Option ℕ
-tree_level (enclosed tag origins) = tag_level tag
-tree_level other = None
+-- the heading that a tree is; other shapes are none
+abbrev pub tree_heading : Shape → Option HeadingView
+tree_heading (enclosed tag origins) = tag_heading tag
+tree_heading other = None
 
 -- the entry of a tree with this range, if it is a heading
-abbrev pub own_entry : {A : Type 0} → Option ℕ → Range ℕ → (below : Forest (TreeNode A)) → List EntryView
+abbrev pub own_entry : {A : Type 0} → Option HeadingView → Range ℕ → (below : Forest (TreeNode A)) → List EntryView
 own_entry None range below = []
-own_entry (Some l) range below =
-    record { level = l; text = joined_text (ranged (events_in below)); range = range } ∷ []
+own_entry (Some h) range below = heading_entry h (joined_text (ranged (events_in below))) range ∷ []
 
 -- the entries of trees, one for each heading at any depth, in preorder
 abbrev pub tree_entries : {A : Type 0} → Forest (TreeNode A) → List EntryView
 tree_entries nil = []
 tree_entries (node a below after) =
-    own_entry (tree_level a.part.shape) a.part.range below ++ (tree_entries below ++ tree_entries after)
+    own_entry (tree_heading a.part.shape) a.part.range below ++ (tree_entries below ++ tree_entries after)
 
 -- no heading of a block result contains another, at any depth
 abbrev pub HeadingsApart : Blocks → Type 0

@@ -1,16 +1,17 @@
 //! `Entries`, the entries of the events read so far.
-ghost use Rattle.std.specs.Prelude.{◌≡◌, ◌∷◌, [], None, List, IfOk, IfErr, IsSome, OnOk, map};
+ghost use Rattle.std.specs.Prelude.{◌≡◌, ◌∷◌, [], None, List, IfOk, IfErr, IsSome, OnErr, OnOk, map};
 ghost use Rattle.std.specs.Option.{option_map};
 ghost use Rattle.markdown_base.specs.Event.{event_view};
 ghost use Rattle.markdown_base.specs.declared.fault.Fault.TheVariants.{Memory};
-ghost use Rattle.markdown_outline.specs.Outline.{Ranged, entry_view, opened_level};
-ghost use Rattle.markdown_outline.specs.OutlineSoFar.{all_entries, begun, entries_view};
+ghost use Rattle.markdown_outline.specs.Outline.{Ranged, entry_view, opened_heading};
+ghost use Rattle.markdown_outline.specs.OutlineSoFar.{HasEntry, all_entries, begun, entries_view};
 
 use crate::entry::Entry;
-use crate::headings::{ends_heading, opened_level, text_added};
+use crate::headings::{copied_id, ends_heading, level_number, text_added};
 use markdown_base::event::Event;
 use markdown_base::fault::Fault;
-use std::alloc::Global;
+use markdown_base::tag::Tag;
+use std::alloc::{AllocError, Global};
 use std::ops::Range;
 
 /// The entries of the events read so far.
@@ -23,17 +24,23 @@ pub struct Entries {
 }
 
 /// Returns the entry that an event with this range opens, if it opens one. Its text is empty.
-fn opened_entry(alloc: Global, event: &Event<'_>, range: Range<usize>) -> Option<Entry>
-    ensures { option_map entry_view result
-        ≡ option_map (begun range) (opened_level (event_view event.now)) }
+fn opened_entry(
+    alloc: Global,
+    event: &Event<'_>,
+    range: Range<usize>,
+) -> Result<Option<Entry>, AllocError>
+    ensures entry { IfOk result (λ entry. option_map entry_view entry
+        ≡ option_map (begun range) (opened_heading (event_view event.now))) }
+    ensures refused { OnErr result (IsSome (opened_heading (event_view event.now))) }
 {
-    match opened_level(event) {
-        None => None,
-        Some(level) => Some(Entry {
-            level,
+    match event {
+        Event::Start(Tag::Heading { level, id, .. }) => Ok(Some(Entry {
+            level: level_number(*level),
             text: String::new(alloc),
             range,
-        }),
+            id: copied_id(alloc, id)?,
+        })),
+        _ => Ok(None),
     }
 }
 
@@ -53,11 +60,12 @@ impl Entries {
         ensures ok { OnOk result ((later : List Ranged)
             → all_entries (entries_view self.old) ((event_view event.now, range) ∷ later)
             ≡ all_entries (entries_view self.new) later) }
-        ensures refused { IfErr result (λ fault. (fault ≡ Memory) × IsSome self.old.open_entry) }
+        ensures refused { IfErr result (λ fault. (fault ≡ Memory)
+            × HasEntry (entries_view self.old) ((event_view event.now, range) ∷ [])) }
     {
         match self.open_entry.take() {
             None => {
-                self.open_entry = opened_entry(alloc, event, range);
+                self.open_entry = opened_entry(alloc, event, range)?;
                 Ok(())
             }
             Some(mut entry) => {
@@ -82,7 +90,8 @@ impl Entries {
         ensures ok { OnOk result ((later : List Ranged)
             → all_entries (entries_view self.old) ((event_view event.entry, range) ∷ later)
             ≡ all_entries (entries_view self.new) later) }
-        ensures refused { IfErr result (λ fault. (fault ≡ Memory) × IsSome self.old.open_entry) }
+        ensures refused { IfErr result (λ fault. (fault ≡ Memory)
+            × HasEntry (entries_view self.old) ((event_view event.entry, range) ∷ [])) }
     {
         let taken = self.read(alloc, &event, range);
         drop(event);
@@ -93,7 +102,8 @@ impl Entries {
     pub fn finish(self) -> Result<Vec<Entry>, Fault>
         ensures all { IfOk result (λ entries.
             map entry_view entries.items ≡ all_entries (entries_view self) []) }
-        ensures refused { IfErr result (λ fault. (fault ≡ Memory) × IsSome self.open_entry) }
+        ensures refused { IfErr result (λ fault.
+            (fault ≡ Memory) × HasEntry (entries_view self) []) }
     {
         let Entries { ended, open_entry } = self;
         let mut entries = ended;

@@ -10,4 +10,6 @@ pub struct Entry {
     pub text: String,
     /// The source range.
     pub range: Range<usize>,
+    /// The id of the heading's Start, if it has one.
+    pub id: Option<String>,
 }

@@ -1,14 +1,19 @@
-//! What an event means for an outline: whether a heading begins or ends with it, and the text that it adds to one.
-ghost use Rattle.std.specs.Prelude.{◌≡◌};
+//! What an event means for an outline: whether a heading ends with it, and the text that it adds to one; and what a
+//! heading's Start holds.
+ghost use Rattle.std.specs.Prelude.{◌≡◌, IfOk, IsSome, OnErr, string_bytes};
+ghost use Rattle.std.specs.Option.{option_map};
+ghost use Rattle.markdown_base.specs.CowText.{text_of};
 ghost use Rattle.markdown_base.specs.Event.{event_view};
 ghost use Rattle.markdown_base.specs.HeadingLevels.{level_number};
-ghost use Rattle.markdown_outline.specs.Outline.{ends_heading, opened_level, text_added};
+ghost use Rattle.markdown_outline.specs.Outline.{ends_heading, text_added};
 
+use markdown_base::cow_str::CowStr;
 use markdown_base::event::Event;
-use markdown_base::tag::{HeadingLevel, Tag, TagEnd};
+use markdown_base::tag::{HeadingLevel, TagEnd};
+use std::alloc::{AllocError, Global};
 
 /// Returns the number of a level.
-fn level_number(level: HeadingLevel) -> u8
+pub fn level_number(level: HeadingLevel) -> u8
     ensures { result ≡ level_number level }
 {
     match level {
@@ -21,13 +26,14 @@ fn level_number(level: HeadingLevel) -> u8
     }
 }
 
-/// Returns the level of the heading that begins with an event, if one does.
-pub fn opened_level(event: &Event<'_>) -> Option<u8>
-    ensures { result ≡ opened_level (event_view event.now) }
+/// Returns a copy of the id of a heading, if it has one.
+pub fn copied_id(alloc: Global, id: &Option<CowStr<'_>>) -> Result<Option<String>, AllocError>
+    ensures copy { IfOk result (λ copy. option_map string_bytes copy ≡ option_map text_of id.now) }
+    ensures refused { OnErr result (IsSome id.now) }
 {
-    match event {
-        Event::Start(Tag::Heading { level, .. }) => Some(level_number(*level)),
-        _ => None,
+    match id {
+        Some(text) => Ok(Some(String::from_str(alloc, text.as_str())?)),
+        None => Ok(None),
     }
 }
 

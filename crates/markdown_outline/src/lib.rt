@@ -1,5 +1,5 @@
 //! Outlines: tables of the headings of a document, of its events or of its block result, each heading with its level,
-//! its text and its range.
+//! its text, its range and its id.
 #![tactic(auto)]
 
 mod entries;

@@ -23,7 +23,7 @@ use std::alloc::Global;
 /// ```
 /// let blocks = Blocks::of_text(alloc, "# A *b*", Options::empty())?;
 /// let entries = outline_of(alloc, blocks)?;
-/// // level 1, text "A b", range 0..7
+/// // level 1, text "A b", range 0..7, no id
 /// ```
 ///
 /// # Errors

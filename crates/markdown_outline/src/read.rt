@@ -19,7 +19,7 @@ use std::ops::Range;
 ///
 /// ```
 /// let entries = outline(alloc, Parser::new(alloc, "# A *b*")?.into_offset_iter())?;
-/// // level 1, text "A b", range 0..7
+/// // level 1, text "A b", range 0..7, no id
 /// ```
 ///
 /// # Errors

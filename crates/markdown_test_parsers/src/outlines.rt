@@ -1,4 +1,4 @@
-//! Outlines as texts: the level of each entry, its text in brackets and its range; or the error.
+//! Outlines as texts: the level of each entry, its text in brackets, its range, and its id after a `#`; or the error.
 use markdown_base::fault::Fault;
 use markdown_outline::Entry;
 use std::alloc::{AllocError, Global};
@@ -15,6 +15,10 @@ fn notes_of(alloc: Global, entries: &[Entry]) -> Result<String, AllocError> {
             entry.range.end
         )?;
         notes.push_str(note.as_str())?;
+        if let Some(id) = &entry.id {
+            let mark = format!(in alloc; "#({}) ", id.as_str())?;
+            notes.push_str(mark.as_str())?;
+        }
     }
     Ok(notes)
 }

@@ -4,7 +4,6 @@ use Rattle.std.proofs.lemmas.Result.{err_from_is_err_and, IfOk-weaker, IfErr-wea
 use Rattle.markdown_outline.proofs.OutlineReadLemmas.{TookIn-none, TookIn-more, MeetsError-from, NeedsMemory-event}
 use Rattle.markdown_outline.proofs.OutlineReadLemmas.{NeedsMemory-end}
 use Rattle.markdown_outline.proofs.OutlineReadLemmas.{IsOutlineOfAll-from}
-use Rattle.markdown_outline.proofs.OutlineSoFarLemmas.{some-view}
 use Rattle.markdown_outline.proofs.read.outline.Goals as goal
 
 pub loop-item-init : goal.loop-item-init
@@ -30,8 +29,7 @@ returns-in_err-take_in-clause-fault g c =
     let read = rw c.into_iter-item-iterator.ensures.into_iter_gives at c.loop-item.yielded_by in
     let refused = c.in_err-take_in.ensures.refused in
     let needs = NeedsMemory-event g.I.Iterator.next_gives _ _ _ (c.in_ok-event.event, c.in_ok-event.range) read
-    c.in-Some.ensures.steps c.in_ok-event.was c.loop-item.invariant (some-view c.loop-item.entries.open_entry refused.1)
-    in
+    c.in-Some.ensures.steps c.in_ok-event.was c.loop-item.invariant refused.1 in
     rw (p.1, p.2) (inr (refused.0, needs))
 
 pub returns-clause-entries : goal.returns-clause-entries
@@ -45,9 +43,5 @@ pub returns-clause-fault : goal.returns-clause-fault
 returns-clause-fault g c =
     let read = rw c.into_iter-item-iterator.ensures.into_iter_gives at c.loop-item.yielded_by in
     IfErr-weaker c.finish.result _ _
-    (λ fault h. inr (
-      h.0,
-      NeedsMemory-end g.I.Iterator.next_gives _ _ read c.loop-item.invariant
-          (some-view c.loop-item.entries.open_entry h.1),
-    ))
+    (λ fault h. inr (h.0, NeedsMemory-end g.I.Iterator.next_gives _ _ read c.loop-item.invariant h.1))
     c.finish.ensures.refused
