@@ -19,6 +19,8 @@ mod merges;
 #[cfg(test)]
 mod messages;
 #[cfg(test)]
+mod outline_lines;
+#[cfg(test)]
 mod outlines;
 #[cfg(test)]
 mod parser;

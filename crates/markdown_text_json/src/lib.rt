@@ -8,5 +8,5 @@ pub mod run;
 pub mod text;
 
 pub use outline::{outline_json, outline_json_extended, outline_json_source};
-pub use outline_lines::push_outline;
+pub use outline_lines::{push_outline, push_outline_with_ids};
 pub use text::{text_json, text_json_extended, text_json_source};
