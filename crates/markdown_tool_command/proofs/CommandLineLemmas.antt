@@ -1,23 +1,28 @@
 -- The command is one whose matches and faults clap defines, and what follows for a request.
-use Rattle.std.proofs.Common.{◌≡◌, ◌∙◌, List, ap, refl, subst, true}
+use Rattle.std.proofs.Common.{◌≡◌, ◌∙◌, ℕ, Bor, Err, List, Some, ap, is_some, refl, subst, true}
+use Rattle.std.specs.Result.{IsOk, is_err}
 use Rattle.clap.proofs.OnLiterals.{clap_on_literals}
 use Rattle.clap.specs.Words.{App, HasKind, HasMatchesOf, Row, Text, fault_of, found_of, is_simple, is_simple_and_free}
 use Rattle.clap.specs.Words.{matches_of, rows_of}
 use Rattle.clap.specs.declared.builder.value_parser.ValueParser.{ValueParser}
 use Rattle.clap.specs.declared.error.Error.{Error}
+use Rattle.clap.specs.declared.error.kind.ErrorKind.{ErrorKind}
+use Rattle.clap.specs.declared.error.kind.ErrorKind.TheVariants as kinds
 use Rattle.clap.specs.declared.parser.matches.ArgMatches.{ArgMatches}
 use Rattle.markdown_tool_command.specs.CommandLine.{tool}
-use Rattle.markdown_tool_command.specs.Requests.{IsMisuse, IsRefusal, IsRequestOf}
+use Rattle.markdown_tool_command.specs.Extensions.{unknown_part}
+use Rattle.markdown_tool_command.specs.Requests.{IsRefusal, IsRequestOf, IsWrong, format_asked, parts_asked}
 use Rattle.markdown_tool_command.specs.declared.choices.Misuse.{Misuse}
 use Rattle.markdown_tool_command.specs.declared.request.Refusal.{Refusal}
+use Rattle.markdown_tool_command.specs.declared.request.Refusal.TheVariants as refusals
 use Rattle.markdown_tool_command.specs.declared.request.Request.{Request}
 
-module _ (formats extensions : ValueParser) where
-  pub is_simple_tool : is_simple (tool formats extensions) ≡ true
+module _ (formats : ValueParser) where
+  pub is_simple_tool : is_simple (tool formats) ≡ true
   unfolding clap_on_literals
   is_simple_tool = refl
 
-  pub is_free_tool : is_simple_and_free (tool formats extensions) ≡ true
+  pub is_free_tool : is_simple_and_free (tool formats) ≡ true
   unfolding clap_on_literals
   is_free_tool = refl
 
@@ -32,10 +37,9 @@ module _ (words : List Text) (command wanted : App) (is : command ≡ wanted) wh
   asked_by simple m has request asked =
       subst (λ (rows : List Row). IsRequestOf rows request) (rows_by simple m has) asked
 
-  pub misused_by : is_simple wanted ≡ true → (m : ArgMatches) → HasMatchesOf command words m → (misuse : Misuse)
-      → IsMisuse (rows_of (found_of m)) misuse → IsMisuse (matches_of wanted words) misuse
-  misused_by simple m has misuse why =
-      subst (λ (rows : List Row). IsMisuse rows misuse) (rows_by simple m has) why
+  pub wrong_by : is_simple wanted ≡ true → (m : ArgMatches) → HasMatchesOf command words m → (kind : ErrorKind)
+      → IsWrong (rows_of (found_of m)) kind → IsWrong (matches_of wanted words) kind
+  wrong_by simple m has kind why = subst (λ (rows : List Row). IsWrong rows kind) (rows_by simple m has) why
 
   pub refused_by : is_simple_and_free wanted ≡ true → (error : Error)
       → (is_simple_and_free command ≡ true → HasKind (fault_of command words) error)
@@ -43,7 +47,17 @@ module _ (words : List Text) (command wanted : App) (is : command ≡ wanted) wh
   refused_by free error kinds =
       subst (λ (a : App). HasKind (fault_of a words) error) is (kinds (ap is_simple_and_free is ∙ free))
 
--- a refusal that is a misuse
-pub misuse_in : (rows : List Row) (refusal : Refusal) (misuse : Misuse) → refusal ≡ Refusal.Misuse misuse
-    → IsRefusal rows refusal → IsMisuse rows misuse
-misuse_in rows refusal misuse is why = subst (λ (r : Refusal). IsRefusal rows r) is why
+-- what is wrong by a refusal of either kind
+module _ (rows : List Row) (refusal : Refusal) (kind : ErrorKind) (refused : IsRefusal rows refusal) where
+  pub wrong_choices : (misuse : Misuse) → refusal ≡ refusals.Misuse misuse → kind ≡ kinds.ArgumentConflict
+      → IsWrong rows kind
+  wrong_choices misuse is kind_is =
+      let why : format_asked rows ≡ Err misuse = subst (λ (r : Refusal). IsRefusal rows r) is refused in
+      rw kind_is (ap is_err why)
+
+  pub wrong_list : (part : Bor (List ℕ)) → refusal ≡ refusals.UnknownExtension part → kind ≡ kinds.InvalidValue
+      → IsWrong rows kind
+  wrong_list part is kind_is =
+      let why : IsOk (format_asked rows) × (unknown_part (parts_asked rows) ≡ Some part.now) =
+      subst (λ (r : Refusal). IsRefusal rows r) is refused in
+      rw kind_is (why.0, ap is_some why.1)

@@ -6,11 +6,8 @@ use Rattle.clap.specs.declared.builder.action.ArgAction.TheVariants.{Append, Set
 use Rattle.clap.specs.declared.builder.value_parser.ValueParser.{ValueParser}
 use Rattle.clap.specs.declared.builder.value_parser.ValueParser.TheVariants as parser
 use Rattle.clap.specs.declared.error.Error.{Error}
-use Rattle.clap.specs.declared.error.kind.ErrorKind.TheVariants as kind
 use Rattle.markdown_tool_command.specs.Choices.{format_names}
-use Rattle.markdown_tool_command.specs.Extensions.{offered_names}
-use Rattle.markdown_tool_command.specs.Requests.{IsMisuse, IsRequestOf}
-use Rattle.markdown_tool_command.specs.declared.choices.Misuse.{Misuse}
+use Rattle.markdown_tool_command.specs.Requests.{IsRequestOf, IsWrong}
 use Rattle.markdown_tool_command.specs.declared.request.Request.{Request}
 
 -- an argument with a value, by its name
@@ -30,10 +27,9 @@ abbrev pub to_rule : ValueParser → Rule
 to_rule formats =
     record (valued (codes "to")) { short = Some 116; defaults = codes "html" ∷ []; parser = Some formats }
 
--- an extension: one of these
-abbrev pub extension_rule : ValueParser → Rule
-extension_rule extensions =
-    record (valued (codes "extension")) { short = Some 101; action = Some Append; parser = Some extensions }
+-- a list of extensions
+abbrev pub extension_rule : Rule
+extension_rule = record (valued (codes "extension")) { short = Some 101; action = Some Append }
 
 -- the file to write
 abbrev pub output_rule : Rule
@@ -43,10 +39,9 @@ output_rule = record (valued (codes "output")) { short = Some 111; defaults = co
 abbrev pub versioned : App → App
 versioned app = on_top (λ shape. record shape { has_version = true }) app
 
--- a command with the arguments for extensions, each one of these
-abbrev pub with_extension_rules : ValueParser → App → App
-with_extension_rules extensions app = with_rule (with_rule (with_rule app
-    (extension_rule extensions))
+-- a command with the arguments for extensions
+abbrev pub with_extension_rules : App → App
+with_extension_rules app = with_rule (with_rule (with_rule app extension_rule)
     (record (flag (codes "all-extensions")) { short = Some 97 }))
     (flag (codes "gfm"))
 
@@ -59,23 +54,22 @@ with_page_rules app = with_rule (with_rule (with_rule app
 
 -- a command with those for files
 abbrev pub with_file_rules : App → App
-with_file_rules app = with_rule (with_rule app output_rule) file_rule
+with_file_rules app = with_rule (with_rule (with_rule app (flag (codes "lossy"))) output_rule) file_rule
 
 -- the command, with all arguments
-abbrev pub tool : (formats extensions : ValueParser) → App
-tool formats extensions = with_file_rules (with_page_rules (with_extension_rules extensions
+abbrev pub tool : (formats : ValueParser) → App
+tool formats = with_file_rules (with_page_rules (with_extension_rules
     (with_rule (with_rule (versioned (new_app (codes "markdown"))) (to_rule formats)) (flag (codes "safe")))))
 
-module _ (formats extensions : ValueParser) (words : List (List ℕ)) where
-  -- this is the request of the words, where these formats and extensions are offered
+module _ (formats : ValueParser) (words : List (List ℕ)) where
+  -- this is the request of the words, where these formats are offered
   abbrev pub IsRequestBy : Request → Type 0
-  IsRequestBy request = IsRequestOf (matches_of (tool formats extensions) words) request
+  IsRequestBy request = IsRequestOf (matches_of (tool formats) words) request
 
-  -- this is why they make none: what clap says of them, or choices that do not go together
+  -- this is why they make none: what clap says of them, or what is wrong with what it reads
   pub record IsRefusedBy (error : Error) : Type 0 where
-    pub why : HasKind (fault_of (tool formats extensions) words) error
-        ⊎ ((kind_of error ≡ kind.ArgumentConflict)
-        × (misuse : Misuse) × IsMisuse (matches_of (tool formats extensions) words) misuse)
+    pub why : HasKind (fault_of (tool formats) words) error
+        ⊎ IsWrong (matches_of (tool formats) words) (kind_of error)
 
 -- exactly these names are values
 abbrev pub AreNames : ValueParser → List (List ℕ) → Type 0
@@ -85,13 +79,11 @@ AreNames other texts = ⊥
 -- this is the request of the words of a command line
 pub record IsRequestFor (words : List (List ℕ)) (request : Request) : Type 0 where
   pub formats : ValueParser
-  pub extensions : ValueParser
   pub formats_offered : AreNames formats format_names
-  pub extensions_offered : AreNames extensions offered_names
-  pub asked : IsRequestBy formats extensions words request
+  pub asked : IsRequestBy formats words request
 
--- this is why they make none; an allocation may be refused before they are read
-abbrev pub IsRefusedFor : (words : List (List ℕ)) → Error → Type 0
-IsRefusedFor words error = (kind_of error ≡ kind.OutOfMemory)
-    ⊎ ((formats extensions : ValueParser) × AreNames formats format_names × AreNames extensions offered_names
-    × IsRefusedBy formats extensions words error)
+-- this is why they make none
+pub record IsRefusedFor (words : List (List ℕ)) (error : Error) : Type 0 where
+  pub formats : ValueParser
+  pub formats_offered : AreNames formats format_names
+  pub refused : IsRefusedBy formats words error

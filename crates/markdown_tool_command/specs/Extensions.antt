@@ -1,11 +1,13 @@
--- The extensions that the command line offers, and the options that names and flags enable.
-use Rattle.std.specs.Prelude.{ℕ, Bool, false, ◌||◌, List, [], ◌∷◌, map, Option, Some, None, if◌then◌else◌, codes}
-use Rattle.std.specs.Str.{bytes_eq}
+-- The extensions that the command line offers, and the options that flags and lists of extensions enable.
+use Rattle.std.specs.Prelude.{ℕ, Bool, false, not, ◌&&◌, ◌||◌, List, [], ◌∷◌, Option, if◌then◌else◌, codes}
+use Rattle.std.specs.List.{find, list_any}
 use Rattle.markdown_base.specs.EnabledOptions.{both_options, no_options}
 use Rattle.markdown_base.specs.declared.options.Options.{Options}
 use Rattle.markdown_base.specs.declared.options.TheConstants.Options as enable
+use Rattle.markdown_tool_command.specs.Lists.{disables, enables}
 use Rattle.markdown_tool_command.specs.declared.extensions.Enabler.{Enabler}
 use Rattle.markdown_tool_command.specs.declared.extensions.Enabler.TheVariants.{AllAndGfm, All, NameAlone}
+use Rattle.markdown_tool_command.specs.declared.extensions.Sets.{Sets}
 
 -- an extension that is offered: its name, the option that it enables, and what else enables it
 pub record Offered : Type 0 where
@@ -20,8 +22,8 @@ row name option enabler = record { name = name; option = option; enabler = enabl
 -- the extensions that are offered
 unfoldable pub extensions : List Offered
 extensions =
-    row (codes "footnotes") enable.ENABLE_FOOTNOTES AllAndGfm
-    ∷ row (codes "gfm") enable.ENABLE_GFM AllAndGfm
+    row (codes "alerts") enable.ENABLE_GFM AllAndGfm
+    ∷ row (codes "footnotes") enable.ENABLE_FOOTNOTES AllAndGfm
     ∷ row (codes "heading-attributes") enable.ENABLE_HEADING_ATTRIBUTES All
     ∷ row (codes "math") enable.ENABLE_MATH All
     ∷ row (codes "old-footnotes") enable.ENABLE_OLD_FOOTNOTES NameAlone
@@ -36,41 +38,31 @@ extensions =
     ∷ row (codes "yaml") enable.ENABLE_YAML_STYLE_METADATA_BLOCKS All
     ∷ []
 
--- their names
-abbrev pub offered_names : List (List ℕ)
-offered_names = map (λ e. e.name) extensions
+-- a flag enables an extension, of these that are given
+abbrev pub enabled_by : Sets → Enabler → Bool
+enabled_by sets AllAndGfm = sets.all || sets.gfm
+enabled_by sets All = sets.all
+enabled_by sets NameAlone = false
 
--- the option of the extension of this name; None where none of these has it
-abbrev pub option_named : List Offered → List ℕ → Option Options
-option_named [] name = None
-option_named (e ∷ more) name = if bytes_eq name e.name then Some e.option else option_named more name
+-- an extension is enabled: a flag or a part of the lists enables it, and no part disables it
+abbrev pub is_enabled : Sets → (parts : List (List ℕ)) → Offered → Bool
+is_enabled sets parts e =
+    (enabled_by sets e.enabler || list_any (enables e.name) parts) && not (list_any (disables e.name) parts)
 
--- whether one of two flags enables an extension, where they are given: --all-extensions and --gfm
-abbrev pub enabled_by : (all gfm : Bool) → Enabler → Bool
-enabled_by all gfm AllAndGfm = all || gfm
-enabled_by all gfm All = all
-enabled_by all gfm NameAlone = false
+-- these options, with those of the extensions that are enabled
+abbrev pub with_enabled : Sets → (parts : List (List ℕ)) → List Offered → Options → Options
+with_enabled sets parts [] options = options
+with_enabled sets parts (e ∷ more) options =
+    with_enabled sets parts more (if is_enabled sets parts e then both_options options e.option else options)
 
--- these options, with those that the flags enable of these extensions
-abbrev pub with_enabled : (all gfm : Bool) → List Offered → Options → Options
-with_enabled all gfm [] options = options
-with_enabled all gfm (e ∷ more) options =
-    with_enabled all gfm more (if enabled_by all gfm e.enabler then both_options options e.option else options)
+-- the options that are enabled
+abbrev pub enabled_options : Sets → (parts : List (List ℕ)) → Options
+enabled_options sets parts = with_enabled sets parts extensions no_options
 
--- the options that the flags enable
-abbrev pub options_together : (all gfm : Bool) → Options
-options_together all gfm = with_enabled all gfm extensions no_options
+-- a part enables or disables one of these
+abbrev pub says_of : List Offered → (part : List ℕ) → Bool
+says_of offered part = list_any (λ e. enables e.name part || disables e.name part) offered
 
--- what follows with an option more; None where there is no such option
-abbrev pub then_with : Option Options → (Options → Option Options) → Options → Option Options
-then_with None rest options = None
-then_with (Some option) rest options = rest (both_options options option)
-
--- these options, with those of the extensions of these names; None where one of them is not offered
-abbrev pub with_named : List (List ℕ) → Options → Option Options
-with_named [] options = Some options
-with_named (name ∷ names) options = then_with (option_named extensions name) (with_named names) options
-
--- the options that these names and the flags enable; None where a name is not offered
-abbrev pub options_of : List (List ℕ) → (all gfm : Bool) → Option Options
-options_of names all gfm = with_named names (options_together all gfm)
+-- the first part that neither enables nor disables an extension that is offered, if there is one
+abbrev pub unknown_part : (parts : List (List ℕ)) → Option (List ℕ)
+unknown_part parts = find (λ part. not (says_of extensions part)) parts

@@ -2,15 +2,20 @@
 use Rattle.std.specs.Prelude.{◌≡◌, ◌⊎◌, ℕ, Bool, false, ◌||◌, List, [], ◌∷◌, map, Option, Some, None, is_some}
 use Rattle.std.specs.Prelude.{option_map}
 use Rattle.std.specs.Prelude.{Result, Ok, Err, if◌then◌else◌, codes, unwrap_or, string_bytes}
-use Rattle.std.specs.Option.{option_map_or}
+use Rattle.std.specs.Option.{IsSome, option_map_or}
+use Rattle.std.specs.Result.{IsErr, IsOk}
 use Rattle.std.specs.Str.{bytes_eq}
 use Rattle.clap.specs.Words.{Row, all_of, first_of}
+use Rattle.clap.specs.declared.error.kind.ErrorKind.{ErrorKind}
+use Rattle.clap.specs.declared.error.kind.ErrorKind.TheVariants as kind
 use Rattle.markdown_base.specs.declared.options.Options.{Options}
 use Rattle.markdown_tool_command.specs.Choices.{checked_format, format_named}
-use Rattle.markdown_tool_command.specs.Extensions.{options_of}
+use Rattle.markdown_tool_command.specs.Extensions.{enabled_options, unknown_part}
+use Rattle.markdown_tool_command.specs.Lists.{list_parts}
 use Rattle.markdown_tool_command.specs.declared.choices.Format.{Format}
 use Rattle.markdown_tool_command.specs.declared.choices.Misuse.{Misuse}
-use Rattle.markdown_tool_command.specs.declared.choices.Misuse.TheVariants.{UnknownName}
+use Rattle.markdown_tool_command.specs.declared.choices.Misuse.TheVariants.{UnknownFormat}
+use Rattle.markdown_tool_command.specs.declared.extensions.Sets.{Sets}
 use Rattle.markdown_tool_command.specs.declared.request.Page.{Page}
 use Rattle.markdown_tool_command.specs.declared.request.Refusal.{Refusal}
 use Rattle.markdown_tool_command.specs.declared.request.Refusal.TheVariants as refusal
@@ -28,10 +33,18 @@ is_given name rows = option_map_or (λ value. bytes_eq value (codes "true")) (fi
 abbrev pub values_given : List ℕ → List Row → List (List ℕ)
 values_given name rows = unwrap_or (all_of name rows) []
 
--- the options that are asked for; None where an extension is not offered
-abbrev pub options_asked : List Row → Option Options
-options_asked rows = options_of
-    (values_given (codes "extension") rows) (is_given (codes "all-extensions") rows) (is_given (codes "gfm") rows)
+-- the parts of the lists of extensions
+abbrev pub parts_asked : List Row → List (List ℕ)
+parts_asked rows = list_parts (values_given (codes "extension") rows)
+
+-- the sets of extensions
+abbrev pub sets_asked : List Row → Sets
+sets_asked rows = record { all = is_given (codes "all-extensions") rows; gfm = is_given (codes "gfm") rows }
+
+-- these are the options that are asked for; there are none where a part of a list is unknown
+pub record AreOptionsOf (rows : List Row) (options : Options) : Type 0 where
+  pub known : unknown_part (parts_asked rows) ≡ None
+  pub enabled : options ≡ enabled_options (sets_asked rows) (parts_asked rows)
 
 -- a part of a page is asked for
 abbrev pub asks_part : List Row → Bool
@@ -43,7 +56,7 @@ named_format rows = format_named (unwrap_or (first_of (codes "to") rows) (codes 
 
 -- the format that is asked for, or what does not go together with it
 abbrev pub checked_name : Option Format → List Row → Result Format Misuse
-checked_name None rows = Err UnknownName
+checked_name None rows = Err UnknownFormat
 checked_name (Some named) rows =
     checked_format named (is_given (codes "safe") rows) (is_given (codes "full-page") rows) (asks_part rows)
 
@@ -68,17 +81,28 @@ or_standard (name ∷ names) = name ∷ names
 -- this is the request that these rows make
 pub record IsRequestOf (rows : List Row) (request : Request) : Type 0 where
   pub format : format_asked rows ≡ Ok request.format
-  pub options : options_asked rows ≡ Some request.options
+  pub options : AreOptionsOf rows request.options
   pub page : option_map page_texts request.page ≡ page_asked rows
+  pub lossy : request.lossy ≡ is_given (codes "lossy") rows
   pub output : string_bytes request.output ≡ unwrap_or (first_of (codes "output") rows) standard
   pub inputs : map string_bytes request.inputs.items ≡ or_standard (values_given (codes "file") rows)
 
--- this is why these rows make no request: choices that do not go together, or a name that is not offered
-abbrev pub IsMisuse : List Row → Misuse → Type 0
-IsMisuse rows misuse =
-    (format_asked rows ≡ Err misuse) ⊎ ((misuse ≡ UnknownName) × (options_asked rows ≡ None))
+-- this is why these rows have no options: a part of a list is unknown; or an allocation may have been refused
+abbrev pub IsExtensionRefusal : List Row → Refusal → Type 0
+IsExtensionRefusal rows refusal.Memory = Unit {0}
+IsExtensionRefusal rows (refusal.Misuse misuse) = ⊥
+IsExtensionRefusal rows (refusal.UnknownExtension part) = unknown_part (parts_asked rows) ≡ Some part.now
 
--- the same, where an allocation may have been refused
+-- this is why these rows make no request: choices that do not go together, and only then a part of a list that is
+-- unknown; or an allocation may have been refused
 abbrev pub IsRefusal : List Row → Refusal → Type 0
 IsRefusal rows refusal.Memory = Unit {0}
-IsRefusal rows (refusal.Misuse misuse) = IsMisuse rows misuse
+IsRefusal rows (refusal.Misuse misuse) = format_asked rows ≡ Err misuse
+IsRefusal rows (refusal.UnknownExtension part) =
+    IsOk (format_asked rows) × (unknown_part (parts_asked rows) ≡ Some part.now)
+
+-- the same by the kind of the error
+abbrev pub IsWrong : List Row → ErrorKind → Type 0
+IsWrong rows kind.ArgumentConflict = IsErr (format_asked rows)
+IsWrong rows kind.InvalidValue = IsOk (format_asked rows) × IsSome (unknown_part (parts_asked rows))
+IsWrong rows other = ⊥

@@ -20,8 +20,8 @@ pub enum Format {
 /// What is wrong with a command line whose words are known.
 #[derive(Clone, Copy, Debug, PartialEq, Eq, Drop)]
 pub enum Misuse {
-    /// A format or an extension is not offered.
-    UnknownName,
+    /// The format is not offered.
+    UnknownFormat,
     /// `--safe` with a format other than HTML.
     SafeWithoutHtml,
     /// `--full-page` with a format other than HTML.
@@ -34,7 +34,7 @@ impl Misuse {
     /// Returns the message for the user.
     pub fn text(self) -> &'static str {
         match self {
-            Misuse::UnknownName => "a format or an extension is not offered",
+            Misuse::UnknownFormat => "the format is not offered",
             Misuse::SafeWithoutHtml => "--safe is for --to html alone",
             Misuse::PageWithoutHtml => "--full-page is for --to html alone",
             Misuse::PartWithoutPage => "--title and --css need --full-page",

@@ -3,6 +3,7 @@
 
 pub mod choices;
 pub mod extensions;
+mod lists;
 pub mod parse;
 pub mod request;
 mod values;

@@ -9,7 +9,6 @@ ghost use Rattle.markdown_tool_command.specs.CommandLine.{extension_rule, file_r
 ghost use Rattle.markdown_tool_command.specs.CommandLine.{with_extension_rules, with_page_rules, with_file_rules};
 
 use crate::choices::FORMATS;
-use crate::extensions::offered_names;
 use crate::request::{Refusal, Request, STANDARD, request_asked};
 use clap::error::ErrorKind;
 use clap::{Arg, ArgAction, Command, Error};
@@ -46,16 +45,15 @@ fn to<'a>(alloc: Global, names: &'a [&'a str]) -> Arg<'a>
         .help("What to write")
 }
 
-/// Returns the argument for an extension, which is one of these names.
-fn extension<'a>(alloc: Global, names: &'a [&'a str]) -> Arg<'a>
-    ensures rule { rule_of result ≡ extension_rule (Names names.entry) }
+/// Returns the argument for lists of extensions.
+fn extension<'a>(alloc: Global) -> Arg<'a>
+    ensures rule { rule_of result ≡ extension_rule }
     ensures local { result.global ≡ false }
 {
-    option_with_value(alloc, "extension", "NAME")
+    option_with_value(alloc, "extension", "LIST")
         .short('e')
-        .value_parser(names)
         .action(ArgAction::Append)
-        .help("Enable an extension; may be repeated")
+        .help("Enable extensions, with commas between; no-NAME disables one; may be repeated")
 }
 
 /// Returns the argument for the file that is written.
@@ -80,20 +78,15 @@ fn file<'a>(alloc: Global) -> Arg<'a>
         .help("The files to read; - or none is standard input")
 }
 
-/// Adds the arguments for extensions, each one of these names.
-fn with_extensions<'a>(
-    alloc: Global,
-    command: Command<'a>,
-    names: &'a [&'a str],
-) -> Result<Command<'a>, AllocError>
-    ensures { IfOk result (λ made. app_of made
-        ≡ with_extension_rules (Names names.entry) (app_of command.entry)) }
+/// Adds the arguments for extensions.
+fn with_extensions<'a>(alloc: Global, command: Command<'a>) -> Result<Command<'a>, AllocError>
+    ensures { IfOk result (λ made. app_of made ≡ with_extension_rules (app_of command.entry)) }
 {
     let all = flag(alloc, "all-extensions")
         .short('a')
         .help("Enable all extensions but old-footnotes");
-    let gfm = flag(alloc, "gfm").help("Enable the extensions that GitHub has");
-    let named = command.arg(extension(alloc, names))?;
+    let gfm = flag(alloc, "gfm").help("Enable the extensions of GitHub, which are marked with a *");
+    let named = command.arg(extension(alloc))?;
     let with_all = named.arg(all)?;
     with_all.arg(gfm)
 }
@@ -118,12 +111,17 @@ fn with_page<'a>(alloc: Global, command: Command<'a>) -> Result<Command<'a>, All
 fn with_files<'a>(alloc: Global, command: Command<'a>) -> Result<Command<'a>, AllocError>
     ensures { IfOk result (λ made. app_of made ≡ with_file_rules (app_of command.entry)) }
 {
-    command.arg(output(alloc))?.arg(file(alloc))
+    let lossy = flag(alloc, "lossy").help("Read bytes that are not UTF-8 as U+FFFD");
+    let with_lossy = command.arg(lossy)?;
+    with_lossy.arg(output(alloc))?.arg(file(alloc))
 }
 
-/// The end of the help.
-const STATUSES: &str =
-    "Exit status: 0 if all was written, 1 if something failed, 2 if the command line is wrong.";
+/// The end of the help: the extensions, in the order of their table, and the exit statuses. A star marks those that `--gfm`
+/// enables.
+const AFTER_HELP: &str =
+    "Extensions: alerts*, footnotes*, heading-attributes, math, old-footnotes, pluses, smart, strikethrough*, \
+    subscript,\nsuperscript, tables*, tasklists*, wikilinks, yaml.\n\n\
+    Exit status: 0 if all was written, 1 if something failed, 2 if the command line is wrong.";
 
 /// Returns the command without its arguments.
 fn bare<'a>(alloc: Global) -> Result<Command<'a>, AllocError>
@@ -132,47 +130,50 @@ fn bare<'a>(alloc: Global) -> Result<Command<'a>, AllocError>
     Command::new(alloc, "markdown")
         .version(VERSION)
         .about("Turn Markdown into HTML, events, an outline or a table of contents.")
-        .after_help(STATUSES)
+        .after_help(AFTER_HELP)
         .bin_name("markdown")
 }
 
-/// Returns the command, where these formats and these extensions are offered.
-fn command<'a>(
-    alloc: Global,
-    formats: &'a [&'a str],
-    extensions: &'a [&'a str],
-) -> Result<Command<'a>, AllocError>
-    ensures { IfOk result (λ made. app_of made
-        ≡ tool (Names formats.entry) (Names extensions.entry)) }
+/// Returns the command, where these formats are offered.
+fn command<'a>(alloc: Global, formats: &'a [&'a str]) -> Result<Command<'a>, AllocError>
+    ensures { IfOk result (λ made. app_of made ≡ tool (Names formats.entry)) }
 {
-    let safe = flag(alloc, "safe").help("Write safe HTML, for untrusted input");
+    let safe = flag(alloc, "safe").help("Write safe HTML, for texts of strangers");
     let bare = bare(alloc)?;
     let with_formats = bare.arg(to(alloc, formats))?;
     let with_safe = with_formats.arg(safe)?;
-    let extended = with_extensions(alloc, with_safe, extensions)?;
+    let extended = with_extensions(alloc, with_safe)?;
     let paged = with_page(alloc, extended)?;
     with_files(alloc, paged)
 }
 
-/// Returns the request of these words, where these formats and these extensions are offered.
+/// Returns the message about a part of a list of extensions that names none.
+fn unknown_text(alloc: Global, part: &str) -> Result<String, AllocError> {
+    format!(in alloc; "'{part}' is no extension; see --help for their names")
+}
+
+/// Returns the request of these words, where these formats are offered.
 fn request_with<'a>(
     alloc: Global,
     formats: &'a [&'a str],
-    extensions: &'a [&'a str],
     words: &'a [String],
 ) -> Result<Request, Error>
-    ensures request { IfOk result (IsRequestBy (Names formats.entry) (Names extensions.entry)
-        (map string_bytes words.now)) }
-    ensures refused { IfErr result (IsRefusedBy (Names formats.entry) (Names extensions.entry)
-        (map string_bytes words.now)) }
+    ensures request { IfOk result
+        (IsRequestBy (Names formats.entry) (map string_bytes words.now)) }
+    ensures refused { IfErr result
+        (IsRefusedBy (Names formats.entry) (map string_bytes words.now)) }
 {
-    let mut command = command(alloc, formats, extensions)?;
+    let mut command = command(alloc, formats)?;
     let matches = command.try_get_matches_from_mut(words)?;
     match request_asked(alloc, &matches) {
         Ok(request) => Ok(request),
         Err(Refusal::Memory) => Err(Error::from(AllocError)),
         Err(Refusal::Misuse(misuse)) => {
             Err(command.error(ErrorKind::ArgumentConflict, misuse.text())?)
+        }
+        Err(Refusal::UnknownExtension(part)) => {
+            let text = unknown_text(alloc, part)?;
+            Err(command.error(ErrorKind::InvalidValue, text.as_str())?)
         }
     }
 }
@@ -186,6 +187,5 @@ pub fn request_of(alloc: Global, words: &[String]) -> Result<Request, Error>
     ensures request { IfOk result (IsRequestFor (map string_bytes words.now)) }
     ensures refused { IfErr result (IsRefusedFor (map string_bytes words.now)) }
 {
-    let extensions = offered_names(alloc)?;
-    request_with(alloc, FORMATS.as_slice(), extensions.as_slice(), words)
+    request_with(alloc, FORMATS.as_slice(), words)
 }

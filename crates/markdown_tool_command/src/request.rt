@@ -1,12 +1,13 @@
 //! What a command line asks for.
 ghost use Rattle.std.specs.Prelude.{◌≡◌, IfOk, IfErr, codes, map, option_map, string_bytes};
 ghost use Rattle.clap.specs.Words.{found_of, rows_of};
-ghost use Rattle.markdown_tool_command.specs.Extensions.{options_of};
-ghost use Rattle.markdown_tool_command.specs.Requests.{IsRefusal, IsRequestOf, asks_part, format_asked, named_format, options_asked};
-ghost use Rattle.markdown_tool_command.specs.Requests.{or_standard, page_asked, page_texts, values_given};
+ghost use Rattle.markdown_tool_command.specs.Requests.{AreOptionsOf, IsExtensionRefusal, IsRefusal, IsRequestOf, asks_part};
+ghost use Rattle.markdown_tool_command.specs.Requests.{format_asked, named_format, or_standard, page_asked, page_texts};
+ghost use Rattle.markdown_tool_command.specs.Requests.{parts_asked, sets_asked, values_given};
 
 use crate::choices::{Format, Misuse, checked_format, format_named};
-use crate::extensions::{option_named, options_together};
+use crate::extensions::{Sets, enabled_options, unknown_part};
+use crate::lists::list_parts;
 use crate::values::{is_given, value_of, values_of};
 use clap::ArgMatches;
 use markdown_base::options::Options;
@@ -28,6 +29,8 @@ pub struct Request {
     pub options: Options,
     /// The page that is asked for, where one is; then the format is HTML, safe or not.
     pub page: Option<Page>,
+    /// Whether files that are not UTF-8 are read too, with U+FFFD for what is none.
+    pub lossy: bool,
     /// The file that is written. `-` is standard output.
     pub output: String,
     /// The files that are read, in order, at least one. `-` is standard input.
@@ -39,32 +42,34 @@ pub const STANDARD: &str = "-";
 
 /// Why words that clap takes give no request.
 #[derive(Debug, Drop)]
-pub enum Refusal {
+pub enum Refusal<'a> {
     /// An allocation failed.
     Memory,
     /// Choices that do not go together.
     Misuse(Misuse),
+    /// A part of a list of extensions names none that is offered.
+    UnknownExtension(&'a str),
 }
 
-impl<T: Drop> From<AllocFailed<T>> for Refusal {
+impl<'a, T: Drop> From<AllocFailed<T>> for Refusal<'a> {
     ghost use Rattle.std.specs.Prelude.{◌≡◌};
     ghost use Rattle.markdown_tool_command.specs.declared.request.Refusal.{Refusal};
 
     ghost from_gives = { λ _ refusal. refusal ≡ Refusal.Memory };
 
-    fn from(refused: AllocFailed<T>) -> Refusal {
+    fn from(refused: AllocFailed<T>) -> Refusal<'a> {
         drop(refused);
         Refusal::Memory
     }
 }
 
-impl From<AllocError> for Refusal {
+impl<'a> From<AllocError> for Refusal<'a> {
     ghost use Rattle.std.specs.Prelude.{◌≡◌};
     ghost use Rattle.markdown_tool_command.specs.declared.request.Refusal.{Refusal};
 
     ghost from_gives = { λ _ refusal. refusal ≡ Refusal.Memory };
 
-    fn from(_refused: AllocError) -> Refusal {
+    fn from(_refused: AllocError) -> Refusal<'a> {
         Refusal::Memory
     }
 }
@@ -96,26 +101,41 @@ fn inputs_of(alloc: Global, names: &[&str]) -> Result<Vec<String>, AllocError>
     Ok(inputs)
 }
 
-/// Returns the options that the names and the flags enable, or `None` where a name is not offered.
-fn options_of(names: &[&str], all: bool, gfm: bool) -> Option<Options>
-    ensures { result ≡ options_of (map (λ name. name.now) names.now) all gfm }
+/// Returns the parts of the lists of extensions that are asked for.
+fn parts_asked<'a>(alloc: Global, matches: &ArgMatches<'a>) -> Result<Vec<&'a str>, AllocError>
+    ensures { IfOk result (λ parts. map (λ part. part.now) parts.items
+        ≡ parts_asked (rows_of (found_of matches.now))) }
 {
-    let mut options = options_together(all, gfm);
-    'names: for name in names {
-        options = options.union(option_named(name)?);
+    match values_of(matches, "extension") {
+        Some(lists) => list_parts(alloc, lists),
+        None => list_parts(alloc, &[]),
     }
-    Some(options)
 }
 
-/// Returns the options that are asked for, or `None` where a name is not offered.
-fn options_asked(matches: &ArgMatches<'_>) -> Option<Options>
-    ensures { result ≡ options_asked (rows_of (found_of matches.now)) }
+/// Returns the sets of extensions that are asked for.
+fn sets_asked(matches: &ArgMatches<'_>) -> Sets
+    ensures { result ≡ sets_asked (rows_of (found_of matches.now)) }
 {
-    let all = is_given(matches, "all-extensions");
-    let gfm = is_given(matches, "gfm");
-    match values_of(matches, "extension") {
-        Some(names) => options_of(names, all, gfm),
-        None => Some(options_together(all, gfm)),
+    Sets {
+        all: is_given(matches, "all-extensions"),
+        gfm: is_given(matches, "gfm"),
+    }
+}
+
+/// Returns the options that are asked for.
+///
+/// # Errors
+///
+/// `Memory` if an allocation fails, and `UnknownExtension` at the first part of a list that neither enables nor disables an
+/// extension that is offered.
+fn options_asked<'a>(alloc: Global, matches: &ArgMatches<'a>) -> Result<Options, Refusal<'a>>
+    ensures options { IfOk result (AreOptionsOf (rows_of (found_of matches.now))) }
+    ensures refused { IfErr result (IsExtensionRefusal (rows_of (found_of matches.now))) }
+{
+    let parts = parts_asked(alloc, matches)?;
+    match unknown_part(parts.as_slice()) {
+        Some(part) => Err(Refusal::UnknownExtension(part)),
+        None => Ok(enabled_options(sets_asked(matches), parts.as_slice())),
     }
 }
 
@@ -144,7 +164,7 @@ fn format_asked(matches: &ArgMatches<'_>) -> Result<Format, Misuse>
     let page = is_given(matches, "full-page");
     match named_format(matches) {
         Some(named) => checked_format(named, safe, page, asks_part(matches)),
-        None => Err(Misuse::UnknownName),
+        None => Err(Misuse::UnknownFormat),
     }
 }
 
@@ -176,8 +196,12 @@ fn inputs_asked(alloc: Global, matches: &ArgMatches<'_>) -> Result<Vec<String>, 
 ///
 /// # Errors
 ///
-/// `Memory` if an allocation fails, and `Misuse` where choices do not go together.
-pub(crate) fn request_asked(alloc: Global, matches: &ArgMatches<'_>) -> Result<Request, Refusal>
+/// `Memory` if an allocation fails, `Misuse` where choices do not go together, and otherwise `UnknownExtension`, as of
+/// `options_asked`.
+pub(crate) fn request_asked<'a>(
+    alloc: Global,
+    matches: &ArgMatches<'a>,
+) -> Result<Request, Refusal<'a>>
     ensures request { IfOk result (IsRequestOf (rows_of (found_of matches.now))) }
     ensures refused { IfErr result (IsRefusal (rows_of (found_of matches.now))) }
 {
@@ -185,10 +209,7 @@ pub(crate) fn request_asked(alloc: Global, matches: &ArgMatches<'_>) -> Result<R
         Ok(format) => format,
         Err(misuse) => return Err(Refusal::Misuse(misuse)),
     };
-    let options = match options_asked(matches) {
-        Some(options) => options,
-        None => return Err(Refusal::Misuse(Misuse::UnknownName)),
-    };
+    let options = options_asked(alloc, matches)?;
     let page = page_asked(alloc, matches)?;
     let output = String::from_str(alloc, value_of(matches, "output").unwrap_or(STANDARD))?;
     let inputs = inputs_asked(alloc, matches)?;
@@ -196,6 +217,7 @@ pub(crate) fn request_asked(alloc: Global, matches: &ArgMatches<'_>) -> Result<R
         format,
         options,
         page,
+        lossy: is_given(matches, "lossy"),
         output,
         inputs,
     })

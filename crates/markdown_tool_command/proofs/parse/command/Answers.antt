@@ -12,8 +12,8 @@ returns c =
     let with_formats = c.in_ok-with_formats.ensures.shape c.to.ensures.local
     ∙ ap₂ with_rule c.in_ok-bare.ensures c.to.ensures.rule in
     let with_safe = c.in_ok-with_safe.ensures.shape (search rules) ∙ ap₂ with_rule with_formats safe in
-    let extended = c.in_ok-extended.ensures ∙ ap (with_extension_rules (Names c.args.extensions)) with_safe in
+    let extended = c.in_ok-extended.ensures ∙ ap with_extension_rules with_safe in
     let paged = c.in_ok-paged.ensures ∙ ap with_page_rules extended in
     IfOk-weaker c.with_files.result (λ made. app_of made ≡ with_file_rules (app_of c.in_ok-paged.paged))
-    (λ made. app_of made ≡ tool (Names c.args.formats) (Names c.args.extensions))
+    (λ made. app_of made ≡ tool (Names c.args.formats))
     (λ made is. is ∙ ap with_file_rules paged) c.with_files.ensures

@@ -1,0 +1,10 @@
+-- What the parts that are left enable, all enable.
+use Rattle.std.proofs.Common.{◌≡◌, map, drop}
+use Rattle.std.specs.List.{list_any}
+use Rattle.markdown_tool_command.specs.Lists.{enables}
+use Rattle.markdown_tool_command.proofs.extensions.is_named.Given as goal
+
+abbrev pub invariant-parts : goal.invariant-parts
+invariant-parts l =
+    list_any (enables l.name) (map (λ p. p.now) (drop l.part-index l.parts))
+    ≡ list_any (enables l.name) (map (λ p. p.now) l.parts)
