@@ -126,7 +126,10 @@ extern "C" {
 #define MARKDOWN_MATH (1 << 10)
 
 /** Alerts, block quotes that begin with `[!NOTE]`, or another of five kinds; not in the port's profile. */
-#define MARKDOWN_GFM (1 << 11)
+#define MARKDOWN_ALERTS (1 << 11)
+
+/** Another name of `MARKDOWN_ALERTS`, which libraries up to 0.10.0 have alone. */
+#define MARKDOWN_GFM MARKDOWN_ALERTS
 
 /** `^a^`. */
 #define MARKDOWN_SUPERSCRIPT (1 << 13)

@@ -1,21 +1,28 @@
 # Completion of @PROGRAM@ for bash.
 _markdown_inline() {
-    local word=${COMP_WORDS[COMP_CWORD]} before=${COMP_WORDS[COMP_CWORD - 1]} words= files=
+    local word=${COMP_WORDS[COMP_CWORD]} before=${COMP_WORDS[COMP_CWORD - 1]} words= files= kept=
     case $before in
     -t | --to) words='html events outline toc' ;;
-    -e | --extension) words='@EXTENSIONS@' ;;
+    -e | --extension)
+        # (of a list the part after the last comma is completed, and in it the name after no-)
+        words='@EXTENSIONS@' kept=${word%"${word##*,}"}
+        word=${word#"$kept"}
+        if [[ $word == no-* ]]; then
+            kept+=no- word=${word#no-}
+        fi
+        ;;
     -o | --output) files=yes ;;
     --title | --css) ;;
     *)
         case $word in
-        -*) words='-t --to -e --extension -a --all-extensions --gfm --safe -f --full-page --title --css -o --output -h --help -V --version' ;;
+        -*) words='-t --to -e --extension -a --all-extensions --gfm --safe -f --full-page --title --css --lossy -o --output -h --help -V --version' ;;
         *) files=yes ;;
         esac
         ;;
     esac
     COMPREPLY=()
     if [ -n "$words" ]; then
-        mapfile -t COMPREPLY < <(compgen -W "$words" -- "$word")
+        mapfile -t COMPREPLY < <(compgen -P "$kept" -W "$words" -- "$word")
     elif [ -n "$files" ]; then
         mapfile -t COMPREPLY < <(compgen -f -- "$word")
     fi

@@ -7,8 +7,8 @@ from typing import Dict, Iterable
 
 #: The names of the extensions, with their bits.
 EXTENSIONS: Dict[str, int] = {
+    "alerts": 1 << 11,
     "footnotes": 1 << 2,
-    "gfm": 1 << 11,
     "heading-attributes": 1 << 6,
     "math": 1 << 10,
     "old-footnotes": (1 << 9) | (1 << 2),
@@ -22,6 +22,8 @@ EXTENSIONS: Dict[str, int] = {
     "wikilinks": 1 << 15,
     "yaml": 1 << 7,
 }
+# (another name of alerts)
+EXTENSIONS["gfm"] = EXTENSIONS["alerts"]
 
 _NO_MEMORY = -2
 _TOO_DEEP = -3

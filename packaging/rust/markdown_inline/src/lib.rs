@@ -64,7 +64,9 @@ impl Extensions {
     /// Task lists: `- [ ] a`, and `- [x] a` for a task that is done.
     pub const TASKLISTS: Extensions = Extensions(sys::MARKDOWN_TASKLISTS);
     /// Alerts: block quotes that begin with `[!NOTE]`, or another of five kinds.
-    pub const GFM: Extensions = Extensions(sys::MARKDOWN_GFM);
+    pub const ALERTS: Extensions = Extensions(sys::MARKDOWN_ALERTS);
+    /// Another name of `ALERTS`.
+    pub const GFM: Extensions = Extensions::ALERTS;
     /// Attributes of headings: `# a {#id .class name=value}`. Names are the author's, `onclick` too, but in safe HTML, which
     /// has the id alone, after `user-content-`.
     pub const HEADING_ATTRIBUTES: Extensions = Extensions(sys::MARKDOWN_HEADING_ATTRIBUTES);
@@ -141,7 +143,8 @@ mod tests {
         let both = Extensions::SUBSCRIPT | Extensions::SUPERSCRIPT;
         assert_eq!(to_html("~a~ ^b^", both).as_deref(), Ok("<p><sub>a</sub> <sup>b</sup></p>\n"));
         let alert = "<blockquote class=\"markdown-alert-tip\">\n<p>a</p>\n</blockquote>\n";
-        assert_eq!(to_safe_html("> [!tip]\n> a", Extensions::GFM).as_deref(), Ok(alert));
+        assert_eq!(to_safe_html("> [!tip]\n> a", Extensions::ALERTS).as_deref(), Ok(alert));
+        assert_eq!(Extensions::GFM, Extensions::ALERTS);
         let outline = "{\"level\":1,\"text\":\"é\",\"range\":{\"start\":0,\"end\":4}}\n";
         assert_eq!(to_outline("# é", Extensions::NONE).as_deref(), Ok(outline));
         assert!(
