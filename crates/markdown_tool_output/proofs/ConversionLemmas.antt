@@ -1,27 +1,30 @@
 -- All files of a request are read, and then its output is to be written; and the exit status.
 use Rattle.std.proofs.Common.{◌≡◌, ◌⊎◌, ℕ, List, [], ◌∷◌, Option, Result, Ok, Err, OnOk, OnErr, String, Global, map}
-use Rattle.std.proofs.Common.{inl, inr, string_bytes}
+use Rattle.std.proofs.Common.{inl, inr, string_bytes, subst}
 use Rattle.markdown_tool_command.specs.declared.request.Request.{Request}
-use Rattle.markdown_tool_output.specs.Conversion.{Converts, EndsConversion, exit_status}
+use Rattle.markdown_tool_output.specs.Conversion.{Converts, EndsConversion, exit_status, file_texts}
 use Rattle.markdown_tool_output.specs.Outputs.{output_of}
-use Rattle.markdown_tool_output.specs.Steps.{FileStep, ReadsAlone, Takes, all_read, writes}
+use Rattle.markdown_tool_output.specs.Steps.{FileStep, ReadsAlone, ReadsFiles, Takes, all_read, writes}
 use Rattle.markdown_tool_output.proofs.StepsLemmas.{takes_more}
 
 module _ (request : Request) (old between new : Option (List FileStep)) where
-  converts : (texts : List (List ℕ)) → Takes old between (all_read (map string_bytes request.inputs.items) texts)
+  converts : (texts : List (List ℕ))
+      → ReadsFiles request.lossy old between (map string_bytes request.inputs.items) texts
       → Takes between new (writes (string_bytes request.output) (output_of request texts) ∷ [])
       → Converts request old new
   converts texts read written = record {
-    texts = texts;
-    steps = takes_more old between new (all_read (map string_bytes request.inputs.items) texts)
-        (writes (string_bytes request.output) (output_of request texts) ∷ []) read written;
+    contents = read.contents;
+    steps = takes_more old between new (all_read (map string_bytes request.inputs.items) read.contents)
+        (writes (string_bytes request.output) (output_of request (file_texts request read.contents)) ∷ []) read.taken
+        (subst (λ (ts : List (List ℕ)). Takes between new (writes (string_bytes request.output) (output_of request ts)
+        ∷ [])) read.are written);
   }
 
   -- of names, texts and an output that are passed by reference
   pub converts_by : (names texts given : List (String Global)) (output name text : List ℕ)
       → names ≡ request.inputs.items → given ≡ texts → name ≡ string_bytes request.output → text ≡ output
       → output ≡ output_of request (map string_bytes given)
-      → Takes old between (all_read (map string_bytes names) (map string_bytes texts))
+      → ReadsFiles request.lossy old between (map string_bytes names) (map string_bytes texts)
       → Takes between new (writes name text ∷ []) → Converts request old new
   converts_by names texts given output name text are same named is of_texts read written =
       converts (map string_bytes texts) (rw are at read) (rw (named, is, rw same at of_texts) at written)

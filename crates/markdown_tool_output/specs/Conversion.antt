@@ -7,15 +7,20 @@ use Rattle.clap.specs.declared.error.kind.ErrorKind.TheVariants as kind
 use Rattle.markdown_tool_command.specs.CommandLine.{IsRefusedFor, IsRequestFor}
 use Rattle.markdown_tool_command.specs.Requests.{standard}
 use Rattle.markdown_tool_command.specs.declared.request.Request.{Request}
+use Rattle.markdown_tool_output.specs.FileText.{file_text}
 use Rattle.markdown_tool_output.specs.Outputs.{output_of}
 use Rattle.markdown_tool_output.specs.Steps.{ReadsAlone, FileStep, Takes, all_read, writes}
 
--- all files of a request are read, and then the output of their texts is to be written
+-- the texts of files with these bytes
+abbrev pub file_texts : Request → (contents : List (List ℕ)) → List (List ℕ)
+file_texts request contents = map (file_text request.lossy) contents
+
+-- all files of a request are read, with these contents, and then the output of their texts is to be written
 pub record Converts (request : Request) (old new : Option (List FileStep)) : Type 0 where
-  pub texts : List (List ℕ)
+  pub contents : List (List ℕ)
   pub steps : Takes old new
-      (all_read (map string_bytes request.inputs.items) texts
-      ++ writes (string_bytes request.output) (output_of request texts) ∷ [])
+      (all_read (map string_bytes request.inputs.items) contents
+      ++ writes (string_bytes request.output) (output_of request (file_texts request contents)) ∷ [])
 
 -- the exit status of an outcome: 0 where nothing failed
 abbrev pub exit_status : {A E : Type 0} → Result A E → ℕ

@@ -1,7 +1,7 @@
 -- The text of a file: its bytes, without a byte order mark, and where they are no text.
-use Rattle.std.specs.Prelude.{◌≡◌, ℕ, ◌+◌, ◌==◌, List, [], ◌∷◌, take, count_by, drop, length, if◌then◌else◌}
+use Rattle.std.specs.Prelude.{◌≡◌, ℕ, Bool, ◌+◌, ◌==◌, List, [], ◌∷◌, take, count_by, drop, length, if◌then◌else◌}
 use Rattle.std.specs.Str.{IsUtf8, bytes_eq}
-use Rattle.std.specs.Str.Lossy.{utf8_valid_len}
+use Rattle.std.specs.Str.Lossy.{utf8_lossy, utf8_valid_len}
 use Rattle.markdown_base.specs.Bytes.{line_feed}
 use Rattle.markdown_tool_output.specs.declared.text.NotText.{NotText}
 
@@ -14,6 +14,10 @@ pub record IsNotText (bytes : List ℕ) (at : NotText) : Type 0 where
   pub is_not : IsUtf8 bytes → ⊥
   pub offset : at.offset ≡ utf8_valid_len bytes
   pub line : at.line ≡ line_number bytes at.offset
+
+-- the text of a file: its bytes, or where it is lossy, these with U+FFFD for each maximal piece that is no UTF-8
+abbrev pub file_text : (lossy : Bool) → List ℕ → List ℕ
+file_text lossy bytes = if lossy then utf8_lossy bytes else bytes
 
 -- the byte order mark, U+FEFF in UTF-8
 abbrev pub mark : List ℕ

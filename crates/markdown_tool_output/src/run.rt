@@ -3,7 +3,8 @@ ghost use Rattle.std.specs.Prelude.{◌≡◌, ◌⊎◌, ◌∷◌, ℕ, List, 
 ghost use Rattle.clap.specs.Words.{kind_of};
 ghost use Rattle.markdown_tool_command.specs.Requests.{standard};
 ghost use Rattle.markdown_tool_output.specs.Conversion.{Converts, RunEnds, EndsWithout, exit_status};
-ghost use Rattle.markdown_tool_output.specs.Steps.{ReadsAlone, Takes, all_read, reads, writes};
+ghost use Rattle.markdown_tool_output.specs.FileText.{file_text};
+ghost use Rattle.markdown_tool_output.specs.Steps.{ReadsAlone, ReadsFile, ReadsFiles, Takes, writes};
 
 use crate::failure::{Failure, read_failure, say, write_failure};
 use crate::files::Files;
@@ -15,39 +16,56 @@ use markdown_tool_command::{Request, STANDARD, request_of};
 use std::alloc::{AllocError, Global};
 use std::io::Write;
 
-/// Returns the text of a file.
-fn read_text<'a, F: Files>(
+/// Returns the text of the bytes of a file. If `lossy` is set, what is not UTF-8 in them becomes U+FFFD.
+fn text_in<'a>(
     alloc: Global,
     name: &'a str,
-    files: &mut F,
+    bytes: Vec<u8>,
+    lossy: bool,
 ) -> Result<String, Failure<'a>>
-    ensures read { IfOk result (λ text. Takes (F.steps files.old) (F.steps files.new)
-        (reads name.now (string_bytes text) ∷ [])) }
-    ensures failed { OnErr result (ReadsAlone (F.steps files.old) (F.steps files.new)) }
+    ensures { IfOk result (λ text. string_bytes text ≡ file_text lossy bytes.items) }
 {
-    let bytes = match files.read(alloc, name) {
-        Ok(bytes) => bytes,
-        Err(error) => return Err(read_failure(name, error)),
-    };
+    if lossy {
+        return Ok(String::from_utf8_lossy(alloc, bytes.as_slice())?);
+    }
     match text_of(bytes) {
         Ok(text) => Ok(text),
         Err(at) => Err(Failure::NotText(name, at)),
     }
 }
 
-/// Returns the texts of files, in order.
+/// Returns the text of a file. If `lossy` is set, what is not UTF-8 in it becomes U+FFFD.
+fn read_text<'a, F: Files>(
+    alloc: Global,
+    name: &'a str,
+    lossy: bool,
+    files: &mut F,
+) -> Result<String, Failure<'a>>
+    ensures read { IfOk result (λ text. ReadsFile lossy (F.steps files.old) (F.steps files.new)
+        name.now (string_bytes text)) }
+    ensures failed { OnErr result (ReadsAlone (F.steps files.old) (F.steps files.new)) }
+{
+    let bytes = match files.read(alloc, name) {
+        Ok(bytes) => bytes,
+        Err(error) => return Err(read_failure(name, error)),
+    };
+    text_in(alloc, name, bytes, lossy)
+}
+
+/// Returns the texts of files, in order. If `lossy` is set, what is not UTF-8 in them becomes U+FFFD.
 fn read_texts<'a, F: Files>(
     alloc: Global,
     names: &'a [String],
+    lossy: bool,
     files: &mut F,
 ) -> Result<Vec<String>, Failure<'a>>
-    ensures read { IfOk result (λ texts. Takes (F.steps files.old) (F.steps files.new)
-        (all_read (map string_bytes names.now) (map string_bytes texts.items))) }
+    ensures read { IfOk result (λ texts. ReadsFiles lossy (F.steps files.old) (F.steps files.new)
+        (map string_bytes names.now) (map string_bytes texts.items)) }
     ensures failed { OnErr result (ReadsAlone (F.steps files.old) (F.steps files.new)) }
 {
     let mut texts = Vec::new(alloc);
     'names: for name in names {
-        texts.push(read_text(alloc, name.as_str(), files)?)?;
+        texts.push(read_text(alloc, name.as_str(), lossy, files)?)?;
     }
     Ok(texts)
 }
@@ -66,7 +84,7 @@ pub fn convert<'a, F: Files>(
     ensures err { OnErr result (Converts request.now (F.steps files.old) (F.steps files.new)
         ⊎ ReadsAlone (F.steps files.old) (F.steps files.new)) }
 {
-    let texts = read_texts(alloc, request.inputs.as_slice(), files)?;
+    let texts = read_texts(alloc, request.inputs.as_slice(), request.lossy, files)?;
     let output = output_of(alloc, request, texts.as_slice())?;
     match files.write(request.output.as_str(), output.as_str()) {
         Ok(()) => Ok(()),

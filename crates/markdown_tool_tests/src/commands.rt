@@ -12,28 +12,77 @@ const WRONG: &[(&[&str], &str)] = &[
         &["-t", "pdf"],
         "error: invalid value 'pdf' for '--to <FORMAT>'\n  [possible values: html, events, outline, toc]\n",
     ),
+    (&["-o"], "error: a value is required for '--output <FILE>'"),
     (
-        &["-e", "footnote", "a.md"],
-        "error: invalid value 'footnote' for '--extension <NAME>'\n",
+        &["-e"],
+        "error: a value is required for '--extension <LIST>'",
+    ),
+];
+
+/// Words that clap takes, and what is said between `error: ` and the usage. Of several mistakes the first in this order is
+/// said.
+const MISUSES: &[(&[&str], &str)] = &[
+    (
+        &["--title", "a", "a.md"],
+        "--title and --css need --full-page",
+    ),
+    (
+        &["--css", "a", "--safe", "-t", "toc", "-e", "b", "a.md"],
+        "--title and --css need --full-page",
     ),
     (
         &["--safe", "-t", "events", "a.md"],
-        "error: --safe is for --to html alone\n",
+        "--safe is for --to html alone",
     ),
     (
-        &["-f", "-t", "toc", "a.md"],
-        "error: --full-page is for --to html alone\n",
+        &["--safe", "-f", "-t", "toc", "-e", "b", "a.md"],
+        "--safe is for --to html alone",
     ),
     (
-        &["--title", "a", "a.md"],
-        "error: --title and --css need --full-page\n",
+        &["-f", "-t", "outline", "-e", "b", "a.md"],
+        "--full-page is for --to html alone",
     ),
     (
-        &["--css", "a", "a.md"],
-        "error: --title and --css need --full-page\n",
+        &["-e", "tabels", "a.md"],
+        "'tabels' is no extension; see --help for their names",
     ),
-    (&["-o"], "error: a value is required for '--output <FILE>'"),
+    (
+        &["-e", "math,b,c", "-e", "d", "a.md"],
+        "'b' is no extension; see --help for their names",
+    ),
+    (
+        &["-e", "", "a.md"],
+        "'' is no extension; see --help for their names",
+    ),
+    (
+        &["-e", "math,", "a.md"],
+        "'' is no extension; see --help for their names",
+    ),
+    (
+        &["-e", "math, smart", "a.md"],
+        "' smart' is no extension; see --help for their names",
+    ),
+    (
+        &["-e", "Math", "a.md"],
+        "'Math' is no extension; see --help for their names",
+    ),
+    (
+        &["-e", "no-tabels", "a.md"],
+        "'no-tabels' is no extension; see --help for their names",
+    ),
+    (
+        &["-e", "no-no-math", "a.md"],
+        "'no-no-math' is no extension; see --help for their names",
+    ),
+    (
+        &["-e", "no-", "a.md"],
+        "'no-' is no extension; see --help for their names",
+    ),
 ];
+
+/// What follows a mistake.
+const USAGE: &str =
+    "\n\nUsage: markdown [OPTIONS] [FILE]...\n\nFor more information, try '--help'.\n";
 
 #[test]
 fn wrong_words(rt: HostRuntime) -> Result<(), Fail> {
@@ -45,6 +94,73 @@ fn wrong_words(rt: HostRuntime) -> Result<(), Fail> {
             (*words, left.message.as_str()),
             (left.status, left.reads, is_said, left.written.as_str()),
             (2, 0, true, ""),
+        );
+    }
+    rows.end()
+}
+
+/// Returns what is said between `error: ` and the usage, if it stands so.
+fn mistake(message: &str) -> Option<&str> {
+    message.strip_prefix("error: ")?.strip_suffix(USAGE)
+}
+
+#[test]
+fn misuses(rt: HostRuntime) -> Result<(), Fail> {
+    let mut rows = Rows::new();
+    for (words, said) in MISUSES {
+        let left = after_run(rt.alloc(), words, None)?;
+        rows.gives(
+            *words,
+            (
+                left.status,
+                left.reads,
+                mistake(left.message.as_str()),
+                left.written.as_str(),
+            ),
+            (2, 0, Some(*said), ""),
+        );
+    }
+    rows.end()
+}
+
+/// What help shows, after the name of standard output.
+const HELP: &str = "-: \
+Turn Markdown into HTML, events, an outline or a table of contents.
+
+Usage: markdown [OPTIONS] [FILE]...
+
+Arguments:
+  [FILE]...  The files to read; - or none is standard input
+
+Options:
+  -t, --to <FORMAT>       What to write [default: html] [possible values: html, events, outline, toc]
+      --safe              Write safe HTML, for texts of strangers
+  -e, --extension <LIST>  Enable extensions, with commas between; no-NAME disables one; may be repeated
+  -a, --all-extensions    Enable all extensions but old-footnotes
+      --gfm               Enable the extensions of GitHub, which are marked with a *
+  -f, --full-page         Write a whole page of HTML
+      --title <TITLE>     The title of the page [default: the name of the first file]
+      --css <URL>         The style sheet of the page
+      --lossy             Read bytes that are not UTF-8 as U+FFFD
+  -o, --output <FILE>     The file to write; - is standard output [default: -]
+  -h, --help              Print help
+  -V, --version           Print version
+
+Extensions: alerts*, footnotes*, heading-attributes, math, old-footnotes, pluses, smart, strikethrough*, subscript,
+superscript, tables*, tasklists*, wikilinks, yaml.
+
+Exit status: 0 if all was written, 1 if something failed, 2 if the command line is wrong.
+";
+
+#[test]
+fn help(rt: HostRuntime) -> Result<(), Fail> {
+    let mut rows = Rows::new();
+    for words in [["-h"], ["--help"]] {
+        let left = after_run(rt.alloc(), words.as_slice(), None)?;
+        rows.gives(
+            words.as_slice(),
+            (left.status, left.message.as_str(), left.written.as_str()),
+            (0, "", HELP),
         );
     }
     rows.end()

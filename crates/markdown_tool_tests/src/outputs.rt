@@ -57,6 +57,70 @@ const EXTENSIONS: &[Row] = &[
     ),
 ];
 
+/// What lists enable and disable, whatever the order.
+const LISTS: &[Row] = &[
+    (
+        &["-e", "superscript,strikethrough", "strike.md"],
+        "-: <p><del>a</del> b<sup>c</sup><a href=\"e\">^d</a></p>\n",
+    ),
+    (
+        &["--gfm", "-e", "no-footnotes", "strike.md"],
+        "-: <p><del>a</del> b^c^<a href=\"e\">^d</a></p>\n",
+    ),
+    (
+        &["-e", "no-footnotes,superscript", "--gfm", "strike.md"],
+        "-: <p><del>a</del> b<sup>c</sup><a href=\"e\">^d</a></p>\n",
+    ),
+    (
+        &[
+            "-e",
+            "no-strikethrough",
+            "-e",
+            "superscript,strikethrough",
+            "strike.md",
+        ],
+        "-: <p>~~a~~ b<sup>c</sup><a href=\"e\">^d</a></p>\n",
+    ),
+    (
+        &["-a", "-e", "no-superscript,no-footnotes", "strike.md"],
+        "-: <p><del>a</del> b^c^<a href=\"e\">^d</a></p>\n",
+    ),
+    (
+        &["-e", "alerts", "alert.md"],
+        "-: <blockquote class=\"markdown-alert-note\">\n<p>a</p>\n</blockquote>\n",
+    ),
+    (
+        &["-e", "gfm", "alert.md"],
+        "-: <blockquote class=\"markdown-alert-note\">\n<p>a</p>\n</blockquote>\n",
+    ),
+    (
+        &["--gfm", "-e", "no-gfm", "alert.md"],
+        "-: <blockquote>\n<p>[!NOTE]\na</p>\n</blockquote>\n",
+    ),
+    (
+        &["-e", "alerts", "-a", "-e", "no-alerts", "alert.md"],
+        "-: <blockquote>\n<p>[!NOTE]\na</p>\n</blockquote>\n",
+    ),
+];
+
+/// Files that are not UTF-8: one U+FFFD stands for each maximal piece that is none, and ranges are those of the text so read.
+const LOSSY: &[Row] = &[
+    (&["--lossy", "bad.md"], "-: <p>a\nb\u{fffd}</p>\n"),
+    (&["--lossy", "cut.md"], "-: <p>a</p>\n<p>\u{fffd}</p>\n"),
+    (
+        &["--lossy", "pieces.md"],
+        "-: <p>\u{fffd}\u{fffd} \u{fffd} \u{fffd}\u{fffd} \u{fffd}\u{fffd}\u{fffd} \u{fffd}€</p>\n",
+    ),
+    (
+        &["--lossy", "-t", "outline", "head.md"],
+        "-: {\"level\":1,\"text\":\"\u{fffd}\",\"range\":{\"start\":0,\"end\":5}}\n",
+    ),
+    (
+        &["--lossy", "a.md", "bad.md"],
+        "-: <p>a</p>\n<p>a\nb\u{fffd}</p>\n",
+    ),
+];
+
 const PAGES: &[Row] = &[
     (
         &["-f", "a.md", "mark.md"],
@@ -98,6 +162,8 @@ fn files(rt: HostRuntime) -> Result<(), Fail> {
     let mut rows = Rows::new();
     writes(rt.alloc(), &mut rows, FORMATS)?;
     writes(rt.alloc(), &mut rows, EXTENSIONS)?;
+    writes(rt.alloc(), &mut rows, LISTS)?;
+    writes(rt.alloc(), &mut rows, LOSSY)?;
     writes(rt.alloc(), &mut rows, PAGES)?;
     rows.end()
 }

@@ -5,14 +5,20 @@ use std::io::{self, ErrorKind};
 use std::test::Fail;
 
 /// Files with what they hold. The name `-` is that of standard input.
-static HELD: [(&str, &[u8]); 8] = [
+static HELD: [(&str, &[u8]); 11] = [
     ("-", b"*in*"),
     ("a.md", b"a"),
+    ("alert.md", b"> [!NOTE]\n> a"),
     ("b.md", b"# B *c*\n\n## D"),
     ("bad.md", b"a\nb\xff"),
     ("cut.md", b"\xef\xbb\xbfa\r\n\r\n\xe2\x82"),
     ("html.md", b"a<b>c</b>&copy;"),
     ("mark.md", b"\xef\xbb\xbf# A"),
+    ("head.md", b"# \xff"),
+    (
+        "pieces.md",
+        b"\xff\xfe \xf0\x90\x80 \xc0\xaf \xed\xa0\x80 \xe2\x82\xe2\x82\xac",
+    ),
     ("strike.md", b"~~a~~ b^c^[^d]\n\n[^d]: e"),
 ];
 
