@@ -12,7 +12,7 @@ pub use Rattle.markdown_safe.specs.HtmlTree.{IsSafeTree}
 pub use Rattle.markdown_safe.specs.NestedEvents.{AreNested, NestFrom, IsAwaited, awaited_after, tables_are_whole}
 -- safe events, and the iterators of them
 pub use Rattle.markdown_safe.specs.SafeEvents.{safe_event, safe_events, safe_tag, safe_destination, safe_name}
-pub use Rattle.markdown_safe.specs.SafeEvents.{safe_info, safe_target}
+pub use Rattle.markdown_safe.specs.SafeEvents.{safe_info, safe_link_destination, safe_target}
 pub use Rattle.markdown_safe.specs.SafeItems.{IsSafeItem, GivesSafe, IsSafePlaced, GivesSafePlaced}
 pub use Rattle.markdown_safe.specs.SafeSource.{safe_source, safe_steps, placed_source}
 pub use Rattle.markdown_safe.specs.declared.adapter.Safe.{Safe}

@@ -34,6 +34,7 @@ use Rattle.markdown_safe.specs.SafeHtml.{by_itself, character_bytes, Attribute, 
 use Rattle.markdown_safe.specs.SafeHtml.{start_tag, end_tag, bytes_of_piece, is_safe_piece}
 use Rattle.markdown_safe.specs.SafeHtml.{is_safe_class, tag_bytes, void_tag}
 use Rattle.markdown_safe.specs.SafeEvents.{is_name, safe_destination, safe_name, safe_target, safe_info}
+use Rattle.markdown_safe.specs.SafeEvents.{safe_link_destination}
 use Rattle.markdown_safe.specs.SafeEvents.{safe_tag, safe_event}
 use Rattle.markdown_safe.proofs.SafeHtmlLemmas.{of_pieces, both, text_safe, attribute_safe, IsValue, value-append}
 use Rattle.markdown_safe.proofs.SafeHtmlLemmas.{value-empty, value-escaped, value-plain, digits_plain, decimal_digits}
@@ -252,11 +253,11 @@ target_value (b ∷ name) = by_test (b == number_sign && is_name name)
     by_test false = url_value (b ∷ name)
 
 link_value : (kind : LinkType) (destination : List ℕ)
-    → IsUrlValue (link_scheme kind ++ destination_escaped (safe_target destination))
+    → IsUrlValue (link_scheme kind ++ destination_escaped (safe_link_destination kind destination))
 link_value kinds.Email destination =
-    let u = target_value destination in record {
+    let u = url_value destination in record {
       read = codes "mailto:" ++ u.read;
-      value = value-append (codes "mailto:") (destination_escaped (safe_target destination)) (codes "mailto:")
+      value = value-append (codes "mailto:") (destination_escaped (safe_destination destination)) (codes "mailto:")
           u.read
           (value-plain (codes "mailto:") refl) u.value;
       url = refl;
@@ -265,16 +266,16 @@ link_value kind destination = target_value destination
 
 -- a link's Start
 link_safe : (kind : LinkType) (destination title : List ℕ)
-    → IsMarkup (joined (link_parts kind (safe_target destination) title)) (opens (codes "a") ∷ [])
+    → IsMarkup (joined (link_parts kind (safe_link_destination kind destination) title)) (opens (codes "a") ∷ [])
 link_safe kind destination [] =
     let u = link_value kind destination in
-    rw (← append_assoc (link_scheme kind) (destination_escaped (safe_target destination)) (codes "\">"))
+    rw (← append_assoc (link_scheme kind) (destination_escaped (safe_link_destination kind destination)) (codes "\">"))
     (one (codes "a") (codes "href") _ u.read [] u.value (rw (u.value.safe, u.value.means, u.url) refl)
     (of_pieces [] refl))
 link_safe kind destination (b ∷ title) =
     let u = link_value kind destination in
     let t = value-escaped (b ∷ title) in
-    rw (← append_assoc (link_scheme kind) (destination_escaped (safe_target destination))
+    rw (← append_assoc (link_scheme kind) (destination_escaped (safe_link_destination kind destination))
     (codes "\" title=\"" ++ (attribute_escaped (b ∷ title) ++ codes "\">")))
     (two (start_tag (codes "a")) (codes "a") (codes "href") (codes "title") (codes ">") _ u.read _ (b ∷ title) []
     u.value t
