@@ -34,7 +34,7 @@ bitflag_items! {
         const ENABLE_MATH = 1 << 10;
         /// GitHub's kinds of block quotes, such as `[!NOTE]`, by the full reading.
         const ENABLE_GFM = 1 << 11;
-        /// Definition lists. Neither entry makes any yet, so this has no effect.
+        /// Definition lists. No text is read with any yet, so this has no effect.
         const ENABLE_DEFINITION_LIST = 1 << 12;
         /// Superscript, `^text^`.
         const ENABLE_SUPERSCRIPT = 1 << 13;

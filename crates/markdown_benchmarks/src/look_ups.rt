@@ -6,7 +6,11 @@ use markdown_test_helpers::parts::{link_to, no_parts};
 use std::alloc::Global;
 
 /// Returns allocations with definitions of these labels and footnotes of these names.
-fn held(alloc: Global, labels: Vec<String>, names: Vec<String>) -> Option<Allocations<'static>> {
+fn allocations_of(
+    alloc: Global,
+    labels: Vec<String>,
+    names: Vec<String>,
+) -> Option<Allocations<'static>> {
     let mut definitions = Vec::new(alloc);
     for label in labels {
         definitions.push((CowStr::from(label), link_to("/u"))).ok()?;
@@ -22,8 +26,8 @@ fn held(alloc: Global, labels: Vec<String>, names: Vec<String>) -> Option<Alloca
 }
 
 /// Returns how many of `size` definitions are found by their labels.
-pub fn found(alloc: Global, kind: LabelKind, size: usize) -> Option<usize> {
-    let held = held(alloc, first_labels(alloc, kind, size)?, Vec::new(alloc))?;
+pub fn find_all(alloc: Global, kind: LabelKind, size: usize) -> Option<usize> {
+    let held = allocations_of(alloc, first_labels(alloc, kind, size)?, Vec::new(alloc))?;
     let mut count = 0usize;
     for number in 0..size {
         let key = kind.label(alloc, number)?;
@@ -35,8 +39,8 @@ pub fn found(alloc: Global, kind: LabelKind, size: usize) -> Option<usize> {
 }
 
 /// Returns how many of `size` footnotes are found by their names, when a use of each is counted.
-pub fn used(alloc: Global, kind: LabelKind, size: usize) -> Option<usize> {
-    let mut held = held(alloc, Vec::new(alloc), first_labels(alloc, kind, size)?)?;
+pub fn use_all(alloc: Global, kind: LabelKind, size: usize) -> Option<usize> {
+    let mut held = allocations_of(alloc, Vec::new(alloc), first_labels(alloc, kind, size)?)?;
     let mut count = 0usize;
     for number in 0..size {
         let name = kind.label(alloc, number)?;

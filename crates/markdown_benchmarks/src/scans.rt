@@ -32,7 +32,7 @@ impl Beginning {
     }
 
     /// Returns it, repeated `times` times.
-    pub fn repeated(self, alloc: Global, times: usize) -> Option<String> {
+    pub fn repeat(self, alloc: Global, times: usize) -> Option<String> {
         let mut all = String::new(alloc);
         for _ in 0..times {
             all.push_str(self.text()).ok()?;
@@ -74,8 +74,8 @@ fn is_found(
 }
 
 /// Returns how many are found in `times` beginnings.
-pub fn found(alloc: Global, beginning: Beginning, times: usize) -> Option<usize> {
-    let text = beginning.repeated(alloc, times)?;
+pub fn scan_all(alloc: Global, beginning: Beginning, times: usize) -> Option<usize> {
+    let text = beginning.repeat(alloc, times)?;
     let mut scanner = RawHtmlScanner::new(text.as_str().as_bytes());
     let mut count = 0usize;
     let mut at = 0usize;

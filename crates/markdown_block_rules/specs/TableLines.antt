@@ -1,4 +1,4 @@
--- Tables, where the full reading has them: which line of a paragraph is the head of one, and which lines are rows.
+-- Tables, where the syntax has them: which line of a paragraph is the head of one, and which lines are rows.
 use Rattle.std.specs.Prelude.{ℕ, ◌-◌, ◌+◌, Bool, true, false, not, ◌==◌, ◌&&◌, ◌||◌, nat_lt, List, [], ◌∷◌}
 use Rattle.std.specs.Prelude.{◌++◌, Option}
 use Rattle.std.specs.Prelude.{Some, None, length, max, codes, if◌then◌else◌}

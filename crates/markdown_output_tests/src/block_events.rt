@@ -171,7 +171,7 @@ fn attributes(alloc: Global) -> Result<HeadingAttributes<'static>, AllocError> {
 }
 
 /// Returns parts with these attributes.
-fn attributed(alloc: Global) -> Result<BlockParts<'static>, AllocError> {
+fn parts_with_attributes(alloc: Global) -> Result<BlockParts<'static>, AllocError> {
     let held = attributes(alloc)?;
     let mut parts = no_parts(alloc);
     parts.headings.push(held)?;
@@ -191,7 +191,7 @@ fn headings_that_share_attributes(rt: HostRuntime) -> Result<(), Fail> {
     let alloc = rt.alloc();
     let events = "<h6>0..1 </h6>0..1 <h2 #(i) .(c) (k):(v) (n)>1..2 </h2>1..2 \
         <h2 #(i) .(c) (k):(v) (n)>2..3 </h2>2..3 ";
-    let found = events_of(alloc, HEADINGS, attributed(alloc)?)?;
+    let found = events_of(alloc, HEADINGS, parts_with_attributes(alloc)?)?;
     gives("headings", found.as_str(), events)
 }
 

@@ -34,7 +34,7 @@ fn all_bytes(alloc: Global) -> Result<String, AllocError> {
 }
 
 /// Returns what a text is written as, by the table, with `quote` for a quote.
-fn escaped(alloc: Global, text: &str, quote: &str) -> Result<String, AllocError> {
+fn escape(alloc: Global, text: &str, quote: &str) -> Result<String, AllocError> {
     let ampersands = text.replace(alloc, "&", "&amp;")?;
     let openers = ampersands.as_str().replace(alloc, "<", "&lt;")?;
     let closers = openers.as_str().replace(alloc, ">", "&gt;")?;
@@ -72,7 +72,7 @@ fn link_to(alloc: Global, destination: &str) -> Result<String, AllocError> {
 
 /// Returns math with this text.
 fn math_of(alloc: Global, text: &str) -> Result<String, AllocError> {
-    let inside = escaped(alloc, text, "&quot;")?;
+    let inside = escape(alloc, text, "&quot;")?;
     format!(in alloc; "<span class=\"math math-inline\">{inside}</span>")
 }
 
@@ -96,7 +96,7 @@ fn sign_at<'s>(place: Place, text: &'s str) -> Sign<'s> {
 /// Returns the HTML of that event, by the tables.
 fn html_at(alloc: Global, place: Place, text: &str) -> Result<String, AllocError> {
     match place {
-        Place::Text => escaped(alloc, text, "\""),
+        Place::Text => escape(alloc, text, "\""),
         Place::Math => math_of(alloc, text),
         Place::Destination => link_to(alloc, text),
     }

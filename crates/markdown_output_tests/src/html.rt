@@ -14,7 +14,7 @@ use std::alloc::{AllocError, Global};
 use std::test::Fail;
 
 /// Returns what `push_html` returns, and what it appends to the string `old `.
-fn written<'a, I: Iterator<Item = Item<'a>>>(
+fn write_items<'a, I: Iterator<Item = Item<'a>>>(
     alloc: Global,
     events: I,
 ) -> Result<(Option<Fault>, String), AllocError>
@@ -46,7 +46,7 @@ fn has_written(rows: &mut Rows, found: (Option<Fault>, String), row: Row) {
 fn check(alloc: Global, table: &[Row]) -> Result<(), Fail> {
     let mut rows = Rows::new();
     for row in table {
-        has_written(&mut rows, written(alloc, items_of(alloc, row.0))?, *row);
+        has_written(&mut rows, write_items(alloc, items_of(alloc, row.0))?, *row);
     }
     rows.end()
 }
@@ -405,7 +405,7 @@ fn check_merges(alloc: Global, table: &[Row]) -> Result<(), Fail> {
     let mut rows = Rows::new();
     for row in table {
         let merge = TextMergeStream::new(alloc, items_of(alloc, row.0));
-        has_written(&mut rows, written(alloc, merge)?, *row);
+        has_written(&mut rows, write_items(alloc, merge)?, *row);
     }
     rows.end()
 }

@@ -55,7 +55,7 @@ fn push_next<T: Noted, I: Iterator<Item = T>>(
 }
 
 /// Returns the results of this number of calls of `next` as a text.
-fn called<T: Noted, I: Iterator<Item = T> + Drop>(
+fn call_all<T: Noted, I: Iterator<Item = T> + Drop>(
     alloc: Global,
     merge: I,
     calls: usize,
@@ -116,7 +116,7 @@ fn events(rt: HostRuntime) -> Result<(), Fail> {
     let mut rows = Rows::new();
     for &(signs, wanted, _) in &ROWS {
         let merge = TextMergeStream::new(rt.alloc(), items_of(rt.alloc(), signs));
-        let found = called(rt.alloc(), merge, signs.len() + 1)?;
+        let found = call_all(rt.alloc(), merge, signs.len() + 1)?;
         rows.gives_text(wanted, found, wanted);
     }
     rows.end()
@@ -127,7 +127,7 @@ fn events_with_ranges(rt: HostRuntime) -> Result<(), Fail> {
     let mut rows = Rows::new();
     for &(signs, _, wanted) in &ROWS {
         let merge = TextMergeWithOffset::new(rt.alloc(), ranged_items_of(rt.alloc(), signs));
-        let found = called(rt.alloc(), merge, signs.len() + 1)?;
+        let found = call_all(rt.alloc(), merge, signs.len() + 1)?;
         rows.gives_text(wanted, found, wanted);
     }
     rows.end()

@@ -1,5 +1,5 @@
 //! The message of each of the programs where something fails, and its status.
-use crate::runs::{Given, Input, Program, reported, words_of};
+use crate::runs::{Given, Input, Program, report_of, words_of};
 use markdown_base::fault::Fault;
 use markdown_render::run::Failure;
 use markdown_test_helpers::rows::Rows;
@@ -37,7 +37,7 @@ fn is_said(alloc: Global, rows: &mut Rows, program: Program, row: Row) -> Result
         out,
         err,
     };
-    let found = program.printed(alloc, given)?;
+    let found = program.output_on(alloc, given)?;
     let (status, message) = wanted;
     rows.gives(
         (program, wanted),
@@ -89,7 +89,7 @@ fn messages_of_faults(rt: HostRuntime) -> Result<(), Fail> {
         (Fault::Blocks, "bad block result\n"),
         (Fault::Depth, "image nested too deeply\n"),
     ] {
-        let (status, message) = reported(rt.alloc(), Failure::Fault(fault))?;
+        let (status, message) = report_of(rt.alloc(), Failure::Fault(fault))?;
         rows.gives(wanted, (status, message.as_str()), (1, wanted));
     }
     rows.end()

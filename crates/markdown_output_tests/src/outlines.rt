@@ -17,7 +17,7 @@ type Row = (Option<Sign<'static>>, usize, usize);
 
 type Placed<'s> = Result<(Event<'s>, Range<usize>), Fault>;
 
-fn placed<'s>(item: Result<Event<'s>, Fault>, range: Range<usize>) -> Placed<'s> {
+fn at_place<'s>(item: Result<Event<'s>, Fault>, range: Range<usize>) -> Placed<'s> {
     let event = item?;
     Ok((event, range))
 }
@@ -34,7 +34,7 @@ impl<'s> Listed for Signed<'s> {
 
     fn item(&self, at: usize) -> Option<Placed<'s>> {
         let (sign, start, end) = *self.rows.get(at)?;
-        Some(placed(item_of(self.alloc, sign?), start..end))
+        Some(at_place(item_of(self.alloc, sign?), start..end))
     }
 }
 

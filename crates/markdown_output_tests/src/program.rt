@@ -5,7 +5,12 @@ use std::alloc::Global;
 use std::test::Fail;
 
 /// Returns what a program prints for a text, with these arguments.
-fn printed(alloc: Global, program: Program, words: &[&str], input: &str) -> Result<Printed, Fail> {
+fn output_of(
+    alloc: Global,
+    program: Program,
+    words: &[&str],
+    input: &str,
+) -> Result<Printed, Fail> {
     let words = words_of(alloc, words)?;
     let given = Given {
         words: &words,
@@ -13,7 +18,7 @@ fn printed(alloc: Global, program: Program, words: &[&str], input: &str) -> Resu
         out: None,
         err: None,
     };
-    program.printed(alloc, given)
+    program.output_on(alloc, given)
 }
 
 /// Checks that a program has succeeded with this text on standard output, and nothing on standard error.
@@ -31,7 +36,7 @@ type Row = (&'static [&'static str], &'static str, &'static str);
 /// Checks what a program prints for each row.
 fn prints(alloc: Global, rows: &mut Rows, program: Program, table: &[Row]) -> Result<(), Fail> {
     for &(words, input, wanted) in table {
-        let found = printed(alloc, program, words, input)?;
+        let found = output_of(alloc, program, words, input)?;
         has_printed(rows, (words, input), found, wanted);
     }
     Ok(())

@@ -67,7 +67,7 @@ pub struct Printed {
 }
 
 /// Returns the message for a failure, with the status.
-pub fn reported(alloc: Global, failure: Failure) -> Result<(u8, String), Fail> {
+pub fn report_of(alloc: Global, failure: Failure) -> Result<(u8, String), Fail> {
     let mut err = Output {
         written: Vec::new(alloc),
         error: None,
@@ -88,7 +88,7 @@ impl Program {
     }
 
     /// Runs the program, and returns its status with what it wrote.
-    pub fn printed(self, alloc: Global, given: Given<'_>) -> Result<Printed, Fail> {
+    pub fn output_on(self, alloc: Global, given: Given<'_>) -> Result<Printed, Fail> {
         let mut out = Output {
             written: Vec::new(alloc),
             error: given.out,

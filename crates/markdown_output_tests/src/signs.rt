@@ -173,7 +173,7 @@ pub struct Ranged<'s> {
 }
 
 /// Returns an item with a range of one byte.
-fn placed<'s>(item: Item<'s>, at: usize) -> RangedItem<'s> {
+fn at_place<'s>(item: Item<'s>, at: usize) -> RangedItem<'s> {
     let event = item?;
     Ok((event, at..at.saturating_add(1)))
 }
@@ -183,7 +183,7 @@ impl<'s> Listed for Ranged<'s> {
 
     fn item(&self, at: usize) -> Option<RangedItem<'s>> {
         let item = self.signed.item(at)?;
-        Some(placed(item, at))
+        Some(at_place(item, at))
     }
 }
 

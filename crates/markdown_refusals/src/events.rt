@@ -1,6 +1,6 @@
 //! Copies and `'static` forms of events and their tags: the same event, or an allocation failed.
 use crate::texts::{LONG, Place, text};
-use crate::tries::{put, tried};
+use crate::tries::{check_try, put};
 use markdown_base::cow_str::CowStr;
 use markdown_base::event::Event;
 use markdown_base::fault::Fault;
@@ -111,7 +111,7 @@ fn are_wanted<T: PartialEq + Drop>(
 ) -> Option<bool> {
     let wanted = wanted.ok()?;
     let is_kept = held == wanted;
-    Some(tried(Ok::<T, Fault>(wanted), copy)? && is_kept)
+    Some(check_try(Ok::<T, Fault>(wanted), copy)? && is_kept)
 }
 
 /// Returns whether an event is copied, and unchanged if an allocation failed.
@@ -129,7 +129,7 @@ fn is_freed(alloc: Global, kind: Kind) -> Option<bool> {
     match event(alloc, kind) {
         Ok(held) => {
             let freed = held.into_static(alloc);
-            tried(event(alloc, kind), freed)
+            check_try(event(alloc, kind), freed)
         }
         Err(_) => None,
     }

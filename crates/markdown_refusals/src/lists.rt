@@ -79,7 +79,7 @@ impl<'a> Listed for Mixed<'a> {
 }
 
 /// Returns an iterator over the `count` items of a list.
-fn given<L>(list: L, count: usize) -> Items<WithoutErrors<L>> {
+fn give<L>(list: L, count: usize) -> Items<WithoutErrors<L>> {
     Items::of(WithoutErrors::of(list), count)
 }
 
@@ -95,7 +95,7 @@ fn merges_to<T: Given, I: Iterator<Item = Result<T, Fault>> + Drop>(merge: I, fu
 /// Returns whether the texts are merged, or a prefix of the merged events is given and an allocation failed.
 pub fn merges(alloc: Global) -> bool {
     merges_to(
-        TextMergeStream::new(alloc, given(Texts, 5)),
+        TextMergeStream::new(alloc, give(Texts, 5)),
         [
             text("a first text and a second"),
             Event::Rule,
@@ -107,7 +107,7 @@ pub fn merges(alloc: Global) -> bool {
 /// Returns the same for the texts with ranges.
 pub fn merges_with_ranges(alloc: Global) -> bool {
     merges_to(
-        TextMergeWithOffset::new(alloc, given(RangedTexts, 5)),
+        TextMergeWithOffset::new(alloc, give(RangedTexts, 5)),
         [
             (text("a first text and a second"), 0..25),
             (Event::Rule, 25..29),
@@ -120,5 +120,5 @@ pub fn merges_with_ranges(alloc: Global) -> bool {
 /// failed for the expected HTML or the old text.
 pub fn renders_mixed_events(alloc: Global) -> Option<bool> {
     let html = String::from_str(alloc, MIXED).ok();
-    writes(alloc, html, Ok(given(Mixed { name: "a" }, 8)))
+    writes(alloc, html, Ok(give(Mixed { name: "a" }, 8)))
 }

@@ -44,7 +44,7 @@ fn broken(alloc: Global, uncompared: &mut usize) -> Option<(&'static str, &'stat
 }
 
 /// Returns the same, with an argument that of the readings alone, or of the calls that do not allocate.
-fn tried(
+fn check_try(
     alloc: Global,
     word: Option<String>,
     uncompared: &mut usize,
@@ -68,7 +68,7 @@ fn tried(
 fn main(rt: HostRuntime) -> ExitCode {
     let mut uncompared = 0usize;
     let found = match first_word(&rt) {
-        Ok(word) => tried(rt.alloc(), word, &mut uncompared),
+        Ok(word) => check_try(rt.alloc(), word, &mut uncompared),
         Err(_) => {
             uncompared = 1;
             None

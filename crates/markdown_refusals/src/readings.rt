@@ -1,6 +1,6 @@
 //! Each way to read a text, compared with a run without refusals.
 use crate::asked::{Asked, SOURCES, Source, callback_for, is_asked, parser};
-use crate::tries::{Outcome, all_of, is_made, repeats, tried, walked, writes};
+use crate::tries::{Outcome, all_of, check_try, is_made, repeats, walk, writes};
 use markdown_base::event::Event;
 use markdown_base::fault::Fault;
 use markdown_blocks::Blocks;
@@ -34,7 +34,7 @@ fn makes(alloc: Global, source: Source) -> bool {
 }
 
 /// Returns a parser of a text with ranges.
-fn placed(alloc: Global, source: Source) -> Result<OffsetIter<'static, Asked>, Fault> {
+fn offset_iter(alloc: Global, source: Source) -> Result<OffsetIter<'static, Asked>, Fault> {
     Ok(parser(alloc, source)?.into_offset_iter())
 }
 
@@ -51,7 +51,7 @@ fn placed_merge(
     alloc: Global,
     source: Source,
 ) -> Result<TextMergeWithOffset<'static, OffsetIter<'static, Asked>>, Fault> {
-    Ok(TextMergeWithOffset::new(alloc, placed(alloc, source)?))
+    Ok(TextMergeWithOffset::new(alloc, offset_iter(alloc, source)?))
 }
 
 /// Returns whether a list is the other.
@@ -81,7 +81,7 @@ fn walks(alloc: Global, source: Source) -> Option<bool> {
     let is_so = match parser(alloc, source) {
         Ok(parser) => {
             let mut parser = parser;
-            let outcome = walked(&mut parser, full.as_slice(), false);
+            let outcome = walk(&mut parser, full.as_slice(), false);
             are_all(all_events(parser), outcome, &[])
         }
         Err(fault) => fault == Fault::Memory,
@@ -92,7 +92,7 @@ fn walks(alloc: Global, source: Source) -> Option<bool> {
 
 /// Returns whether all events are returned at once, with the callback, or neither.
 fn collects(alloc: Global, source: Source) -> Option<bool> {
-    let full = all_of(alloc, placed(alloc, source))?;
+    let full = all_of(alloc, offset_iter(alloc, source))?;
     let is_so = match parser(alloc, source) {
         Ok(parser) => are_all(all_events(parser), Outcome::Whole, full.as_slice()),
         Err(fault) => fault == Fault::Memory,
@@ -113,7 +113,7 @@ fn html_of(alloc: Global, source: Source) -> Result<String, Fault> {
 
 /// Returns the outline of the events of a text.
 fn outline_read(alloc: Global, source: Source) -> Result<Vec<Entry>, Fault> {
-    outline(alloc, placed(alloc, source)?)
+    outline(alloc, offset_iter(alloc, source)?)
 }
 
 /// Returns the outline of the block result of a text.
@@ -185,7 +185,12 @@ fn stands(alloc: Global, reading: Reading, source: Source) -> Option<bool> {
         Reading::Making => Some(makes(alloc, source)),
         Reading::Walking => walks(alloc, source),
         Reading::WalkingWithRanges => {
-            repeats(alloc, placed(alloc, source), placed(alloc, source), false)
+            repeats(
+                alloc,
+                offset_iter(alloc, source),
+                offset_iter(alloc, source),
+                false,
+            )
         }
         Reading::Merging => repeats(alloc, merge(alloc, source), merge(alloc, source), true),
         Reading::MergingWithRanges => {
@@ -193,7 +198,7 @@ fn stands(alloc: Global, reading: Reading, source: Source) -> Option<bool> {
             repeats(alloc, first, placed_merge(alloc, source), true)
         }
         Reading::Collecting => collects(alloc, source),
-        Reading::Rendering => tried(html_of(alloc, source), html_of(alloc, source)),
+        Reading::Rendering => check_try(html_of(alloc, source), html_of(alloc, source)),
         Reading::Pushing => writes(alloc, html_of(alloc, source).ok(), parser(alloc, source)),
         Reading::Outlining => outlines(outline_read(alloc, source), outline_read(alloc, source)),
         Reading::OutliningBlocks => {

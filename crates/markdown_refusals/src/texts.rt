@@ -1,6 +1,6 @@
 //! Copies and `'static` forms of texts and definitions: the same value, or an allocation failed; where none is made, the
 //! same value.
-use crate::tries::tried;
+use crate::tries::check_try;
 use markdown_base::block_parts::LinkDef;
 use markdown_base::cow_str::CowStr;
 use markdown_base::fault::Fault;
@@ -87,7 +87,7 @@ pub fn copies_a_definition(alloc: Global) -> Option<bool> {
 /// Returns whether a definition of slices becomes `'static` and stays the same, or an allocation failed.
 pub fn frees_a_definition(alloc: Global) -> Option<bool> {
     let held = definition(alloc, Place::Slice).ok()?;
-    tried(Ok::<bool, Fault>(true), is_made(held.into_static(alloc)))
+    check_try(Ok::<bool, Fault>(true), is_made(held.into_static(alloc)))
 }
 
 /// Returns whether a broken link whose label is a slice becomes `'static` and stays the same, or an allocation failed.

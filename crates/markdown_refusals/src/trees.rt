@@ -72,7 +72,7 @@ static ALL_KINDS: [Node; 15] = [
 ];
 
 /// Returns the block result that is checked, with a definition and a footnote among its parts.
-fn checked(alloc: Global) -> Result<Blocks<'static>, Fault> {
+fn make_blocks(alloc: Global) -> Result<Blocks<'static>, Fault> {
     let tree = tree_of_nodes(alloc, &ALL_KINDS)?;
     let mut parts = one_of_each(alloc)?;
     put(
@@ -152,7 +152,7 @@ fn is_one_of_each(parts: &BlockParts<'_>) -> bool {
 
 /// Returns whether a tree that keeps the rules passes the check unchanged, or an allocation failed.
 pub fn checks(alloc: Global) -> bool {
-    match checked(alloc) {
+    match make_blocks(alloc) {
         Ok(blocks) => {
             let (text, options, tree, parts) = blocks.into_parts();
             let is_held = is_tree(&tree, &ALL_KINDS, &LINKS) && is_one_of_each(&parts);

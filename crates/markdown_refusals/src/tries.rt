@@ -26,7 +26,7 @@ pub fn is_made<T: Drop>(made: Result<T, Fault>) -> bool {
 }
 
 /// Returns whether a call returned what is wanted, or an allocation failed; None where what is wanted was not made.
-pub fn tried<T: PartialEq + Drop, E: Drop>(
+pub fn check_try<T: PartialEq + Drop, E: Drop>(
     wanted: Result<T, E>,
     made: Result<T, Fault>,
 ) -> Option<bool> {
@@ -106,7 +106,7 @@ fn stays_over<T: Drop, I: Iterator<Item = T>>(items: &mut I) -> bool
 
 /// Returns how items compare with those of a run without refusals. Only None may follow them. If `cuts`, as in a merge,
 /// the last item of a prefix may be a text cut short.
-pub fn walked<T: Given, I: Iterator<Item = Result<T, Fault>>>(
+pub fn walk<T: Given, I: Iterator<Item = Result<T, Fault>>>(
     items: &mut I,
     full: &[T],
     cuts: bool,
@@ -152,7 +152,7 @@ pub fn gives<T: Given, I: Iterator<Item = Result<T, Fault>> + Drop>(
     match made {
         Ok(items) => {
             let mut items = items;
-            walked(&mut items, full, cuts) != Outcome::Wrong
+            walk(&mut items, full, cuts) != Outcome::Wrong
         }
         Err(fault) => fault == Fault::Memory,
     }

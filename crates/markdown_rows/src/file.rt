@@ -71,7 +71,7 @@ impl<'f> Rows<'f> {
     /// Checks a row.
     fn check_row(&mut self, section: Section, row: Row<'_>) -> Result<(), Fail> {
         self.rows = self.rows.saturating_add(1);
-        let wanted = section.wanted(self.alloc, row)?;
+        let wanted = section.expectation(self.alloc, row)?;
         if let Some(found) = section.difference(self.alloc, row.text, wanted.as_str())? {
             let what = format!(in self.alloc; "{:?} gives {found:?}, not {wanted:?}", row.text)?;
             self.say(what.as_str())?;

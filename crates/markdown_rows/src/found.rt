@@ -96,7 +96,7 @@ impl Section {
     }
 
     /// Returns what a row's text should give.
-    pub fn wanted(self, alloc: Global, row: Row<'_>) -> Result<String, AllocError> {
+    pub fn expectation(self, alloc: Global, row: Row<'_>) -> Result<String, AllocError> {
         match self.given {
             Given::Paragraph => format!(in alloc; "<p>{}</p>\n", row.given),
             Given::Text => format!(in alloc; "<p>{}</p>\n", row.text),

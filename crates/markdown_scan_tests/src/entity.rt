@@ -110,7 +110,7 @@ fn one(found: Option<(usize, EntityText)>) -> Option<(usize, char)> {
 }
 
 /// Returns the characters where what was read is a name of HTML.
-fn named(found: Option<(usize, EntityText)>) -> Option<(usize, &'static str)> {
+fn name_of(found: Option<(usize, EntityText)>) -> Option<(usize, &'static str)> {
     match found {
         Some((length, EntityText::Named(characters))) => Some((length, characters)),
         _ => None,
@@ -132,7 +132,7 @@ fn names_of_html() -> Result<(), Fail> {
     let mut rows = Rows::new();
     for &(text, wanted) in &NAMES {
         let found = scan_entity(text.as_bytes(), EntityNames::Html);
-        rows.gives(text, named(found), wanted);
+        rows.gives(text, name_of(found), wanted);
     }
     rows.end()
 }

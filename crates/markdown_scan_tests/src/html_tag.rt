@@ -122,7 +122,7 @@ fn text_of(alloc: Global, bytes: Option<Vec<u8>>) -> Result<String, Fail> {
 }
 
 /// Returns the end of a tag, and its bytes without the prefixes of its lines.
-fn described(alloc: Global, end: usize, bytes: Option<Vec<u8>>) -> Result<String, Fail> {
+fn describe(alloc: Global, end: usize, bytes: Option<Vec<u8>>) -> Result<String, Fail> {
     let text = text_of(alloc, bytes)?;
     Ok(format!(in alloc; "{end} {}", text.as_str())?)
 }
@@ -133,7 +133,7 @@ fn tag_at_two<R: LineRule>(alloc: Global, text: &str, rule: &R) -> Result<String
         return Ok(String::from_str(alloc, "too short")?);
     }
     match scan_html_tag(alloc, text, 2, rule)? {
-        Some(tag) => described(alloc, tag.end, tag.without_prefixes),
+        Some(tag) => describe(alloc, tag.end, tag.without_prefixes),
         None => Ok(String::from_str(alloc, "none")?),
     }
 }

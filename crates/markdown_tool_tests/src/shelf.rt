@@ -53,7 +53,7 @@ impl Shelf {
 }
 
 /// Returns what a file holds.
-fn held(name: &str) -> Option<&'static [u8]> {
+fn bytes_of(name: &str) -> Option<&'static [u8]> {
     for (other, bytes) in &HELD {
         if *other == name {
             return Some(*bytes);
@@ -70,7 +70,7 @@ impl Files for Shelf {
 
     fn read(&mut self, alloc: Global, name: &str) -> io::Result<Vec<u8>> {
         self.reads = self.reads.saturating_add(1);
-        match held(name) {
+        match bytes_of(name) {
             Some(bytes) => Ok(Vec::from_slice(alloc, bytes)?),
             None => Err(io::Error::from(ErrorKind::NotFound)),
         }

@@ -44,14 +44,14 @@ fn open_tight_list(builder: &mut Builder<'_>) -> Result<(), AllocError>
 }
 
 /// Returns a body as `Debug` prints it.
-fn printed(alloc: Global, body: ItemBody) -> Result<String, AllocError> {
+fn print_body(alloc: Global, body: ItemBody) -> Result<String, AllocError> {
     format!(in alloc; "{body:?}")
 }
 
 /// Returns the items of a tree in preorder.
 fn listed(alloc: Global, tree: &mut Tree<Item>) -> Result<String, AllocError> {
     let mut list = String::new(alloc);
-    push_items(alloc, &mut list, tree, printed)?;
+    push_items(alloc, &mut list, tree, print_body)?;
     Ok(list)
 }
 
@@ -117,7 +117,7 @@ fn definition_row(
 }
 
 /// Returns the definitions, footnotes and texts of parts.
-fn named(alloc: Global, parts: &BlockParts<'_>) -> Result<String, AllocError> {
+fn name_parts(alloc: Global, parts: &BlockParts<'_>) -> Result<String, AllocError> {
     let mut list = String::new(alloc);
     for (label, link) in &parts.definitions {
         push_row(&mut list, definition_row(alloc, label, link))?;
@@ -142,7 +142,7 @@ fn definitions_and_footnotes_are_kept(rt: HostRuntime) -> Result<(), Fail> {
     }
     builder.close();
     let (_tree, parts) = builder.finish();
-    let held = named(rt.alloc(), &parts);
+    let held = name_parts(rt.alloc(), &parts);
     drop(parts);
     gives("parts", held?.as_str(), "[a]: b 0..6; [^n]; n; ")
 }

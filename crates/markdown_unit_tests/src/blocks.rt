@@ -1,4 +1,4 @@
-//! Block results: empty, large and deep ones; the parts of one, and its entry; and the blocks of a text.
+//! Block results: empty, large and deep ones; the parts of one, and the caller's options; and the blocks of a text.
 use crate::block_rules::is_well_formed;
 use bitflags::Flags;
 use markdown_base::block_parts::BlockParts;
@@ -75,7 +75,7 @@ fn a_reading_and_all_options_come_back(rt: HostRuntime) -> Result<(), Fail> {
 }
 
 /// Returns a body as `Debug` prints it.
-fn printed(alloc: Global, body: ItemBody) -> Result<String, AllocError> {
+fn print_body(alloc: Global, body: ItemBody) -> Result<String, AllocError> {
     format!(in alloc; "{body:?}")
 }
 
@@ -92,7 +92,7 @@ fn push_texts(list: &mut String, texts: &[CowStr<'_>]) -> Result<(), AllocError>
 fn listed(alloc: Global, tree: Tree<Item>, parts: BlockParts<'_>) -> Result<String, AllocError> {
     let mut tree = tree;
     let mut list = String::new(alloc);
-    let items_done = push_items(alloc, &mut list, &mut tree, printed);
+    let items_done = push_items(alloc, &mut list, &mut tree, print_body);
     let texts_done = push_texts(&mut list, &parts.cows);
     drop(tree);
     drop(parts);

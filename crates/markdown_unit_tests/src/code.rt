@@ -88,7 +88,7 @@ fn texts_of_code_and_math(rt: HostRuntime) -> Result<(), Fail> {
     all_show(rt.alloc(), &IN_NOTHING)
 }
 
-fn described(alloc: Global, found: Option<MarkupFound<'_>>) -> Result<String, AllocError> {
+fn describe(alloc: Global, found: Option<MarkupFound<'_>>) -> Result<String, AllocError> {
     match found {
         None => String::from_str(alloc, "none"),
         Some(
@@ -134,7 +134,7 @@ fn markup(
         addresses,
     };
     let found = scan_after_less(alloc, &less, &mut scanner, prefix)?;
-    described(alloc, found)
+    describe(alloc, found)
 }
 
 /// Texts, where the `<` is in each, and what begins there.

@@ -12,7 +12,7 @@ use std::alloc::{AllocError, Global};
 use std::test::Fail;
 
 /// Returns a body as `Debug` prints it.
-fn printed(alloc: Global, body: ItemBody) -> Result<String, AllocError> {
+fn print_body(alloc: Global, body: ItemBody) -> Result<String, AllocError> {
     format!(in alloc; "{body:?}")
 }
 
@@ -55,7 +55,7 @@ fn push_definitions(
 fn listed(alloc: Global, text: &str, options: Options) -> Result<String, AllocError> {
     let (mut tree, parts) = blocks(alloc, text, Syntax::profile(options))?;
     let mut list = String::new(alloc);
-    let items_done = push_items(alloc, &mut list, &mut tree, printed);
+    let items_done = push_items(alloc, &mut list, &mut tree, print_body);
     let definitions_done = push_definitions(alloc, &mut list, &parts.definitions);
     drop(tree);
     drop(parts);

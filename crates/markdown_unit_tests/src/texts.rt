@@ -262,7 +262,7 @@ fn definition<'a>(alloc: Global) -> Result<LinkDef<'a>, AllocError> {
 }
 
 /// Returns the form of a definition's destination, and then its destination, its title and its range.
-fn described(alloc: Global, held: &LinkDef<'_>) -> Result<String, AllocError> {
+fn describe(alloc: Global, held: &LinkDef<'_>) -> Result<String, AllocError> {
     let title = match &held.title {
         Some(title) => title.as_str(),
         None => "untitled",
@@ -279,7 +279,7 @@ fn described(alloc: Global, held: &LinkDef<'_>) -> Result<String, AllocError> {
 /// Returns the same of a definition that was made.
 fn made_described(alloc: Global, made: Result<LinkDef<'_>, Fault>) -> Result<String, Fault> {
     let held = made?;
-    let said = described(alloc, &held);
+    let said = describe(alloc, &held);
     drop(held);
     Ok(said?)
 }
