@@ -20,7 +20,7 @@ use Rattle.markdown_builder.specs.Shown.{unnumbered}
 use Rattle.markdown_document.specs.Document.{block_of}
 use Rattle.markdown_document.specs.Setting.{Setting}
 use Rattle.markdown_spans.specs.ContainerPrefix.{has_prefix, past_blocks, prefix_length}
-use Rattle.markdown_scan.specs.ContainerParts.{past_part}
+use Rattle.markdown_spans.specs.ContainerParts.{past_part}
 use Rattle.markdown_base.specs.Syntax.{gfm_footnotes}
 use Rattle.markdown_spans.specs.Finds.{prefix_below}
 use Rattle.markdown_spans.specs.PrefixView.{bodies_of, length_by}

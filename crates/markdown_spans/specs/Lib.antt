@@ -22,6 +22,7 @@ pub use Rattle.markdown_base.specs.BlockTree
 pub use Rattle.markdown_base.specs.CowText
 pub use Rattle.markdown_base.specs.StoredTexts
 pub use Rattle.markdown_scan.specs.Autolink
+pub use Rattle.markdown_scan.specs.ContainerParts
 pub use Rattle.markdown_scan.specs.EmailAutolink
 pub use Rattle.markdown_scan.specs.LineEnd
 pub use Rattle.markdown_scan.specs.LineStart
