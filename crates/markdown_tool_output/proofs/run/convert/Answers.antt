@@ -2,14 +2,14 @@
 use Rattle.std.proofs.Common.{inl, inr, map, string_bytes}
 use Rattle.std.proofs.lemmas.Result.{err_from_is_err_and}
 use Rattle.markdown_tool_output.proofs.ConversionLemmas.{converts_by}
-use Rattle.markdown_tool_output.proofs.StepsLemmas.{texts_alone}
+use Rattle.markdown_tool_output.proofs.StepsLemmas.{files_alone}
 use Rattle.markdown_tool_output.proofs.run.convert.Goals as goal
 
 pub returns-in_err-output-clause-err : goal.returns-in_err-output-clause-err
 returns-in_err-output-clause-err g c =
     let p = err_from_is_err_and c.from_residual-in_err-output.result c.from_residual-in_err-output.ensures.1 in
     rw p.1
-    (inr (texts_alone c.args.request.now.lossy _ _ (map string_bytes c.as_slice.result.now)
+    (inr (files_alone c.args.request.now.lossy _ _ (map string_bytes c.as_slice.result.now)
     (map string_bytes c.in_ok-texts.texts.items) c.in_ok-texts.ensures.read))
 
 pub returns-in-Ok-clause-ok : goal.returns-in-Ok-clause-ok
