@@ -1,5 +1,7 @@
 //! Well-formed block results: a text with its tree of items, and the parts that the items refer to.
 ghost use Rattle.std.specs.Prelude.{◌≡◌, ◌≢◌, IfOk, IfErr};
+ghost use Rattle.markdown_base.specs.ArenaForest.{numbers_below};
+ghost use Rattle.markdown_base.specs.Forest.{preorder};
 ghost use Rattle.markdown_base.specs.declared.fault.Fault.{Fault};
 ghost use Rattle.markdown_base.specs.OneWay.{IsWellFormed-prop};
 ghost use Rattle.markdown_base.specs.Source.{source_as};
@@ -134,6 +136,37 @@ impl<'a> Blocks<'a> {
         ensures { result ≡ (block_source self.now).syntax }
     {
         self.syntax
+    }
+
+    /// Returns the tree of items.
+    pub fn tree(&self) -> &Tree<Item>
+        ensures { result.now ≡ block_arena self.now }
+    {
+        &self.tree
+    }
+
+    /// Returns the parts that the items refer to.
+    pub fn parts(&self) -> &BlockParts<'a>
+        ensures { result.now ≡ block_parts self.now }
+    {
+        &self.parts
+    }
+
+    /// Returns the numbers of the nodes below the root, in preorder.
+    ///
+    /// # Errors
+    ///
+    /// `Fault::Memory` if an allocation fails.
+    pub fn preorder(&self, alloc: Global) -> Result<Vec<usize>, Fault>
+        ensures order { IfOk result (λ order.
+            order.items ≡ preorder (numbers_below (block_arena self.now).nodes)) }
+        ensures refused { IfErr result (λ fault. fault ≡ Fault.Memory) }
+    {
+        match reached_once(alloc, &self.tree)? {
+            Some(order) => Ok(order),
+            // (a well-formed tree is reached once)
+            None => Err(Fault::Memory),
+        }
     }
 
     /// Returns the text, the options, the tree and the parts. Allocates nothing.
