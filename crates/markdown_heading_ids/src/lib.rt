@@ -1,0 +1,4 @@
+//! Ids of headings.
+#![tactic(auto)]
+
+mod category;
