@@ -1,7 +1,7 @@
 -- What one more heading leaves of the open levels.
 use Rattle.std.proofs.Common.{◌≡◌, ℕ, ◌+◌, ◌<◌, ◌≤◌, Bool, true, false, cond, List, [], ◌∷◌, ◌++◌, map, reverse, length}
-use Rattle.std.proofs.Common.{get_or, take, Some}
-use Rattle.std.proofs.Common.{inl, inr, refl, sym, ap, ◌∙◌, subst, arith, BTreeMap, String, bytes_eq, unwrap_or}
+use Rattle.std.proofs.Common.{get_or, take}
+use Rattle.std.proofs.Common.{append_assoc, inl, inr, refl, sym, ap, ◌∙◌, subst, arith}
 use Rattle.std.proofs.lemmas.Bool.{cases_lt, cond_below, cond_above}
 use Rattle.std.proofs.lemmas.List.{map-append, reverse-append, take_more, length-reverse, length-take-le}
 use Rattle.markdown.specs.OutlineWords.{EntryView}

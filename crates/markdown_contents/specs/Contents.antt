@@ -1,8 +1,8 @@
 -- The table of contents of headings: a nested Markdown list of links, each to the id of its heading.
-use Rattle.std.specs.Prelude.{ℕ, zero, suc, ◌+◌, Bool, ◌==◌, ◌||◌, nat_lt, if◌then◌else◌}
+use Rattle.std.specs.Prelude.{ℕ, zero, suc, ◌+◌, Bool, false, not, ◌==◌, ◌||◌, ◌&&◌, nat_lt, if◌then◌else◌}
 use Rattle.std.specs.Prelude.{List, [], ◌∷◌, ◌++◌, map, reverse, flat_map, Option, Some, None}
 use Rattle.std.specs.Prelude.{codes, chars, encode_utf8}
-use Rattle.std.specs.List.{before_first, list_any}
+use Rattle.std.specs.List.{list_any}
 use Rattle.percent_encoding.specs.Percent.{percent_encode_byte}
 use Rattle.markdown.specs.ByteWords.{carriage_return, colon, line_feed, slash, space}
 use Rattle.markdown.specs.OutlineWords.{EntryView}
@@ -66,9 +66,10 @@ is_address_mark c = list_any (λ mark. c == mark) (codes "%#?")
 abbrev pub file_char : ℕ → List ℕ
 file_char c = if is_address_mark c then percent_encode_byte c else id_char c
 
--- whether a file's name would be read as an address with a scheme: there is a colon in its first part
+-- whether a file's name would be read as an address with a scheme: there is a colon before its first slash
 abbrev pub may_be_scheme : List ℕ → Bool
-may_be_scheme name = list_any (λ b. b == colon) (before_first (λ b. b == slash) name)
+may_be_scheme [] = false
+may_be_scheme (b ∷ name) = (b == colon) || (not (b == slash) && may_be_scheme name)
 
 -- a file's name in a destination
 abbrev pub file_in_destination : List ℕ → List ℕ

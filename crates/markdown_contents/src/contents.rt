@@ -172,11 +172,13 @@ fn push_file(list: &mut String, name: &str) -> Result<(), Fault>
 fn may_be_scheme(name: &str) -> bool
     ensures { result ≡ may_be_scheme name.now }
 {
-    'bytes: for byte in name.as_bytes() {
-        match byte {
-            b':' => return true,
-            b'/' => return false,
-            _ => {}
+    let bytes = name.as_bytes();
+    'bytes: for byte in bytes {
+        if *byte == b':' {
+            return true;
+        }
+        if *byte == b'/' {
+            return false;
         }
     }
     false
