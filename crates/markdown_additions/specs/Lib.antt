@@ -4,3 +4,5 @@ pub mod Written
 -- what an iterator gives
 pub mod GivenEvents
 pub mod UnplacedItems
+-- the terms of private clauses
+pub mod TakenIfAsked

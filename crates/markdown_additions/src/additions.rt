@@ -1,9 +1,6 @@
 //! What is added to the events of a text.
-ghost use Rattle.std.specs.Prelude.{◌≡◌, IfErr, IfOk, IsNone, IsSome, if◌then◌else◌, is_some};
-ghost use Rattle.markdown_heading_ids.specs.IdsOfText.{taken_in_text};
-ghost use Rattle.markdown_heading_ids.specs.TakenIds.{StandsFor};
-ghost use Rattle.markdown_base.specs.Source.{Source};
-ghost use Rattle.markdown_blocks.specs.Blocks.{IsBlocksOf};
+ghost use Rattle.std.specs.Prelude.{◌≡◌, IfErr, IfOk};
+ghost use Rattle.markdown_additions.specs.TakenIfAsked.{HoldsTaken};
 
 use markdown_base::fault::Fault;
 use markdown_blocks::Blocks;
@@ -25,9 +22,7 @@ pub(crate) fn taken_if(
     blocks: &Blocks<'_>,
     asked: bool,
 ) -> Result<Option<Taken>, Fault>
-    ensures asked { IfOk result (λ taken. is_some taken ≡ asked) }
-    ensures stands { IfOk result (λ taken. (t : Rattle.markdown_heading_ids.specs.declared.taken.Taken.Taken) → taken ≡ Rattle.std.specs.Prelude.Some t
-        → (s : Source) → IsBlocksOf s blocks.now → StandsFor t (taken_in_text s)) }
+    ensures taken { IfOk result (λ taken. HoldsTaken asked blocks.now taken) }
     ensures refused { IfErr result (λ fault. fault ≡ Fault.Memory) }
 {
     if !asked {
