@@ -1,5 +1,6 @@
 //! Ids of headings.
 #![tactic(auto)]
 
+pub mod anchor;
 mod category;
-mod taken;
+pub mod taken;
