@@ -1,7 +1,7 @@
 -- Which of an anchor's ids is the first that is not taken: of one more than are taken, one is not.
 use Rattle.std.proofs.Common.{◌≡◌, ℕ, zero, suc, ◌+◌, ◌<◌, ◌≤◌, ◌^◌, true, false, cond, arith}
 use Rattle.std.proofs.Common.{List, [], ◌∷◌, ◌++◌, length, refl, sym, ap, ◌∙◌, subst, bytes_eq, codes, decimal}
-use Rattle.std.proofs.Common.{inl, inr, append_assoc}
+use Rattle.std.proofs.Common.{inl, inr, ◌⊎◌, append_assoc}
 use Rattle.std.specs.Cmp.Lexicographic.{bytes_decides, nat_list_eq_equiv}
 use Rattle.std.proofs.lemmas.Bool.{cases_Bool, cases_eq}
 use Rattle.std.proofs.lemmas.Fmt.{decimal_injective}
@@ -117,3 +117,46 @@ pub free_is : (taken : List Id) (anchor : List ℕ) (number : ℕ) → number < 
 free_is taken anchor number small all free =
     free_found (length taken) taken anchor 0 number (omega arith)
     (omega (arith, all_taken_few anchor number taken (omega (arith, small)) all)) (λ i b l. all i l) free
+
+-- either the id that is found is not taken, or all that were tried are
+found_or_all : (tries : ℕ) (taken : List Id) (anchor : List ℕ) (from : ℕ)
+    → (is_taken taken (free_from tries taken anchor from) ≡ false)
+    ⊎ ((i : ℕ) → from ≤ i → i ≤ from + tries → is_taken taken (anchor_id anchor i) ≡ true)
+found_or_all zero taken anchor from = elim (cases_Bool (is_taken taken (anchor_id anchor from))) [
+  | inl is ↦ inr (λ i b e. subst (λ n. is_taken taken (anchor_id anchor n) ≡ true) (omega (arith, b, e)) is)
+  | inr free ↦ inl free
+]
+found_or_all (suc tries) taken anchor from = elim (cases_Bool (is_taken taken (anchor_id anchor from))) [
+  | inl is ↦ elim (found_or_all tries taken anchor (suc from)) [
+    | inl free ↦ inl (subst (λ b. is_taken taken (cond b (free_from tries taken anchor (suc from))
+        (anchor_id anchor from)) ≡ false) (sym is) free)
+    | inr all ↦ inr (λ i b e. elim (cases_eq from i) [
+      | inl here ↦ subst (λ n. is_taken taken (anchor_id anchor n) ≡ true) here is
+      | inr later ↦ all i (omega (arith, b, later)) (omega (arith, e))
+    ])
+  ]
+  | inr free ↦ inl (subst (λ b. is_taken taken (cond b (free_from tries taken anchor (suc from))
+      (anchor_id anchor from)) ≡ false) (sym free) free)
+]
+
+-- so that the id that is given is not taken
+pub free_is_free : (taken : List Id) (anchor : List ℕ) → length taken < 2 ^ 64
+    → is_taken taken (free_id taken anchor) ≡ false
+free_is_free taken anchor small = elim (found_or_all (length taken) taken anchor 0) [
+  | inl free ↦ free
+  | inr all ↦ absurd (omega (
+    arith,
+    all_taken_few anchor (suc (length taken)) taken (omega (arith, small))
+        (λ i below. all i (omega arith) (omega (arith, below))),
+  ))
+]
+
+-- and is not empty, where the empty id is taken
+pub free_some : (taken : List Id) (anchor : List ℕ) → length taken < 2 ^ 64 → is_taken taken [] ≡ true
+    → free_id taken anchor ≡ [] → ⊥
+free_some taken anchor small is none = cc (free_is_free taken anchor small, is, none)
+
+-- and is the anchor, where that is not taken
+pub free_anchor : (taken : List Id) (anchor : List ℕ) → is_taken taken anchor ≡ false → free_id taken anchor ≡ anchor
+free_anchor taken anchor free =
+    free_is taken anchor 0 (omega arith) (λ i below. absurd (omega (arith, below))) free

@@ -2,3 +2,6 @@
 pub mod AnchorLemmas
 pub mod FreeIdLemmas
 pub mod TakenLemmas
+-- Lemmas on ids with a prefix.
+pub mod PrefixedLemmas
+pub mod TakenReadLemmas

@@ -3,4 +3,7 @@
 
 pub mod anchor;
 mod category;
+pub mod id_laws;
+pub mod prefix_laws;
+pub mod prefixed;
 pub mod taken;
