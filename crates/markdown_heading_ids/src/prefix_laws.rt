@@ -18,7 +18,8 @@ pub fn prefixed_events_are_those_of_the_source<
     'a,
     I: Iterator<Item = Result<(Event<'a>, Range<usize>), Fault>>,
 >(iter: &Prefixed<'a, I>)
-    ensures all { (events : List (Event × Range ℕ)) → Drains (prefixed_steps I.next_gives) iter.now (event_items events)
+    ensures all { (events : List (Event × Range ℕ))
+        → Drains (prefixed_steps I.next_gives) iter.now (event_items events)
         → AreAllPrefixed I.next_gives iter.now events }
     ensures first { (events : List (Event × Range ℕ)) (left : Prefixed I)
         → Yields (prefixed_steps I.next_gives) iter.now (event_items events) left

@@ -130,7 +130,8 @@ fn prefixed_tag<'a>(alloc: Global, prefix: &str, tag: Tag<'a>) -> Result<Tag<'a>
 ///
 /// `Memory` if an allocation fails; then the event is dropped.
 fn prefixed_event<'a>(alloc: Global, prefix: &str, event: Event<'a>) -> Result<Event<'a>, Fault>
-    ensures same { IfOk result (λ made. event_view made ≡ prefixed_event prefix.now (event_view event.entry)) }
+    ensures same { IfOk result (λ made.
+        event_view made ≡ prefixed_event prefix.now (event_view event.entry)) }
     ensures refused { IfErr result (λ fault. fault ≡ Fault.Memory) }
 {
     match event {

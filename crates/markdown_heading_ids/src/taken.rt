@@ -22,8 +22,8 @@ use std::ops::Range;
 #[derive(Drop)]
 pub struct Taken {
     alloc: Global,
-    /// For each taken id the number that was given last to it as an anchor, 0 where none was. (Ordered, not hashed, so that no
-    /// choice of headings makes look-ups slow.)
+    /// For each taken id the number that was given last to it as an anchor, 0 where none was. (Ordered, not hashed, so
+    /// that no choice of headings makes look-ups slow.)
     numbers: BTreeMap<String, usize>,
 }
 
@@ -110,7 +110,8 @@ impl Taken {
         requires can { I.can_next iter }
         requires ends { IsFinite (I.remaining iter) }
         ensures taken { IfOk result (IsTakenByAll I.next_gives iter) }
-        ensures fault { IfErr result (λ fault. MeetsError I.next_gives iter fault ⊎ (fault ≡ Fault.Memory)) }
+        ensures fault { IfErr result (λ fault.
+            MeetsError I.next_gives iter fault ⊎ (fault ≡ Fault.Memory)) }
     {
         let mut taken = Taken::new(alloc)?;
         for item in iter {
