@@ -4,3 +4,10 @@ pub mod HeadingIds
 pub mod IdsOfText
 -- the ids that are taken, as the code holds them
 pub mod TakenIds
+-- what a prefix makes of ids
+pub mod Prefixes
+pub mod PrefixedItems
+-- what holds of ids that are given
+pub mod IdLaws
+-- what is taken by the events of an iterator
+pub mod TakenRead

@@ -1,5 +1,9 @@
 //! Ids of headings.
 #![tactic(auto)]
 
+pub mod anchor;
 mod category;
-mod taken;
+pub mod id_laws;
+pub mod prefix_laws;
+pub mod prefixed;
+pub mod taken;
