@@ -5,3 +5,5 @@ pub mod TakenLemmas
 -- Lemmas on ids with a prefix.
 pub mod PrefixedLemmas
 pub mod TakenReadLemmas
+-- Lemmas on the ids of blocks.
+pub mod TakenBlocksLemmas

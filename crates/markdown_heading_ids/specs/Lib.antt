@@ -11,3 +11,5 @@ pub mod PrefixedItems
 pub mod IdLaws
 -- what is taken by the events of an iterator
 pub mod TakenRead
+-- what is taken by the blocks of a block result
+pub mod TakenBlocks

@@ -4,6 +4,7 @@
 pub mod anchor;
 mod category;
 pub mod id_laws;
+mod of_blocks;
 pub mod prefix_laws;
 pub mod prefixed;
 pub mod taken;

@@ -133,7 +133,7 @@ impl Taken {
     }
 
     /// Takes an id, if there is one.
-    fn take_id(&mut self, id: Option<&str>) -> Result<(), Fault>
+    pub(crate) fn take_id(&mut self, id: Option<&str>) -> Result<(), Fault>
         ensures taken { OnOk result ((taken : List Id) → StandsFor self.old taken
             → StandsFor self.new (own_ids (option_map (λ id. id.now) id.entry) ++ taken)) }
         ensures refused { IfErr result (λ fault. fault ≡ Fault.Memory) }
