@@ -4,3 +4,9 @@ pub mod HeadingIds
 pub mod IdsOfText
 -- the ids that are taken, as the code holds them
 pub mod TakenIds
+-- what the adapter returns
+pub mod HeadingItems
+pub mod HeadingIdsNext
+pub mod HeadingIdsState
+-- the terms of private clauses
+pub mod HeadingRead
