@@ -66,8 +66,9 @@ module _ {S : Type 0} (steps : S → Option SourceItem → S → Type 0) where
     pub gives : (later : List RangedItem) → items_to_come s taken (map ranged_item read ++ unless_over t.over later)
         ≡ ranged_item item ∷ items_to_come t after later
 
-  -- items of the iterator were read, and an item is returned
+  -- items of the iterator were read, and an item is returned: one that was kept, where the iterator has ended
   pub record PassesItem (s : IdsState S) (item : SourceItem) (t : IdsState S) : Type 0 where
+    pub kept : s.over ≡ true → s.kept ≡ ranged_item item ∷ t.kept
     pub items : List SourceItem
     pub read : CallsSource s.over t.over s.iter items t.iter
     pub leaves : (taken : List Id) → StandsFor s.taken taken → Gives s items item t taken
@@ -76,6 +77,7 @@ module _ {S : Type 0} (steps : S → Option SourceItem → S → Type 0) where
   -- come
   pub record IsRefused (s : IdsState S) (item : SourceItem) (t : IdsState S) : Type 0 where
     pub is : item ≡ Err Memory
+    pub goes_on : s.over ≡ false
     pub event : Event × Range ℕ
     pub left : S
     pub read : steps s.iter (Some (Ok event)) left
@@ -96,3 +98,7 @@ module _ {S : Type 0} (steps : S → Option SourceItem → S → Type 0) where
   -- a call: it returns the next item, memory is refused, or all has been returned
   abbrev pub GivesIds : IdsState S → Option SourceItem → IdsState S → Type 0
   GivesIds s r t = MatchOption r (HasEnded s t) (λ item. PassesItem s item t ⊎ IsRefused s item t)
+
+  -- a call of what has this state
+  abbrev pub ids_steps : {M : Type 0} → (M → IdsState S) → M → Option SourceItem → M → Type 0
+  ids_steps state h r t = GivesIds (state h) r (state t)

@@ -189,12 +189,12 @@ impl<'a, I: Iterator<Item = Placed<'a>>> Iterator for HeadingIds<'a, I> {
     type Item = Placed<'a>;
 
     ghost use Rattle.std.specs.Iterator.{at_most};
-    ghost use Rattle.markdown_heading_ids.specs.HeadingIdsNext.{MayGoOn, count_to_come};
-    ghost use Rattle.markdown_heading_ids.specs.HeadingIdsState.{ids_state, ids_steps};
+    ghost use Rattle.markdown_heading_ids.specs.HeadingIdsNext.{MayGoOn, count_to_come, ids_steps};
+    ghost use Rattle.markdown_heading_ids.specs.HeadingIdsState.{ids_state};
 
     ghost can_next = { λ h. MayGoOn I.can_next I.remaining (ids_state h) };
 
-    ghost next_gives = { λ h r t. ids_steps I.next_gives h r t };
+    ghost next_gives = { λ h r t. ids_steps I.next_gives ids_state h r t };
 
     ghost remaining = { λ h. at_most (count_to_come I.remaining (ids_state h)) };
 

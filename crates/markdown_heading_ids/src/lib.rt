@@ -3,6 +3,7 @@
 
 mod adapter;
 mod category;
+pub mod laws;
 mod taken;
 
 pub use adapter::HeadingIds;
