@@ -177,10 +177,10 @@ seen_cut read fault more =
 -- ---- calls of the iterator
 
 module _ {S : Type 0} (steps : S → Option SourceItem → S → Type 0) where
-  yields_append : {s t u : S} (xs ys : List SourceItem) → Yields steps s xs t → Yields steps t ys u
+  yields_append : (s t u : S) (xs ys : List SourceItem) → Yields steps s xs t → Yields steps t ys u
       → Yields steps s (xs ++ ys) u
-  yields_append {s} {t} {u} [] ys y z = subst (λ (k : S). Yields steps k ys u) (sym y) z
-  yields_append {s} {t} {u} (x ∷ xs) ys y z = (y.0, y.1, yields_append xs ys y.2 z)
+  yields_append s t u [] ys y z = subst (λ (k : S). Yields steps k ys u) (sym y) z
+  yields_append s t u (x ∷ xs) ys y z = (y.0, y.1, yields_append y.0 t u xs ys y.2 z)
 
   -- calls, cut before one of them
   record IsCutCall (s : S) (xs : List SourceItem) (x : SourceItem) : Type 0 where
@@ -189,49 +189,49 @@ module _ {S : Type 0} (steps : S → Option SourceItem → S → Type 0) where
     pub yields : Yields steps s xs before
     pub step : steps before (Some x) after
 
-  cut_call : {s t : S} (xs : List SourceItem) (x : SourceItem) (ys : List SourceItem) → Yields steps s (xs ++ x ∷ ys) t
+  cut_call : (s t : S) (xs : List SourceItem) (x : SourceItem) (ys : List SourceItem) → Yields steps s (xs ++ x ∷ ys) t
       → IsCutCall s xs x
-  cut_call {s} [] x ys y = record { before = s; after = y.0; yields = refl; step = y.1 }
-  cut_call {s} (z ∷ xs) x ys y =
-      let c = cut_call xs x ys y.2 in
+  cut_call s t [] x ys y = record { before = s; after = y.0; yields = refl; step = y.1 }
+  cut_call s t (z ∷ xs) x ys y =
+      let c = cut_call y.0 t xs x ys y.2 in
       record { before = c.before; after = c.after; yields = (y.0, y.1, c.yields); step = c.step }
 
-  one_error : {s j k : S} (xs : List SourceItem) (x : SourceItem) → Yields steps s xs j → steps j (Some x) k
+  one_error : (s j k : S) (xs : List SourceItem) (x : SourceItem) → Yields steps s xs j → steps j (Some x) k
       → Yields steps s (xs ++ x ∷ []) k
-  one_error {s} {j} {k} xs x y step = yields_append xs (x ∷ []) y (k, step, refl)
+  one_error s j k xs x y step = yields_append s j k xs (x ∷ []) y (k, step, refl)
 
   -- what was read, whether or not the iterator has ended
-  calls_yield : (over : Bool) {s t : S} (items : List SourceItem) → CallsSource steps false over s items t
+  calls_yield : (over : Bool) (s t : S) (items : List SourceItem) → CallsSource steps false over s items t
       → (j : S) × Yields steps s items j
-  calls_yield true {s} {t} items c = (c.0, c.1)
-  calls_yield false {s} {t} items c = (t, c)
+  calls_yield true s t items c = (c.0, c.1)
+  calls_yield false s t items c = (t, c)
 
   -- calls after calls
-  calls_append : (a b c : Bool) {s t u : S} (xs ys : List SourceItem) → CallsSource steps a b s xs t
+  calls_append : (a b c : Bool) (s t u : S) (xs ys : List SourceItem) → CallsSource steps a b s xs t
       → CallsSource steps b c t ys u → CallsSource steps a c s (xs ++ ys) u
-  calls_append true true c {s} {t} {u} xs ys p q =
+  calls_append true true c s t u xs ys p q =
       let none : xs ++ ys ≡ [] = rw (p.1, q.1) refl in (q.0, none, p.2 ∙ q.2)
-  calls_append true false c xs ys p q = absurd (no p.0)
+  calls_append true false c s t u xs ys p q = absurd (no p.0)
     where
       no : false ≡ true → ⊥
       no e = cc
-  calls_append false true true {s} {t} {u} xs ys p q =
+  calls_append false true true s t u xs ys p q =
       let same : xs ++ ys ≡ xs = ap (λ (zs : List SourceItem). xs ++ zs) q.1 ∙ append-nil xs in
       subst (λ (zs : List SourceItem). CallsSource steps false true s zs u) (sym same)
       (p.0, p.1, subst (λ (k : S). steps p.0 None k) q.2 p.2)
-  calls_append false true false xs ys p q = absurd (no q.0)
+  calls_append false true false s t u xs ys p q = absurd (no q.0)
     where
       no : false ≡ true → ⊥
       no e = cc
-  calls_append false false true xs ys p q = (q.0, yields_append xs ys p q.1, q.2)
-  calls_append false false false xs ys p q = yields_append xs ys p q
+  calls_append false false true s t u xs ys p q = (q.0, yields_append s t q.0 xs ys p q.1, q.2)
+  calls_append false false false s t u xs ys p q = yields_append s t u xs ys p q
 
   -- once the iterator has ended no items follow
-  none_over : (over now : Bool) {s t : S} (items : List SourceItem) (later : List RangedItem)
+  none_over : (over now : Bool) (s t : S) (items : List SourceItem) (later : List RangedItem)
       → CallsSource steps over now s items t
       → unless_over over (map ranged_item items ++ unless_over now later) ≡ map ranged_item items ++ unless_over now later
-  none_over true now items later c = rw (c.0, c.1) refl
-  none_over false now items later c = refl
+  none_over true now s t items later c = rw (c.0, c.1) refl
+  none_over false now s t items later c = refl
 
   not_called : (over : Bool) (s : S) → CallsSource steps over over s [] s
   not_called true s = (refl, refl, refl)
@@ -278,7 +278,7 @@ module _ {S : Type 0} (steps : S → Option SourceItem → S → Type 0) where
       → IsRun t given u → IsRun s (item ∷ given) u
   run_more s t u item given p run = record {
     items = p.items ++ run.items;
-    read = calls_append steps s.over t.over u.over p.items run.items p.read run.read;
+    read = calls_append steps s.over t.over u.over s.iter t.iter u.iter p.items run.items p.read run.read;
     leaves = λ taken stands.
         let g = p.leaves taken stands in
         let h = run.leaves g.after g.stands in
@@ -291,7 +291,7 @@ module _ {S : Type 0} (steps : S → Option SourceItem → S → Type 0) where
               (ap (λ (xs : List RangedItem). xs ++ unless_over u.over later) (map-append ranged_item p.items run.items)
               ∙ append_assoc (map ranged_item p.items) (map ranged_item run.items) (unless_over u.over later)
               ∙ ap (λ (xs : List RangedItem). map ranged_item p.items ++ xs)
-              (sym (none_over steps t.over u.over run.items later run.read)))
+              (sym (none_over steps t.over u.over t.iter u.iter run.items later run.read)))
               ∙ g.gives rest
               ∙ ap (λ (xs : List RangedItem). ranged_item item ∷ xs) (h.gives later);
         };
@@ -330,6 +330,9 @@ module _ {S : Type 0} (steps : S → Option SourceItem → S → Type 0) where
             ∙ g.1,
       )
 
+  nothing_comes : (t : IdsState S) (after : List Id) → t.kept ≡ [] → items_to_come t after [] ≡ []
+  nothing_comes t after none = rw (none, over_nothing t.over) refl
+
   -- ---- the laws of a new adapter
 
   module _ {s t : IdsState S} {taken : List Id} (new : IsNewIds s taken) where
@@ -343,7 +346,7 @@ module _ {S : Type 0} (steps : S → Option SourceItem → S → Type 0) where
         g = new_gives new run []
 
         nothing : items_to_come t g.0 [] ≡ []
-        nothing = rw (ended.none, over_nothing t.over) refl
+        nothing = nothing_comes t g.0 ended.none
 
         made : items_with_ids false taken (map ranged_item run.items) ≡ oks (map ranged_view given)
         made =
@@ -356,7 +359,7 @@ module _ {S : Type 0} (steps : S → Option SourceItem → S → Type 0) where
             ∙ seen_events given
 
         whole : CallsSource steps false true s.iter (run.items ++ []) u.iter
-        whole = calls_append steps false t.over true run.items [] (new_calls new run) ended.read
+        whole = calls_append steps false t.over true s.iter t.iter u.iter run.items [] (new_calls new run) ended.read
 
         drained : CallsSource steps false true s.iter run.items u.iter
         drained = subst (λ (xs : List SourceItem). CallsSource steps false true s.iter xs u.iter)
@@ -444,8 +447,8 @@ module _ {S : Type 0} (steps : S → Option SourceItem → S → Type 0) where
                 → AreFirstWithIds steps s.iter taken given
             by_kind (inl is) = by_over is t.over refl (new_calls new run)
             by_kind (inr a) =
-                let y = calls_yield steps t.over run.items (new_calls new run) in
-                let cut = cut_call steps (event_items c.read) (Err a.fault) a.more
+                let y = calls_yield steps t.over s.iter t.iter run.items (new_calls new run) in
+                let cut = cut_call steps s.iter y.0 (event_items c.read) (Err a.fault) a.more
                 (subst (λ (xs : List SourceItem). Yields steps s.iter xs y.0) a.is y.1) in
                 let h = ids_of_events false taken (map ranged_view c.read) (Err a.fault ∷ map ranged_item a.more) refl in
                 record {
@@ -489,8 +492,8 @@ module _ {S : Type 0} (steps : S → Option SourceItem → S → Type 0) where
                 ∙ ap (λ (xs : List SourceItem). items_with_ids false taken (map ranged_item xs)) (sym is)
                 ∙ made))
             by_kind (inr a) =
-                let y = calls_yield steps t.over run.items (new_calls new run) in
-                let cut = cut_call steps (event_items c.read) (Err a.fault) a.more
+                let y = calls_yield steps t.over s.iter t.iter run.items (new_calls new run) in
+                let cut = cut_call steps s.iter y.0 (event_items c.read) (Err a.fault) a.more
                 (subst (λ (xs : List SourceItem). Yields steps s.iter xs y.0) a.is y.1) in
                 let h = ids_of_events false taken (map ranged_view c.read) (Err a.fault ∷ map ranged_item a.more) refl in
                 let same = same_until (with_ids taken (map ranged_view c.read)) (map ranged_view given) a.fault fault
@@ -502,7 +505,7 @@ module _ {S : Type 0} (steps : S → Option SourceItem → S → Type 0) where
                 record {
                   events = c.read;
                   left = cut.after;
-                  read = one_error steps (event_items c.read) (Err fault) cut.yields
+                  read = one_error steps s.iter cut.before cut.after (event_items c.read) (Err fault) cut.yields
                       (subst (λ (f : Fault). steps cut.before (Some (Err f)) cut.after) same.faults cut.step);
                   are = sym same.events;
                 }
@@ -563,19 +566,19 @@ module _ {S M : Type 0} (steps : S → Option SourceItem → S → Type 0) (stat
 
   -- ---- after None
 
-  over_stays : {s t : IdsState S} (r : Option SourceItem) → s.over ≡ true → s.kept ≡ [] → GivesIds steps s r t → r ≡ None
-  over_stays None over nothing g = refl
-  over_stays {s} {t} (Some item) over nothing (inl p) = absurd (no (sym nothing ∙ p.kept over))
+  over_stays : (s t : IdsState S) (r : Option SourceItem) → s.over ≡ true → s.kept ≡ [] → GivesIds steps s r t → r ≡ None
+  over_stays s t None over nothing g = refl
+  over_stays s t (Some item) over nothing (inl p) = absurd (no (sym nothing ∙ p.kept over))
     where
       no : {x : RangedItem} {xs : List RangedItem} → [] ≡ x ∷ xs → ⊥
       no {x} {xs} e = cc
-  over_stays {s} {t} (Some item) over nothing (inr q) = absurd (no over q.goes_on)
+  over_stays s t (Some item) over nothing (inr q) = absurd (no over q.goes_on)
     where
       no : {b : Bool} → b ≡ true → b ≡ false → ⊥
-      no {b} yes not = cc
+      no {b} is_over goes_on = cc
 
   pub ids_stay_ended : (m : M) → StaysEnded calls m
-  ids_stay_ended m answers s t u r gave none next = over_stays r none.over none.nothing next
+  ids_stay_ended m answers s t u r gave none next = over_stays (state t) (state u) r none.over none.nothing next
 
   fewer : (rest : S → Count) {t u : IdsState S} → HasEnded steps t u → count_to_come rest u ≤ count_to_come rest t
   fewer rest h = rw (h.nothing, h.over) (omega arith)
@@ -586,10 +589,10 @@ module _ {S M : Type 0} (steps : S → Option SourceItem → S → Type 0) (stat
     callable = may;
     ends = tt;
     goes_on = λ answers t u gave m_ f none. (
-      record { callable = λ no. absurd (not_both none.over no); ends = λ no. absurd (not_both none.over no) },
+      record { callable = λ goes_on. absurd (not_both none.over goes_on); ends = λ goes_on. absurd (not_both none.over goes_on) },
       fewer rest none,
     );
   }
     where
       not_both : {b : Bool} → b ≡ true → b ≡ false → ⊥
-      not_both {b} yes no = cc
+      not_both {b} is_over goes_on = cc

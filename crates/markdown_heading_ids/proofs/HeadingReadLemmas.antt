@@ -119,15 +119,15 @@ module _ {S : Type 0} (steps : S → Option SourceItem → S → Type 0) where
       {now : List SourceItem} {text : List ℕ} → IsReadingHeading s items words t → steps t (Some item) u
       → ends ≡ ends_with (ranged_item item) → ends ≡ false → now ≡ items ++ item ∷ []
       → text ≡ words ++ words_added (ranged_item item) → IsReadingHeading s now text u
-  goes_on_with {s} {t} {u} {items} {words} item {ends} {now} {text} r step is no kept added =
-      rw (kept, added) (heading_goes_on item r step (sym is ∙ no))
+  goes_on_with {s} {t} {u} {items} {words} item {ends} {now} {text} r step is on kept added =
+      rw (kept, added) (heading_goes_on item r step (sym is ∙ on))
 
   pub ends_with_item : {s t u : S} {items : List SourceItem} {words : List ℕ} (item : SourceItem) {ends : Bool}
       {now : List SourceItem} {text : List ℕ} → IsReadingHeading s items words t → steps t (Some item) u
       → ends ≡ ends_with (ranged_item item) → ends ≡ true → now ≡ items ++ item ∷ []
       → text ≡ words ++ words_added (ranged_item item) → HeadingIsRead steps s now text false u
-  ends_with_item {s} {t} {u} {items} {words} item {ends} {now} {text} r step is yes kept added =
-      rw (kept, added) (heading_ends item r step (sym is ∙ yes))
+  ends_with_item {s} {t} {u} {items} {words} item {ends} {now} {text} r step is last kept added =
+      rw (kept, added) (heading_ends item r step (sym is ∙ last))
 
   -- the end of the iterator
   pub source_ends : {s t u : S} {items : List SourceItem} {words : List ℕ} → IsReadingHeading s items words t
@@ -187,10 +187,10 @@ module _ {S : Type 0} (steps : S → Option SourceItem → S → Type 0) where
   no_calls false s = refl
 
   -- one call more, before the others
-  calls_before : (over : Bool) {s t u : S} (item : SourceItem) (items : List SourceItem) → steps s (Some item) t
+  calls_before : (over : Bool) (s t u : S) (item : SourceItem) (items : List SourceItem) → steps s (Some item) t
       → CallsSource steps false over t items u → CallsSource steps false over s (item ∷ items) u
-  calls_before true {s} {t} item items step calls = (calls.0, (t, step, calls.1), calls.2)
-  calls_before false {s} {t} item items step calls = (t, step, calls)
+  calls_before true s t u item items step calls = (calls.0, (t, step, calls.1), calls.2)
+  calls_before false s t u item items step calls = (t, step, calls)
 
   -- an event inside a heading passes
   pub takes_inside : (s : IdsState S) (e : Ranged) {now : Bool} → now ≡ not (ends_heading e.0) → s.inside ≡ true
@@ -252,9 +252,9 @@ module _ {S : Type 0} (steps : S → Option SourceItem → S → Type 0) where
       → s.over ≡ false → (over ≡ false → length items + size (rest t) ≤ size (rest s.iter))
       → length items ≤ size (rest s.iter)
       → length (map ranged_item items) + cond over 0 (size (rest t)) ≤ count_to_come rest s
-  fewer_after rest s items true t no some few = rw (length-map items ranged_item, no) (omega (arith, few))
-  fewer_after rest s items false t no some few =
-      let more = some refl in rw (length-map items ranged_item, no) (omega (arith, more))
+  fewer_after rest s items true t on some few = rw (length-map items ranged_item, on) (omega (arith, few))
+  fewer_after rest s items false t on some few =
+      let more = some refl in rw (length-map items ranged_item, on) (omega (arith, more))
 
   -- ---- a call
 
@@ -264,7 +264,7 @@ module _ {S : Type 0} (steps : S → Option SourceItem → S → Type 0) where
   same_over false later = refl
 
   not_both : {over : Bool} → over ≡ false → over ≡ true → ⊥
-  not_both {over} no yes = cc
+  not_both {over} goes_on ended = cc
 
   -- an item that was kept is returned
   pub gives_kept : (s : IdsState S) (item : SourceItem) (rest : List RangedItem) → s.kept ≡ ranged_item item ∷ rest
@@ -316,7 +316,7 @@ module _ {S : Type 0} (steps : S → Option SourceItem → S → Type 0) where
   passes_event s t j e item {ids} kept over step takes is = record {
     kept = λ ended. absurd (not_both over ended);
     items = Ok e ∷ takes.items;
-    read = rw over (calls_before t.over (Ok e) takes.items step takes.read);
+    read = rw over (calls_before t.over s.iter j t.iter (Ok e) takes.items step takes.read);
     leaves = λ taken stands.
         let g = takes.leaves taken stands in
         record {

@@ -1,6 +1,6 @@
 -- Laws of events with the ids of their headings.
 use Rattle.std.proofs.Common.{◌≡◌, ◌⊎◌, ◌+◌, ◌<◌, ◌≤◌, ◌^◌, ℕ, length, Bool, true, false, not, if◌then◌else◌, List, [], ◌∷◌, ◌++◌, map, Option, Some}
-use Rattle.std.proofs.Common.{None, refl, sym, ap, ◌∙◌, inl, inr, arith}
+use Rattle.std.proofs.Common.{None, refl, sym, ap, subst, ◌∙◌, inl, inr, arith}
 use Rattle.std.specs.Prelude.{is_some, IsSome}
 use Rattle.std.specs.List.{AllZip}
 use Rattle.std.specs.declared.ops.Range.{Range}
@@ -46,7 +46,7 @@ gets e taken events = by (opens e.0)
     by_id h is (Some id) own = gets_none
         (ap (λ (v : EventView). given_id (opened_heading v) taken events) is
         ∙ ap (λ (o : Option Id). id_unless o taken (joined_text (up_to_end events))) own)
-        (rw is (rw own tt))
+        (rw is (rw own refl))
 
     by : Opens e.0 → Gets e (given_id (opened_heading e.0) taken events)
     by (opens_none none) = gets_none (ap (λ (o : Option HeadingView). given_id o taken events) none) (rw none tt)
@@ -101,7 +101,9 @@ only_ids_are_added taken events = only_added false taken events
 
 has_it : (e : Ranged) {ids : List Id} → Gets e ids → HasId (opened_heading (with_given ids e).0)
 has_it e {ids} (gets_none none has) = rw none has
-has_it e {ids} (gets_id h id is lacks given) = rw (given, made e h id is) tt
+has_it e {ids} (gets_id h id is lacks given) =
+    let P : Ranged → Type 0 = λ f. HasId (opened_heading f.0) in
+    subst P (sym (ap (λ (xs : List Id). with_given xs e) given ∙ made e h id is)) refl
 
 have_ids : (inside : Bool) (taken : List Id) (events : List Ranged) → HaveIdsFrom inside (with_ids_from inside taken events)
 have_ids inside taken [] = tt
@@ -123,7 +125,7 @@ nothing_given None taken events has = refl
 nothing_given (Some h) taken events has = by h.id refl
   where
     by : (id : Option Id) → h.id ≡ id → id_unless h.id taken (joined_text (up_to_end events)) ≡ []
-    by None none = let no = rw none at has in absurd no
+    by None none = let none_has = rw none at has in cc none_has
     by (Some id) own = rw own refl
 
 unchanged : (inside : Bool) (taken : List Id) (events : List Ranged) → HaveIdsFrom inside events
@@ -187,29 +189,31 @@ module _ (free : (taken : List Id) (anchor : List ℕ) → length taken < 2 ^ 64
 same_words : (inside : Bool) (taken : List Id) (events : List Ranged)
     → joined_text (up_to_end (with_ids_from inside taken events)) ≡ joined_text (up_to_end events)
 same_words inside taken [] = refl
-same_words true taken (e ∷ events) = by (ends_heading e.0)
+same_words true taken (e ∷ events) = by (ends_heading e.0) (same_words true taken events)
   where
-    by : (ends : Bool) → joined_text (if ends then [] else e ∷ up_to_end (with_ids_from (not ends) taken events))
+    by : (ends : Bool) → joined_text (up_to_end (with_ids_from true taken events)) ≡ joined_text (up_to_end events)
+        → joined_text (if ends then [] else e ∷ up_to_end (with_ids_from (not ends) taken events))
         ≡ joined_text (if ends then [] else e ∷ up_to_end events)
-    by true = refl
-    by false = ap (λ (t : List ℕ). text_added e.0 ++ t) (same_words true taken events)
+    by true same = refl
+    by false same = ap (λ (t : List ℕ). text_added e.0 ++ t) same
 same_words false taken (e ∷ events) =
     let ids = given_id (opened_heading e.0) taken events in
     let a = alike e (gets e taken events) in
     ap (λ (b : Bool). joined_text (if b then [] else with_given ids e
     ∷ up_to_end (with_ids_from (is_some (opened_heading e.0)) (ids ++ taken) events))) a.ends
-    ∙ by ids a.text (ends_heading e.0)
+    ∙ by ids a.text (ends_heading e.0) (same_words (is_some (opened_heading e.0)) (ids ++ taken) events)
   where
     by : (ids : List Id) → text_added (with_given ids e).0 ≡ text_added e.0 → (ends : Bool)
+        → joined_text (up_to_end (with_ids_from (is_some (opened_heading e.0)) (ids ++ taken) events))
+        ≡ joined_text (up_to_end events)
         → joined_text (if ends then [] else with_given ids e
         ∷ up_to_end (with_ids_from (is_some (opened_heading e.0)) (ids ++ taken) events))
         ≡ joined_text (if ends then [] else e ∷ up_to_end events)
-    by ids text true = refl
-    by ids text false =
+    by ids text true same = refl
+    by ids text false same =
         ap (λ (t : List ℕ). t
         ++ joined_text (up_to_end (with_ids_from (is_some (opened_heading e.0)) (ids ++ taken) events))) text
-        ∙ ap (λ (t : List ℕ). text_added e.0 ++ t)
-        (same_words (is_some (opened_heading e.0)) (ids ++ taken) events)
+        ∙ ap (λ (t : List ℕ). text_added e.0 ++ t) same
 
 -- the entry of a heading with an id is that without, but for the id
 same_entry : (e : Ranged) {ids : List Id} (more events : List Ranged) → Gets e ids
@@ -223,7 +227,11 @@ same_entry e {ids} more events (gets_none none has) words =
     by None = refl
     by (Some h) = ap (λ (t : List ℕ). without_id (heading_entry h t e.1) ∷ []) words
 same_entry e {ids} more events (gets_id h id is lacks given) words =
-    rw (given, made e h id is, is) (ap (λ (t : List ℕ). without_id (heading_entry h t e.1) ∷ []) words)
+    let P : Ranged → Type 0 = λ f. map without_id (opened_entry (opened_heading f.0) f.1 more)
+    ≡ map without_id (opened_entry (opened_heading e.0) e.1 events) in
+    subst P (sym (ap (λ (xs : List Id). with_given xs e) given ∙ made e h id is))
+    (ap (λ (t : List ℕ). without_id (heading_entry h t e.1) ∷ []) words
+    ∙ ap (λ (v : EventView). map without_id (opened_entry (opened_heading v) e.1 events)) (sym is))
 
 without_append : (xs ys : List EntryView) → map without_id (xs ++ ys) ≡ map without_id xs ++ map without_id ys
 without_append [] ys = refl
@@ -255,13 +263,15 @@ ids_of_entries : (inside : Bool) (events : List Ranged)
     → map (λ (entry : EntryView). entry.id) (entries_from inside events) ≡ start_ids_from inside events
 ids_of_entries inside [] = refl
 ids_of_entries true (e ∷ events) = ids_of_entries (not (ends_heading e.0)) events
-ids_of_entries false (e ∷ events) = by (opened_heading e.0)
+ids_of_entries false (e ∷ events) = by (opened_heading e.0) (λ (inside : Bool). ids_of_entries inside events)
   where
-    by : (o : Option HeadingView) → map (λ (entry : EntryView). entry.id)
-        (opened_entry o e.1 events ++ entries_from (is_some o) events)
+    by : (o : Option HeadingView)
+        → ((inside : Bool) → map (λ (entry : EntryView). entry.id) (entries_from inside events)
+        ≡ start_ids_from inside events)
+        → map (λ (entry : EntryView). entry.id) (opened_entry o e.1 events ++ entries_from (is_some o) events)
         ≡ heading_ids o ++ start_ids_from (is_some o) events
-    by None = ids_of_entries false events
-    by (Some h) = ap (λ (ids : List (Option Id)). h.id ∷ ids) (ids_of_entries true events)
+    by None same = same false
+    by (Some h) same = ap (λ (ids : List (Option Id)). h.id ∷ ids) (same true)
 
 pub outlines_have_ids : OutlinesHaveIds
 outlines_have_ids taken events = record {

@@ -122,8 +122,10 @@ joins t false taken (alone (Ok e) ∷ rs) = refl
 -- an event that is no Text is none with an id
 still_no_text : (e : Ranged) {ids : List Id} → Gets e ids → text_of_item (Ok e) ≡ None
     → text_of_item (Ok (with_given ids e)) ≡ None
-still_no_text e {ids} (gets_none none has) no = rw none no
-still_no_text e {ids} (gets_id h id is lacks given) no = rw (given, made e h id is) refl
+still_no_text e {ids} (gets_none none has) no_text = rw none no_text
+still_no_text e {ids} (gets_id h id is lacks given) no_text =
+    let P : Ranged → Type 0 = λ f. text_of_item (Ok f) ≡ None in
+    subst P (sym (ap (λ (xs : List Id). with_given xs e) given ∙ made e h id is)) refl
 
 -- the runs of items with ids
 runs_of_ids : (inside : Bool) (taken : List Id) (items : List RangedItem)
@@ -131,42 +133,45 @@ runs_of_ids : (inside : Bool) (taken : List Id) (items : List RangedItem)
 runs_of_ids inside taken [] = refl
 runs_of_ids inside taken (Err fault ∷ items) =
     ap (λ (rs : List (Run R)). alone (Err fault) ∷ rs) (runs_of_ids false taken items)
-runs_of_ids true taken (Ok e ∷ items) = by (text_or_none (Ok e))
+runs_of_ids true taken (Ok e ∷ items) =
+    by (text_or_none (Ok e)) (λ (inside : Bool). runs_of_ids inside taken items)
   where
-    Goal : RangedItem → Type 0
-    Goal x = runs (items_with_ids true taken (x ∷ items)) ≡ runs_with_ids true taken (runs (x ∷ items))
-
-    by : IsText (Ok e) ⊎ (text_of_item (Ok e) ≡ None) → Goal (Ok e)
-    by (inl is) = subst Goal (sym is.is)
-        (ap (λ (rs : List (Run R)). before_runs (text_item is.t) (Some is.t) rs) (runs_of_ids true taken items)
+    by : IsText (Ok e) ⊎ (text_of_item (Ok e) ≡ None)
+        → ((inside : Bool) → runs (items_with_ids inside taken items) ≡ runs_with_ids inside taken (runs items))
+        → runs (items_with_ids true taken (Ok e ∷ items)) ≡ runs_with_ids true taken (runs (Ok e ∷ items))
+    by (inl is) rest =
+        let P : RangedItem → Type 0 = λ x. runs (items_with_ids true taken (x ∷ items))
+        ≡ runs_with_ids true taken (runs (x ∷ items)) in
+        subst P (sym is.is)
+        (ap (λ (rs : List (Run R)). before_runs (text_item is.t) (Some is.t) rs) (rest true)
         ∙ joins is.t true taken (runs items))
-    by (inr none) =
+    by (inr none) rest =
         ap (λ (o : Option (PlacedText R)). before_runs (Ok e) o
         (runs (items_with_ids (not (ends_heading e.0)) taken items))) none
-        ∙ ap (λ (rs : List (Run R)). alone (Ok e) ∷ rs) (runs_of_ids (not (ends_heading e.0)) taken items)
+        ∙ ap (λ (rs : List (Run R)). alone (Ok e) ∷ rs) (rest (not (ends_heading e.0)))
         ∙ ap (λ (o : Option (PlacedText R)). runs_with_ids true taken (before_runs (Ok e) o (runs items))) (sym none)
-runs_of_ids false taken (Ok e ∷ items) = by (text_or_none (Ok e))
+runs_of_ids false taken (Ok e ∷ items) =
+    by (text_or_none (Ok e)) (λ (inside : Bool) (after : List Id). runs_of_ids inside after items)
   where
-    Goal : RangedItem → Type 0
-    Goal x = runs (items_with_ids false taken (x ∷ items)) ≡ runs_with_ids false taken (runs (x ∷ items))
-
-    ids : List Id
-    ids = given_to e taken items
-
-    within : Bool
-    within = is_some (opened_heading e.0)
-
-    by : IsText (Ok e) ⊎ (text_of_item (Ok e) ≡ None) → Goal (Ok e)
-    by (inl is) = subst Goal (sym is.is)
-        (ap (λ (rs : List (Run R)). before_runs (text_item is.t) (Some is.t) rs) (runs_of_ids false taken items)
+    by : IsText (Ok e) ⊎ (text_of_item (Ok e) ≡ None)
+        → ((inside : Bool) (after : List Id) → runs (items_with_ids inside after items)
+        ≡ runs_with_ids inside after (runs items))
+        → runs (items_with_ids false taken (Ok e ∷ items)) ≡ runs_with_ids false taken (runs (Ok e ∷ items))
+    by (inl is) rest =
+        let P : RangedItem → Type 0 = λ x. runs (items_with_ids false taken (x ∷ items))
+        ≡ runs_with_ids false taken (runs (x ∷ items)) in
+        subst P (sym is.is)
+        (ap (λ (rs : List (Run R)). before_runs (text_item is.t) (Some is.t) rs) (rest false taken)
         ∙ joins is.t false taken (runs items))
-    by (inr none) =
-        ap (λ (o : Option (PlacedText R)). before_runs (Ok (with_given ids e)) o
-        (runs (items_with_ids within (ids ++ taken) items)))
+    by (inr none) rest =
+        ap (λ (o : Option (PlacedText R)). before_runs (Ok (with_given (given_to e taken items) e)) o
+        (runs (items_with_ids (is_some (opened_heading e.0)) (given_to e taken items ++ taken) items)))
         (still_no_text e (gets e taken (until_error items)) none)
-        ∙ ap (λ (rs : List (Run R)). alone (Ok (with_given ids e)) ∷ rs) (runs_of_ids within (ids ++ taken) items)
+        ∙ ap (λ (rs : List (Run R)). alone (Ok (with_given (given_to e taken items) e)) ∷ rs)
+        (rest (is_some (opened_heading e.0)) (given_to e taken items ++ taken))
         ∙ ap (λ (xs : List RangedItem). alone (Ok (with_given (given_to e taken xs) e))
-        ∷ runs_with_ids within (given_to e taken xs ++ taken) (runs items)) (sym (runs_hold items))
+        ∷ runs_with_ids (is_some (opened_heading e.0)) (given_to e taken xs ++ taken) (runs items))
+        (sym (runs_hold items))
         ∙ ap (λ (o : Option (PlacedText R)). runs_with_ids false taken (before_runs (Ok e) o (runs items))) (sym none)
 
 -- what a run of Texts becomes passes
