@@ -5,7 +5,7 @@ use Rattle.std.specs.Prelude.{is_some}
 use Rattle.std.specs.Iterator.{Count, Yields, size}
 use Rattle.std.specs.declared.ops.Range.{Range}
 use Rattle.std.proofs.iter.Next.{Yields-more}
-use Rattle.std.proofs.Common.{◌+◌, ◌≤◌, arith, cond, length}
+use Rattle.std.proofs.Common.{◌+◌, ◌≤◌, arith, cond, drop, length, option_to_list}
 use Rattle.std.proofs.lemmas.List.{length-map, map-append}
 use Rattle.markdown_base.specs.Event.{EventView, HeadingView, end, event_view}
 use Rattle.markdown_base.specs.declared.event.Event.{Event}
@@ -294,26 +294,26 @@ module _ {S : Type 0} (steps : S → Option SourceItem → S → Type 0) where
   }
 
   -- an error passes, and ends a heading
-  pub passes_error : (s : IdsState S) (t : S) (fault : Fault) → s.kept ≡ [] → s.over ≡ false
-      → steps s.iter (Some (Err fault)) t
-      → PassesItem steps s (Err fault) (record s { iter = t; inside = false })
-  passes_error s t fault kept over step = record {
+  pub passes_error : (s : IdsState S) (t : S) (now : List RangedItem) (fault : Fault) → s.kept ≡ [] → now ≡ []
+      → s.over ≡ false → steps s.iter (Some (Err fault)) t
+      → PassesItem steps s (Err fault) (record s { iter = t; kept = now; inside = false })
+  passes_error s t now fault kept none over step = record {
     kept = λ ended. absurd (not_both over ended);
     items = Err fault ∷ [];
     read = rw over (t, step, refl);
     leaves = λ taken stands. record {
       after = taken;
       stands = stands;
-      gives = λ later. rw (kept, over) refl;
+      gives = λ later. rw (kept, over, none) refl;
     };
   }
 
   -- an event passes with its id
-  pub passes_event : (s t : IdsState S) (j : S) (e : Event × Range ℕ) (item : SourceItem) {ids : List Id}
-      → s.kept ≡ [] → s.over ≡ false → steps s.iter (Some (Ok e)) j
-      → TakesEvent steps (record s { iter = j }) (ranged_view e) ids t
+  pub passes_event : (s t : IdsState S) (j : S) (now : List RangedItem) (e : Event × Range ℕ) (item : SourceItem)
+      {ids : List Id} → s.kept ≡ [] → s.over ≡ false → steps s.iter (Some (Ok e)) j
+      → TakesEvent steps (record s { iter = j; kept = now }) (ranged_view e) ids t
       → Ok (with_given ids (ranged_view e)) ≡ ranged_item item → PassesItem steps s item t
-  passes_event s t j e item {ids} kept over step takes is = record {
+  passes_event s t j now e item {ids} kept over step takes is = record {
     kept = λ ended. absurd (not_both over ended);
     items = Ok e ∷ takes.items;
     read = rw over (calls_before t.over s.iter j t.iter (Ok e) takes.items step takes.read);
@@ -346,3 +346,17 @@ module _ {S : Type 0} (steps : S → Option SourceItem → S → Type 0) where
         nothing = nothing;
         over = over;
       }
+
+-- a queue from which nothing was popped is empty
+pub nothing_popped : {A : Type 0} (r : Option A) (old now : List A) → r ≡ None → old ≡ option_to_list r ++ now
+    → now ≡ drop 1 old → old ≡ []
+nothing_popped r [] now none items rest = refl
+nothing_popped r (x ∷ old) now none items rest =
+    let popped = rw (none, rest) at items in
+    absurd (omega (arith, ap length popped))
+
+pub nothing_kept : {A : Type 0} (r : Option A) (old now : List A) → r ≡ None → old ≡ option_to_list r ++ now
+    → now ≡ drop 1 old → now ≡ []
+nothing_kept {A} r old now none items rest =
+    let empty = nothing_popped r old now none items rest in
+    rest ∙ ap (λ (xs : List A). drop 1 xs) empty
