@@ -11,9 +11,9 @@ use Rattle.markdown_base.specs.declared.fault.Fault.TheVariants.{Memory}
 use Rattle.markdown_heading_ids.specs.HeadingIds.{Id, given_id, with_given, with_ids, with_ids_from}
 use Rattle.markdown_heading_ids.specs.HeadingIdsLaws.{AreAllWithIds, AreFirstOf, AreFirstWithIds, AreWithIdsUntil}
 use Rattle.markdown_heading_ids.specs.HeadingIdsLaws.{IsNewIds, ReturnsWithIds, StopsAt}
-use Rattle.markdown_heading_ids.specs.HeadingIdsNext.{CallsSource, GivesIds, HasEnded, IdsState, IsRefused, MayGoOn}
+use Rattle.markdown_heading_ids.specs.HeadingIdsNext.{CallsSource, GivesIds, HasReturnedAll, IdsState, IsRefusedAnId, MayCallSource}
 use Rattle.markdown_heading_ids.specs.HeadingIdsNext.{PassesItem, SourceItem, count_to_come, ids_steps, items_to_come}
-use Rattle.markdown_heading_ids.specs.HeadingIdsNext.{ranged_item, unless_over}
+use Rattle.markdown_heading_ids.specs.HeadingIdsNext.{item_seen, unless_over}
 use Rattle.markdown_heading_ids.specs.HeadingItems.{RangedItem, items_with_ids, until_error}
 use Rattle.markdown_heading_ids.specs.TakenIds.{StandsFor}
 use Rattle.markdown_out.specs.MergeNext.{CanMerge, Gave}
@@ -33,7 +33,7 @@ oks events = map (λ e. Ok e) events
 oks_append : (xs ys : List Ranged) → oks (xs ++ ys) ≡ oks xs ++ oks ys
 oks_append xs ys = map-append (λ (e : Ranged). Ok e) xs ys
 
-seen_events : (events : List Placed) → map ranged_item (event_items events) ≡ oks (map ranged_view events)
+seen_events : (events : List Placed) → map item_seen (event_items events) ≡ oks (map ranged_view events)
 seen_events [] = refl
 seen_events (e ∷ events) = ap (λ (xs : List RangedItem). Ok (ranged_view e) ∷ xs) (seen_events events)
 
@@ -168,11 +168,11 @@ cut_up (Err fault ∷ items) = record { read = []; is = inr (record { fault = fa
 cut_up (Ok e ∷ items) = cut_more e items (cut_up items)
 
 seen_cut : (read : List Placed) (fault : Fault) (more : List SourceItem)
-    → map ranged_item (event_items read ++ Err fault ∷ more)
-    ≡ oks (map ranged_view read) ++ Err fault ∷ map ranged_item more
+    → map item_seen (event_items read ++ Err fault ∷ more)
+    ≡ oks (map ranged_view read) ++ Err fault ∷ map item_seen more
 seen_cut read fault more =
-    map-append ranged_item (event_items read) (Err fault ∷ more)
-    ∙ ap (λ (xs : List RangedItem). xs ++ Err fault ∷ map ranged_item more) (seen_events read)
+    map-append item_seen (event_items read) (Err fault ∷ more)
+    ∙ ap (λ (xs : List RangedItem). xs ++ Err fault ∷ map item_seen more) (seen_events read)
 
 -- ---- calls of the iterator
 
@@ -229,7 +229,7 @@ module _ {S : Type 0} (steps : S → Option SourceItem → S → Type 0) where
   -- once the iterator has ended no items follow
   none_over : (over now : Bool) (s t : S) (items : List SourceItem) (later : List RangedItem)
       → CallsSource steps over now s items t
-      → unless_over over (map ranged_item items ++ unless_over now later) ≡ map ranged_item items ++ unless_over now later
+      → unless_over over (map item_seen items ++ unless_over now later) ≡ map item_seen items ++ unless_over now later
   none_over true now s t items later c = rw (c.0, c.1) refl
   none_over false now s t items later c = refl
 
@@ -253,8 +253,8 @@ module _ {S : Type 0} (steps : S → Option SourceItem → S → Type 0) where
   record GaveIds (s : IdsState S) (read given : List SourceItem) (t : IdsState S) (taken : List Id) : Type 0 where
     pub after : List Id
     pub stands : StandsFor t.taken after
-    pub gives : (later : List RangedItem) → items_to_come s taken (map ranged_item read ++ unless_over t.over later)
-        ≡ map ranged_item given ++ items_to_come t after later
+    pub gives : (later : List RangedItem) → items_to_come s taken (map item_seen read ++ unless_over t.over later)
+        ≡ map item_seen given ++ items_to_come t after later
 
   -- what a run read and returned
   record IsRun (s : IdsState S) (given : List SourceItem) (t : IdsState S) : Type 0 where
@@ -286,30 +286,30 @@ module _ {S : Type 0} (steps : S → Option SourceItem → S → Type 0) where
           after = h.after;
           stands = h.stands;
           gives = λ later.
-              let rest : List RangedItem = map ranged_item run.items ++ unless_over u.over later in
+              let rest : List RangedItem = map item_seen run.items ++ unless_over u.over later in
               ap (items_to_come s taken)
-              (ap (λ (xs : List RangedItem). xs ++ unless_over u.over later) (map-append ranged_item p.items run.items)
-              ∙ append_assoc (map ranged_item p.items) (map ranged_item run.items) (unless_over u.over later)
-              ∙ ap (λ (xs : List RangedItem). map ranged_item p.items ++ xs)
+              (ap (λ (xs : List RangedItem). xs ++ unless_over u.over later) (map-append item_seen p.items run.items)
+              ∙ append_assoc (map item_seen p.items) (map item_seen run.items) (unless_over u.over later)
+              ∙ ap (λ (xs : List RangedItem). map item_seen p.items ++ xs)
               (sym (none_over steps t.over u.over t.iter u.iter run.items later run.read)))
               ∙ g.gives rest
-              ∙ ap (λ (xs : List RangedItem). ranged_item item ∷ xs) (h.gives later);
+              ∙ ap (λ (xs : List RangedItem). item_seen item ∷ xs) (h.gives later);
         };
   }
 
   -- what a new adapter returned, of what was read
   new_gives : {s t : IdsState S} {given : List SourceItem} {taken : List Id} → IsNewIds s taken → (run : IsRun s given t)
       → (later : List RangedItem)
-      → (after : List Id) × (items_with_ids false taken (map ranged_item run.items ++ unless_over t.over later)
-      ≡ map ranged_item given ++ items_to_come t after later)
+      → (after : List Id) × (items_with_ids false taken (map item_seen run.items ++ unless_over t.over later)
+      ≡ map item_seen given ++ items_to_come t after later)
   new_gives {s} {t} {given} {taken} new run later =
       let g = run.leaves taken new.stands in
       (g.after, is g.after (g.gives later))
     where
-      is : (after : List Id) → items_to_come s taken (map ranged_item run.items ++ unless_over t.over later)
-          ≡ map ranged_item given ++ items_to_come t after later
-          → items_with_ids false taken (map ranged_item run.items ++ unless_over t.over later)
-          ≡ map ranged_item given ++ items_to_come t after later
+      is : (after : List Id) → items_to_come s taken (map item_seen run.items ++ unless_over t.over later)
+          ≡ map item_seen given ++ items_to_come t after later
+          → items_with_ids false taken (map item_seen run.items ++ unless_over t.over later)
+          ≡ map item_seen given ++ items_to_come t after later
       is after e = let made = rw (new.nothing, new.outside, new.goes_on) at e in made
 
   new_calls : {s t : IdsState S} {given : List SourceItem} {taken : List Id} → IsNewIds s taken → (run : IsRun s given t)
@@ -319,14 +319,14 @@ module _ {S : Type 0} (steps : S → Option SourceItem → S → Type 0) where
 
   -- without more items
   new_gave : {s t : IdsState S} {given : List SourceItem} {taken : List Id} → IsNewIds s taken → (run : IsRun s given t)
-      → (rest : List RangedItem) × (items_with_ids false taken (map ranged_item run.items)
-      ≡ map ranged_item given ++ rest)
+      → (rest : List RangedItem) × (items_with_ids false taken (map item_seen run.items)
+      ≡ map item_seen given ++ rest)
   new_gave {s} {t} {given} {taken} new run =
       let g = new_gives new run [] in (
         items_to_come t g.0 [],
         ap (items_with_ids false taken)
-            (sym (append-nil (map ranged_item run.items))
-            ∙ ap (λ (xs : List RangedItem). map ranged_item run.items ++ xs) (sym (over_nothing t.over)))
+            (sym (append-nil (map item_seen run.items))
+            ∙ ap (λ (xs : List RangedItem). map item_seen run.items ++ xs) (sym (over_nothing t.over)))
             ∙ g.1,
       )
 
@@ -337,25 +337,25 @@ module _ {S : Type 0} (steps : S → Option SourceItem → S → Type 0) where
 
   module _ {s t : IdsState S} {taken : List Id} (new : IsNewIds s taken) where
     -- the run up to None
-    all_of : (given : List Placed) {u : IdsState S} (run : IsRun s (event_items given) t) → HasEnded steps t u
+    all_of : (given : List Placed) {u : IdsState S} (run : IsRun s (event_items given) t) → HasReturnedAll steps t u
         → AreAllWithIds steps s.iter taken given
     all_of given {u} run ended = by (cut_up run.items)
       where
-        g : (after : List Id) × (items_with_ids false taken (map ranged_item run.items ++ unless_over t.over [])
-            ≡ map ranged_item (event_items given) ++ items_to_come t after [])
+        g : (after : List Id) × (items_with_ids false taken (map item_seen run.items ++ unless_over t.over [])
+            ≡ map item_seen (event_items given) ++ items_to_come t after [])
         g = new_gives new run []
 
         nothing : items_to_come t g.0 [] ≡ []
         nothing = nothing_comes t g.0 ended.none
 
-        made : items_with_ids false taken (map ranged_item run.items) ≡ oks (map ranged_view given)
+        made : items_with_ids false taken (map item_seen run.items) ≡ oks (map ranged_view given)
         made =
             ap (items_with_ids false taken)
-            (sym (append-nil (map ranged_item run.items))
-            ∙ ap (λ (xs : List RangedItem). map ranged_item run.items ++ xs) (sym (over_nothing t.over)))
+            (sym (append-nil (map item_seen run.items))
+            ∙ ap (λ (xs : List RangedItem). map item_seen run.items ++ xs) (sym (over_nothing t.over)))
             ∙ g.1
-            ∙ ap (λ (xs : List RangedItem). map ranged_item (event_items given) ++ xs) nothing
-            ∙ append-nil (map ranged_item (event_items given))
+            ∙ ap (λ (xs : List RangedItem). map item_seen (event_items given) ++ xs) nothing
+            ∙ append-nil (map item_seen (event_items given))
             ∙ seen_events given
 
         whole : CallsSource steps false true s.iter (run.items ++ []) u.iter
@@ -375,16 +375,16 @@ module _ {S : Type 0} (steps : S → Option SourceItem → S → Type 0) where
               read = subst (λ (xs : List SourceItem). Drains steps s.iter xs) is (u.iter, drained);
               are = oks_same (map ranged_view given) (with_ids taken (map ranged_view c.read))
                   (sym made
-                  ∙ ap (λ (xs : List SourceItem). items_with_ids false taken (map ranged_item xs)) is
+                  ∙ ap (λ (xs : List SourceItem). items_with_ids false taken (map item_seen xs)) is
                   ∙ ap (items_with_ids false taken) (seen_events c.read)
                   ∙ ids_of_all taken (map ranged_view c.read));
             }
             by_kind (inr a) =
-                let h = ids_of_events false taken (map ranged_view c.read) (Err a.fault ∷ map ranged_item a.more) refl in
+                let h = ids_of_events false taken (map ranged_view c.read) (Err a.fault ∷ map item_seen a.more) refl in
                 absurd (no_error (map ranged_view given) (with_ids taken (map ranged_view c.read)) a.fault
-                (items_with_ids false h.after (map ranged_item a.more))
+                (items_with_ids false h.after (map item_seen a.more))
                 (sym made
-                ∙ ap (λ (xs : List SourceItem). items_with_ids false taken (map ranged_item xs)) a.is
+                ∙ ap (λ (xs : List SourceItem). items_with_ids false taken (map item_seen xs)) a.is
                 ∙ ap (items_with_ids false taken) (seen_cut c.read a.fault a.more)
                 ∙ h.is))
 
@@ -392,14 +392,14 @@ module _ {S : Type 0} (steps : S → Option SourceItem → S → Type 0) where
     first_part : (given : List Placed) → IsRun s (event_items given) t → AreFirstWithIds steps s.iter taken given
     first_part given run = by (cut_up run.items)
       where
-        views : map ranged_item (event_items given) ≡ oks (map ranged_view given)
+        views : map item_seen (event_items given) ≡ oks (map ranged_view given)
         views = seen_events given
 
         by : IsCutUp run.items → AreFirstWithIds steps s.iter taken given
         by c = by_kind c.is
           where
-            g : (rest : List RangedItem) × (items_with_ids false taken (map ranged_item run.items)
-                ≡ map ranged_item (event_items given) ++ rest)
+            g : (rest : List RangedItem) × (items_with_ids false taken (map item_seen run.items)
+                ≡ map item_seen (event_items given) ++ rest)
             g = new_gave new run
 
             all_read : run.items ≡ event_items c.read
@@ -407,7 +407,7 @@ module _ {S : Type 0} (steps : S → Option SourceItem → S → Type 0) where
             all_read is = first_of (with_ids taken (map ranged_view c.read)) (map ranged_view given) g.0
                 (sym (ids_of_all taken (map ranged_view c.read))
                 ∙ ap (items_with_ids false taken) (sym (seen_events c.read))
-                ∙ ap (λ (xs : List SourceItem). items_with_ids false taken (map ranged_item xs)) (sym is)
+                ∙ ap (λ (xs : List SourceItem). items_with_ids false taken (map item_seen xs)) (sym is)
                 ∙ g.1
                 ∙ ap (λ (xs : List RangedItem). xs ++ g.0) views)
 
@@ -421,8 +421,8 @@ module _ {S : Type 0} (steps : S → Option SourceItem → S → Type 0) where
                 ∙ ap (items_with_ids false taken)
                 (oks_append (map ranged_view c.read) later
                 ∙ ap (λ (xs : List RangedItem). xs ++ oks later) (sym (seen_events c.read))
-                ∙ ap (λ (xs : List SourceItem). map ranged_item xs ++ oks later) (sym is)
-                ∙ ap (λ (b : Bool). map ranged_item run.items ++ unless_over b (oks later)) (sym on))
+                ∙ ap (λ (xs : List SourceItem). map item_seen xs ++ oks later) (sym is)
+                ∙ ap (λ (b : Bool). map item_seen run.items ++ unless_over b (oks later)) (sym on))
                 ∙ h.1
                 ∙ ap (λ (xs : List RangedItem). xs ++ rest) views)
 
@@ -450,16 +450,16 @@ module _ {S : Type 0} (steps : S → Option SourceItem → S → Type 0) where
                 let y = calls_yield steps t.over s.iter t.iter run.items (new_calls new run) in
                 let cut = cut_call steps s.iter y.0 (event_items c.read) (Err a.fault) a.more
                 (subst (λ (xs : List SourceItem). Yields steps s.iter xs y.0) a.is y.1) in
-                let h = ids_of_events false taken (map ranged_view c.read) (Err a.fault ∷ map ranged_item a.more) refl in
+                let h = ids_of_events false taken (map ranged_view c.read) (Err a.fault ∷ map item_seen a.more) refl in
                 record {
                   events = c.read;
                   left = cut.before;
                   read = cut.yields;
                   first = first_until (with_ids taken (map ranged_view c.read)) (map ranged_view given) a.fault
-                      (items_with_ids false h.after (map ranged_item a.more)) g.0
+                      (items_with_ids false h.after (map item_seen a.more)) g.0
                       (sym h.is
                       ∙ ap (items_with_ids false taken) (sym (seen_cut c.read a.fault a.more))
-                      ∙ ap (λ (xs : List SourceItem). items_with_ids false taken (map ranged_item xs)) (sym a.is)
+                      ∙ ap (λ (xs : List SourceItem). items_with_ids false taken (map item_seen xs)) (sym a.is)
                       ∙ g.1
                       ∙ ap (λ (xs : List RangedItem). xs ++ g.0) views);
                   stays = inl (cut.after, inr (a.fault, cut.step));
@@ -470,11 +470,11 @@ module _ {S : Type 0} (steps : S → Option SourceItem → S → Type 0) where
         → AreWithIdsUntil steps s.iter taken given fault
     until given fault run = by (cut_up run.items)
       where
-        g : (rest : List RangedItem) × (items_with_ids false taken (map ranged_item run.items)
-            ≡ map ranged_item (event_items given ++ Err fault ∷ []) ++ rest)
+        g : (rest : List RangedItem) × (items_with_ids false taken (map item_seen run.items)
+            ≡ map item_seen (event_items given ++ Err fault ∷ []) ++ rest)
         g = new_gave new run
 
-        made : items_with_ids false taken (map ranged_item run.items) ≡ oks (map ranged_view given) ++ Err fault ∷ g.0
+        made : items_with_ids false taken (map item_seen run.items) ≡ oks (map ranged_view given) ++ Err fault ∷ g.0
         made =
             g.1
             ∙ ap (λ (xs : List RangedItem). xs ++ g.0) (seen_cut given fault [])
@@ -489,18 +489,18 @@ module _ {S : Type 0} (steps : S → Option SourceItem → S → Type 0) where
                 absurd (no_error (with_ids taken (map ranged_view c.read)) (map ranged_view given) fault g.0
                 (sym (ids_of_all taken (map ranged_view c.read))
                 ∙ ap (items_with_ids false taken) (sym (seen_events c.read))
-                ∙ ap (λ (xs : List SourceItem). items_with_ids false taken (map ranged_item xs)) (sym is)
+                ∙ ap (λ (xs : List SourceItem). items_with_ids false taken (map item_seen xs)) (sym is)
                 ∙ made))
             by_kind (inr a) =
                 let y = calls_yield steps t.over s.iter t.iter run.items (new_calls new run) in
                 let cut = cut_call steps s.iter y.0 (event_items c.read) (Err a.fault) a.more
                 (subst (λ (xs : List SourceItem). Yields steps s.iter xs y.0) a.is y.1) in
-                let h = ids_of_events false taken (map ranged_view c.read) (Err a.fault ∷ map ranged_item a.more) refl in
+                let h = ids_of_events false taken (map ranged_view c.read) (Err a.fault ∷ map item_seen a.more) refl in
                 let same = same_until (with_ids taken (map ranged_view c.read)) (map ranged_view given) a.fault fault
-                (items_with_ids false h.after (map ranged_item a.more)) g.0
+                (items_with_ids false h.after (map item_seen a.more)) g.0
                 (sym h.is
                 ∙ ap (items_with_ids false taken) (sym (seen_cut c.read a.fault a.more))
-                ∙ ap (λ (xs : List SourceItem). items_with_ids false taken (map ranged_item xs)) (sym a.is)
+                ∙ ap (λ (xs : List SourceItem). items_with_ids false taken (map item_seen xs)) (sym a.is)
                 ∙ made) in
                 record {
                   events = c.read;
@@ -519,7 +519,7 @@ module _ {S M : Type 0} (steps : S → Option SourceItem → S → Type 0) (stat
   no_fault : (e : Placed) → Ok e ≡ Err Memory → ⊥
   no_fault e h = cc
 
-  passed : {m t : M} (e : Placed) → PassesItem steps (state m) (Ok e) (state t) ⊎ IsRefused steps (state m) (Ok e) (state t)
+  passed : {m t : M} (e : Placed) → PassesItem steps (state m) (Ok e) (state t) ⊎ IsRefusedAnId steps (state m) (Ok e) (state t)
       → PassesItem steps (state m) (Ok e) (state t)
   passed e (inl p) = p
   passed e (inr q) = absurd (no_fault e q.is)
@@ -537,7 +537,7 @@ module _ {S M : Type 0} (steps : S → Option SourceItem → S → Type 0) (stat
       → IsRun steps (state m) (event_items given ++ Err fault ∷ []) (state t) ⊎ (fault ≡ Memory)
   ran_until m t [] fault y = by y.1
     where
-      by : PassesItem steps (state m) (Err fault) (state y.0) ⊎ IsRefused steps (state m) (Err fault) (state y.0)
+      by : PassesItem steps (state m) (Err fault) (state y.0) ⊎ IsRefusedAnId steps (state m) (Err fault) (state y.0)
           → IsRun steps (state m) (Err fault ∷ []) (state t) ⊎ (fault ≡ Memory)
       by (inl p) = inl (subst (λ (k : M). IsRun steps (state m) (Err fault ∷ []) (state k)) y.2
           (run_more steps (state m) (state y.0) (state y.0) (Err fault) [] p (run_none steps (state y.0))))
@@ -580,11 +580,11 @@ module _ {S M : Type 0} (steps : S → Option SourceItem → S → Type 0) (stat
   pub ids_stay_ended : (m : M) → StaysEnded calls m
   ids_stay_ended m answers s t u r gave none next = over_stays (state t) (state u) r none.over none.nothing next
 
-  fewer : (rest : S → Count) {t u : IdsState S} → HasEnded steps t u → count_to_come rest u ≤ count_to_come rest t
+  fewer : (rest : S → Count) {t u : IdsState S} → HasReturnedAll steps t u → count_to_come rest u ≤ count_to_come rest t
   fewer rest h = rw (h.nothing, h.over) (omega arith)
 
-  pub ids_can_merge : (can : S → Type 0) (rest : S → Count) (m : M) → MayGoOn can rest (state m)
-      → CanMerge calls (λ k. MayGoOn can rest (state k)) (λ k. at_most (count_to_come rest (state k))) m
+  pub ids_can_merge : (can : S → Type 0) (rest : S → Count) (m : M) → MayCallSource can rest (state m)
+      → CanMerge calls (λ k. MayCallSource can rest (state k)) (λ k. at_most (count_to_come rest (state k))) m
   ids_can_merge can rest m may = record {
     callable = may;
     ends = tt;

@@ -13,8 +13,8 @@ use Rattle.markdown_base.specs.declared.fault.Fault.{Fault}
 use Rattle.markdown_base.specs.declared.fault.Fault.TheVariants.{Memory}
 use Rattle.markdown_heading_ids.specs.Anchors.{heading_anchor}
 use Rattle.markdown_heading_ids.specs.HeadingIds.{Id, free_id, given_id, id_unless, with_given}
-use Rattle.markdown_heading_ids.specs.HeadingIdsNext.{CallsSource, Gives, HasEnded, IdsState, IsRefused, PassesItem}
-use Rattle.markdown_heading_ids.specs.HeadingIdsNext.{SourceItem, count_to_come, items_to_come, ranged_item, unless_over}
+use Rattle.markdown_heading_ids.specs.HeadingIdsNext.{CallsSource, GivesOne, HasReturnedAll, IdsState, IsRefusedAnId, PassesItem}
+use Rattle.markdown_heading_ids.specs.HeadingIdsNext.{SourceItem, count_to_come, items_to_come, item_seen, unless_over}
 use Rattle.markdown_heading_ids.specs.HeadingItems.{RangedItem, items_with_ids, until_error}
 use Rattle.markdown_heading_ids.specs.HeadingRead.{HeadingIsRead, TakesEvent, GivesIdsTo, ends_with, has_no_id}
 use Rattle.markdown_heading_ids.specs.HeadingRead.{heading_words, lacks_id, words_added}
@@ -56,20 +56,20 @@ last_passes (Err fault) taken later h = refl
 
 -- items, one more, and those that follow
 one_more : (items : List SourceItem) (item : SourceItem) (later : List RangedItem)
-    → map ranged_item (items ++ item ∷ []) ++ later ≡ map ranged_item items ++ (ranged_item item ∷ later)
+    → map item_seen (items ++ item ∷ []) ++ later ≡ map item_seen items ++ (item_seen item ∷ later)
 one_more items item later =
-    ap (λ (xs : List RangedItem). xs ++ later) (map-append ranged_item items (item ∷ []))
-    ∙ append_assoc (map ranged_item items) (ranged_item item ∷ []) later
+    ap (λ (xs : List RangedItem). xs ++ later) (map-append item_seen items (item ∷ []))
+    ∙ append_assoc (map item_seen items) (item_seen item ∷ []) later
 
 module _ {S : Type 0} (steps : S → Option SourceItem → S → Type 0) where
   -- these items were read after the Start of a heading, which goes on: whatever follows, this is the text so far, and the
   -- next item is inside
   pub record IsReadingHeading (s : S) (items : List SourceItem) (words : List ℕ) (t : S) : Type 0 where
     pub read : Yields steps s items t
-    pub words_are : (later : List RangedItem) → heading_words (map ranged_item items ++ later)
+    pub words_are : (later : List RangedItem) → heading_words (map item_seen items ++ later)
         ≡ words ++ heading_words later
-    pub passes : (taken : List Id) (later : List RangedItem) → items_with_ids true taken (map ranged_item items ++ later)
-        ≡ map ranged_item items ++ items_with_ids true taken later
+    pub passes : (taken : List Id) (later : List RangedItem) → items_with_ids true taken (map item_seen items ++ later)
+        ≡ map item_seen items ++ items_with_ids true taken later
 
   heading_begins : (s : S) → IsReadingHeading s [] [] s
   heading_begins s = record { read = refl; words_are = λ later. refl; passes = λ taken later. refl }
@@ -80,52 +80,52 @@ module _ {S : Type 0} (steps : S → Option SourceItem → S → Type 0) where
 
   -- an item that the heading does not end with
   heading_goes_on : {s t u : S} {items : List SourceItem} {words : List ℕ} (item : SourceItem)
-      → IsReadingHeading s items words t → steps t (Some item) u → ends_with (ranged_item item) ≡ false
-      → IsReadingHeading s (items ++ item ∷ []) (words ++ words_added (ranged_item item)) u
+      → IsReadingHeading s items words t → steps t (Some item) u → ends_with (item_seen item) ≡ false
+      → IsReadingHeading s (items ++ item ∷ []) (words ++ words_added (item_seen item)) u
   heading_goes_on {s} {t} {u} {items} {words} item r step on = record {
     read = Yields-more steps s items t item u r.read step;
     words_are = λ later.
         ap heading_words (one_more items item later)
-        ∙ r.words_are (ranged_item item ∷ later)
-        ∙ ap (λ (w : List ℕ). words ++ w) (more_words (ranged_item item) later on)
-        ∙ sym (append_assoc words (words_added (ranged_item item)) (heading_words later));
+        ∙ r.words_are (item_seen item ∷ later)
+        ∙ ap (λ (w : List ℕ). words ++ w) (more_words (item_seen item) later on)
+        ∙ sym (append_assoc words (words_added (item_seen item)) (heading_words later));
     passes = λ taken later.
         ap (items_with_ids true taken) (one_more items item later)
-        ∙ r.passes taken (ranged_item item ∷ later)
-        ∙ ap (λ (xs : List RangedItem). map ranged_item items ++ xs) (more_passes (ranged_item item) taken later on)
+        ∙ r.passes taken (item_seen item ∷ later)
+        ∙ ap (λ (xs : List RangedItem). map item_seen items ++ xs) (more_passes (item_seen item) taken later on)
         ∙ sym (one_more items item (items_with_ids true taken later));
   }
 
   -- the one that it ends with
   heading_ends : {s t u : S} {items : List SourceItem} {words : List ℕ} (item : SourceItem)
-      → IsReadingHeading s items words t → steps t (Some item) u → ends_with (ranged_item item) ≡ true
-      → HeadingIsRead steps s (items ++ item ∷ []) (words ++ words_added (ranged_item item)) false u
+      → IsReadingHeading s items words t → steps t (Some item) u → ends_with (item_seen item) ≡ true
+      → HeadingIsRead steps s (items ++ item ∷ []) (words ++ words_added (item_seen item)) false u
   heading_ends {s} {t} {u} {items} {words} item r step ends = record {
     read = Yields-more steps s items t item u r.read step;
     words_are = λ later.
         ap heading_words (one_more items item later)
-        ∙ r.words_are (ranged_item item ∷ later)
+        ∙ r.words_are (item_seen item ∷ later)
         ∙ ap (λ (w : List ℕ). words ++ w)
-        (last_words (ranged_item item) later ends ∙ sym (last_adds_nothing (ranged_item item) ends));
+        (last_words (item_seen item) later ends ∙ sym (last_adds_nothing (item_seen item) ends));
     passes = λ taken later.
         ap (items_with_ids true taken) (one_more items item later)
-        ∙ r.passes taken (ranged_item item ∷ later)
-        ∙ ap (λ (xs : List RangedItem). map ranged_item items ++ xs) (last_passes (ranged_item item) taken later ends)
+        ∙ r.passes taken (item_seen item ∷ later)
+        ∙ ap (λ (xs : List RangedItem). map item_seen items ++ xs) (last_passes (item_seen item) taken later ends)
         ∙ sym (one_more items item (items_with_ids false taken later));
   }
 
   -- the same, by what is kept now
   pub goes_on_with : {s t u : S} {items : List SourceItem} {words : List ℕ} (item : SourceItem) {ends : Bool}
       {now : List SourceItem} {text : List ℕ} → IsReadingHeading s items words t → steps t (Some item) u
-      → ends ≡ ends_with (ranged_item item) → ends ≡ false → now ≡ items ++ item ∷ []
-      → text ≡ words ++ words_added (ranged_item item) → IsReadingHeading s now text u
+      → ends ≡ ends_with (item_seen item) → ends ≡ false → now ≡ items ++ item ∷ []
+      → text ≡ words ++ words_added (item_seen item) → IsReadingHeading s now text u
   goes_on_with {s} {t} {u} {items} {words} item {ends} {now} {text} r step is on kept added =
       rw (kept, added) (heading_goes_on item r step (sym is ∙ on))
 
   pub ends_with_item : {s t u : S} {items : List SourceItem} {words : List ℕ} (item : SourceItem) {ends : Bool}
       {now : List SourceItem} {text : List ℕ} → IsReadingHeading s items words t → steps t (Some item) u
-      → ends ≡ ends_with (ranged_item item) → ends ≡ true → now ≡ items ++ item ∷ []
-      → text ≡ words ++ words_added (ranged_item item) → HeadingIsRead steps s now text false u
+      → ends ≡ ends_with (item_seen item) → ends ≡ true → now ≡ items ++ item ∷ []
+      → text ≡ words ++ words_added (item_seen item) → HeadingIsRead steps s now text false u
   ends_with_item {s} {t} {u} {items} {words} item {ends} {now} {text} r step is last kept added =
       rw (kept, added) (heading_ends item r step (sym is ∙ last))
 
@@ -228,7 +228,7 @@ module _ {S : Type 0} (steps : S → Option SourceItem → S → Type 0) where
       → ((taken : List Id) → StandsFor s.taken taken → id ≡ free_id taken (heading_anchor shown))
       → ((taken : List Id) → StandsFor s.taken taken → StandsFor k (id ∷ taken))
       → TakesEvent steps s e (id ∷ [])
-      (record { iter = t; kept = map ranged_item items; inside = s.inside; taken = k; over = over })
+      (record { iter = t; kept = map item_seen items; inside = s.inside; taken = k; over = over })
   takes_heading s e {t} {items} {words} {over} k id {shown} r is inside lacks free now = record {
     items = items;
     read = r.read;
@@ -237,8 +237,8 @@ module _ {S : Type 0} (steps : S → Option SourceItem → S → Type 0) where
       stands = now taken stands;
       gives = λ later.
           let given : given_id (opened_heading e.0) taken
-          (until_error (map ranged_item items ++ unless_over over later)) ≡ id ∷ [] =
-          id_given (opened_heading e.0) taken (until_error (map ranged_item items ++ unless_over over later)) lacks
+          (until_error (map item_seen items ++ unless_over over later)) ≡ id ∷ [] =
+          id_given (opened_heading e.0) taken (until_error (map item_seen items ++ unless_over over later)) lacks
           ∙ ap (λ (w : List ℕ). free_id taken (heading_anchor w) ∷ []) (r.words_are later ∙ sym is)
           ∙ ap (λ (i : Id). i ∷ []) (sym (free taken stands)) in
           let opens = lacking_opens (opened_heading e.0) lacks in
@@ -251,10 +251,10 @@ module _ {S : Type 0} (steps : S → Option SourceItem → S → Type 0) where
   pub fewer_after : (rest : S → Count) (s : IdsState S) (items : List SourceItem) (over : Bool) (t : S)
       → s.over ≡ false → (over ≡ false → length items + size (rest t) ≤ size (rest s.iter))
       → length items ≤ size (rest s.iter)
-      → length (map ranged_item items) + cond over 0 (size (rest t)) ≤ count_to_come rest s
-  fewer_after rest s items true t on some few = rw (length-map items ranged_item, on) (omega (arith, few))
+      → length (map item_seen items) + cond over 0 (size (rest t)) ≤ count_to_come rest s
+  fewer_after rest s items true t on some few = rw (length-map items item_seen, on) (omega (arith, few))
   fewer_after rest s items false t on some few =
-      let more = some refl in rw (length-map items ranged_item, on) (omega (arith, more))
+      let more = some refl in rw (length-map items item_seen, on) (omega (arith, more))
 
   -- ---- a call
 
@@ -267,7 +267,7 @@ module _ {S : Type 0} (steps : S → Option SourceItem → S → Type 0) where
   not_both {over} goes_on ended = cc
 
   -- an item that was kept is returned
-  pub gives_kept : (s : IdsState S) (item : SourceItem) (rest : List RangedItem) → s.kept ≡ ranged_item item ∷ rest
+  pub gives_kept : (s : IdsState S) (item : SourceItem) (rest : List RangedItem) → s.kept ≡ item_seen item ∷ rest
       → PassesItem steps s item (record s { kept = rest })
   gives_kept s item rest kept = record {
     kept = λ over. kept;
@@ -281,11 +281,11 @@ module _ {S : Type 0} (steps : S → Option SourceItem → S → Type 0) where
   }
 
   -- nothing is left
-  pub stays_over : (s : IdsState S) → s.kept ≡ [] → s.over ≡ true → HasEnded steps s s
+  pub stays_over : (s : IdsState S) → s.kept ≡ [] → s.over ≡ true → HasReturnedAll steps s s
   stays_over s kept over = record { read = rw over (refl, refl, refl); none = kept; nothing = kept; over = over }
 
   pub comes_to_end : (s : IdsState S) (t : S) → s.kept ≡ [] → s.over ≡ false → steps s.iter None t
-      → HasEnded steps s (record s { iter = t; over = true })
+      → HasReturnedAll steps s (record s { iter = t; over = true })
   comes_to_end s t kept over step = record {
     read = rw over (s.iter, refl, step);
     none = kept;
@@ -312,7 +312,7 @@ module _ {S : Type 0} (steps : S → Option SourceItem → S → Type 0) where
   pub passes_event : (s t : IdsState S) (j : S) (now : List RangedItem) (e : Event × Range ℕ) (item : SourceItem)
       {ids : List Id} → s.kept ≡ [] → s.over ≡ false → steps s.iter (Some (Ok e)) j
       → TakesEvent steps (record s { iter = j; kept = now }) (ranged_view e) ids t
-      → Ok (with_given ids (ranged_view e)) ≡ ranged_item item → PassesItem steps s item t
+      → Ok (with_given ids (ranged_view e)) ≡ item_seen item → PassesItem steps s item t
   passes_event s t j now e item {ids} kept over step takes is = record {
     kept = λ ended. absurd (not_both over ended);
     items = Ok e ∷ takes.items;
@@ -330,7 +330,7 @@ module _ {S : Type 0} (steps : S → Option SourceItem → S → Type 0) where
   -- memory is refused
   pub is_refused : (s t : IdsState S) (j : S) (e : Event × Range ℕ) (fault : Fault) → s.over ≡ false
       → steps s.iter (Some (Ok e)) j → fault ≡ Memory → s.inside ≡ false → lacks_id (event_view e.0) ≡ true → t.kept ≡ [] → t.over ≡ true
-      → IsRefused steps s (Err fault) t
+      → IsRefusedAnId steps s (Err fault) t
   is_refused s t j e fault goes_on step memory outside lacks nothing over =
       let h = lacking (opened_heading (event_view e.0)) lacks in
       record {

@@ -20,8 +20,8 @@ abbrev pub SourceItem : Type 0
 SourceItem = Result (Event × Range ℕ) Fault
 
 -- the same in the form in which the ids are defined
-abbrev pub ranged_item : SourceItem → RangedItem
-ranged_item item = item_view with_range item
+abbrev pub item_seen : SourceItem → RangedItem
+item_seen item = item_view with_range item
 
 -- an adapter between calls: its iterator, the items that have been read and not returned yet, whether the next item of
 -- the iterator is inside a heading, the ids that are taken, and whether the iterator has ended, or memory was refused
@@ -46,7 +46,7 @@ abbrev pub count_to_come : {S : Type 0} → (S → Count) → IdsState S → ℕ
 count_to_come rest s = length s.kept + cond s.over 0 (size (rest s.iter))
 
 -- where the iterator has not ended, it may be called, and ends
-pub record MayGoOn {S : Type 0} (can : S → Type 0) (rest : S → Count) (s : IdsState S) : Type 0 where
+pub record MayCallSource {S : Type 0} (can : S → Type 0) (rest : S → Count) (s : IdsState S) : Type 0 where
   pub callable : s.over ≡ false → can s.iter
   pub ends : s.over ≡ false → IsFinite (rest s.iter)
 
@@ -59,23 +59,23 @@ module _ {S : Type 0} (steps : S → Option SourceItem → S → Type 0) where
   CallsSource false false s items t = Yields steps s items t
 
   -- where these ids are taken, and whatever items follow, what was to come is the item returned and what is to come now
-  pub record Gives (s : IdsState S) (read : List SourceItem) (item : SourceItem) (t : IdsState S) (taken : List Id)
+  pub record GivesOne (s : IdsState S) (read : List SourceItem) (item : SourceItem) (t : IdsState S) (taken : List Id)
       : Type 0 where
     pub after : List Id
     pub stands : StandsFor t.taken after
-    pub gives : (later : List RangedItem) → items_to_come s taken (map ranged_item read ++ unless_over t.over later)
-        ≡ ranged_item item ∷ items_to_come t after later
+    pub gives : (later : List RangedItem) → items_to_come s taken (map item_seen read ++ unless_over t.over later)
+        ≡ item_seen item ∷ items_to_come t after later
 
   -- items of the iterator were read, and an item is returned: one that was kept, where the iterator has ended
   pub record PassesItem (s : IdsState S) (item : SourceItem) (t : IdsState S) : Type 0 where
-    pub kept : s.over ≡ true → s.kept ≡ ranged_item item ∷ t.kept
+    pub kept : s.over ≡ true → s.kept ≡ item_seen item ∷ t.kept
     pub items : List SourceItem
     pub read : CallsSource s.over t.over s.iter items t.iter
-    pub leaves : (taken : List Id) → StandsFor s.taken taken → Gives s items item t taken
+    pub leaves : (taken : List Id) → StandsFor s.taken taken → GivesOne s items item t taken
 
   -- memory is refused when the Start of a heading without an id has been read: an error is returned, and nothing is to
   -- come
-  pub record IsRefused (s : IdsState S) (item : SourceItem) (t : IdsState S) : Type 0 where
+  pub record IsRefusedAnId (s : IdsState S) (item : SourceItem) (t : IdsState S) : Type 0 where
     pub is : item ≡ Err Memory
     pub goes_on : s.over ≡ false
     pub event : Event × Range ℕ
@@ -89,7 +89,7 @@ module _ {S : Type 0} (steps : S → Option SourceItem → S → Type 0) where
     pub over : t.over ≡ true
 
   -- nothing was to come, and nothing is
-  pub record HasEnded (s t : IdsState S) : Type 0 where
+  pub record HasReturnedAll (s t : IdsState S) : Type 0 where
     pub read : CallsSource s.over true s.iter [] t.iter
     pub none : s.kept ≡ []
     pub nothing : t.kept ≡ []
@@ -97,7 +97,7 @@ module _ {S : Type 0} (steps : S → Option SourceItem → S → Type 0) where
 
   -- a call: it returns the next item, memory is refused, or all has been returned
   abbrev pub GivesIds : IdsState S → Option SourceItem → IdsState S → Type 0
-  GivesIds s r t = MatchOption r (HasEnded s t) (λ item. PassesItem s item t ⊎ IsRefused s item t)
+  GivesIds s r t = MatchOption r (HasReturnedAll s t) (λ item. PassesItem s item t ⊎ IsRefusedAnId s item t)
 
   -- a call of what has this state
   abbrev pub ids_steps : {M : Type 0} → (M → IdsState S) → M → Option SourceItem → M → Type 0

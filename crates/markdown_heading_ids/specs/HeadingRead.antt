@@ -3,7 +3,7 @@ use Rattle.std.specs.Prelude.{◌≡◌, ℕ, Bool, true, false, not, List, [], 
 use Rattle.std.specs.declared.ops.Range.{Range}
 use Rattle.markdown_base.specs.Event.{EventView, HeadingView}
 use Rattle.markdown_heading_ids.specs.HeadingIds.{Id, with_given}
-use Rattle.markdown_heading_ids.specs.HeadingIdsNext.{CallsSource, IdsState, SourceItem, items_to_come, ranged_item}
+use Rattle.markdown_heading_ids.specs.HeadingIdsNext.{CallsSource, IdsState, SourceItem, items_to_come, item_seen}
 use Rattle.markdown_heading_ids.specs.HeadingIdsNext.{unless_over}
 use Rattle.markdown_heading_ids.specs.HeadingItems.{RangedItem, items_with_ids, until_error}
 use Rattle.markdown_heading_ids.specs.TakenIds.{StandsFor}
@@ -37,10 +37,10 @@ module _ {S : Type 0} (steps : S → Option SourceItem → S → Type 0) where
   -- item is outside
   pub record HeadingIsRead (s : S) (items : List SourceItem) (words : List ℕ) (over : Bool) (t : S) : Type 0 where
     pub read : CallsSource steps false over s items t
-    pub words_are : (later : List RangedItem) → heading_words (map ranged_item items ++ unless_over over later) ≡ words
+    pub words_are : (later : List RangedItem) → heading_words (map item_seen items ++ unless_over over later) ≡ words
     pub passes : (taken : List Id) (later : List RangedItem)
-        → items_with_ids true taken (map ranged_item items ++ unless_over over later)
-        ≡ map ranged_item items ++ items_with_ids false taken (unless_over over later)
+        → items_with_ids true taken (map item_seen items ++ unless_over over later)
+        ≡ map item_seen items ++ items_with_ids false taken (unless_over over later)
 
   -- where these ids are taken, and whatever items follow, this event is to be given these ids, and then comes what is to
   -- come now
@@ -49,7 +49,7 @@ module _ {S : Type 0} (steps : S → Option SourceItem → S → Type 0) where
     pub after : List Id
     pub stands : StandsFor t.taken after
     pub gives : (later : List RangedItem)
-        → items_with_ids s.inside taken (Ok e ∷ (map ranged_item read ++ unless_over t.over later))
+        → items_with_ids s.inside taken (Ok e ∷ (map item_seen read ++ unless_over t.over later))
         ≡ Ok (with_given ids e) ∷ items_to_come t after later
 
   -- an event was read, and the items that its id depends on

@@ -6,7 +6,7 @@ ghost use Rattle.std.specs.Option.{option_map};
 ghost use Rattle.std.specs.declared.ops.Range.{Range};
 ghost use Rattle.markdown_base.specs.Event.{event_view, tag_view};
 ghost use Rattle.markdown_heading_ids.specs.HeadingIds.{event_with_id, tag_with_id, with_given};
-ghost use Rattle.markdown_heading_ids.specs.HeadingIdsNext.{MayGoOn, count_to_come, ranged_item};
+ghost use Rattle.markdown_heading_ids.specs.HeadingIdsNext.{MayCallSource, count_to_come, item_seen};
 ghost use Rattle.markdown_heading_ids.specs.HeadingIdsState.{ids_state};
 ghost use Rattle.markdown_heading_ids.specs.HeadingRead.{HeadingIsRead, TakesEvent, ends_with, lacks_id, words_added};
 ghost use Rattle.markdown_outline.specs.Outline.{opened_heading};
@@ -75,8 +75,8 @@ fn event_with_id<'a>(event: Event<'a>, id: Option<String>) -> Event<'a>
 /// Appends what an item adds to the text of the heading that it is in, and returns whether the heading ends with it.
 fn push_words(words: &mut String, item: &Placed<'_>) -> Result<bool, Fault>
     ensures words { IfOk result (λ _. string_bytes words.new
-        ≡ string_bytes words.old ++ words_added (ranged_item item.now)) }
-    ensures ends { IfOk result (λ ends. ends ≡ ends_with (ranged_item item.now)) }
+        ≡ string_bytes words.old ++ words_added (item_seen item.now)) }
+    ensures ends { IfOk result (λ ends. ends ≡ ends_with (item_seen item.now)) }
     ensures refused { IfErr result (λ fault. fault ≡ Fault.Memory) }
 {
     match item {
@@ -159,13 +159,13 @@ impl<'a, I> HeadingIds<'a, I> {
 impl<'a, I: Iterator<Item = Placed<'a>>> HeadingIds<'a, I> {
     /// Takes in the event that was read last, and returns the id that it is given, if it is. Nothing is kept before.
     fn id_of(&mut self, event: &Event<'_>) -> Result<Option<String>, Fault>
-        requires may { MayGoOn I.can_next I.remaining (ids_state self.old) }
+        requires may { MayCallSource I.can_next I.remaining (ids_state self.old) }
         requires empty { self.old.kept.items ≡ [] }
         requires reads { self.old.over ≡ false }
         ensures takes { IfOk result (λ id. (range : Range ℕ) → TakesEvent I.next_gives
             (ids_state self.old) (event_view event.now, range)
             (option_to_list (option_map string_bytes id)) (ids_state self.new)) }
-        ensures again { IfOk result (λ id. MayGoOn I.can_next I.remaining (ids_state self.new)) }
+        ensures again { IfOk result (λ id. MayCallSource I.can_next I.remaining (ids_state self.new)) }
         ensures fewer { IfOk result (λ id. count_to_come I.remaining (ids_state self.new)
             ≤ count_to_come I.remaining (ids_state self.old)) }
         ensures refused { IfErr result (λ fault. (fault ≡ Fault.Memory) × (self.old.inside ≡ false)
@@ -189,10 +189,10 @@ impl<'a, I: Iterator<Item = Placed<'a>>> Iterator for HeadingIds<'a, I> {
     type Item = Placed<'a>;
 
     ghost use Rattle.std.specs.Iterator.{at_most};
-    ghost use Rattle.markdown_heading_ids.specs.HeadingIdsNext.{MayGoOn, count_to_come, ids_steps};
+    ghost use Rattle.markdown_heading_ids.specs.HeadingIdsNext.{MayCallSource, count_to_come, ids_steps};
     ghost use Rattle.markdown_heading_ids.specs.HeadingIdsState.{ids_state};
 
-    ghost can_next = { λ h. MayGoOn I.can_next I.remaining (ids_state h) };
+    ghost can_next = { λ h. MayCallSource I.can_next I.remaining (ids_state h) };
 
     ghost next_gives = { λ h r t. ids_steps I.next_gives ids_state h r t };
 

@@ -3,7 +3,7 @@ ghost use Rattle.std.specs.Prelude.{List};
 ghost use Rattle.std.specs.Iterator.{at_most};
 ghost use Rattle.markdown_heading_ids.specs.HeadingIds.{Id};
 ghost use Rattle.markdown_heading_ids.specs.HeadingIdsLaws.{IsNewIds, ReturnsWithIds};
-ghost use Rattle.markdown_heading_ids.specs.HeadingIdsNext.{MayGoOn, count_to_come, ids_steps};
+ghost use Rattle.markdown_heading_ids.specs.HeadingIdsNext.{MayCallSource, count_to_come, ids_steps};
 ghost use Rattle.markdown_heading_ids.specs.HeadingIdsState.{ids_state};
 ghost use Rattle.markdown_heading_ids.specs.IdsOfEvents.{ASecondTimeChangesNothing, EachHeadingHasAnId, OnlyIdsAreAdded};
 ghost use Rattle.markdown_heading_ids.specs.IdsOfEvents.{MergingKeepsIds, OutlinesHaveIds};
@@ -31,9 +31,9 @@ pub fn an_adapter_stays_ended<'a, I: Iterator<Item = Result<(Event<'a>, Range<us
     ids: &HeadingIds<'a, I>,
 )
     ensures stays_ended { StaysEnded (ids_steps I.next_gives ids_state) ids.now }
-    ensures merges { MayGoOn I.can_next I.remaining (ids_state ids.now)
+    ensures merges { MayCallSource I.can_next I.remaining (ids_state ids.now)
         → CanMerge (ids_steps I.next_gives ids_state)
-        (λ h. MayGoOn I.can_next I.remaining (ids_state h))
+        (λ h. MayCallSource I.can_next I.remaining (ids_state h))
         (λ h. at_most (count_to_come I.remaining (ids_state h))) ids.now }
 {}
 
