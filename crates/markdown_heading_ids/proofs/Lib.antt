@@ -1,9 +1,14 @@
--- Lemmas on the anchor of a heading, on which id is given, and on what a `Taken` stands for.
+-- the anchor of a heading, which id is given, and what a `Taken` stands for
 pub mod AnchorLemmas
 pub mod FreeIdLemmas
 pub mod TakenLemmas
--- Lemmas on ids with a prefix.
-pub mod PrefixedLemmas
 pub mod TakenReadLemmas
--- Lemmas on the ids of blocks.
 pub mod TakenBlocksLemmas
+-- what the adapter reads, and what it returned in a run
+pub mod HeadingReadLemmas
+pub mod HeadingIdsRunLemmas
+-- events with their ids
+pub mod IdsOfEventsLemmas
+pub mod MergedIdsLemmas
+-- ids with a prefix
+pub mod PrefixedLemmas
