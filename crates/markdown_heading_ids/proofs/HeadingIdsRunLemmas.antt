@@ -10,13 +10,13 @@ use Rattle.markdown_base.specs.declared.fault.Fault.{Fault}
 use Rattle.markdown_base.specs.declared.fault.Fault.TheVariants.{Memory}
 use Rattle.markdown_heading_ids.specs.HeadingIds.{Id, given_id, with_given, with_ids, with_ids_from}
 use Rattle.markdown_heading_ids.specs.HeadingIdsLaws.{AreAllWithIds, AreFirstOf, AreFirstWithIds, AreWithIdsUntil}
-use Rattle.markdown_heading_ids.specs.HeadingIdsLaws.{IsNewIds, ReturnsWithIds, StopsAt}
+use Rattle.markdown_heading_ids.specs.HeadingIdsLaws.{IsNewIds, ReturnsWithIds}
 use Rattle.markdown_heading_ids.specs.HeadingIdsNext.{CallsSource, GivesIds, HasReturnedAll, IdsState, IsRefusedAnId, MayCallSource}
 use Rattle.markdown_heading_ids.specs.HeadingIdsNext.{PassesItem, SourceItem, count_to_come, ids_steps, items_to_come}
 use Rattle.markdown_heading_ids.specs.HeadingIdsNext.{item_seen, unless_over}
 use Rattle.markdown_heading_ids.specs.HeadingItems.{RangedItem, items_with_ids, until_error}
 use Rattle.markdown_heading_ids.specs.TakenIds.{StandsFor}
-use Rattle.markdown_out.specs.MergeNext.{CanMerge, Gave}
+use Rattle.markdown_out.specs.MergeNext.{CanMerge}
 use Rattle.markdown_out.specs.OutLaws.{StaysEnded}
 use Rattle.markdown_outline.specs.Outline.{Ranged, ends_heading, opened_heading}
 use Rattle.markdown_outline.specs.OutlineRead.{event_items, ranged_view}

@@ -1,5 +1,5 @@
 -- What the adapter has read of a heading, and what a call returns by it.
-use Rattle.std.proofs.Common.{◌≡◌, ◌⊎◌, ℕ, Bool, true, false, not, List, [], ◌∷◌, ◌++◌, map, Ok, Err, Result, Option, Some}
+use Rattle.std.proofs.Common.{◌≡◌, ℕ, Bool, true, false, not, List, [], ◌∷◌, ◌++◌, map, Ok, Err, Option, Some}
 use Rattle.std.proofs.Common.{None, refl, sym, ap, ◌∙◌, append_assoc, append-nil}
 use Rattle.std.specs.Prelude.{is_some}
 use Rattle.std.specs.Iterator.{Count, Yields, size}
@@ -13,10 +13,10 @@ use Rattle.markdown_base.specs.declared.fault.Fault.{Fault}
 use Rattle.markdown_base.specs.declared.fault.Fault.TheVariants.{Memory}
 use Rattle.markdown_heading_ids.specs.Anchors.{heading_anchor}
 use Rattle.markdown_heading_ids.specs.HeadingIds.{Id, free_id, given_id, id_unless, with_given}
-use Rattle.markdown_heading_ids.specs.HeadingIdsNext.{CallsSource, GivesOne, HasReturnedAll, IdsState, IsRefusedAnId, PassesItem}
+use Rattle.markdown_heading_ids.specs.HeadingIdsNext.{CallsSource, HasReturnedAll, IdsState, IsRefusedAnId, PassesItem}
 use Rattle.markdown_heading_ids.specs.HeadingIdsNext.{SourceItem, count_to_come, items_to_come, item_seen, unless_over}
 use Rattle.markdown_heading_ids.specs.HeadingItems.{RangedItem, items_with_ids, until_error}
-use Rattle.markdown_heading_ids.specs.HeadingRead.{HeadingIsRead, TakesEvent, GivesIdsTo, ends_with, has_no_id}
+use Rattle.markdown_heading_ids.specs.HeadingRead.{HeadingIsRead, TakesEvent, ends_with, has_no_id}
 use Rattle.markdown_heading_ids.specs.HeadingRead.{heading_words, lacks_id, words_added}
 use Rattle.markdown_heading_ids.specs.TakenIds.{StandsFor}
 use Rattle.markdown_heading_ids.specs.declared.taken.Taken.{Taken}

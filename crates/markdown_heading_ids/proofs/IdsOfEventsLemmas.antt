@@ -1,19 +1,18 @@
 -- Laws of events with the ids of their headings.
 use Rattle.std.proofs.Common.{◌≡◌, ◌⊎◌, ◌+◌, ◌<◌, ◌≤◌, ◌^◌, ℕ, length, Bool, true, false, not, if◌then◌else◌, List, [], ◌∷◌, ◌++◌, map, Option, Some}
 use Rattle.std.proofs.Common.{None, refl, sym, ap, subst, ◌∙◌, inl, inr, arith}
-use Rattle.std.specs.Prelude.{is_some, IsSome}
+use Rattle.std.specs.Prelude.{is_some}
 use Rattle.std.specs.List.{AllZip}
-use Rattle.std.specs.declared.ops.Range.{Range}
-use Rattle.markdown_base.specs.Event.{EventView, HeadingView, TagView, end, heading, start}
+use Rattle.markdown_base.specs.Event.{EventView, HeadingView, TagView, heading, start}
 use Rattle.markdown_heading_ids.specs.Anchors.{heading_anchor}
 use Rattle.markdown_heading_ids.specs.HeadingIds.{Id, event_with_id, free_id, given_id, id_unless, is_taken, with_given}
 use Rattle.markdown_heading_ids.specs.HeadingIds.{with_ids, with_ids_from}
 use Rattle.markdown_heading_ids.specs.IdsOfEvents.{ASecondTimeChangesNothing, AreFresh, EachHeadingHasAnId, GainsId}
-use Rattle.markdown_heading_ids.specs.IdsOfEvents.{GivenIdsAreFresh, HasId, HaveIdsFrom, OnlyIdsAreAdded, OutlineHasIds}
+use Rattle.markdown_heading_ids.specs.IdsOfEvents.{GivenIdsAreFresh, HasId, HaveIdsFrom, OnlyIdsAreAdded}
 use Rattle.markdown_heading_ids.specs.IdsOfEvents.{OutlinesHaveIds, heading_ids, ids_given_from, start_ids_from}
 use Rattle.markdown_heading_ids.specs.IdsOfEvents.{without_id}
 use Rattle.markdown_outline.specs.Outline.{EntryView, Ranged, ends_heading, entries_from, heading_entry, joined_text}
-use Rattle.markdown_outline.specs.Outline.{opened_entry, opened_heading, tag_heading, text_added, up_to_end}
+use Rattle.markdown_outline.specs.Outline.{opened_entry, opened_heading, text_added, up_to_end}
 
 -- ---- an event with the id that it is given
 

@@ -1,6 +1,5 @@
 -- What the adapter has read of a heading. Only private clauses cite this.
 use Rattle.std.specs.Prelude.{◌≡◌, ℕ, Bool, true, false, not, List, [], ◌∷◌, ◌++◌, Ok, Err, map, Option, Some, None, is_some}
-use Rattle.std.specs.declared.ops.Range.{Range}
 use Rattle.markdown_base.specs.Event.{EventView, HeadingView}
 use Rattle.markdown_heading_ids.specs.HeadingIds.{Id, with_given}
 use Rattle.markdown_heading_ids.specs.HeadingIdsNext.{CallsSource, IdsState, SourceItem, items_to_come, item_seen}

@@ -1,5 +1,5 @@
 -- Laws of events with the ids of their headings.
-use Rattle.std.specs.Prelude.{◌≡◌, ◌⊎◌, ◌+◌, ◌<◌, ◌^◌, ℕ, Bool, true, false, not, List, [], ◌∷◌, ◌++◌, map, Option, Some, None, IsSome}
+use Rattle.std.specs.Prelude.{◌≡◌, ◌⊎◌, ◌+◌, ◌<◌, ◌^◌, Bool, true, false, not, List, [], ◌∷◌, ◌++◌, map, Option, Some, None, IsSome}
 use Rattle.std.specs.Prelude.{is_some, length}
 use Rattle.std.specs.List.{AllZip}
 use Rattle.markdown_base.specs.Event.{HeadingView, heading, start}
