@@ -1,0 +1,6 @@
+-- what a page is written as
+pub mod PageStyle
+pub mod PageHtml
+-- where its title comes from
+pub mod MetadataTitle
+pub mod FileTitle

@@ -1,0 +1,94 @@
+//! Values in quotes.
+ghost use Rattle.std.specs.Prelude.{◌≡◌, IfErr, IfOk, chars, encode_utf8_all, option_map, string_bytes};
+ghost use Rattle.markdown_page.specs.MetadataTitle.{double_quoted, doubles_apostrophes, may_follow_quotes};
+ghost use Rattle.markdown_page.specs.MetadataTitle.{single_quoted, value_in_quotes};
+
+use crate::line::{is_comment_or_nothing, is_gap_or_nothing, past_gap, starts_with_char};
+use markdown_base::fault::Fault;
+use markdown_base::tag::MetadataBlockKind;
+use std::alloc::Global;
+
+/// Returns whether a text may follow a value in quotes.
+fn may_follow_quotes(kind: MetadataBlockKind, text: &str) -> bool
+    ensures { result ≡ may_follow_quotes kind (chars text.now) }
+{
+    let follows = is_comment_or_nothing(past_gap(text));
+    match kind {
+        MetadataBlockKind::YamlStyle => is_gap_or_nothing(text) && follows,
+        MetadataBlockKind::PlusesStyle => follows,
+    }
+}
+
+/// Returns the value that ends with the next `"`, if no backslash stands in it but before `"` and `\`, and if what follows it
+/// may.
+pub(crate) fn double_quoted_value(
+    alloc: Global,
+    kind: MetadataBlockKind,
+    text: &str,
+) -> Result<Option<String>, Fault>
+    ensures read { IfOk result (λ value. option_map string_bytes value
+        ≡ option_map encode_utf8_all (value_in_quotes kind (double_quoted (chars text.now)))) }
+    ensures refused { IfErr result (λ fault. fault ≡ Fault.Memory) }
+{
+    let mut value = String::new(alloc);
+    let mut rest = text.chars();
+    while let Some(c) = rest.next() {
+        if c == '"' {
+            if may_follow_quotes(kind, rest.as_str()) {
+                return Ok(Some(value));
+            }
+            return Ok(None);
+        }
+        if c != '\\' {
+            value.push(c)?;
+            continue;
+        }
+        match rest.next() {
+            Some(escaped) if escaped == '"' || escaped == '\\' => value.push(escaped)?,
+            _ => return Ok(None),
+        }
+    }
+    Ok(None)
+}
+
+/// Returns whether `'` is doubled in values in `'`.
+fn doubles_apostrophes(kind: MetadataBlockKind) -> bool
+    ensures { result ≡ doubles_apostrophes kind }
+{
+    match kind {
+        MetadataBlockKind::YamlStyle => true,
+        MetadataBlockKind::PlusesStyle => false,
+    }
+}
+
+/// Returns the value that ends with the next `'`, if what follows it may. In YAML `''` in it stands for one.
+pub(crate) fn single_quoted_value(
+    alloc: Global,
+    kind: MetadataBlockKind,
+    text: &str,
+) -> Result<Option<String>, Fault>
+    ensures read { IfOk result (λ value. option_map string_bytes value
+        ≡ option_map encode_utf8_all
+        (value_in_quotes kind (single_quoted (doubles_apostrophes kind) (chars text.now)))) }
+    ensures refused { IfErr result (λ fault. fault ≡ Fault.Memory) }
+{
+    let mut value = String::new(alloc);
+    let mut rest = text.chars();
+    while let Some(c) = rest.next() {
+        if c != '\'' {
+            value.push(c)?;
+            continue;
+        }
+        let after = rest.as_str();
+        if doubles_apostrophes(kind) && starts_with_char(after, '\'') {
+            let _ = rest.next();
+            value.push('\'')?;
+            continue;
+        }
+        if may_follow_quotes(kind, after) {
+            return Ok(Some(value));
+        }
+        return Ok(None);
+    }
+    Ok(None)
+}
