@@ -47,6 +47,10 @@ up_to_gap text = reverse (past_gap (reverse text))
 abbrev pub onto_value : ℕ → Option (List ℕ × List ℕ) → Option (List ℕ × List ℕ)
 onto_value c quoted = option_map (λ q. (c ∷ q.0, q.1)) quoted
 
+-- whether a backslash and this character stand for the character
+abbrev pub can_be_escaped : ℕ → Bool
+can_be_escaped c = (c == double_quote) || (c == backslash)
+
 -- what stands before the next `"`, and after it. In it `\"` and `\\` stand for their second character; no other backslash
 -- is read
 abbrev pub double_quoted : List ℕ → Option (List ℕ × List ℕ)
@@ -55,7 +59,7 @@ double_quoted (c ∷ []) = if c == double_quote then Some ([], []) else None
 double_quoted (c ∷ d ∷ cs) =
     if c == double_quote then Some ([], d ∷ cs)
     else if c == backslash then
-        (if (d == double_quote) || (d == backslash) then onto_value d (double_quoted cs) else None)
+        (if can_be_escaped d then onto_value d (double_quoted cs) else None)
     else onto_value c (double_quoted (d ∷ cs))
 
 -- what stands before the next `'`, and after it. Where `'` is doubled in a value, `''` in it stands for one
@@ -96,26 +100,38 @@ value_in_quotes metadata (Some quoted) = if may_follow_quotes metadata quoted.1 
 abbrev pub is_yaml_indicator : ℕ → Bool
 is_yaml_indicator c = list_any (λ d. d == c) (codes "|>[]{},&*!%@`#")
 
--- whether a value of YAML that stands in no quotes may begin so: not with what has a meaning there, as a lone `-` or `?` has
+-- what has a meaning at the beginning of a value of YAML only where it stands alone
+abbrev pub marks_alone : ℕ → Bool
+marks_alone c = (c == hyphen) || (c == question_mark)
+
+-- whether a value of YAML that stands in no quotes may begin so: not with what has a meaning there
 abbrev pub begins_plain_value : List ℕ → Bool
 begins_plain_value [] = false
 begins_plain_value (c ∷ cs) =
-    if (c == hyphen) || (c == question_mark) then not (is_gap_or_nothing cs) else not (is_yaml_indicator c)
+    if marks_alone c then not (is_gap_or_nothing cs) else not (is_yaml_indicator c)
 
--- what stands before a comment: before white space and `#`
+-- whether a comment begins with this character and those after it: white space and `#`
+abbrev pub begins_comment : ℕ → List ℕ → Bool
+begins_comment c cs = is_gap c && starts_with_char number_sign cs
+
+-- what stands before a comment
 abbrev pub before_comment : List ℕ → List ℕ
 before_comment [] = []
-before_comment (c ∷ cs) = if is_gap c && starts_with_char number_sign cs then [] else c ∷ before_comment cs
+before_comment (c ∷ cs) = if begins_comment c cs then [] else c ∷ before_comment cs
 
 -- nothing, or a space first
 abbrev pub is_space_or_nothing : List ℕ → Bool
 is_space_or_nothing [] = true
 is_space_or_nothing (c ∷ cs) = c == space
 
--- whether a value of YAML has a key in it: a colon before a space, or at the end
+-- whether a key of YAML ends with this character: a colon before a space, or at the end
+abbrev pub ends_key : ℕ → List ℕ → Bool
+ends_key c cs = (c == colon) && is_space_or_nothing cs
+
+-- whether a value of YAML has a key in it
 abbrev pub has_key : List ℕ → Bool
 has_key [] = false
-has_key (c ∷ cs) = ((c == colon) && is_space_or_nothing cs) || has_key cs
+has_key (c ∷ cs) = if ends_key c cs then true else has_key cs
 
 -- the ways in which YAML writes that there is no value, of its bytes
 abbrev pub is_null_word : List ℕ → Bool
@@ -123,14 +139,18 @@ is_null_word value =
     bytes_eq value (codes "~") || bytes_eq value (codes "null") || bytes_eq value (codes "Null")
     || bytes_eq value (codes "NULL")
 
--- a value, unless it has a key in it, or is none
-abbrev pub value_unless_key : List ℕ → Option (List ℕ)
-value_unless_key value = if has_key value || is_null_word (encode_utf8_all value) then None else Some value
+-- whether these characters are no value: they have a key in them, or write that there is none
+abbrev pub is_no_value : List ℕ → Bool
+is_no_value value = has_key value || is_null_word (encode_utf8_all value)
+
+-- a value, unless it is none
+abbrev pub value_if_any : List ℕ → Option (List ℕ)
+value_if_any value = if is_no_value value then None else Some value
 
 -- the value of YAML that stands in no quotes: what stands before a comment, where it may begin so and end so
 abbrev pub plain_value : List ℕ → Option (List ℕ)
 plain_value text =
-    if begins_plain_value text then value_unless_key (up_to_gap (before_comment text)) else None
+    if begins_plain_value text then value_if_any (up_to_gap (before_comment text)) else None
 
 -- the value that stands in no quotes: in TOML there is none
 abbrev pub unquoted_value : MetadataBlockKind → List ℕ → Option (List ℕ)

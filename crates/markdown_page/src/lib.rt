@@ -1,6 +1,7 @@
 //! The page that HTML stands in, and where its title comes from.
 #![tactic(auto)]
 
+pub mod laws;
 mod line;
 pub mod page;
 mod quoted;

@@ -73,10 +73,11 @@ pub(crate) fn up_to_gap(text: &str) -> &str
     let mut left = text;
     let mut rest = text.chars();
     while let Some(c) = rest.next_back() {
+        let front = rest.as_str();
         if !is_gap(c) {
             return left;
         }
-        left = rest.as_str();
+        left = front;
     }
     left
 }

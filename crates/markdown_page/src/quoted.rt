@@ -1,7 +1,9 @@
 //! Values in quotes.
-ghost use Rattle.std.specs.Prelude.{◌≡◌, IfErr, IfOk, chars, encode_utf8_all, option_map, string_bytes};
-ghost use Rattle.markdown_page.specs.MetadataTitle.{double_quoted, doubles_apostrophes, may_follow_quotes};
-ghost use Rattle.markdown_page.specs.MetadataTitle.{single_quoted, value_in_quotes};
+ghost use Rattle.std.specs.Prelude.{◌≡◌, ◌&&◌, IfErr, IfOk, chars, encode_utf8_all, option_map, string_bytes};
+ghost use Rattle.markdown_base.specs.Bytes.{apostrophe};
+ghost use Rattle.markdown_page.specs.MetadataTitle.{can_be_escaped, double_quoted, doubles_apostrophes};
+ghost use Rattle.markdown_page.specs.MetadataTitle.{may_follow_quotes, single_quoted, starts_with_char};
+ghost use Rattle.markdown_page.specs.MetadataTitle.{value_in_quotes};
 
 use crate::line::{is_comment_or_nothing, is_gap_or_nothing, past_gap, starts_with_char};
 use markdown_base::fault::Fault;
@@ -17,6 +19,13 @@ fn may_follow_quotes(kind: MetadataBlockKind, text: &str) -> bool
         MetadataBlockKind::YamlStyle => is_gap_or_nothing(text) && follows,
         MetadataBlockKind::PlusesStyle => follows,
     }
+}
+
+/// Returns whether a backslash and a character stand for the character.
+fn can_be_escaped(c: char) -> bool
+    ensures { result ≡ can_be_escaped c }
+{
+    c == '"' || c == '\\'
 }
 
 /// Returns the value that ends with the next `"`, if no backslash stands in it but before `"` and `\`, and if what follows it
@@ -43,10 +52,13 @@ pub(crate) fn double_quoted_value(
             value.push(c)?;
             continue;
         }
-        match rest.next() {
-            Some(escaped) if escaped == '"' || escaped == '\\' => value.push(escaped)?,
-            _ => return Ok(None),
+        let Some(escaped) = rest.next() else {
+            return Ok(None);
+        };
+        if !can_be_escaped(escaped) {
+            return Ok(None);
         }
+        value.push(escaped)?;
     }
     Ok(None)
 }
@@ -59,6 +71,13 @@ fn doubles_apostrophes(kind: MetadataBlockKind) -> bool
         MetadataBlockKind::YamlStyle => true,
         MetadataBlockKind::PlusesStyle => false,
     }
+}
+
+/// Returns whether `'` is doubled before a text: whether it begins with `'`, in YAML.
+fn is_doubled(kind: MetadataBlockKind, after: &str) -> bool
+    ensures { result ≡ doubles_apostrophes kind && starts_with_char apostrophe (chars after.now) }
+{
+    doubles_apostrophes(kind) && starts_with_char(after, '\'')
 }
 
 /// Returns the value that ends with the next `'`, if what follows it may. In YAML `''` in it stands for one.
@@ -80,15 +99,16 @@ pub(crate) fn single_quoted_value(
             continue;
         }
         let after = rest.as_str();
-        if doubles_apostrophes(kind) && starts_with_char(after, '\'') {
-            let _ = rest.next();
-            value.push('\'')?;
-            continue;
+        if !is_doubled(kind, after) {
+            if may_follow_quotes(kind, after) {
+                return Ok(Some(value));
+            }
+            return Ok(None);
         }
-        if may_follow_quotes(kind, after) {
-            return Ok(Some(value));
-        }
-        return Ok(None);
+        let Some(second) = rest.next() else {
+            return Ok(None);
+        };
+        value.push(second)?;
     }
     Ok(None)
 }

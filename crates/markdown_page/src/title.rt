@@ -1,5 +1,6 @@
 //! Titles: of metadata, of headings, and of files.
-ghost use Rattle.std.specs.Prelude.{◌≡◌, ◌==◌, IfErr, IfOk, chars, option_copied, option_map, string_bytes};
+ghost use Rattle.std.specs.Prelude.{◌≡◌, ◌==◌, if◌then◌else◌, IfErr, IfOk, chars, length, option_copied, option_map};
+ghost use Rattle.std.specs.Prelude.{string_bytes};
 ghost use Rattle.markdown_page.specs.MetadataTitle.{begins_table, first_title_text, metadata_lines, metadata_title};
 ghost use Rattle.markdown_page.specs.MetadataTitle.{shown_title, text_past_equals, text_past_gap, title_text};
 ghost use Rattle.markdown_page.specs.FileTitle.{file_title, without_ending};
@@ -38,8 +39,14 @@ fn title_text(kind: MetadataBlockKind, line: &str) -> Option<&str>
     ensures { option_map (λ rest. chars rest.now) result ≡ title_text kind (chars line.now) }
 {
     match kind {
-        MetadataBlockKind::YamlStyle => text_past_gap(text_after("title:", line)?),
-        MetadataBlockKind::PlusesStyle => text_past_equals(text_after("title", line)?),
+        MetadataBlockKind::YamlStyle => match text_after("title:", line) {
+            Some(text) => text_past_gap(text),
+            None => None,
+        },
+        MetadataBlockKind::PlusesStyle => match text_after("title", line) {
+            Some(text) => text_past_equals(text),
+            None => None,
+        },
     }
 }
 
@@ -109,13 +116,20 @@ fn after_last_slash(name: &str) -> &str
     }
 }
 
+/// Returns what stands before the ending of a name, or the name where that is nothing.
+fn stem_or_name<'a>(stem: &'a str, name: &'a str) -> &'a str
+    ensures { result.now ≡ (if length stem.now == 0 then name.now else stem.now) }
+{
+    if stem.is_empty() { name } else { stem }
+}
+
 /// Returns a name without its last `.` and what follows it, unless nothing stands before that.
 fn without_ending(name: &str) -> &str
     ensures { result.now ≡ without_ending name.now }
 {
     match name.rsplit_once('.') {
-        Some((stem, _)) if !stem.is_empty() => stem,
-        _ => name,
+        Some((stem, _)) => stem_or_name(stem, name),
+        None => name,
     }
 }
 
