@@ -30,9 +30,9 @@ inert_bytes : (c : ℕ) → is_inert_byte c ≡ true → (k : ℕ) → k < lengt
 inert_bytes c inert k within =
     by_test (nat_lt (get_or (encode_utf8 c) k 0) 128)
     (λ small.
-        let same : c ≡ get_or (encode_utf8 c) k 0 =
-            inside_one c [] (encode_utf8 c) k (sym (append-nil (encode_utf8 c))) within (grind (arith, nat_tests)) in
-        ap is_inert_byte (sym same) ∙ inert)
+    let same : c ≡ get_or (encode_utf8 c) k 0 =
+    inside_one c [] (encode_utf8 c) k (sym (append-nil (encode_utf8 c))) within (grind (arith, nat_tests)) in
+    ap is_inert_byte (sym same) ∙ inert)
     (λ large. inert_large (get_or (encode_utf8 c) k 0) (grind (arith, nat_tests)))
 
 -- what is written for a character stays inside

@@ -18,11 +18,11 @@ module _ (c : ℕ) (small : c < 128) (name : List ℕ) (n : ℕ) (in_name : n �
   other_after k from within =
       by_test (get_or name k 0 == c)
       (λ same.
-          let place : n + (k - n) ≡ k = omega (arith, from) in
-          let read : get_or (drop n name) (k - n) 0 ≡ c =
-              get_or-drop n name (k - n) 0 ∙ ap (λ i. get_or name i 0) place ∙ eqb-true _ _ same in
-          let more : k - n < length (drop n name) = rw (length-drop n name) (omega (arith, from, within)) in
-          absurd (NoCharPasses-char c (drop n name) (k - n) none small more read))
+      let place : n + (k - n) ≡ k = omega (arith, from) in
+      let read : get_or (drop n name) (k - n) 0 ≡ c =
+      get_or-drop n name (k - n) 0 ∙ ap (λ i. get_or name i 0) place ∙ eqb-true _ _ same in
+      let more : k - n < length (drop n name) = rw (length-drop n name) (omega (arith, from, within)) in
+      absurd (NoCharPasses-char c (drop n name) (k - n) none small more read))
       (λ other. rw other refl)
 
   -- so many bytes stand after the last one
@@ -47,10 +47,11 @@ split_last c small name front back split =
     let wide : split.1 ≡ split.0 + 1 = at.ends ∙ ap (λ k. split.0 + k) (len_utf8_ascii c small) in
     let fits : split.1 ≤ length name = omega (arith, split.7) in
     let byte : 0 < split.1 → get_or name (split.1 - 1) 0 ≡ c =
-        λ _. ap (λ k. get_or name k 0) (omega (arith, wide)) ∙ at.byte small in
-    (split.4 ∙ sym (after_last-is c small name split.1 fits split.2.0 byte),
-        split.3 ∙ ap (λ k. take k name) (omega (arith, wide))
-        ∙ sym (before_last-is c small name split.1 fits split.2.0 byte))
+    λ _. ap (λ k. get_or name k 0) (omega (arith, wide)) ∙ at.byte small in (
+      split.4 ∙ sym (after_last-is c small name split.1 fits split.2.0 byte),
+      split.3 ∙ ap (λ k. take k name) (omega (arith, wide))
+          ∙ sym (before_last-is c small name split.1 fits split.2.0 byte),
+    )
 
 -- where there is none, all stands after it
 pub after_none : (c : ℕ) → c < 128 → (name : List ℕ) → NoCharPasses (λ d. d == c) name

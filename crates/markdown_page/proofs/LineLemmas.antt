@@ -27,10 +27,10 @@ pub chars_before_char : (text front : List ℕ) (c : ℕ) → IsUtf8 text → Is
     → chars text ≡ chars front ++ c ∷ []
 chars_before_char text front c utf8 front_utf8 parts =
     let spelled : encode_utf8_all (chars front ++ c ∷ []) ≡ text =
-        encodes-append (chars front) (c ∷ [])
-        ∙ ap (λ l. l ++ (encode_utf8 c ++ [])) (encodes-chars front front_utf8)
-        ∙ ap (λ l. front ++ l) (append-nil (encode_utf8 c))
-        ∙ sym parts in
+    encodes-append (chars front) (c ∷ [])
+    ∙ ap (λ l. l ++ (encode_utf8 c ++ [])) (encodes-chars front front_utf8)
+    ∙ ap (λ l. front ++ l) (append-nil (encode_utf8 c))
+    ∙ sym parts in
     sym (chars_from_encodes (chars front ++ c ∷ []) text utf8 spelled)
 
 -- white space at the beginning is passed
@@ -106,10 +106,10 @@ text_after-stripped front text None front_utf8 utf8 none = cases (text_after (ch
     cases None is = sym is
     cases (Some rest) is =
         let parts : text ≡ front ++ encode_utf8_all rest =
-            sym (encodes-chars text utf8)
-            ∙ ap encode_utf8_all (text_after-front (chars front) (chars text) rest is)
-            ∙ encodes-append (chars front) rest
-            ∙ ap (λ l. l ++ encode_utf8_all rest) (encodes-chars front front_utf8) in
+        sym (encodes-chars text utf8)
+        ∙ ap encode_utf8_all (text_after-front (chars front) (chars text) rest is)
+        ∙ encodes-append (chars front) rest
+        ∙ ap (λ l. l ++ encode_utf8_all rest) (encodes-chars front front_utf8) in
         absurd (none (encode_utf8_all rest) parts)
 text_after-stripped front text (Some x) front_utf8 utf8 some =
     let parts : text ≡ front ++ x.now = some.1.1 ∙ ap (λ l. front ++ l) (sym some.2) in

@@ -84,7 +84,7 @@ lines-first text line rest more utf8 split = by_found split.1.0 split.1.1 split.
         → (metadata_lines (chars text) ≡ chars line ∷ lines_left more rest) × (more ≡ true → IsUtf8 rest)
     by_found None none is =
         let lines : metadata_lines (chars text) ≡ chars text ∷ [] =
-            slice_split_none is_line_break (chars text) (all_others text utf8 none) in
+        slice_split_none is_line_break (chars text) (all_others text utf8 none) in
         (rw (is.0, is.1) lines, λ yes. let clash : true ≡ false = sym yes ∙ is.1 in cc)
     by_found (Some q) found is =
         let c = found.1.0 in
@@ -93,11 +93,12 @@ lines-first text line rest more utf8 split = by_found split.1.0 split.1.1 split.
         let past : 0 < q.1 = omega (arith, at.ends, (len_utf8_bounds c).0) in
         let parts = is past in
         let lines : metadata_lines (chars text) ≡ chars (take q.0 text) ∷ metadata_lines (chars (drop q.1 text)) =
-            ap metadata_lines (chars_round text utf8 q.0 q.1 c breaks at)
-            ∙ slice_split_at is_line_break (chars (take q.0 text)) c (chars (drop q.1 text))
-            (all_others (take q.0 text) (front_utf8 text utf8 q.0 q.1 c breaks at) found.0) breaks in
-        (rw (parts.0, parts.1, parts.2) lines,
-            λ _. rw parts.2 (rest_utf8 text utf8 q.0 q.1 c breaks at))
+        ap metadata_lines (chars_round text utf8 q.0 q.1 c breaks at)
+        ∙ slice_split_at is_line_break (chars (take q.0 text)) c (chars (drop q.1 text))
+        (all_others (take q.0 text) (front_utf8 text utf8 q.0 q.1 c breaks at) found.0) breaks in (
+          rw (parts.0, parts.1, parts.2) lines,
+          λ _. rw parts.2 (rest_utf8 text utf8 q.0 q.1 c breaks at),
+        )
 
 -- the lines that are left give the same with the first one taken off
 pub titles-first : (metadata : MetadataBlockKind) (text line rest : List ℕ) (had more : Bool) (whole : Option (List ℕ))

@@ -92,7 +92,7 @@ module _ (metadata : MetadataBlockKind) (before : List ℕ) (left whole : Option
       → Some before ≡ option_map encode_utf8_all (value_in_quotes metadata whole)
   value-ends rest ends read follows =
       let found : with_bytes [] whole ≡ Some (before, rest) =
-          sym read ∙ ap (with_bytes before) ends ∙ ap (λ l. Some (l, rest)) (append-nil before) in
+      sym read ∙ ap (with_bytes before) ends ∙ ap (λ l. Some (l, rest)) (append-nil before) in
       sym (sym (value_in_quotes-bytes metadata whole) ∙ ap (value_in_quotes metadata) found ∙ rw follows refl)
 
   -- and else there is none
@@ -101,5 +101,5 @@ module _ (metadata : MetadataBlockKind) (before : List ℕ) (left whole : Option
       → None ≡ option_map encode_utf8_all (value_in_quotes metadata whole)
   value-refused rest ends read follows =
       let found : with_bytes [] whole ≡ Some (before, rest) =
-          sym read ∙ ap (with_bytes before) ends ∙ ap (λ l. Some (l, rest)) (append-nil before) in
+      sym read ∙ ap (with_bytes before) ends ∙ ap (λ l. Some (l, rest)) (append-nil before) in
       sym (sym (value_in_quotes-bytes metadata whole) ∙ ap (value_in_quotes metadata) found ∙ rw follows refl)

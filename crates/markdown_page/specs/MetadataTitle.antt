@@ -59,7 +59,7 @@ double_quoted (c ∷ []) = if c == double_quote then Some ([], []) else None
 double_quoted (c ∷ d ∷ cs) =
     if c == double_quote then Some ([], d ∷ cs)
     else if c == backslash then
-        (if can_be_escaped d then onto_value d (double_quoted cs) else None)
+    (if can_be_escaped d then onto_value d (double_quoted cs) else None)
     else onto_value c (double_quoted (d ∷ cs))
 
 -- what stands before the next `'`, and after it. Where `'` is doubled in a value, `''` in it stands for one
@@ -68,7 +68,7 @@ single_quoted doubled [] = None
 single_quoted doubled (c ∷ []) = if c == apostrophe then Some ([], []) else None
 single_quoted doubled (c ∷ d ∷ cs) =
     if c == apostrophe then
-        (if doubled && (d == apostrophe) then onto_value d (single_quoted doubled cs) else Some ([], d ∷ cs))
+    (if doubled && (d == apostrophe) then onto_value d (single_quoted doubled cs) else Some ([], d ∷ cs))
     else onto_value c (single_quoted doubled (d ∷ cs))
 
 -- whether `'` is doubled in values in `'`: in YAML

@@ -5,19 +5,24 @@ use markdown_test_helpers::rows::gives;
 use std::test::Fail;
 
 /// A page with the default style: what stands before the style, and after it.
-const BEFORE_STYLE: &str = "<!DOCTYPE html>\n<html lang=\"en\">\n<head>\n<meta charset=\"utf-8\">\n<meta name=\"viewport\" \
+const BEFORE_STYLE: &str =
+    "<!DOCTYPE html>\n<html lang=\"en\">\n<head>\n<meta charset=\"utf-8\">\n<meta name=\"viewport\" \
     content=\"width=device-width, initial-scale=1\">\n<title>A &amp; B</title>\n<style>\n";
-const AFTER_STYLE: &str = "\n</style>\n</head>\n<body>\n<nav>\n<ul>\n<li><a href=\"#c\">C</a></li>\n</ul>\n</nav>\n<main>\n<h1 \
+
+const AFTER_STYLE: &str =
+    "\n</style>\n</head>\n<body>\n<nav>\n<ul>\n<li><a href=\"#c\">C</a></li>\n</ul>\n</nav>\n<main>\n<h1 \
     id=\"c\">C</h1>\n</main>\n</body>\n</html>\n";
 
 /// A page with a style sheet.
-const LINKED: &str = "<!DOCTYPE html>\n<html>\n<head>\n<meta charset=\"utf-8\">\n<meta name=\"viewport\" \
+const LINKED: &str =
+    "<!DOCTYPE html>\n<html>\n<head>\n<meta charset=\"utf-8\">\n<meta name=\"viewport\" \
     content=\"width=device-width, initial-scale=1\">\n<title>&lt;T&gt;</title>\n<link rel=\"stylesheet\" \
     href=\"x&quot;y\">\n</head>\n<body>\n<nav>\n<ul>\n<li><a href=\"#user-content-c\">C</a></li>\n</ul>\n</nav>\n<main>\n<h1 \
     id=\"user-content-c\">C</h1>\n<p><a href=\"#user-content-c\">d</a> &lt;b&gt;</p>\n</main>\n</body>\n</html>\n";
 
 /// A page without style and contents.
-const BARE: &str = "<!DOCTYPE html>\n<html>\n<head>\n<meta charset=\"utf-8\">\n<meta name=\"viewport\" \
+const BARE: &str =
+    "<!DOCTYPE html>\n<html>\n<head>\n<meta charset=\"utf-8\">\n<meta name=\"viewport\" \
     content=\"width=device-width, initial-scale=1\">\n<title>d</title>\n</head>\n<body>\n<main>\n<p>a</p>\n</main>\n</body>\n\
     </html>\n";
 

@@ -8,7 +8,10 @@ use std::test::Fail;
 /// Metadata in YAML, and the title of each.
 static YAML: [(&str, Option<&str>); 44] = [
     ("title: A *b* # c\n", Some("A *b*")),
-    ("title: \"A \\\"b\\\" \\\\\"  # c\nlang: x\n", Some("A \"b\" \\")),
+    (
+        "title: \"A \\\"b\\\" \\\\\"  # c\nlang: x\n",
+        Some("A \"b\" \\"),
+    ),
     ("x: 1\ntitle: 'A ''b'': c'\n", Some("A 'b': c")),
     ("title: A & B\n", Some("A & B")),
     ("title: A", Some("A")),

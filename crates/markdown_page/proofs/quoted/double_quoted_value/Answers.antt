@@ -15,7 +15,7 @@ returns-then-may_follow_quotes-clause-read c =
     let held = c.loop-c.invariant in
     let quote : (c.in-Some.c == double_quote) ≡ true = search (rules, c.if-c-eq34.true) in
     let follows : may_follow_quotes c.args.kind (chars (chars_rest c.next.new.self)) ≡ true =
-        search (rules, c.may_follow_quotes.ensures, c.as_str.ensures, c.if-may_follow_quotes.true) in
+    search (rules, c.may_follow_quotes.ensures, c.as_str.ensures, c.if-may_follow_quotes.true) in
     let rest = chars_past_char _ _ _ held.utf8 c.in-Some.ensures.steps.0 in
     let ends = ap double_quoted rest ∙ double_quoted-end _ _ quote in
     value-ends c.args.kind (string_bytes c.loop-c.value) _ _ _ ends held.read follows
@@ -25,7 +25,7 @@ returns-then-c-eq34-clause-read c =
     let held = c.loop-c.invariant in
     let quote : (c.in-Some.c == double_quote) ≡ true = search (rules, c.if-c-eq34.true) in
     let follows : may_follow_quotes c.args.kind (chars (chars_rest c.next.new.self)) ≡ false =
-        search (rules, c.may_follow_quotes.ensures, c.as_str.ensures, c.if-may_follow_quotes.false) in
+    search (rules, c.may_follow_quotes.ensures, c.as_str.ensures, c.if-may_follow_quotes.false) in
     let rest = chars_past_char _ _ _ held.utf8 c.in-Some.ensures.steps.0 in
     let ends = ap double_quoted rest ∙ double_quoted-end _ _ quote in
     value-refused c.args.kind (string_bytes c.loop-c.value) _ _ _ ends held.read follows
@@ -60,13 +60,13 @@ returns-then-not-can_be_escaped-clause-read c =
     let held = c.loop-c.invariant in
     let slash : (c.in-Some.c == backslash) ≡ true = search (rules, c.if-c-ne92.false) in
     let other : can_be_escaped c.in-Some-next.escaped ≡ false =
-        search (rules, c.can_be_escaped.ensures, c.if-not-can_be_escaped.true) in
+    search (rules, c.can_be_escaped.ensures, c.if-not-can_be_escaped.true) in
     let utf8 = IsUtf8-past_char _ _ _ held.utf8 c.in-Some.ensures.steps.0 in
     let rest = chars_past_char _ _ _ held.utf8 c.in-Some.ensures.steps.0 in
     let more = chars_past_char _ _ _ utf8 c.in-Some-next.ensures.steps.0 in
     let nothing =
-        ap double_quoted rest ∙ ap (λ l. double_quoted (c.in-Some.c ∷ l)) more
-        ∙ double_quoted-refused c.in-Some.c c.in-Some-next.escaped _ slash other in
+    ap double_quoted rest ∙ ap (λ l. double_quoted (c.in-Some.c ∷ l)) more
+    ∙ double_quoted-refused c.in-Some.c c.in-Some-next.escaped _ slash other in
     value-lacks c.args.kind (string_bytes c.loop-c.value) _ _ nothing held.read
 
 pub loop-c-preserved : goal.loop-c-preserved
@@ -74,13 +74,13 @@ loop-c-preserved c =
     let held = c.loop-c.invariant in
     let slash : (c.in-Some.c == backslash) ≡ true = search (rules, c.if-c-ne92.false) in
     let escapes : can_be_escaped c.in-Some-next.escaped ≡ true =
-        search (rules, c.can_be_escaped.ensures, c.if-not-can_be_escaped.false) in
+    search (rules, c.can_be_escaped.ensures, c.if-not-can_be_escaped.false) in
     let utf8 = IsUtf8-past_char _ _ _ held.utf8 c.in-Some.ensures.steps.0 in
     let rest = chars_past_char _ _ _ held.utf8 c.in-Some.ensures.steps.0 in
     let more = chars_past_char _ _ _ utf8 c.in-Some-next.ensures.steps.0 in
     let one =
-        ap double_quoted rest ∙ ap (λ l. double_quoted (c.in-Some.c ∷ l)) more
-        ∙ double_quoted-escape c.in-Some.c c.in-Some-next.escaped _ slash escapes in
+    ap double_quoted rest ∙ ap (λ l. double_quoted (c.in-Some.c ∷ l)) more
+    ∙ double_quoted-escape c.in-Some.c c.in-Some-next.escaped _ slash escapes in
     record {
       utf8 = IsUtf8-past_char _ _ _ utf8 c.in-Some-next.ensures.steps.0;
       read =

@@ -32,9 +32,9 @@ returns-then-may_follow_quotes-clause-read c =
     let doubled = doubles_apostrophes c.args.kind in
     let quote : (c.in-Some.c == apostrophe) ≡ true = search (rules, c.if-c-ne39.false) in
     let single : doubled && starts_with_char apostrophe (chars (chars_rest c.next.new.self)) ≡ false =
-        search (rules, c.is_doubled.ensures, c.as_str-after.ensures, c.if-not-is_doubled.true) in
+    search (rules, c.is_doubled.ensures, c.as_str-after.ensures, c.if-not-is_doubled.true) in
     let follows : may_follow_quotes c.args.kind (chars (chars_rest c.next.new.self)) ≡ true =
-        search (rules, c.may_follow_quotes.ensures, c.as_str-after.ensures, c.if-may_follow_quotes.true) in
+    search (rules, c.may_follow_quotes.ensures, c.as_str-after.ensures, c.if-may_follow_quotes.true) in
     let rest = chars_past_char _ _ _ held.utf8 c.in-Some.ensures.steps.0 in
     let ends = ap (single_quoted doubled) rest ∙ single_quoted-end doubled _ _ quote single in
     value-ends c.args.kind (string_bytes c.loop-c.value) _ _ _ ends held.read follows
@@ -45,9 +45,9 @@ returns-then-not-is_doubled-clause-read c =
     let doubled = doubles_apostrophes c.args.kind in
     let quote : (c.in-Some.c == apostrophe) ≡ true = search (rules, c.if-c-ne39.false) in
     let single : doubled && starts_with_char apostrophe (chars (chars_rest c.next.new.self)) ≡ false =
-        search (rules, c.is_doubled.ensures, c.as_str-after.ensures, c.if-not-is_doubled.true) in
+    search (rules, c.is_doubled.ensures, c.as_str-after.ensures, c.if-not-is_doubled.true) in
     let follows : may_follow_quotes c.args.kind (chars (chars_rest c.next.new.self)) ≡ false =
-        search (rules, c.may_follow_quotes.ensures, c.as_str-after.ensures, c.if-may_follow_quotes.false) in
+    search (rules, c.may_follow_quotes.ensures, c.as_str-after.ensures, c.if-may_follow_quotes.false) in
     let rest = chars_past_char _ _ _ held.utf8 c.in-Some.ensures.steps.0 in
     let ends = ap (single_quoted doubled) rest ∙ single_quoted-end doubled _ _ quote single in
     value-refused c.args.kind (string_bytes c.loop-c.value) _ _ _ ends held.read follows
@@ -56,7 +56,7 @@ pub returns-in_default-next-clause-read : goal.returns-in_default-next-clause-re
 returns-in_default-next-clause-read c =
     let doubled = doubles_apostrophes c.args.kind in
     let two : doubled && starts_with_char apostrophe (chars (chars_rest c.next.new.self)) ≡ true =
-        search (rules, c.is_doubled.ensures, c.as_str-after.ensures, c.if-not-is_doubled.false) in
+    search (rules, c.is_doubled.ensures, c.as_str-after.ensures, c.if-not-is_doubled.false) in
     absurd (doubled-none doubled _ two (chars_of_nothing _ c.in_default-next.ensures.steps.0.0))
 
 pub loop-c-preserved : goal.loop-c-preserved
@@ -68,12 +68,12 @@ loop-c-preserved c =
     let rest = chars_past_char _ _ _ held.utf8 c.in-Some.ensures.steps.0 in
     let more = chars_past_char _ _ _ utf8 c.in-Some-next.ensures.steps.0 in
     let begins : doubled && starts_with_char apostrophe (chars (chars_rest c.next.new.self)) ≡ true =
-        search (rules, c.is_doubled.ensures, c.as_str-after.ensures, c.if-not-is_doubled.false) in
+    search (rules, c.is_doubled.ensures, c.as_str-after.ensures, c.if-not-is_doubled.false) in
     let two : doubled && (c.in-Some-next.second == apostrophe) ≡ true =
-        ap (λ l. doubled && starts_with_char apostrophe l) (sym more) ∙ begins in
+    ap (λ l. doubled && starts_with_char apostrophe l) (sym more) ∙ begins in
     let one =
-        ap (single_quoted doubled) rest ∙ ap (λ l. single_quoted doubled (c.in-Some.c ∷ l)) more
-        ∙ single_quoted-two doubled c.in-Some.c c.in-Some-next.second (chars (chars_rest c.next-in-Some.new.self)) quote two in
+    ap (single_quoted doubled) rest ∙ ap (λ l. single_quoted doubled (c.in-Some.c ∷ l)) more
+    ∙ single_quoted-two doubled c.in-Some.c c.in-Some-next.second (chars (chars_rest c.next-in-Some.new.self)) quote two in
     record {
       utf8 = IsUtf8-past_char _ _ _ utf8 c.in-Some-next.ensures.steps.0;
       read =

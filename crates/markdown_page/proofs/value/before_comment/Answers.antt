@@ -11,7 +11,7 @@ pub returns-then-begins_comment-clause-read : goal.returns-then-begins_comment-c
 returns-then-begins_comment-clause-read c =
     let held = c.loop-c.invariant in
     let here : begins_comment c.in-Some.c (chars (chars_rest c.next.new.self)) ≡ true =
-        search (rules, c.begins_comment.ensures, c.as_str.ensures, c.if-begins_comment.true) in
+    search (rules, c.begins_comment.ensures, c.as_str.ensures, c.if-begins_comment.true) in
     let nothing = before_comment-here _ _ _ held.utf8 c.in-Some.ensures.steps.0 here in
     sym (append-nil (string_bytes c.loop-c.before))
     ∙ ap (λ l. string_bytes c.loop-c.before ++ encode_utf8_all l) (sym nothing)
@@ -21,7 +21,7 @@ pub loop-c-preserved : goal.loop-c-preserved
 loop-c-preserved c =
     let held = c.loop-c.invariant in
     let other : begins_comment c.in-Some.c (chars (chars_rest c.next.new.self)) ≡ false =
-        search (rules, c.begins_comment.ensures, c.as_str.ensures, c.if-begins_comment.false) in
+    search (rules, c.begins_comment.ensures, c.as_str.ensures, c.if-begins_comment.false) in
     let more = before_comment-on _ _ _ held.utf8 c.in-Some.ensures.steps.0 other in
     record {
       utf8 = IsUtf8-past_char _ _ _ held.utf8 c.in-Some.ensures.steps.0;

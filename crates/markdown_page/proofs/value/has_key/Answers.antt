@@ -11,14 +11,14 @@ pub returns-then-ends_key : goal.returns-then-ends_key
 returns-then-ends_key c =
     let held = c.loop-c.invariant in
     let here : ends_key c.in-Some.c (chars (chars_rest c.next.new.self)) ≡ true =
-        search (rules, c.ends_key.ensures, c.as_str.ensures, c.if-ends_key.true) in
+    search (rules, c.ends_key.ensures, c.as_str.ensures, c.if-ends_key.true) in
     sym (has_key-here _ _ _ held.utf8 c.in-Some.ensures.steps.0 here) ∙ held.same
 
 pub loop-c-preserved : goal.loop-c-preserved
 loop-c-preserved c =
     let held = c.loop-c.invariant in
     let other : ends_key c.in-Some.c (chars (chars_rest c.next.new.self)) ≡ false =
-        search (rules, c.ends_key.ensures, c.as_str.ensures, c.if-ends_key.false) in
+    search (rules, c.ends_key.ensures, c.as_str.ensures, c.if-ends_key.false) in
     record {
       utf8 = IsUtf8-past_char _ _ _ held.utf8 c.in-Some.ensures.steps.0;
       same = has_key-on _ _ _ held.utf8 c.in-Some.ensures.steps.0 other ∙ held.same;
