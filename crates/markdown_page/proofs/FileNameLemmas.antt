@@ -1,6 +1,6 @@
 -- What stands before and after the last byte of a kind in a name.
-use Rattle.std.proofs.Common.{◌≡◌, ◌∙◌, ℕ, ◌+◌, ◌-◌, ◌<◌, ◌≤◌, List, [], Bool, true, false, not, refl, sym, ap, arith}
-use Rattle.std.proofs.Common.{length, take, drop, get_or, ◌==◌, if◌then◌else◌, Option, Some, None, MatchOption}
+use Rattle.std.proofs.Common.{◌≡◌, ◌∙◌, ℕ, ◌+◌, ◌-◌, ◌<◌, ◌≤◌, List, [], true, not, refl, sym, ap, arith}
+use Rattle.std.proofs.Common.{length, take, drop, get_or, ◌==◌}
 use Rattle.std.specs.List.{after_last, before_last, suffix_len}
 use Rattle.std.specs.Str.{NoCharPasses}
 use Rattle.std.specs.Str.Pattern.{RFindsChar, SplitsAroundMatch}
@@ -56,7 +56,8 @@ split_last c small name front back split =
 -- where there is none, all stands after it
 pub after_none : (c : ℕ) → c < 128 → (name : List ℕ) → NoCharPasses (λ d. d == c) name
     → name ≡ after_last (λ b. b == c) name
-after_none c small name none = sym (after_last-is c small name 0 (omega arith) none (λ some. absurd (omega (arith, some))))
+after_none c small name none =
+    sym (after_last-is c small name 0 (omega arith) none (λ some. absurd (omega (arith, some))))
 
 -- and nothing before it
 pub before_none : (c : ℕ) → c < 128 → (name : List ℕ) → NoCharPasses (λ d. d == c) name

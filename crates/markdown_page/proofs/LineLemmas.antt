@@ -1,7 +1,8 @@
 -- What one character more or fewer makes of what is read of a line, and what its bytes are.
 use Rattle.std.proofs.Common.{◌≡◌, ◌∙◌, ℕ, List, [], ◌∷◌, ◌++◌, Bool, true, false, refl, sym, ap}
-use Rattle.std.proofs.Common.{length, take, drop, reverse, chars, encode_utf8, encode_utf8_all, IsUtf8, Option, Some, None}
-use Rattle.std.proofs.Common.{append-nil, append_assoc, option_map, string_bytes, MatchOption}
+use Rattle.std.proofs.Common.{length, reverse, chars, encode_utf8, encode_utf8_all, IsUtf8, Option}
+use Rattle.std.proofs.Common.{Some, None}
+use Rattle.std.proofs.Common.{append-nil, option_map, MatchOption}
 use Rattle.std.proofs.Common.{codes, zero, suc, ◌==◌, if◌then◌else◌, nat_lt, lit<, arith}
 use Rattle.std.proofs.lemmas.Bool.Decides.{nat_tests}
 use Rattle.std.specs.Str.{IsAscii}
@@ -9,7 +10,8 @@ use Rattle.std.proofs.lemmas.Bool.{eq-eqb, eqb-true}
 use Rattle.std.proofs.lemmas.Option.{none-some}
 use denote.Ref.{Bor}
 use Rattle.std.specs.Str.Pattern.{FindsTextPrefix, StripsPrefix}
-use Rattle.std.proofs.lemmas.Str.{chars_past_char, chars-nil, chars-append, chars_from_encodes, chars-IsAscii, encodes-append, encodes-chars}
+use Rattle.std.proofs.lemmas.Str.{chars_past_char, chars-nil, chars-append, chars_from_encodes, chars-IsAscii}
+use Rattle.std.proofs.lemmas.Str.{encodes-append, encodes-chars}
 use Rattle.std.proofs.lemmas.List.{nil_from_length, reverse-append, reverse-reverse}
 use Rattle.markdown_page.specs.MetadataTitle.{is_gap, past_gap, up_to_gap, text_after}
 
@@ -102,7 +104,8 @@ pub text_after-stripped : (front text : List ℕ) (result : Option (Bor (List �
     → option_map (λ rest. chars rest.now) result ≡ text_after (chars front) (chars text)
 text_after-stripped front text None front_utf8 utf8 none = cases (text_after (chars front) (chars text)) refl
   where
-    cases : (found : Option (List ℕ)) → text_after (chars front) (chars text) ≡ found → None ≡ text_after (chars front) (chars text)
+    cases : (found : Option (List ℕ)) → text_after (chars front) (chars text) ≡ found
+        → None ≡ text_after (chars front) (chars text)
     cases None is = sym is
     cases (Some rest) is =
         let parts : text ≡ front ++ encode_utf8_all rest =

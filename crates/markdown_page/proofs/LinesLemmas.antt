@@ -1,6 +1,8 @@
 -- What is taken off the lines of a text where it is cut at its first line break.
-use Rattle.std.proofs.Common.{◌≡◌, ◌∙◌, ℕ, zero, suc, ◌+◌, ◌-◌, ◌<◌, ◌≤◌, List, [], ◌∷◌, ◌++◌, Bool, true, false, refl, sym, ap, arith}
-use Rattle.std.proofs.Common.{length, take, drop, chars, encode_utf8, encode_utf8_all, IsUtf8, Option, Some, None, MatchOption}
+use Rattle.std.proofs.Common.{◌≡◌, ◌∙◌, ℕ, zero, suc, ◌<◌, List, [], ◌∷◌, ◌++◌, Bool, true, false}
+use Rattle.std.proofs.Common.{sym, ap, arith}
+use Rattle.std.proofs.Common.{length, take, drop, chars, encode_utf8, IsUtf8, Option, Some, None}
+use Rattle.std.proofs.Common.{MatchOption}
 use Rattle.std.specs.List.{All}
 use Rattle.std.specs.Str.{NonePass, NoCharPasses}
 use Rattle.std.specs.Str.Pattern.{FindsBy, HasCharAt, IsSplitAtFirstMatch}
@@ -38,7 +40,8 @@ break_ascii c breaks =
     by_test (c == line_feed) (λ same. rw (eqb-true _ _ same) (lit< tt))
     (λ other. let same : (c == carriage_return) ≡ true = rw other at breaks in rw (eqb-true _ _ same) (lit< tt))
 
-module _ (text : List ℕ) (utf8 : IsUtf8 text) (i j c : ℕ) (breaks : is_line_break c ≡ true) (at : HasCharAt c text i j) where
+module _ (text : List ℕ) (utf8 : IsUtf8 text) (i j c : ℕ) (breaks : is_line_break c ≡ true)
+    (at : HasCharAt c text i j) where
   -- the line break is one byte
   pub byte_there : get_or text i 0 ≡ c
   byte_there = at.byte (break_ascii c breaks)

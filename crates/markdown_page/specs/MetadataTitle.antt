@@ -1,5 +1,5 @@
--- The title in the metadata before a text, which are lines of YAML or of TOML: the value of `title` in the first line that
--- gives one. All is said of the characters of the metadata; white space in a line is spaces and tabs.
+-- The title in the metadata before a text, which are lines of YAML or of TOML: the value of `title` in the first line
+-- that gives one. All is said of the characters of the metadata; white space in a line is spaces and tabs.
 use Rattle.std.specs.Prelude.{ℕ, List, [], ◌∷◌, Bool, true, false, not, ◌&&◌, ◌||◌, ◌==◌, if◌then◌else◌, length}
 use Rattle.std.specs.Prelude.{Option, Some, None, option_map, option_and_then, reverse, codes, chars, encode_utf8_all}
 use Rattle.std.specs.Option.{option_or}
@@ -18,8 +18,8 @@ is_gap c = (c == space) || (c == tab)
 abbrev pub is_line_break : ℕ → Bool
 is_line_break c = (c == line_feed) || (c == carriage_return)
 
--- the lines of a text: what stands before, between and after its line feeds and carriage returns, so that an empty line stands
--- in the middle of CR LF
+-- the lines of a text: what stands before, between and after its line feeds and carriage returns, so that an empty line
+-- stands in the middle of CR LF
 abbrev pub metadata_lines : List ℕ → List (List ℕ)
 metadata_lines text = slice_split is_line_break text
 
@@ -51,8 +51,8 @@ onto_value c quoted = option_map (λ q. (c ∷ q.0, q.1)) quoted
 abbrev pub can_be_escaped : ℕ → Bool
 can_be_escaped c = (c == double_quote) || (c == backslash)
 
--- what stands before the next `"`, and after it. In it `\"` and `\\` stand for their second character; no other backslash
--- is read
+-- what stands before the next `"`, and after it. In it `\"` and `\\` stand for their second character; no other
+-- backslash is read
 abbrev pub double_quoted : List ℕ → Option (List ℕ × List ℕ)
 double_quoted [] = None
 double_quoted (c ∷ []) = if c == double_quote then Some ([], []) else None
@@ -153,9 +153,9 @@ plain_value text =
     if begins_plain_value text then value_if_any (up_to_gap (before_comment text)) else None
 
 -- the value that stands in no quotes: in TOML there is none
-abbrev pub unquoted_value : MetadataBlockKind → List ℕ → Option (List ℕ)
-unquoted_value kind.YamlStyle text = plain_value text
-unquoted_value kind.PlusesStyle text = None
+abbrev pub value_without_quotes : MetadataBlockKind → List ℕ → Option (List ℕ)
+value_without_quotes kind.YamlStyle text = plain_value text
+value_without_quotes kind.PlusesStyle text = None
 
 -- the value that a text gives: in quotes, or in none
 abbrev pub value_of_text : MetadataBlockKind → List ℕ → Option (List ℕ)
@@ -163,7 +163,7 @@ value_of_text metadata [] = None
 value_of_text metadata (c ∷ cs) =
     if c == double_quote then value_in_quotes metadata (double_quoted cs)
     else if c == apostrophe then value_in_quotes metadata (single_quoted (doubles_apostrophes metadata) cs)
-    else unquoted_value metadata (c ∷ cs)
+    else value_without_quotes metadata (c ∷ cs)
 
 -- what follows the colon of a key of YAML: nothing, or white space and a value
 abbrev pub text_past_gap : List ℕ → Option (List ℕ)

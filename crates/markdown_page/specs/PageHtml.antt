@@ -31,11 +31,15 @@ abbrev pub language_attribute : Option (Bor (List ℕ)) → List ℕ
 language_attribute None = []
 language_attribute (Some language) = codes " lang=\"" ++ html_escaped language.now ++ codes "\""
 
+-- what stands between the language of a page and its title
+abbrev pub after_language : List ℕ
+after_language =
+    codes ">\n<head>\n<meta charset=\"utf-8\">\n"
+    ++ codes "<meta name=\"viewport\" content=\"width=device-width, initial-scale=1\">\n"
+
 -- what stands before the title of a page
 abbrev pub before_title : Option (Bor (List ℕ)) → List ℕ
-before_title language =
-    codes "<!DOCTYPE html>\n<html" ++ language_attribute language
-    ++ codes ">\n<head>\n<meta charset=\"utf-8\">\n<meta name=\"viewport\" content=\"width=device-width, initial-scale=1\">\n"
+before_title language = codes "<!DOCTYPE html>\n<html" ++ language_attribute language ++ after_language
 
 -- the title of a page
 abbrev pub title_element : List ℕ → List ℕ

@@ -2,7 +2,7 @@
 ghost use Rattle.std.specs.Prelude.{◌≡◌, IfErr, IfOk, chars, encode_utf8_all, option_map, string_bytes};
 ghost use Rattle.markdown_page.specs.MetadataTitle.{before_comment, begins_comment, begins_plain_value, ends_key};
 ghost use Rattle.markdown_page.specs.MetadataTitle.{has_key, is_no_value, is_null_word, is_yaml_indicator, marks_alone};
-ghost use Rattle.markdown_page.specs.MetadataTitle.{plain_value, unquoted_value, value_of_text};
+ghost use Rattle.markdown_page.specs.MetadataTitle.{plain_value, value_without_quotes, value_of_text};
 
 use crate::line::{is_gap, is_gap_or_nothing, is_space_or_nothing, starts_with_char, up_to_gap};
 use crate::quoted::{double_quoted_value, single_quoted_value};
@@ -122,13 +122,13 @@ fn plain_value(alloc: Global, text: &str) -> Result<Option<String>, Fault>
 }
 
 /// Returns the value that stands in no quotes.
-fn unquoted_value(
+fn value_without_quotes(
     alloc: Global,
     kind: MetadataBlockKind,
     text: &str,
 ) -> Result<Option<String>, Fault>
     ensures read { IfOk result (λ value. option_map string_bytes value
-        ≡ option_map encode_utf8_all (unquoted_value kind (chars text.now))) }
+        ≡ option_map encode_utf8_all (value_without_quotes kind (chars text.now))) }
     ensures refused { IfErr result (λ fault. fault ≡ Fault.Memory) }
 {
     match kind {
@@ -151,6 +151,6 @@ pub(crate) fn value_of_text(
     match rest.next() {
         Some('"') => double_quoted_value(alloc, kind, rest.as_str()),
         Some('\'') => single_quoted_value(alloc, kind, rest.as_str()),
-        _ => unquoted_value(alloc, kind, text),
+        _ => value_without_quotes(alloc, kind, text),
     }
 }

@@ -1,5 +1,5 @@
 -- One character more is passed, or the search stops.
-use Rattle.std.proofs.Common.{◌≡◌, ◌∙◌, false, true, ap, sym, refl, IsUtf8, chars, rules}
+use Rattle.std.proofs.Common.{◌≡◌, ◌∙◌, false, true, ap, sym, chars, rules}
 use Rattle.std.proofs.lemmas.Str.{IsUtf8-past_char}
 use Rattle.markdown_page.specs.MetadataTitle.{is_gap, past_gap}
 use Rattle.markdown_page.proofs.LineLemmas.{chars_of_nothing, past_gap-step, past_gap-stop}

@@ -1,5 +1,5 @@
 -- One character more is passed, or the search stops.
-use Rattle.std.proofs.Common.{◌≡◌, ◌∙◌, false, true, ap, sym, refl, subst, IsUtf8, chars, rules}
+use Rattle.std.proofs.Common.{◌≡◌, ◌∙◌, false, true, ap, sym, subst, IsUtf8, chars, rules}
 use Rattle.markdown_page.specs.MetadataTitle.{is_gap, up_to_gap}
 use Rattle.markdown_page.proofs.LineLemmas.{chars_before_char, chars_of_nothing, up_to_gap-step, up_to_gap-stop}
 use Rattle.markdown_page.proofs.line.up_to_gap.Goals as goal

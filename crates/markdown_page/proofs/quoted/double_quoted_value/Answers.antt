@@ -1,13 +1,16 @@
 -- One character more is read, or the value ends, or it is not one.
-use Rattle.std.proofs.Common.{◌≡◌, ◌∙◌, ◌++◌, [], ◌∷◌, false, true, ap, sym, chars, encode_utf8_all, string_bytes, rules}
-use Rattle.std.proofs.Common.{option_map, ◌==◌, Option, Some, None}
+use Rattle.std.proofs.Common.{◌≡◌, ◌∙◌, ◌∷◌, false, true, ap, sym, chars, string_bytes}
+use Rattle.std.proofs.Common.{rules}
+use Rattle.std.proofs.Common.{◌==◌}
 use Rattle.std.specs.Str.Iter.{chars_rest}
 use Rattle.std.proofs.lemmas.Str.{chars_past_char, IsUtf8-past_char}
 use Rattle.markdown_base.specs.Bytes.{backslash, double_quote}
-use Rattle.markdown_page.specs.MetadataTitle.{can_be_escaped, double_quoted, may_follow_quotes, value_in_quotes}
+use Rattle.markdown_page.specs.MetadataTitle.{can_be_escaped, double_quoted, may_follow_quotes}
 use Rattle.markdown_page.proofs.LineLemmas.{chars_of_nothing}
-use Rattle.markdown_page.proofs.QuotedLemmas.{double_quoted-alone, double_quoted-end, double_quoted-escape, double_quoted-other}
-use Rattle.markdown_page.proofs.QuotedLemmas.{double_quoted-refused, value-ends, value-lacks, value-refused, with_bytes, with_bytes-onto}
+use Rattle.markdown_page.proofs.QuotedLemmas.{double_quoted-alone, double_quoted-end, double_quoted-escape}
+use Rattle.markdown_page.proofs.QuotedLemmas.{double_quoted-other}
+use Rattle.markdown_page.proofs.QuotedLemmas.{double_quoted-refused, value-ends, value-lacks, value-refused}
+use Rattle.markdown_page.proofs.QuotedLemmas.{with_bytes, with_bytes-onto}
 use Rattle.markdown_page.proofs.quoted.double_quoted_value.Goals as goal
 
 pub returns-then-may_follow_quotes-clause-read : goal.returns-then-may_follow_quotes-clause-read
@@ -52,7 +55,9 @@ returns-in_default-next-clause-read c =
     let slash : (c.in-Some.c == backslash) ≡ true = search (rules, c.if-c-ne92.false) in
     let rest = chars_past_char _ _ _ held.utf8 c.in-Some.ensures.steps.0 in
     let none = chars_of_nothing _ c.in_default-next.ensures.steps.0.0 in
-    let nothing = ap double_quoted rest ∙ ap (λ l. double_quoted (c.in-Some.c ∷ l)) none ∙ double_quoted-alone c.in-Some.c slash in
+    let nothing =
+    ap double_quoted rest ∙ ap (λ l. double_quoted (c.in-Some.c ∷ l)) none
+    ∙ double_quoted-alone c.in-Some.c slash in
     value-lacks c.args.kind (string_bytes c.loop-c.value) _ _ nothing held.read
 
 pub returns-then-not-can_be_escaped-clause-read : goal.returns-then-not-can_be_escaped-clause-read
@@ -84,7 +89,8 @@ loop-c-preserved c =
     record {
       utf8 = IsUtf8-past_char _ _ _ utf8 c.in-Some-next.ensures.steps.0;
       read =
-          ap (λ l. with_bytes l (double_quoted (chars (chars_rest c.next-in-Some.new.self)))) c.in_ok-push-2.ensures.bytes
+          ap (λ l. with_bytes l (double_quoted (chars (chars_rest c.next-in-Some.new.self))))
+          c.in_ok-push-2.ensures.bytes
           ∙ with_bytes-onto (string_bytes c.loop-c.value) c.in-Some-next.escaped _
           ∙ ap (with_bytes (string_bytes c.loop-c.value)) (sym one)
           ∙ held.read;

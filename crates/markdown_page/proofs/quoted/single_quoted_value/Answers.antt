@@ -1,6 +1,7 @@
 -- One character more is read, or two that stand for one, or the value ends, or it is not one.
-use Rattle.std.proofs.Common.{◌≡◌, ◌∙◌, ◌++◌, [], ◌∷◌, false, true, ap, sym, chars, encode_utf8_all, string_bytes, rules}
-use Rattle.std.proofs.Common.{option_map, ◌==◌, ◌&&◌, Option, Some, None}
+use Rattle.std.proofs.Common.{◌≡◌, ◌∙◌, ◌∷◌, false, true, ap, sym, chars, string_bytes}
+use Rattle.std.proofs.Common.{rules}
+use Rattle.std.proofs.Common.{◌==◌, ◌&&◌}
 use Rattle.std.specs.Str.Iter.{chars_rest}
 use Rattle.std.proofs.lemmas.Str.{chars_past_char, IsUtf8-past_char}
 use Rattle.markdown_base.specs.Bytes.{apostrophe}
@@ -73,7 +74,8 @@ loop-c-preserved c =
     ap (λ l. doubled && starts_with_char apostrophe l) (sym more) ∙ begins in
     let one =
     ap (single_quoted doubled) rest ∙ ap (λ l. single_quoted doubled (c.in-Some.c ∷ l)) more
-    ∙ single_quoted-two doubled c.in-Some.c c.in-Some-next.second (chars (chars_rest c.next-in-Some.new.self)) quote two in
+    ∙ single_quoted-two doubled c.in-Some.c c.in-Some-next.second (chars (chars_rest c.next-in-Some.new.self))
+    quote two in
     record {
       utf8 = IsUtf8-past_char _ _ _ utf8 c.in-Some-next.ensures.steps.0;
       read =

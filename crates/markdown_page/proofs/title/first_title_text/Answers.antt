@@ -1,5 +1,5 @@
 -- The first line gives the text, or ends the search, or is taken off.
-use Rattle.std.proofs.Common.{◌≡◌, ◌∙◌, ◌∷◌, false, true, refl, ap, sym, chars, rules, Option, Some, None}
+use Rattle.std.proofs.Common.{◌≡◌, ◌∙◌, ◌∷◌, false, true, refl, sym, chars, rules, Some, None}
 use Rattle.std.specs.Str.Iter.{split_has_more, split_text}
 use Rattle.std.specs.Str.Pattern.{FindsBy, IsSplitAtFirstMatch}
 use Rattle.markdown_page.specs.MetadataTitle.{begins_table, first_title_text, is_line_break, title_text}
@@ -11,7 +11,8 @@ returns-then-begins_table c =
     let held = c.loop-line.invariant in
     let split = c.in-Some.ensures.steps.1.1 in
     let cut : IsSplitAtFirstMatch (FindsBy is_line_break) (split_text c.loop-line.line-iterator) c.in-Some.line.now
-    (split_has_more c.next.new.self) (split_text c.next.new.self) = (split.0, (split.1.0, split.1.1 is_line_break held.breaks, split.1.2)) in
+    (split_has_more c.next.new.self) (split_text c.next.new.self) =
+    (split.0, (split.1.0, split.1.1 is_line_break held.breaks, split.1.2)) in
     let table : begins_table c.args.kind (chars c.in-Some.line.now) ≡ true =
     search (rules, c.begins_table.ensures, c.if-begins_table.true) in
     let later = lines_left (split_has_more c.next.new.self) (split_text c.next.new.self) in
@@ -23,7 +24,8 @@ returns-in-Some-title_text c =
     let held = c.loop-line.invariant in
     let split = c.in-Some.ensures.steps.1.1 in
     let cut : IsSplitAtFirstMatch (FindsBy is_line_break) (split_text c.loop-line.line-iterator) c.in-Some.line.now
-    (split_has_more c.next.new.self) (split_text c.next.new.self) = (split.0, (split.1.0, split.1.1 is_line_break held.breaks, split.1.2)) in
+    (split_has_more c.next.new.self) (split_text c.next.new.self) =
+    (split.0, (split.1.0, split.1.1 is_line_break held.breaks, split.1.2)) in
     let other : begins_table c.args.kind (chars c.in-Some.line.now) ≡ false =
     search (rules, c.begins_table.ensures, c.if-begins_table.false) in
     let found : title_text c.args.kind (chars c.in-Some.line.now) ≡ Some (chars c.in-Some-title_text.value.now) =
@@ -38,7 +40,8 @@ loop-line-preserved c =
     let held = c.loop-line.invariant in
     let split = c.in-Some.ensures.steps.1.1 in
     let cut : IsSplitAtFirstMatch (FindsBy is_line_break) (split_text c.loop-line.line-iterator) c.in-Some.line.now
-    (split_has_more c.next.new.self) (split_text c.next.new.self) = (split.0, (split.1.0, split.1.1 is_line_break held.breaks, split.1.2)) in
+    (split_has_more c.next.new.self) (split_text c.next.new.self) =
+    (split.0, (split.1.0, split.1.1 is_line_break held.breaks, split.1.2)) in
     let other : begins_table c.args.kind (chars c.in-Some.line.now) ≡ false =
     search (rules, c.begins_table.ensures, c.if-begins_table.false) in
     let none : title_text c.args.kind (chars c.in-Some.line.now) ≡ None = sym c.in_default.ensures in

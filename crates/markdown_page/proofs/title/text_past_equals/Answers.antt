@@ -1,5 +1,5 @@
 -- The equals sign is looked for past the white space.
-use Rattle.std.proofs.Common.{◌≡◌, ◌∙◌, ap, refl, sym, chars, codes, Option, Some, None}
+use Rattle.std.proofs.Common.{◌∙◌, ap, refl, sym, chars, codes, Some}
 use Rattle.markdown_page.specs.MetadataTitle.{past_gap, text_after}
 use Rattle.markdown_page.proofs.LineLemmas.{equals_chars}
 use Rattle.markdown_page.proofs.title.text_past_equals.Goals as goal

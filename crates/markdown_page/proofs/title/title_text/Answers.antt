@@ -1,5 +1,5 @@
 -- The name of the key is looked for, and then what follows it.
-use Rattle.std.proofs.Common.{◌≡◌, ◌∙◌, ap, refl, sym, chars, codes}
+use Rattle.std.proofs.Common.{◌∙◌, ap, refl, sym, chars}
 use Rattle.markdown_page.specs.MetadataTitle.{text_after}
 use Rattle.markdown_page.proofs.LineLemmas.{title_chars, title_colon_chars}
 use Rattle.markdown_page.proofs.title.title_text.Goals as goal

@@ -1,5 +1,6 @@
 -- A comment begins at this character, or the character stands before it.
-use Rattle.std.proofs.Common.{◌≡◌, ◌∙◌, ◌++◌, false, true, ap, sym, append-nil, append_assoc, chars, encode_utf8_all, string_bytes, rules}
+use Rattle.std.proofs.Common.{◌≡◌, ◌∙◌, ◌++◌, false, true, ap, sym, append-nil, append_assoc, chars}
+use Rattle.std.proofs.Common.{encode_utf8_all, string_bytes, rules}
 use Rattle.std.specs.Str.Iter.{chars_rest}
 use Rattle.std.proofs.lemmas.Str.{IsUtf8-past_char}
 use Rattle.markdown_page.specs.MetadataTitle.{before_comment, begins_comment}

@@ -1,5 +1,5 @@
 -- The bytes are those of the characters.
-use Rattle.std.proofs.Common.{◌≡◌, false, true, refl, sym, chars, rules}
+use Rattle.std.proofs.Common.{◌≡◌, false, true, refl, chars, rules}
 use Rattle.std.proofs.lemmas.Str.{encodes-chars}
 use Rattle.markdown_page.specs.MetadataTitle.{has_key}
 use Rattle.markdown_page.proofs.value.is_no_value.Goals as goal

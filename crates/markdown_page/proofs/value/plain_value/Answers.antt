@@ -1,5 +1,5 @@
 -- The characters of what is left are those of the value.
-use Rattle.std.proofs.Common.{◌≡◌, ◌∙◌, false, true, refl, ap, sym, chars, encode_utf8_all, rules, Option, Some, None}
+use Rattle.std.proofs.Common.{◌≡◌, ◌∙◌, false, true, refl, ap, sym, chars, encode_utf8_all, rules, Some}
 use Rattle.std.proofs.lemmas.Str.{chars_from_encodes, encodes-chars}
 use Rattle.markdown_page.specs.MetadataTitle.{before_comment, begins_plain_value, is_no_value, up_to_gap}
 use Rattle.markdown_page.proofs.value.plain_value.Goals as goal
