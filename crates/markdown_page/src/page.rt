@@ -127,7 +127,8 @@ fn push_before_title(html: &mut String, language: Option<&str>) -> Result<(), Fa
 
 /// Appends the style of a page.
 fn push_style(html: &mut String, style: Style<'_>) -> Result<(), Fault>
-    ensures ok { OnOk result (string_bytes html.new ≡ string_bytes html.old ++ style_part style.entry) }
+    ensures ok { OnOk result
+        (string_bytes html.new ≡ string_bytes html.old ++ style_part style.entry) }
     ensures refused { IfErr result (λ fault. fault ≡ Fault.Memory) }
 {
     match style {
