@@ -1,0 +1,7 @@
+//! Tests of bare addresses.
+#![tactic(auto)]
+
+#[cfg(test)]
+mod addresses;
+#[cfg(test)]
+mod random;
