@@ -15,19 +15,27 @@ use Rattle.markdown_autolinks.specs.declared.address.AddressForm.TheVariants as 
 abbrev pub is_end_mark : ℕ → Bool
 is_end_mark b = list_any (λ mark. mark == b) (codes "?!.,:*_~'\"")
 
+-- how many bytes are left out where an address from `start` to `end` ends with a `;`: those of `&`, letters and `;`, or
+-- the `;` alone
+abbrev pub entity_left_out : List ℕ → ℕ → ℕ → ℕ
+entity_left_out text start end =
+    let letters = passing_from (λ at. is_ascii_alphabetic (byte_at text at)) (end - 1) (end - 1 - start) in
+    if nat_lt letters (end - 1) && nat_lt start letters && (byte_at text (letters - 1) == ampersand)
+    then end - (letters - 1) else 1
+
+-- an address from `start` to `end` has more `)` than `(`
+abbrev pub closes_more : List ℕ → ℕ → ℕ → Bool
+closes_more text start end =
+    nat_lt (count_of text open_parenthesis start (end - start)) (count_of text close_parenthesis start (end - start))
+
 -- how many bytes are left out together at the end of an address from `start` to `end`: a mark; a `)` where there are
 -- more of them than of `(`; `&`, letters and `;`; another `;`
 abbrev pub left_out : List ℕ → ℕ → ℕ → ℕ
 left_out text start end =
-    let last = byte_at text (end - 1) in
-    let letters = passing_from (λ at. is_ascii_alphabetic (byte_at text at)) (end - 1) (end - 1 - start) in
-    if is_end_mark last then 1
-    else if last == close_parenthesis then
-        (if nat_lt (count_of text open_parenthesis start (end - start))
-            (count_of text close_parenthesis start (end - start)) then 1 else 0)
-    else if last == semicolon then
-        (if nat_lt letters (end - 1) && nat_lt start letters && (byte_at text (letters - 1) == ampersand)
-        then end - (letters - 1) else 1)
+    if nat_le end start then 0
+    else if is_end_mark (byte_at text (end - 1)) then 1
+    else if (byte_at text (end - 1) == close_parenthesis) && closes_more text start end then 1
+    else if byte_at text (end - 1) == semicolon then entity_left_out text start end
     else 0
 
 -- where an address from `start` on ends that was read up to `end`: as long as something is to be left out, and at most
@@ -70,9 +78,9 @@ address_after text at before form =
 -- the web address that begins at a place: a scheme, not directly after a letter; a host; a tail
 abbrev pub web_address : List ℕ → ℕ → ℕ → Option Address
 web_address text used at =
-    if nat_lt 0 (scheme_length text at) && not (is_after_letter text used at)
-        && is_host text (at + scheme_length text at)
-    then address_after text at (scheme_length text at) forms.Web
+    if scheme_length text at == 0 then None
+    else if is_after_letter text used at then None
+    else if is_host text (at + scheme_length text at) then address_after text at (scheme_length text at) forms.Web
     else None
 
 -- an address with `www.` may begin at a place: at the beginning, or after white space, `*`, `_`, `~` or `(`
@@ -95,23 +103,22 @@ mailbox_begin text used at = passing_from (λ i. is_mailbox_byte (byte_at text i
 abbrev pub domain_end : List ℕ → ℕ → ℕ
 domain_end text at = first_failing (is_domain_at text) (at + 1) (length text - (at + 1))
 
--- what follows an `@` is a domain: a letter or digit first, a letter last, one period at least, and no `@` after it
-abbrev pub is_domain : List ℕ → ℕ → Bool
-is_domain text at =
-    is_ascii_alphanumeric (byte_at text (at + 1))
-    && nat_lt 0 (count_of text full_stop (at + 1) (domain_end text at - (at + 1)))
-    && is_ascii_alphabetic (byte_at text (domain_end text at - 1))
-    && not (byte_at text (domain_end text at) == 64)
+-- what follows an `@` up to `end` is a domain: a letter or digit first, a letter last, one period at least, and no `@`
+-- after it
+abbrev pub is_domain : List ℕ → ℕ → ℕ → Bool
+is_domain text at end =
+    is_ascii_alphanumeric (byte_at text (at + 1)) && nat_lt 0 (count_of text full_stop (at + 1) (end - (at + 1)))
+    && is_ascii_alphabetic (byte_at text (end - 1)) && not (byte_at text end == 64)
 
 -- where the link of a mail address begins whose name begins at a place: `mailto:` directly before it is a part of it
 abbrev pub mail_begin : List ℕ → ℕ → ℕ → ℕ
 mail_begin text used name =
-    if nat_le (used + 7) name && starts_with nat_eq (drop (name - 7) text) (codes "mailto:") then name - 7 else name
+    if nat_le 7 (name - used) && starts_with nat_eq (drop (name - 7) text) (codes "mailto:") then name - 7 else name
 
 -- the mail address around the `@` at a place
 abbrev pub mail_address : List ℕ → ℕ → ℕ → Option Address
 mail_address text used at =
-    if nat_lt (mailbox_begin text used at) at && is_domain text at
+    if nat_lt (mailbox_begin text used at) at && is_domain text at (domain_end text at)
     then Some (record {
         start = mail_begin text used (mailbox_begin text used at);
         name = mailbox_begin text used at;

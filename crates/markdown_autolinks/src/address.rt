@@ -1,5 +1,5 @@
 //! Addresses in a text, and the search for them.
-ghost use Rattle.std.specs.Prelude.{◌≡◌};
+ghost use Rattle.std.specs.Prelude.{◌≡◌, ◌<◌, length};
 ghost use Rattle.markdown_autolinks.specs.Addresses.{address_at, first_address};
 
 use crate::bytes::byte_at;
@@ -30,17 +30,23 @@ pub struct Address {
 }
 
 /// Returns the address that is found at `at`, where all before `used` is used up.
+#[tactic(auto, using(crate::proofs::WebLemmas::web_at))]
 fn address_at(text: &[u8], used: usize, at: usize) -> Option<Address>
+    requires { at < length text.now }
     ensures { result ≡ address_at text.now used at }
 {
-    match byte_at(text, at) {
-        b'@' => mail_address(text, used, at),
-        b'w' => www_address(text, at),
-        _ => web_address(text, used, at),
+    let byte = byte_at(text, at);
+    if byte == b'@' {
+        mail_address(text, used, at)
+    } else if byte == b'w' {
+        www_address(text, at)
+    } else {
+        web_address(text, used, at)
     }
 }
 
 /// Returns the first address after what is used up.
+#[tactic(auto, using(crate::proofs::PlaceLemmas::found_here, crate::proofs::PlaceLemmas::found_later, crate::proofs::PlaceLemmas::found_nowhere))]
 pub fn first_address(text: &[u8], used: usize) -> Option<Address>
     ensures { result ≡ first_address text.now used }
 {

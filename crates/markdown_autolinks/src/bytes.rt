@@ -56,6 +56,7 @@ pub fn is_white_before(text: &[u8], at: usize) -> bool
 }
 
 /// Returns the number of bytes from `start` to `end` that are `byte`.
+#[tactic(auto, using(crate::proofs::PlaceLemmas::counts_next, crate::proofs::PlaceLemmas::count_is_few))]
 pub fn count_of(text: &[u8], byte: u8, start: usize, end: usize) -> usize
     ensures { result ≡ bytes.count_of text.now byte start (end - start) }
 {

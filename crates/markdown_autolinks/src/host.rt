@@ -27,21 +27,26 @@ fn is_host_at(text: &[u8], at: usize) -> bool
 }
 
 /// Returns where what may be a host ends.
+#[tactic(auto, using(crate::proofs::PlaceLemmas::goes_further, crate::proofs::PlaceLemmas::stops_here, crate::proofs::PlaceLemmas::stops_at_end))]
 fn host_end(text: &[u8], at: usize) -> usize
     ensures { result ≡ bytes.host_end text.now at }
 {
     let mut end = at;
-    while end < text.len() && is_host_at(text, end) {
+    while end < text.len() {
+        if !is_host_at(text, end) {
+            return end;
+        }
         end += 1;
     }
     end
 }
 
 /// Returns whether one of the last two labels from `at` to `end` has a `_`.
+#[tactic(auto, using(crate::proofs::PlaceLemmas::late_next, crate::proofs::PlaceLemmas::late_ends))]
 fn has_late_underscore(text: &[u8], at: usize, end: usize) -> bool
     ensures { result ≡ bytes.has_late_underscore text.now at 1 (end - at) }
 {
-    let mut more = 1;
+    let mut more: usize = 1;
     let mut left = end;
     while at < left {
         left -= 1;

@@ -1,5 +1,5 @@
 //! Addresses of mail.
-ghost use Rattle.std.specs.Prelude.{◌≡◌};
+ghost use Rattle.std.specs.Prelude.{◌≡◌, ◌<◌, ◌≤◌, length};
 ghost use Rattle.markdown_autolinks.specs.AddressBytes as bytes;
 ghost use Rattle.markdown_autolinks.specs.Addresses as spec;
 
@@ -14,11 +14,16 @@ fn is_mailbox_byte(byte: u8) -> bool
 }
 
 /// Returns where the name begins of the mail address whose `@` is at a place.
+#[tactic(auto, using(crate::proofs::PlaceLemmas::goes_back, crate::proofs::PlaceLemmas::back_stops_here, crate::proofs::PlaceLemmas::back_stops_at_end))]
 fn mailbox_begin(text: &[u8], used: usize, at: usize) -> usize
-    ensures { result ≡ spec.mailbox_begin text.now used at }
+    ensures value { result ≡ spec.mailbox_begin text.now used at }
+    ensures before { result ≤ at }
 {
     let mut begin = at;
-    while used < begin && is_mailbox_byte(byte_at(text, begin - 1)) {
+    while used < begin {
+        if !is_mailbox_byte(byte_at(text, begin - 1)) {
+            return begin;
+        }
         begin -= 1;
     }
     begin
@@ -36,18 +41,27 @@ fn is_domain_at(text: &[u8], at: usize) -> bool
 }
 
 /// Returns where what follows the `@` at a place ends.
+#[tactic(auto, using(crate::proofs::PlaceLemmas::goes_further, crate::proofs::PlaceLemmas::stops_here, crate::proofs::PlaceLemmas::stops_at_end))]
 fn domain_end(text: &[u8], at: usize) -> usize
-    ensures { result ≡ spec.domain_end text.now at }
+    requires { at < length text.now }
+    ensures value { result ≡ spec.domain_end text.now at }
+    ensures after { at < result }
 {
     let mut end = at + 1;
-    while end < text.len() && is_domain_at(text, end) {
+    while end < text.len() {
+        if !is_domain_at(text, end) {
+            return end;
+        }
         end += 1;
     }
     end
 }
 
 /// Returns whether what follows the `@` at a place, up to `end`, is a domain.
-fn is_domain(text: &[u8], at: usize, end: usize) -> bool {
+fn is_domain(text: &[u8], at: usize, end: usize) -> bool
+    requires { at < end }
+    ensures { result ≡ spec.is_domain text.now at end }
+{
     byte_at(text, at + 1).is_ascii_alphanumeric()
         && 0 < count_of(text, b'.', at + 1, end)
         && byte_at(text, end - 1).is_ascii_alphabetic()
@@ -56,9 +70,10 @@ fn is_domain(text: &[u8], at: usize, end: usize) -> bool {
 
 /// Returns where the link of a mail address begins whose name begins at a place.
 fn mail_begin(text: &[u8], used: usize, name: usize) -> usize
+    requires { name ≤ length text.now }
     ensures { result ≡ spec.mail_begin text.now used name }
 {
-    if used + 7 <= name && text[name - 7..].starts_with(b"mailto:") {
+    if 7 <= name.saturating_sub(used) && text[name - 7..].starts_with(b"mailto:") {
         name - 7
     } else {
         name
@@ -67,10 +82,11 @@ fn mail_begin(text: &[u8], used: usize, name: usize) -> usize
 
 /// Returns the mail address around the `@` at a place.
 pub fn mail_address(text: &[u8], used: usize, at: usize) -> Option<Address>
+    requires { at < length text.now }
     ensures { result ≡ spec.mail_address text.now used at }
 {
     let name = mailbox_begin(text, used, at);
-    if name == at {
+    if at <= name {
         return None;
     }
     let end = domain_end(text, at);

@@ -1,5 +1,5 @@
 //! Web addresses, and addresses that begin with `www.`.
-ghost use Rattle.std.specs.Prelude.{◌≡◌};
+ghost use Rattle.std.specs.Prelude.{◌≡◌, ◌<◌, ◌≤◌, length};
 ghost use Rattle.markdown_autolinks.specs.Addresses as spec;
 
 use crate::address::{Address, AddressForm};
@@ -9,6 +9,7 @@ use crate::tail::address_end;
 
 /// Returns whether these lower-case letters and marks stand at a place, in any case.
 fn begins_in_any_case(text: &[u8], at: usize, word: &[u8]) -> bool
+    requires { at < length text.now }
     ensures { result ≡ spec.begins_in_any_case text.now at word.now }
 {
     let mut place = at;
@@ -23,7 +24,9 @@ fn begins_in_any_case(text: &[u8], at: usize, word: &[u8]) -> bool
 
 /// Returns the number of bytes of the scheme at a place; 0 where there is none.
 fn scheme_length(text: &[u8], at: usize) -> usize
-    ensures { result ≡ spec.scheme_length text.now at }
+    requires { at < length text.now }
+    ensures value { result ≡ spec.scheme_length text.now at }
+    ensures few { result ≤ 8 }
 {
     if begins_in_any_case(text, at, b"http://") {
         7
@@ -45,6 +48,8 @@ fn is_after_letter(text: &[u8], used: usize, at: usize) -> bool
 
 /// Returns the address that begins at a place with so many bytes, and then a host.
 fn address_after(text: &[u8], at: usize, before: usize, form: AddressForm) -> Option<Address>
+    requires here { at < length text.now }
+    requires few { before ≤ 8 }
     ensures { result ≡ spec.address_after text.now at before form }
 {
     let end = address_end(text, at);
@@ -61,15 +66,22 @@ fn address_after(text: &[u8], at: usize, before: usize, form: AddressForm) -> Op
 }
 
 /// Returns the web address that begins at a place.
+#[tactic(auto, using(crate::proofs::WebLemmas::web_without_scheme, crate::proofs::WebLemmas::web_after_letter, crate::proofs::WebLemmas::web_without_host, crate::proofs::WebLemmas::web_with_host))]
 pub fn web_address(text: &[u8], used: usize, at: usize) -> Option<Address>
+    requires { at < length text.now }
     ensures { result ≡ spec.web_address text.now used at }
 {
     let scheme = scheme_length(text, at);
-    if 0 < scheme && !is_after_letter(text, used, at) && is_host(text, at + scheme) {
-        address_after(text, at, scheme, AddressForm::Web)
-    } else {
-        None
+    if scheme == 0 {
+        return None;
     }
+    if is_after_letter(text, used, at) {
+        return None;
+    }
+    if !is_host(text, at + scheme) {
+        return None;
+    }
+    address_after(text, at, scheme, AddressForm::Web)
 }
 
 /// Returns whether an address with `www.` may begin at a place.
@@ -81,6 +93,7 @@ fn may_begin_www(text: &[u8], at: usize) -> bool
 
 /// Returns the address with `www.` that begins at a place.
 pub fn www_address(text: &[u8], at: usize) -> Option<Address>
+    requires { at < length text.now }
     ensures { result ≡ spec.www_address text.now at }
 {
     if text[at..].starts_with(b"www.")

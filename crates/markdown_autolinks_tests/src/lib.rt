@@ -5,3 +5,7 @@
 mod addresses;
 #[cfg(test)]
 mod random;
+#[cfg(test)]
+mod events;
+#[cfg(test)]
+mod random_events;
