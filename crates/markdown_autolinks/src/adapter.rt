@@ -1,4 +1,7 @@
 //! An iterator that makes links of bare addresses.
+ghost use Rattle.std.specs.Prelude.{◌≡◌, ◌<◌, IfOk, IsSome, MatchResult, OnSome, false, ⊤};
+ghost use Rattle.std.specs.Iterator.{IsFinite, size};
+
 use crate::linking::{Placed, merged_run, run_events};
 use crate::run::RunText;
 use markdown_base::cow_str::CowStr;
@@ -7,30 +10,23 @@ use markdown_base::fault::Fault;
 use markdown_base::tag::{Tag, TagEnd};
 use std::alloc::{AllocError, Global};
 use std::collections::VecDeque;
-use std::mem;
 use std::ops::Range;
 
-/// The events of an iterator with their ranges, with bare addresses as links.
+/// The events of an iterator with their ranges, with bare addresses as links. After the iterator's first `None` it is not
+/// called again.
 #[derive(Drop)]
 pub struct Autolinks<'a, I> {
     alloc: Global,
     text: &'a str,
     iter: I,
-    /// What is returned before the iterator is called again.
+    /// The events of the run that was read last.
     ready: VecDeque<Placed<'a>>,
-    /// What the iterator returned after these.
-    after: After<'a>,
+    /// The item that was read after it.
+    after: Option<Result<Placed<'a>, Fault>>,
     /// The open places in which no addresses are looked for.
     inside: Vec<bool>,
-    /// Whether an allocation has failed; then `next` returns `None`.
+    /// Whether the iterator has ended, or an allocation has failed.
     over: bool,
-}
-
-/// What the iterator returned after a run.
-#[derive(Drop)]
-pub enum After<'a> {
-    Nothing,
-    Answer(Option<Result<Placed<'a>, Fault>>),
 }
 
 /// Returns whether no addresses are looked for in what a tag opens.
@@ -49,7 +45,9 @@ fn is_left_alone(tag: TagEnd) -> bool {
 fn run_text_or<'a>(
     source: &'a str,
     answer: Option<Result<Placed<'a>, Fault>>,
-) -> Result<RunText<'a>, Option<Result<Placed<'a>, Fault>>> {
+) -> Result<RunText<'a>, Option<Result<Placed<'a>, Fault>>>
+    ensures { MatchResult result (λ _. IsSome answer.entry) (λ r. r ≡ answer.entry) }
+{
     match answer {
         Some(Ok((event, range))) => match event {
             Event::Text(text) => Ok(RunText::new(source, text, range)),
@@ -104,46 +102,59 @@ impl<'a, I> Autolinks<'a, I> {
             text,
             iter,
             ready: VecDeque::new(alloc),
-            after: After::Nothing,
+            after: None,
             inside: Vec::new(alloc),
             over: false,
         }
     }
 }
 
-/// Calls the iterator until its result is no Text; returns this. Fails if an allocation fails.
+/// A run of Texts, and the result of the iterator after it.
+type Gathered<'a> = (VecDeque<RunText<'a>>, Option<Result<Placed<'a>, Fault>>);
+
+/// Calls the iterator until its result is no Text; returns the Texts, and this. Fails if an allocation fails.
 fn gather<'a, I: Iterator<Item = Result<Placed<'a>, Fault>>>(
+    alloc: Global,
     source: &'a str,
     iter: &mut I,
-    run: &mut VecDeque<RunText<'a>>,
-) -> Result<Option<Result<Placed<'a>, Fault>>, AllocError> {
+) -> Result<Gathered<'a>, AllocError>
+    requires can { I.can_next iter.old }
+    requires ends { IsFinite (I.remaining iter.old) }
+    ensures again { IfOk result (λ p. OnSome p.1 (I.can_next iter.new)) }
+    ensures ends { IfOk result (λ p. OnSome p.1 (IsFinite (I.remaining iter.new))) }
+    ensures less { IfOk result (λ p. OnSome p.1
+        (size (I.remaining iter.new) < size (I.remaining iter.old))) }
+{
+    let mut run = VecDeque::new(alloc);
     'reading: loop {
         match run_text_or(source, iter.next()) {
             Ok(text) => run.push_back(text)?,
-            Err(answer) => return Ok(answer),
+            Err(answer) => return Ok((run, answer)),
         }
     }
 }
 
-impl<'a, I: Iterator<Item = Result<Placed<'a>, Fault>>> Autolinks<'a, I> {
-    /// Reads the next run and what the iterator returns after it. Fails if an allocation fails.
-    fn read(&mut self) -> Result<(), AllocError> {
-        let mut run = VecDeque::new(self.alloc);
-        let answer = gather(self.text, &mut self.iter, &mut run)?;
-        let searches = self.inside.is_empty();
-        count_answer(&mut self.inside, &answer)?;
-        self.after = After::Answer(answer);
-        self.ready = if searches {
-            run_events(self.alloc, run)?
-        } else {
-            merged_run(self.alloc, run)?
-        };
-        Ok(())
+/// Returns the events of a run, in which addresses are looked for or not.
+fn events_of_run<'a>(
+    alloc: Global,
+    run: VecDeque<RunText<'a>>,
+    searches: bool,
+) -> Result<VecDeque<Placed<'a>>, AllocError> {
+    if searches {
+        run_events(alloc, run)
+    } else {
+        merged_run(alloc, run)
     }
 }
 
 impl<'a, I: Iterator<Item = Result<Placed<'a>, Fault>>> Iterator for Autolinks<'a, I> {
     type Item = Result<Placed<'a>, Fault>;
+
+    ghost use Rattle.markdown_autolinks.specs.AutolinksState.{may_go_on};
+
+    ghost can_next = { may_go_on I.can_next I.remaining };
+
+    ghost next_gives = { λ s r t. ⊤ };
 
     /// Returns the next event with its range.
     ///
@@ -152,21 +163,42 @@ impl<'a, I: Iterator<Item = Result<Placed<'a>, Fault>>> Iterator for Autolinks<'
     /// The item is an error where the iterator returns one, and `Fault::Memory` if an allocation fails: then every later
     /// call returns `None`.
     fn next(&mut self) -> Option<Result<Placed<'a>, Fault>> {
-        if self.over {
-            return None;
-        }
-        if let After::Nothing = &self.after {
-            if self.read().is_err() {
-                self.over = true;
-                return Some(Err(Fault::Memory));
-            }
-        }
         if let Some(placed) = self.ready.pop_front() {
             return Some(Ok(placed));
         }
-        match mem::replace(&mut self.after, After::Nothing) {
-            After::Answer(answer) => answer,
-            After::Nothing => None,
+        if let Some(item) = self.after.take() {
+            return Some(item);
         }
+        if self.over {
+            return None;
+        }
+        if self.read().is_err() {
+            self.over = true;
+            return Some(Err(Fault::Memory));
+        }
+        match self.ready.pop_front() {
+            Some(placed) => Some(Ok(placed)),
+            None => self.after.take(),
+        }
+    }
+}
+
+impl<'a, I: Iterator<Item = Result<Placed<'a>, Fault>>> Autolinks<'a, I> {
+    ghost use Rattle.markdown_autolinks.specs.AutolinksState.{may_go_on};
+
+    /// Reads the next run, and what the iterator returns after it. Fails if an allocation fails.
+    fn read(&mut self) -> Result<(), AllocError>
+        requires goes_on { self.old.over ≡ false }
+        requires can { may_go_on I.can_next I.remaining self.old }
+        ensures again { IfOk result (λ _. may_go_on I.can_next I.remaining self.new) }
+    {
+        let (run, answer) = gather(self.alloc, self.text, &mut self.iter)?;
+        let searches = self.inside.is_empty();
+        count_answer(&mut self.inside, &answer)?;
+        let ready = events_of_run(self.alloc, run, searches)?;
+        self.over = answer.is_none();
+        self.ready = ready;
+        self.after = answer;
+        Ok(())
     }
 }
