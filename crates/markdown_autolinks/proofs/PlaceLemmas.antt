@@ -25,7 +25,6 @@ stops_here passes at most inside failed =
 pub stops_at_end : (passes : ℕ → Bool) (at most : ℕ) → most ≤ at → first_failing passes at (most - at) ≡ at
 stops_at_end passes at most over = let none : most - at ≡ 0 = omega (arith, over) in rw none refl
 
-
 -- a place before that passes is gone over
 pub goes_back : (passes : ℕ → Bool) (least at : ℕ) → least < at → passes (at - 1) ≡ true
     → passing_from passes at (at - least) ≡ passing_from passes (at - 1) (at - 1 - least)
@@ -65,7 +64,7 @@ pub late_next : (text : List ℕ) (at more left : ℕ) → at < left
     → has_late_underscore text at more (left - at)
     ≡ (if byte_at text (left - 1) == underscore then true
     else if byte_at text (left - 1) == full_stop
-        then with_fewer more (λ fewer. has_late_underscore text at fewer (left - 1 - at))
+    then with_fewer more (λ fewer. has_late_underscore text at fewer (left - 1 - at))
     else has_late_underscore text at more (left - 1 - at))
 late_next text at more left inside =
     let one : left - at ≡ suc (left - 1 - at) = omega (arith, inside) in

@@ -74,6 +74,7 @@ entity_counts text byte start left inside last mark other =
   where
     letters : ℕ
     letters = passing_from (λ i. is_ascii_alphabetic (byte_at text i)) (left - 1) (left - 1 - start)
+
     cases : (t : Bool)
         → (nat_lt letters (left - 1) && nat_lt start letters && (byte_at text (letters - 1) == 38)) ≡ t
         → count_of text byte start (left - start)
@@ -101,6 +102,7 @@ is_left_out text start left inside some = marks (is_end_mark (byte_at text (left
   where
     opened : nat_le left start ≡ false
     opened = grind (arith, nat_tests)
+
     marks : (t : Bool) → is_end_mark (byte_at text (left - 1)) ≡ t → IsLeftOut text start left
     marks true e = inl (rw (opened, e) refl, e)
     marks false e = closing ((byte_at text (left - 1) == 41) && closes_more text start left) refl

@@ -120,10 +120,10 @@ abbrev pub mail_address : List ℕ → ℕ → ℕ → Option Address
 mail_address text used at =
     if nat_lt (mailbox_begin text used at) at && is_domain text at (domain_end text at)
     then Some (record {
-        start = mail_begin text used (mailbox_begin text used at);
-        name = mailbox_begin text used at;
-        end = domain_end text at;
-        form = forms.Mail;
+      start = mail_begin text used (mailbox_begin text used at);
+      name = mailbox_begin text used at;
+      end = domain_end text at;
+      form = forms.Mail;
     })
     else None
 

@@ -3,4 +3,3 @@ pub mod AddressBytes
 pub mod Addresses
 pub mod LinkedRuns
 pub mod LinkedEvents
-pub mod AutolinksState

@@ -28,7 +28,9 @@ fn are_white_triple(a: u8, b: u8, c: u8) -> bool
     ensures { result ≡ bytes.are_white_triple a b c }
 {
     (a == 0xE1 && b == 0x9A && c == 0x80)
-        || (a == 0xE2 && b == 0x80 && ((0x80 <= c && c <= 0x8A) || c == 0xA8 || c == 0xA9 || c == 0xAF))
+        || (a == 0xE2
+            && b == 0x80
+            && ((0x80 <= c && c <= 0x8A) || c == 0xA8 || c == 0xA9 || c == 0xAF))
         || (a == 0xE2 && b == 0x81 && c == 0x9F)
         || (a == 0xE3 && b == 0x80 && c == 0x80)
 }

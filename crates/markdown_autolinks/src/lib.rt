@@ -1,14 +1,11 @@
-//! Bare addresses as links: an iterator that makes them so.
+//! Bare addresses in texts: web addresses, and addresses of mail.
 #![tactic(auto)]
 
-pub mod adapter;
 pub mod address;
 mod bytes;
 mod host;
-mod linking;
 mod mail;
-mod run;
 mod tail;
 mod web;
 
-pub use adapter::Autolinks;
+pub use address::{Address, AddressForm, first_address};

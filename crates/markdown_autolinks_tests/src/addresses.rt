@@ -1,5 +1,5 @@
 //! The addresses of texts.
-use crate::random::ROWS;
+use crate::table::ROWS;
 use markdown_autolinks::address::{AddressForm, first_address};
 use markdown_test_helpers::rows::gives;
 use std::alloc::{AllocError, Global};
@@ -20,9 +20,10 @@ fn addresses(alloc: Global, text: &str) -> Result<String, AllocError> {
     let mut used = 0;
     while let Some(found) = first_address(text.as_bytes(), used) {
         let form = letter(found.form);
-        notes.push_str(
-            format!(in alloc; "{} {} {} {};", found.start, found.name, found.end, form)?.as_str(),
-        )?;
+        notes.push_str(format!(in alloc;
+            "{} {} {} {};",
+            found.start, found.name, found.end, form
+        )?.as_str())?;
         used = found.end;
     }
     Ok(notes)

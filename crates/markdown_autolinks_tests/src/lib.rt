@@ -1,11 +1,7 @@
-//! Tests of bare addresses.
+//! Tests of bare addresses, against a second reading of the rule.
 #![tactic(auto)]
 
 #[cfg(test)]
 mod addresses;
 #[cfg(test)]
-mod random;
-#[cfg(test)]
-mod events;
-#[cfg(test)]
-mod random_events;
+mod table;

@@ -14,14 +14,14 @@ pub loop-left-preserved : goal.loop-left-preserved
 loop-left-preserved c =
     let some : 0 < c.left_out-less.result = omega (arith, c.if-less-eq0.false) in
     elim c.if-byte_at-eq41.branch [
-        then-byte_at-eq41 w ↦ rw w.closing-is
-            (trims_closing c.args.text.now c.args.start c.args.end c.loop-left.left c.count_of-opening.result
-            c.loop-left.closing c.left_out-less.result c.byte_at.result c.loop-left-test.true c.loop-left.invariant
-            c.left_out-less.ensures.value some c.byte_at.ensures w.if-byte_at-eq41.true)
+      | then-byte_at-eq41 w ↦ rw w.closing-is
+          (trims_closing c.args.text.now c.args.start c.args.end c.loop-left.left c.count_of-opening.result
+          c.loop-left.closing c.left_out-less.result c.byte_at.result c.loop-left-test.true c.loop-left.invariant
+          c.left_out-less.ensures.value some c.byte_at.ensures w.if-byte_at-eq41.true)
       | else-byte_at-eq41 w ↦ rw w.closing-is
-            (trims_other c.args.text.now c.args.start c.args.end c.loop-left.left c.count_of-opening.result
-            c.loop-left.closing c.left_out-less.result c.byte_at.result c.loop-left-test.true c.loop-left.invariant
-            c.left_out-less.ensures.value some c.byte_at.ensures w.if-byte_at-eq41.false)
+          (trims_other c.args.text.now c.args.start c.args.end c.loop-left.left c.count_of-opening.result
+          c.loop-left.closing c.left_out-less.result c.byte_at.result c.loop-left-test.true c.loop-left.invariant
+          c.left_out-less.ensures.value some c.byte_at.ensures w.if-byte_at-eq41.false)
     ]
 
 pub returns : goal.returns
