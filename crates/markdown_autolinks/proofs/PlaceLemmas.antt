@@ -1,12 +1,13 @@
 -- The places of addresses: one step of each search, and where it stops.
-use Rattle.std.proofs.Common.{◌≡◌, ◌≢◌, ◌<◌, ◌≤◌, ◌+◌, ◌-◌, ◌∙◌, ℕ, zero, suc, Bool, true, false, List, length, refl, sym, ap}
+use Rattle.std.proofs.Common.{◌≡◌, ◌≢◌, ◌<◌, ◌≤◌, ◌+◌, ◌-◌, ◌∙◌, ℕ, zero, suc, Bool, true, false, List, length, refl}
+use Rattle.std.proofs.Common.{sym, ap}
 use Rattle.std.proofs.Common.{arith, Option, Some, None}
 use Rattle.std.specs.Prelude.{is_some, ◌==◌, if◌then◌else◌}
 use Rattle.std.proofs.lemmas.Bool.Decides.{nat_tests}
 use Rattle.markdown_base.specs.Bytes.{full_stop, underscore}
 use Rattle.markdown_autolinks.specs.AddressBytes.{byte_at, count_of, first_failing, has_late_underscore, passing_from}
 use Rattle.markdown_autolinks.specs.AddressBytes.{with_fewer}
-use Rattle.markdown_autolinks.specs.Addresses.{address_at, first_found, or_later}
+use Rattle.markdown_autolinks.specs.Addresses.{address_found_at, first_address_from, or_later}
 use Rattle.markdown_autolinks.specs.declared.address.Address.{Address}
 
 -- a place that passes is gone over
@@ -75,35 +76,37 @@ pub late_ends : (text : List ℕ) (at more left : ℕ) → left ≤ at → has_l
 late_ends text at more left over = let none : left - at ≡ 0 = omega (arith, over) in rw none refl
 
 -- an address that is found at a place is the first
-pub found_here : (text : List ℕ) (used at most : ℕ) → at < most → is_some (address_at text used at) ≡ true
-    → first_found text used at (most - at) ≡ address_at text used at
+pub found_here : (text : List ℕ) (used at most : ℕ) → at < most → is_some (address_found_at text used at) ≡ true
+    → first_address_from text used at (most - at) ≡ address_found_at text used at
 found_here text used at most inside some =
     let more : most - at ≡ suc (most - (at + 1)) = omega (arith, inside) in
-    rw more (first (address_at text used at) some)
+    rw more (first (address_found_at text used at) some)
   where
-    first : (o : Option Address) → is_some o ≡ true → or_later o (first_found text used (at + 1) (most - (at + 1))) ≡ o
+    first : (o : Option Address) → is_some o ≡ true
+        → or_later o (first_address_from text used (at + 1) (most - (at + 1))) ≡ o
     first (Some a) some = refl
     first None some = cc
 
 -- where none is found at a place, the first is found later
-pub found_later : (text : List ℕ) (used at most : ℕ) → at < most → is_some (address_at text used at) ≡ false
-    → first_found text used at (most - at) ≡ first_found text used (at + 1) (most - (at + 1))
+pub found_later : (text : List ℕ) (used at most : ℕ) → at < most → is_some (address_found_at text used at) ≡ false
+    → first_address_from text used at (most - at) ≡ first_address_from text used (at + 1) (most - (at + 1))
 found_later text used at most inside none =
     let more : most - at ≡ suc (most - (at + 1)) = omega (arith, inside) in
-    rw more (later (address_at text used at) none)
+    rw more (later (address_found_at text used at) none)
   where
     later : (o : Option Address) → is_some o ≡ false
-        → or_later o (first_found text used (at + 1) (most - (at + 1)))
-        ≡ first_found text used (at + 1) (most - (at + 1))
+        → or_later o (first_address_from text used (at + 1) (most - (at + 1)))
+        ≡ first_address_from text used (at + 1) (most - (at + 1))
     later None none = refl
     later (Some a) none = cc
 
 -- where no place is left, none is found
-pub found_nowhere : (text : List ℕ) (used at most : ℕ) → most ≤ at → first_found text used at (most - at) ≡ None
+pub found_nowhere : (text : List ℕ) (used at most : ℕ) → most ≤ at → first_address_from text used at (most - at) ≡ None
 found_nowhere text used at most over = let none : most - at ≡ 0 = omega (arith, over) in rw none refl
 
 -- a byte that is neither leaves it to those before it
-pub late_on : (text : List ℕ) (at more left byte : ℕ) → at < left → byte ≡ byte_at text (left - 1) → byte ≢ 95 → byte ≢ 46
+pub late_on : (text : List ℕ) (at more left byte : ℕ) → at < left
+    → byte ≡ byte_at text (left - 1) → byte ≢ 95 → byte ≢ 46
     → has_late_underscore text at more (left - at) ≡ has_late_underscore text at more (left - 1 - at)
 late_on text at more left byte inside is first second =
     let one : (byte_at text (left - 1) == underscore) ≡ false = grind (arith, nat_tests) in

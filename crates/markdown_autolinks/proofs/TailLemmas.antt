@@ -1,5 +1,6 @@
 -- Where addresses end: what is left out leaves the counts of parentheses.
-use Rattle.std.proofs.Common.{◌≡◌, ◌≢◌, ◌<◌, ◌≤◌, ◌+◌, ◌-◌, ◌∙◌, ◌⊎◌, inl, inr, ℕ, zero, suc, Bool, true, false, List, refl, sym}
+use Rattle.std.proofs.Common.{◌≡◌, ◌≢◌, ◌<◌, ◌≤◌, ◌+◌, ◌-◌, ◌∙◌, ◌⊎◌, inl, inr, ℕ, zero, suc, Bool, true, false, List}
+use Rattle.std.proofs.Common.{refl, sym}
 use Rattle.std.proofs.Common.{arith, ap}
 use Rattle.std.specs.Prelude.{◌==◌, ◌&&◌, nat_le, nat_lt, if◌then◌else◌}
 use Rattle.std.specs.Char.{is_ascii_alphabetic}
@@ -130,7 +131,8 @@ leaves_opening text start left inside some = cases (is_left_out text start left 
     cases (inr (inl (one, e))) =
         rw one (counts_no_other text 40 start left inside (is_other (λ b. b == 41) (byte_at text (left - 1)) 40 e refl))
     cases (inr (inr (all, e))) =
-        rw all (entity_counts text 40 start left inside (is_other (λ b. b == 59) (byte_at text (left - 1)) 40 e refl) refl
+        rw all (entity_counts text 40 start left inside
+        (is_other (λ b. b == 59) (byte_at text (left - 1)) 40 e refl) refl
         refl)
 
 -- and a `)` only where that is all of it

@@ -57,8 +57,8 @@ begins_in_any_case text at (b ∷ word) =
     (to_ascii_lowercase (byte_at text at) == b) && begins_in_any_case text (at + 1) word
 
 -- the number of bytes of the scheme at a place; 0 where there is none
-abbrev pub scheme_length : List ℕ → ℕ → ℕ
-scheme_length text at =
+abbrev pub address_scheme_length : List ℕ → ℕ → ℕ
+address_scheme_length text at =
     if begins_in_any_case text at (codes "http://") then 7
     else if begins_in_any_case text at (codes "https://") then 8
     else if begins_in_any_case text at (codes "ftp://") then 6
@@ -78,9 +78,10 @@ address_after text at before form =
 -- the web address that begins at a place: a scheme, not directly after a letter; a host; a tail
 abbrev pub web_address : List ℕ → ℕ → ℕ → Option Address
 web_address text used at =
-    if scheme_length text at == 0 then None
+    if address_scheme_length text at == 0 then None
     else if is_after_letter text used at then None
-    else if is_host text (at + scheme_length text at) then address_after text at (scheme_length text at) forms.Web
+    else if is_host text (at + address_scheme_length text at)
+    then address_after text at (address_scheme_length text at) forms.Web
     else None
 
 -- an address with `www.` may begin at a place: at the beginning, or after white space, `*`, `_`, `~` or `(`
@@ -91,7 +92,8 @@ may_begin_www text at =
 -- the address with `www.` that begins at a place: with what follows it is a host, and what follows is a host; a tail
 abbrev pub www_address : List ℕ → ℕ → Option Address
 www_address text at =
-    if starts_with nat_eq (drop at text) (codes "www.") && may_begin_www text at && is_host text (at + 4) && is_host text at
+    if starts_with nat_eq (drop at text) (codes "www.") && may_begin_www text at
+    && is_host text (at + 4) && is_host text at
     then address_after text at 4 forms.Www
     else None
 
@@ -127,9 +129,10 @@ mail_address text used at =
     })
     else None
 
--- the address that is found at a place, where all before `used` is used up: around an `@` there, or one that begins there
-abbrev pub address_at : List ℕ → ℕ → ℕ → Option Address
-address_at text used at =
+-- the address that is found at a place, where all before `used` is used up: around an `@` there, or one that begins
+-- there
+abbrev pub address_found_at : List ℕ → ℕ → ℕ → Option Address
+address_found_at text used at =
     if byte_at text at == 64 then mail_address text used at
     else if byte_at text at == 119 then www_address text at
     else web_address text used at
@@ -140,13 +143,14 @@ or_later None later = later
 or_later (Some a) later = Some a
 
 -- the first address that is found at one of the `n` places from `at` on
-abbrev pub first_found : List ℕ → ℕ → ℕ → ℕ → Option Address
-first_found text used at zero = None
-first_found text used at (suc n) = or_later (address_at text used at) (first_found text used (at + 1) n)
+abbrev pub first_address_from : List ℕ → ℕ → ℕ → ℕ → Option Address
+first_address_from text used at zero = None
+first_address_from text used at (suc n) =
+    or_later (address_found_at text used at) (first_address_from text used (at + 1) n)
 
 -- the first address after what is used up
 abbrev pub first_address : List ℕ → ℕ → Option Address
-first_address text used = first_found text used used (length text - used)
+first_address text used = first_address_from text used used (length text - used)
 
 -- an address, and those after its end; none where there is none
 abbrev pub and_later : Option Address → (ℕ → List Address) → List Address

@@ -1,6 +1,6 @@
 //! Addresses in a text, and the search for them.
 ghost use Rattle.std.specs.Prelude.{◌≡◌, ◌<◌, length};
-ghost use Rattle.markdown_autolinks.specs.Addresses.{address_at, first_address};
+ghost use Rattle.markdown_autolinks.specs.Addresses.{address_found_at, first_address};
 
 use crate::bytes::byte_at;
 use crate::mail::mail_address;
@@ -33,7 +33,7 @@ pub struct Address {
 #[tactic(auto, using(crate::proofs::WebLemmas::web_at))]
 fn address_at(text: &[u8], used: usize, at: usize) -> Option<Address>
     requires { at < length text.now }
-    ensures { result ≡ address_at text.now used at }
+    ensures { result ≡ address_found_at text.now used at }
 {
     let byte = byte_at(text, at);
     if byte == b'@' {

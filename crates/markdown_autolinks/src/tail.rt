@@ -37,7 +37,8 @@ fn word_end(text: &[u8], at: usize) -> usize
 /// Returns the first place from `start` on from which there are letters up to `end`.
 #[tactic(auto, using(crate::proofs::PlaceLemmas::goes_back, crate::proofs::PlaceLemmas::back_stops_here, crate::proofs::PlaceLemmas::back_stops_at_end))]
 fn letters_before(text: &[u8], start: usize, end: usize) -> usize
-    ensures value { result ≡ bytes.passing_from (λ at. is_ascii_alphabetic (bytes.byte_at text.now at))
+    ensures value { result
+        ≡ bytes.passing_from (λ at. is_ascii_alphabetic (bytes.byte_at text.now at))
         end (end - start) }
     ensures before { result ≤ end }
 {

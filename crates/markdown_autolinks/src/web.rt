@@ -25,7 +25,7 @@ fn begins_in_any_case(text: &[u8], at: usize, word: &[u8]) -> bool
 /// Returns the number of bytes of the scheme at a place; 0 where there is none.
 fn scheme_length(text: &[u8], at: usize) -> usize
     requires { at < length text.now }
-    ensures value { result ≡ spec.scheme_length text.now at }
+    ensures value { result ≡ spec.address_scheme_length text.now at }
     ensures few { result ≤ 8 }
 {
     if begins_in_any_case(text, at, b"http://") {
