@@ -18,7 +18,8 @@ pub record IsNewParser {F : Type 0} (s : Source) (o : OffsetIter F) : Type 0 whe
   pub reads : ReadsBlocks blocks (offset_parser o)
   pub alone : parser_callback (offset_parser o) ≡ None
 
--- nothing has been read of such a parser under an adapter of ids, where those are taken that the text has from the start
+-- nothing has been read of such a parser under an adapter of ids, where those are taken that the text has from the
+-- start
 pub record IsNewWithIds {F : Type 0} (s : Source) (h : HeadingIds (OffsetIter F)) : Type 0 where
   pub parser : IsNewParser s (ids_state h).iter
   pub ids : IsNewIds (ids_state h) (taken_in_text s)

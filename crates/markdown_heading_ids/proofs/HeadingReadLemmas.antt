@@ -62,8 +62,8 @@ one_more items item later =
     ∙ append_assoc (map item_seen items) (item_seen item ∷ []) later
 
 module _ {S : Type 0} (steps : S → Option SourceItem → S → Type 0) where
-  -- these items were read after the Start of a heading, which goes on: whatever follows, this is the text so far, and the
-  -- next item is inside
+  -- these items were read after the Start of a heading, which goes on: whatever follows, this is the text so far, and
+  -- the next item is inside
   pub record IsReadingHeading (s : S) (items : List SourceItem) (words : List ℕ) (t : S) : Type 0 where
     pub read : Yields steps s items t
     pub words_are : (later : List RangedItem) → heading_words (map item_seen items ++ later)
@@ -329,7 +329,8 @@ module _ {S : Type 0} (steps : S → Option SourceItem → S → Type 0) where
 
   -- memory is refused
   pub is_refused : (s t : IdsState S) (j : S) (e : Event × Range ℕ) (fault : Fault) → s.over ≡ false
-      → steps s.iter (Some (Ok e)) j → fault ≡ Memory → s.inside ≡ false → lacks_id (event_view e.0) ≡ true → t.kept ≡ [] → t.over ≡ true
+      → steps s.iter (Some (Ok e)) j → fault ≡ Memory → s.inside ≡ false → lacks_id (event_view e.0) ≡ true
+      → t.kept ≡ [] → t.over ≡ true
       → IsRefusedAnId steps s (Err fault) t
   is_refused s t j e fault goes_on step memory outside lacks nothing over =
       let h = lacking (opened_heading (event_view e.0)) lacks in

@@ -1,5 +1,6 @@
 -- Laws of events with the ids of their headings.
-use Rattle.std.proofs.Common.{◌≡◌, ◌⊎◌, ◌+◌, ◌<◌, ◌≤◌, ◌^◌, ℕ, length, Bool, true, false, not, if◌then◌else◌, List, [], ◌∷◌, ◌++◌, map, Option, Some}
+use Rattle.std.proofs.Common.{◌≡◌, ◌⊎◌, ◌+◌, ◌<◌, ◌≤◌, ◌^◌, ℕ, length, Bool, true}
+use Rattle.std.proofs.Common.{false, not, if◌then◌else◌, List, [], ◌∷◌, ◌++◌, map, Option, Some}
 use Rattle.std.proofs.Common.{None, refl, sym, ap, subst, ◌∙◌, inl, inr, arith}
 use Rattle.std.specs.Prelude.{is_some}
 use Rattle.std.specs.List.{AllZip}
@@ -104,7 +105,8 @@ has_it e {ids} (gets_id h id is lacks given) =
     let P : Ranged → Type 0 = λ f. HasId (opened_heading f.0) in
     subst P (sym (ap (λ (xs : List Id). with_given xs e) given ∙ made e h id is)) refl
 
-have_ids : (inside : Bool) (taken : List Id) (events : List Ranged) → HaveIdsFrom inside (with_ids_from inside taken events)
+have_ids : (inside : Bool) (taken : List Id) (events : List Ranged)
+    → HaveIdsFrom inside (with_ids_from inside taken events)
 have_ids inside taken [] = tt
 have_ids true taken (e ∷ events) = have_ids (not (ends_heading e.0)) taken events
 have_ids false taken (e ∷ events) =
@@ -119,7 +121,8 @@ each_heading_has_an_id taken events = have_ids false taken events
 
 -- ---- a second time
 
-nothing_given : (o : Option HeadingView) (taken : List Id) (events : List Ranged) → HasId o → given_id o taken events ≡ []
+nothing_given : (o : Option HeadingView) (taken : List Id) (events : List Ranged) → HasId o
+    → given_id o taken events ≡ []
 nothing_given None taken events has = refl
 nothing_given (Some h) taken events has = by h.id refl
   where
@@ -222,7 +225,8 @@ same_entry : (e : Ranged) {ids : List Id} (more events : List Ranged) → Gets e
 same_entry e {ids} more events (gets_none none has) words =
     rw none (by (opened_heading e.0))
   where
-    by : (o : Option HeadingView) → map without_id (opened_entry o e.1 more) ≡ map without_id (opened_entry o e.1 events)
+    by : (o : Option HeadingView)
+        → map without_id (opened_entry o e.1 more) ≡ map without_id (opened_entry o e.1 events)
     by None = refl
     by (Some h) = ap (λ (t : List ℕ). without_id (heading_entry h t e.1) ∷ []) words
 same_entry e {ids} more events (gets_id h id is lacks given) words =

@@ -6,7 +6,8 @@ use Rattle.markdown_base.specs.declared.options.Options.{Options}
 use Rattle.markdown_base.specs.declared.options.TheConstants.Options as enable
 use Rattle.markdown_tool_command.specs.Lists.{disables, enables}
 use Rattle.markdown_tool_command.specs.declared.extensions.Enabler.{Enabler}
-use Rattle.markdown_tool_command.specs.declared.extensions.Enabler.TheVariants.{AllGfmAndPage, AllAndGfm, All, NameAlone}
+use Rattle.markdown_tool_command.specs.declared.extensions.Enabler.TheVariants.{AllGfmAndPage, AllAndGfm}
+use Rattle.markdown_tool_command.specs.declared.extensions.Enabler.TheVariants.{All, NameAlone}
 use Rattle.markdown_tool_command.specs.declared.extensions.Effect.{Effect}
 use Rattle.markdown_tool_command.specs.declared.extensions.Effect.TheVariants as effects
 use Rattle.markdown_tool_command.specs.declared.extensions.Enabled.{Enabled}

@@ -1,6 +1,7 @@
 -- What is written for files, by format, and for a request.
 use Rattle.std.specs.Prelude.{◌≡◌, ℕ, suc, Bool, false, not, ◌&&◌, if◌then◌else◌, List, [], ◌∷◌, ◌++◌, length}
-use Rattle.std.specs.Prelude.{◌⊎◌, ◌==◌, Option, Some, None, bytes_eq, is_some, option_map, codes, decimal, map, nat_lt, slice_get, string_bytes, unwrap_or}
+use Rattle.std.specs.Prelude.{◌⊎◌, ◌==◌, Option, Some, None, bytes_eq, is_some}
+use Rattle.std.specs.Prelude.{option_map, codes, decimal, map, nat_lt, slice_get, string_bytes, unwrap_or}
 use Rattle.std.specs.List.{Any}
 use denote.Ref.{Bor}
 use Rattle.markdown_additions.specs.Additions.{AdditionsView, heading_ids, nothing, prefixed_ids}
@@ -115,7 +116,8 @@ IsFaultOfFiles format e files fault = (fault ≡ fault_kind.Memory) ⊎ Any (λ 
 -- the text of the first heading of level 1 that has one
 abbrev pub first_title : List EntryView → Option (List ℕ)
 first_title [] = None
-first_title (e ∷ entries) = if e.level == 1 && is_some (shown_title e.text) then shown_title e.text else first_title entries
+first_title (e ∷ entries) = if e.level == 1 && is_some (shown_title e.text) then shown_title e.text
+    else first_title entries
 
 -- whether the events of a file are made safe
 abbrev pub is_safe : Format → Bool
