@@ -1,5 +1,5 @@
 -- The request of a command line, by the values of its words: for each argument a row, under its name.
-use Rattle.std.specs.Prelude.{◌≡◌, ◌⊎◌, ℕ, Bool, false, ◌||◌, List, [], ◌∷◌, map, Option, Some, None, is_some}
+use Rattle.std.specs.Prelude.{◌≡◌, ℕ, Bool, false, ◌||◌, List, [], ◌∷◌, map, Option, Some, None, is_some}
 use Rattle.std.specs.Prelude.{option_map}
 use Rattle.std.specs.Prelude.{Result, Ok, Err, if◌then◌else◌, codes, unwrap_or, string_bytes}
 use Rattle.std.specs.Option.{IsSome, option_map_or}
