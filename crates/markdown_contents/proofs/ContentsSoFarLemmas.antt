@@ -9,7 +9,7 @@ use Rattle.markdown_contents.specs.Contents.{depth, line_after, lines_after}
 use Rattle.markdown_contents.specs.ContentsSoFar.{AreLinesSoFar, AreOpen, IsStair, lower_from}
 
 -- a level is above where it is lower, and otherwise it is not
-depth-above : (level nearest : ℕ) (others : List ℕ) → nearest < level → depth level (nearest ∷ others)
+pub depth-above : (level nearest : ℕ) (others : List ℕ) → nearest < level → depth level (nearest ∷ others)
     ≡ depth nearest others + 1
 depth-above level nearest others l = sym (cond_below nearest level (depth nearest others + 1) (depth level others) l)
 
