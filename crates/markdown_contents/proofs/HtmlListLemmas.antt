@@ -1,17 +1,17 @@
 -- What one more heading makes of the events of a list, and what is written of all of them.
-use Rattle.std.proofs.Common.{◌≡◌, ◌⊎◌, ℕ, zero, suc, ◌+◌, ◌<◌, ◌≤◌, List, [], ◌∷◌, ◌++◌, map, length, Option, Some, None}
-use Rattle.std.proofs.Common.{Ok, Err, Result, add-one, append_assoc, append-nil, inl, inr, refl, sym, ap, ◌∙◌, arith}
-use Rattle.std.proofs.Common.{reverse, true, false, Bool, subst, nat_lt, ◌-◌}
+use Rattle.std.proofs.Common.{◌≡◌, ◌⊎◌, ℕ, zero, suc, ◌+◌, List, [], ◌∷◌, ◌++◌, map, length, Option, Some, None}
+use Rattle.std.proofs.Common.{Ok, Err, Result, add-one, append_assoc, inl, inr, refl, sym, ap, ◌∙◌, arith}
+use Rattle.std.proofs.Common.{true, false, Bool, nat_lt, ◌-◌}
 use mathlib.Core.List.{reverse_aux}
 use Rattle.std.specs.Iterator.{AlwaysYields, Drains, Yields}
-use Rattle.std.proofs.lemmas.Bool.{cases_lt}
+use Rattle.std.proofs.lemmas.Iterator.{YieldsList}
 use Rattle.std.proofs.lemmas.List.{map-append}
 use Rattle.markdown.specs.EventWords.{Event, EventView, Fault, TagEnd, end, event_view, list_item, start}
 use Rattle.markdown.specs.HtmlWords.{IsOwnFault, IsRendered, IsTooDeep, StopsAtError, html_of, items}
 use Rattle.markdown.specs.OutlineWords.{EntryView}
 use Rattle.markdown_out.specs.LookBacks.{image_after, image_before}
 use Rattle.markdown_contents.specs.Contents.{depth}
-use Rattle.markdown_contents.specs.ContentsSoFar.{AreEventsSoFar, AreOpen, IsStair}
+use Rattle.markdown_contents.specs.ContentsSoFar.{AreEventsSoFar, AreOpen}
 use Rattle.markdown_contents.specs.HtmlList.{before_item, item_after, items_after, label_events, list_ends, list_events}
 use Rattle.markdown_contents.specs.HtmlList.{html_list_of, open_lists}
 use Rattle.markdown_contents.proofs.ContentsSoFarLemmas.{depth-above}
@@ -37,8 +37,13 @@ lists-open (nearest ∷ others) [] are =
     absurd (omega (arith, are.same (nearest + 1), depth-above (nearest + 1) nearest others (omega arith)))
 lists-open (nearest ∷ others) (level ∷ levels) are =
     let any = nearest + level + 1 in
-    omega (arith, are.same any, are.stair.0, depth-above any nearest others (omega arith),
-    depth-above any level levels (omega arith))
+    omega (
+      arith,
+      are.same any,
+      are.stair.0,
+      depth-above any nearest others (omega arith),
+      depth-above any level levels (omega arith),
+    )
 
 -- before the first heading no level is open, and there is no event
 pub events_first : (entries : List EntryView) → AreEventsSoFar [] [] entries (list_events entries)
@@ -115,18 +120,18 @@ none_too_deep events without deep = rw (none_open events [] refl without) at dee
 
 -- what an iterator returns that gives these events and no error
 module _ {S : Type 0} (steps : S → Option (Result Event Fault) → S → Type 0) where
-  -- all are these
-  pub all_given : (given : List Event) (s : S) (read : List Event) → AlwaysYields steps (λ r. r) s (items given)
+  -- what is read up to its end are these
+  all_given : (given : List Event) (s : S) (read : List Event) → AlwaysYields steps (λ r. r) s (items given)
       → Drains steps s (items read) → read ≡ given
   all_given [] s [] gives d = refl
   all_given [] s (e ∷ read) gives (u, (t, (j, h, y), z)) = absurd (gives (Ok e) j h)
-  all_given (g ∷ given) s [] gives (u, (t, y, z)) = absurd (gives.0 u (subst (λ (from : S). steps from None u) (sym y) z))
+  all_given (g ∷ given) s [] gives (u, (t, y, z)) = absurd (gives.0 u (rw y z))
   all_given (g ∷ given) s (e ∷ read) gives (u, (t, (j, h, y), z)) =
       let next = gives.1 (Ok e) j h in
       cc (next.0, all_given given j read next.1 (u, (t, y, z)))
 
-  -- it returns no error
-  pub no_error : (given : List Event) (s t : S) (read : List Event) (fault : Fault)
+  -- no error is read
+  no_error : (given : List Event) (s t : S) (read : List Event) (fault : Fault)
       → AlwaysYields steps (λ r. r) s (items given) → Yields steps s (items read ++ Err fault ∷ []) t → ⊥
   no_error [] s t [] fault gives (j, h, y) = gives (Err fault) j h
   no_error [] s t (e ∷ read) fault gives (j, h, y) = gives (Ok e) j h
@@ -134,33 +139,32 @@ module _ {S : Type 0} (steps : S → Option (Result Event Fault) → S → Type 
   no_error (g ∷ given) s t (e ∷ read) fault gives (j, h, y) =
       no_error given j t read fault (gives.1 (Ok e) j h).1 y
 
-  -- and where none of the events begins an image, none of the first does
-  first_without : (given : List Event) (s t : S) (read : List Event) → AlwaysYields steps (λ r. r) s (items given)
+  -- and where none of the events begins an image, none of those read does
+  read_without : (given : List Event) (s t : S) (read : List Event) → AlwaysYields steps (λ r. r) s (items given)
       → Yields steps s (items read) t → NoImages (map event_view given) → NoImages (map event_view read)
-  first_without given s t [] gives y without = tt
-  first_without [] s t (e ∷ read) gives (j, h, y) without = absurd (gives (Ok e) j h)
-  first_without (g ∷ given) s t (e ∷ read) gives (j, h, y) without =
+  read_without given s t [] gives y without = tt
+  read_without [] s t (e ∷ read) gives (j, h, y) without = absurd (gives (Ok e) j h)
+  read_without (g ∷ given) s t (e ∷ read) gives (j, h, y) without =
       let next = gives.1 (Ok e) j h in
       let same : e ≡ g = cc next.0 in
-      (rw same without.0, first_without given j t read next.1 y without.1)
+      (rw same without.0, read_without given j t read next.1 y without.1)
 
   -- so what is written of the events of a list is its HTML
-  module _ (given : List Event) (s : S) (entries : List EntryView)
-      (gives : AlwaysYields steps (λ r. r) s (items given)) (are : map event_view given ≡ list_events entries) where
-    pub written_list : (old new : List ℕ) → old ≡ [] → IsRendered steps s old new → new ≡ html_list_of entries
-    written_list old new empty r =
-        rw empty at r.stands
-        ∙ ap html_of (ap (map event_view) (all_given given s r.events gives r.read) ∙ are)
+  module _ (s : S) (given : List Event) (entries : List EntryView)
+      (gives : YieldsList steps (λ r. r) s (items given)) (are : map event_view given ≡ list_events entries) where
+    pub written_list : {old new : List ℕ} → old ≡ [] → IsRendered steps s old new → new ≡ html_list_of entries
+    written_list empty r =
+        rw empty at r.stands ∙ ap html_of (ap (map event_view) (all_given given s r.events gives.runs r.read) ∙ are)
 
     -- and the only error is that of memory
     own_fault : (old new : List ℕ) (fault : Fault) → IsOwnFault steps s old new fault → fault ≡ Fault.Memory
     own_fault old new Fault.Memory own = refl
     own_fault old new Fault.Blocks own = absurd own
     own_fault old new Fault.Depth own =
-        absurd (none_too_deep (map event_view own.events) (first_without given s own.left own.events gives own.read
-        (rw are (items_without [] entries))) own.deep)
+        absurd (none_too_deep (map event_view own.events)
+        (read_without given s own.left own.events gives.runs own.read (rw are (items_without [] entries))) own.deep)
 
     pub only_memory : (old new : List ℕ) (fault : Fault)
         → StopsAtError steps s old new fault ⊎ IsOwnFault steps s old new fault → fault ≡ Fault.Memory
-    only_memory old new fault (inl stops) = absurd (no_error given s stops.left stops.events fault gives stops.read)
+    only_memory old new fault (inl stops) = absurd (no_error given s stops.left stops.events fault gives.runs stops.read)
     only_memory old new fault (inr own) = own_fault old new fault own

@@ -1,5 +1,5 @@
 -- The table of contents of headings as HTML: the HTML of the events of a tight list of links, nested by `depth`.
-use Rattle.std.specs.Prelude.{ℕ, zero, suc, ◌+◌, ◌-◌, Bool, false, nat_lt, if◌then◌else◌}
+use Rattle.std.specs.Prelude.{ℕ, zero, suc, ◌+◌, ◌-◌, false, nat_lt, if◌then◌else◌}
 use Rattle.std.specs.Prelude.{List, [], ◌∷◌, ◌++◌, codes, Option, Some, None}
 use Rattle.markdown.specs.EventWords.{EventView, LinkType, TagEnd, end, link, list, list_item, start, text}
 use Rattle.markdown.specs.HtmlWords.{html_of}

@@ -1,11 +1,11 @@
 -- An item more is appended for the next heading, and at the end what is open ends.
-use Rattle.std.proofs.Common.{◌∙◌, ◌++◌, List, ap, drop, length, map, reverse, subst, sym, ◌∷◌, [], ◌+◌, ◌≡◌, ◌≤◌}
+use Rattle.std.proofs.Common.{◌∙◌, ◌++◌, List, ap, drop, map, reverse, subst, sym, ◌∷◌, [], ◌+◌, ◌≡◌}
 use Rattle.std.proofs.lemmas.List.{at_drop_all, at_drop_more, length-reverse}
 use Rattle.markdown.specs.EventWords.{event_view}
 use Rattle.markdown.specs.OutlineWords.{Entry, EntryView, entry_view}
 use Rattle.markdown_contents.specs.Contents.{depth}
 use Rattle.markdown_contents.specs.ContentsSoFar.{AreEventsSoFar}
-use Rattle.markdown_contents.specs.HtmlList.{item_after, list_ends, list_events, open_lists}
+use Rattle.markdown_contents.specs.HtmlList.{item_after, list_ends, list_events}
 use Rattle.markdown_contents.proofs.HtmlListLemmas.{events_last, events_next, lists-open}
 use Rattle.markdown_contents.proofs.html_list.list_events.Goals as goal
 
