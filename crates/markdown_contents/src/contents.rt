@@ -28,7 +28,7 @@ fn count_above(open_levels: &[u8], level: u8) -> usize
 
 /// Returns the number of headings above the next heading, which has this level. Its level is then open, and of the
 /// levels before it only those above it, so that each is removed once.
-fn next_depth(open_levels: &mut Vec<u8>, level: u8) -> Result<usize, Fault>
+pub(crate) fn next_depth(open_levels: &mut Vec<u8>, level: u8) -> Result<usize, Fault>
     ensures depth { IfOk result (λ above. (levels : List ℕ)
         → AreOpen (reverse open_levels.old.items) levels → above ≡ depth level levels) }
     ensures open_levels { OnOk result ((levels : List ℕ)
