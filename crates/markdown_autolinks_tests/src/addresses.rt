@@ -18,7 +18,11 @@ fn letter(form: AddressForm) -> &'static str {
 fn addresses(alloc: Global, text: &str) -> Result<String, AllocError> {
     let mut notes = String::new(alloc);
     let mut used = 0;
-    while let Some(found) = first_address(text.as_bytes(), used) {
+    // (an address has a byte at least)
+    for _ in 0..text.len() {
+        let Some(found) = first_address(text.as_bytes(), used) else {
+            return Ok(notes);
+        };
         let form = letter(found.form);
         notes.push_str(format!(in alloc;
             "{} {} {} {};",
