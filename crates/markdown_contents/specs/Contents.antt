@@ -96,9 +96,9 @@ lines_after file levels [] = []
 lines_after file levels (e ∷ entries) = line_after file levels e ++ lines_after file (e.level ∷ levels) entries
 
 -- the table of contents of the headings of a file
-abbrev pub contents_in : (file : List ℕ) → List EntryView → List ℕ
-contents_in file entries = lines_after file [] entries
+abbrev pub contents_in_file : (file : List ℕ) → List EntryView → List ℕ
+contents_in_file file entries = lines_after file [] entries
 
 -- the same with links within one text
 abbrev pub contents_of : List EntryView → List ℕ
-contents_of entries = contents_in [] entries
+contents_of entries = contents_in_file [] entries

@@ -12,7 +12,7 @@ use Rattle.markdown_base.specs.Source.{Source, source_as}
 use Rattle.markdown_base.specs.Syntax.{full_syntax}
 use Rattle.markdown_base.specs.declared.fault.Fault.{Fault}
 use Rattle.markdown_base.specs.declared.fault.Fault.TheVariants as fault_kind
-use Rattle.markdown_contents.specs.Contents.{contents_in}
+use Rattle.markdown_contents.specs.Contents.{contents_in_file}
 use Rattle.markdown_json.specs.Json.{string}
 use Rattle.markdown_contents.specs.HtmlList.{html_list_of}
 use Rattle.markdown_outline.specs.Outline.{EntryView}
@@ -68,7 +68,7 @@ output_of_file format.Html e f = written_of_text form.Html (html_additions e f) 
 output_of_file format.SafeHtml e f = written_of_text form.SafeHtml (html_additions e f) (file_source e f)
 output_of_file format.Events e f = written_of_text form.Lines (line_additions e) (file_source e f)
 output_of_file format.Outline e f = outline_of_file e f
-output_of_file format.Contents e f = contents_in (link_name f) (headings_of_text false heading_ids (file_source e f))
+output_of_file format.Contents e f = contents_in_file (link_name f) (headings_of_text false heading_ids (file_source e f))
 
 -- this is why nothing is written for a file: an allocation was refused, or its text is too deep for HTML
 abbrev pub IsFaultOfFile : Format → Enabled → FileView → Fault → Type 0

@@ -2,7 +2,7 @@
 ghost use Rattle.std.specs.Prelude.{◌≡◌, IfErr, IfOk, OnOk, map, option_copied, string_bytes};
 ghost use Rattle.markdown_additions.specs.Additions.{heading_ids, nothing};
 ghost use Rattle.markdown_additions.specs.Written.{headings_of_text};
-ghost use Rattle.markdown_contents.specs.Contents.{contents_in};
+ghost use Rattle.markdown_contents.specs.Contents.{contents_in_file};
 ghost use Rattle.markdown_outline.specs.Outline.{entry_view};
 ghost use Rattle.markdown_text_json.specs.OutlineJson.{outline_lines, outline_lines_with_ids};
 ghost use Rattle.markdown_tool_output.specs.Files.{file_view};
@@ -88,7 +88,7 @@ pub(crate) fn contents_of_file(
     file: File<'_>,
 ) -> Result<String, Fault>
     ensures list { IfOk result (λ list. string_bytes list
-        ≡ contents_in (link_name (file_view file.entry))
+        ≡ contents_in_file (link_name (file_view file.entry))
         (headings_of_text false heading_ids (file_source enabled (file_view file.entry)))) }
     ensures refused { IfErr result (λ fault. fault ≡ Fault.Memory) }
 {
