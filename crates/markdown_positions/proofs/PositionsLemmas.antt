@@ -2,7 +2,7 @@
 use Rattle.std.proofs.Common.{◌≡◌, ◌≤◌, ◌<◌, ◌+◌, ◌*◌, ◌^◌, ℕ, zero, suc, true, false, List, [], ◌∷◌, ◌++◌, Some, arith}
 use Rattle.std.proofs.Common.{Bool, ap, length, refl, slice_get, slice_index}
 use Rattle.std.proofs.lemmas.Option.{slice_get_past}
-use Rattle.markdown_positions.specs.Positions.{begins_character, ends_line, next_position, position_in}
+use Rattle.markdown_positions.specs.Positions.{is_first_byte, is_line_end, next_position, position_in}
 use Rattle.markdown_positions.specs.Samples.{AreSamples}
 use Rattle.markdown_positions.specs.declared.position.Position.{Position}
 
@@ -16,9 +16,9 @@ pub record IsAtMost (p : Position) (at : ℕ) : Type 0 where
   pub column : p.column ≤ at + 1
 
 next_at_most : (bytes : List ℕ) (at : ℕ) (p : Position) → IsAtMost p at → IsAtMost (next_position bytes at p) (suc at)
-next_at_most bytes at p m = by_test (ends_line bytes at)
+next_at_most bytes at p m = by_test (is_line_end bytes at)
     (λ e. rw e (record { line = omega (arith, m.line); column = omega arith }))
-    (λ e. by_test (begins_character (slice_index bytes at))
+    (λ e. by_test (is_first_byte (slice_index bytes at))
     (λ b. rw (e, b) (record { line = omega (arith, m.line); column = omega (arith, m.column) }))
     (λ b. rw (e, b) (record { line = omega (arith, m.line); column = omega (arith, m.column) })))
 

@@ -9,20 +9,20 @@ abbrev pub first_position : Position
 first_position = record { line = 1; column = 1 }
 
 -- whether a line ends with the byte at this offset: a line feed, or a carriage return that no line feed follows
-abbrev pub ends_line : List ℕ → ℕ → Bool
-ends_line bytes at =
+abbrev pub is_line_end : List ℕ → ℕ → Bool
+is_line_end bytes at =
     (slice_index bytes at == 10) || ((slice_index bytes at == 13) && not (slice_index bytes (at + 1) == 10))
 
 -- whether a byte of UTF-8 is the first of a character
-abbrev pub begins_character : ℕ → Bool
-begins_character byte = nat_lt byte 128 || nat_le 192 byte
+abbrev pub is_first_byte : ℕ → Bool
+is_first_byte byte = nat_lt byte 128 || nat_le 192 byte
 
 -- the position after the byte at this offset, which has this position: the next line, the next column, or, inside a
 -- character, the same
 abbrev pub next_position : List ℕ → (at : ℕ) → Position → Position
 next_position bytes at position =
-    if ends_line bytes at then record { line = position.line + 1; column = 1 }
-    else if begins_character (slice_index bytes at) then record { line = position.line; column = position.column + 1 }
+    if is_line_end bytes at then record { line = position.line + 1; column = 1 }
+    else if is_first_byte (slice_index bytes at) then record { line = position.line; column = position.column + 1 }
     else position
 
 -- the position of an offset of these bytes, without notice of a byte order mark

@@ -1,6 +1,6 @@
 //! `Position`, a line and a column, and the position after one more byte.
 ghost use Rattle.std.specs.Prelude.{◌≡◌, ◌<◌, ◌^◌, length};
-ghost use Rattle.markdown_positions.specs.Positions.{begins_character, ends_line, first_position, next_position};
+ghost use Rattle.markdown_positions.specs.Positions.{is_first_byte, is_line_end, first_position, next_position};
 
 /// A place in a text. Both numbers count from 1.
 #[derive(Clone, Copy, Debug, PartialEq, Eq, Drop)]
@@ -18,9 +18,9 @@ pub fn first_position() -> Position
 }
 
 /// Returns whether a line ends with the byte at this offset: a line feed, or a carriage return without one after it.
-fn ends_line(bytes: &[u8], at: usize) -> bool
+fn is_line_end(bytes: &[u8], at: usize) -> bool
     requires { at < length bytes.now }
-    ensures { result ≡ ends_line bytes.now at }
+    ensures { result ≡ is_line_end bytes.now at }
 {
     match bytes[at] {
         b'\n' => true,
@@ -33,8 +33,8 @@ fn ends_line(bytes: &[u8], at: usize) -> bool
 }
 
 /// Returns whether a byte is the first of a character.
-fn begins_character(byte: u8) -> bool
-    ensures { result ≡ begins_character byte }
+fn is_first_byte(byte: u8) -> bool
+    ensures { result ≡ is_first_byte byte }
 {
     byte < 128 || 192 <= byte
 }
@@ -45,13 +45,13 @@ pub fn next_position(bytes: &[u8], at: usize, position: Position) -> Position
     requires small { (position.line < 2 ^ 63) × (position.column < 2 ^ 63) }
     ensures { result ≡ next_position bytes.now at position }
 {
-    if ends_line(bytes, at) {
+    if is_line_end(bytes, at) {
         return Position {
             line: position.line + 1,
             column: 1,
         };
     }
-    if begins_character(bytes[at]) {
+    if is_first_byte(bytes[at]) {
         return Position {
             line: position.line,
             column: position.column + 1,
