@@ -16,3 +16,4 @@ mod words;
 
 pub use pieces::{Piece, push_pieces};
 pub use push::push_json;
+pub use words::link_type_text;

@@ -95,7 +95,7 @@ impl Value for MetadataBlockKind {
 }
 
 /// Returns the JSON of a link type.
-pub(crate) fn link_type_text(kind: LinkType) -> &'static str
+pub fn link_type_text(kind: LinkType) -> &'static str
     ensures { result.now ≡ link_type_json kind }
 {
     match kind {
