@@ -1,6 +1,6 @@
 -- What the links found so far become, at each kind of event.
-use Rattle.std.proofs.Common.{◌≡◌, ◌≤◌, ◌<◌, ◌+◌, ◌-◌, ℕ, zero, suc, true, false, is_none, List, [], ◌∷◌, ◌++◌, Option}
-use Rattle.std.proofs.Common.{Some, None, refl, sym, ap, ◌∙◌, length, drop, take, map, append_assoc, append-nil, All}
+use Rattle.std.proofs.Common.{◌≡◌, ◌≤◌, ◌<◌, ◌+◌, ◌-◌, ℕ, zero, suc, true, false, List, [], ◌∷◌, ◌++◌, Option}
+use Rattle.std.proofs.Common.{Some, None, refl, sym, ap, ◌∙◌, length, drop, map, append_assoc, append-nil}
 use Rattle.std.proofs.Common.{slice_range, IsCharBoundary, IsUtf8, IfSome, set, get_or, arith}
 use Rattle.std.proofs.lemmas.List.{length-append, length-drop, drop-append-le, nil_from_length, take_all, take-append-le}
 use Rattle.std.proofs.Math.Seq.{drop-length, get_or-append_seam, set-append_seam}
@@ -9,7 +9,7 @@ use Rattle.std.proofs.lemmas.Str.{IsCharBoundary-end, IsCharBoundary-from_drop, 
 use Rattle.std.specs.String.{string_bytes}
 use Rattle.markdown_links.specs.FoundLinks.{AreKept, BeginsAtEnd, HasLink, IsBegunBy, all_links, count_open, open_ones}
 use Rattle.markdown_links.specs.FoundLinks.{text_and_more, whole_entries, whole_entry}
-use Rattle.markdown_links.specs.LinkEntries.{LinkEntryView, ends_link, link_entries_of, link_entry, opened_link}
+use Rattle.markdown_links.specs.LinkEntries.{ends_link, link_entries_of, link_entry, opened_link}
 use Rattle.markdown_links.specs.LinkEntries.{up_to_own_end}
 use Rattle.markdown_links.specs.CutOut.{AreCutOut, IsCutOut, found_begun, found_entry, part_of_text}
 use Rattle.markdown_links.specs.declared.found.Found.{Found}

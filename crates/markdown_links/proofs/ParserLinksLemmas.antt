@@ -13,13 +13,12 @@ use Rattle.markdown_inline.specs.Balanced.{ranged}
 use Rattle.markdown_inline.specs.Elements.{Element, event, events_of}
 use Rattle.markdown_inline.specs.NextGives.{NextGives, IsPlacedOf}
 use Rattle.markdown_inline.specs.ParserLeft.{ReadsText, elements, offset_parser, parser_callback}
-use Rattle.markdown_inline.specs.ReadingOfText.{events_of_text, reading_of_text}
+use Rattle.markdown_inline.specs.ReadingOfText.{reading_of_text}
 use Rattle.markdown_inline.specs.declared.walk.OffsetIter.{OffsetIter}
 use Rattle.markdown_inline.proofs.RunLemmas.{events_of-questions}
 use Rattle.markdown_links.specs.LinkEntries.{LinkEntryView, link_entries_of}
 use Rattle.markdown_links.specs.LinksOfText.{links_of_text}
 use Rattle.markdown_links.specs.LinksRead.{AreLinksOfAll}
-use Rattle.markdown_outline.specs.Outline.{Ranged}
 use Rattle.markdown_outline.specs.OutlineRead.{MeetsError, event_items, ranged_view}
 
 -- with no callback nothing is asked, and there is none afterwards
