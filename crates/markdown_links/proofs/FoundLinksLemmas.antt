@@ -2,7 +2,8 @@
 use Rattle.std.proofs.Common.{◌≡◌, ◌≤◌, ◌<◌, ◌+◌, ◌-◌, ℕ, zero, suc, true, false, List, [], ◌∷◌, ◌++◌, Option}
 use Rattle.std.proofs.Common.{Some, None, refl, sym, ap, ◌∙◌, length, drop, map, append_assoc, append-nil}
 use Rattle.std.proofs.Common.{slice_range, IsCharBoundary, IsUtf8, IfSome, set, get_or, arith}
-use Rattle.std.proofs.lemmas.List.{length-append, length-drop, drop-append-le, nil_from_length, take_all, take-append-le}
+use Rattle.std.proofs.lemmas.List.{length-append, length-drop, drop-append-le, nil_from_length, take_all}
+use Rattle.std.proofs.lemmas.List.{take-append-le}
 use Rattle.std.proofs.Math.Seq.{drop-length, get_or-append_seam, set-append_seam}
 use Rattle.std.proofs.lemmas.List.Elements.{All-append, All-cons, All-head, All-nil, All-set, All-tail}
 use Rattle.std.proofs.lemmas.Str.{IsCharBoundary-end, IsCharBoundary-from_drop, IsUtf8-append, IsUtf8-drop}
@@ -14,7 +15,8 @@ use Rattle.markdown_links.specs.LinkEntries.{up_to_own_end}
 use Rattle.markdown_links.specs.CutOut.{AreCutOut, IsCutOut, found_begun, found_entry, part_of_text}
 use Rattle.markdown_links.specs.declared.found.Found.{Found}
 use Rattle.markdown_links.specs.declared.so_far.LinksSoFar.{LinksSoFar}
-use Rattle.markdown_links.proofs.LinkEntriesLemmas.{end_begins_none, entries_at_other, inside_at_end, inside_at_other, inside_at_own_end}
+use Rattle.markdown_links.proofs.LinkEntriesLemmas.{end_begins_none, entries_at_other, inside_at_end}
+use Rattle.markdown_links.proofs.LinkEntriesLemmas.{inside_at_other, inside_at_own_end}
 use Rattle.markdown_links.proofs.LinkEntriesLemmas.{inside_at_start}
 use Rattle.markdown_outline.specs.Outline.{Ranged, joined_text, text_added}
 
@@ -87,7 +89,8 @@ can_cut-more texts more at c u v =
     IsCharBoundary-from_drop (texts ++ more) at within
     (rw (drop-append-le at texts more c.0) (IsUtf8-append (drop at texts) more (IsUtf8-drop texts at u c) v))
 
-cut_end-more : (texts more : List ℕ) (start : ℕ) (end : Option ℕ) → IfSome end (λ e. (start ≤ e) × IsCharBoundary texts e)
+cut_end-more : (texts more : List ℕ) (start : ℕ) (end : Option ℕ)
+    → IfSome end (λ e. (start ≤ e) × IsCharBoundary texts e)
     → IsUtf8 texts → IsUtf8 more → IfSome end (λ e. (start ≤ e) × IsCharBoundary (texts ++ more) e)
 cut_end-more texts more start None c u v = tt
 cut_end-more texts more start (Some e) c u v = (c.0, can_cut-more texts more e c.1 u v)
@@ -110,7 +113,8 @@ part-more texts more start end l s e = rw (drop-append-le start texts more s.0)
     (take-append-le (end - start) (drop start texts) more
     (omega (arith, l, s.0, e.0, length-drop start texts)))
 
-module _ (texts : List ℕ) (e : Ranged) (later : List Ranged) (n : opened_link e.0 ≡ None) (h : ends_link e.0 ≡ false) where
+module _ (texts : List ℕ) (e : Ranged) (later : List Ranged) (n : opened_link e.0 ≡ None)
+    (h : ends_link e.0 ≡ false) where
   -- the text of one takes in that of an event
   text-more : (within : ℕ) (start : ℕ) (end : Option ℕ) → IsCharBoundary texts start
       → IfSome end (λ e. (start ≤ e) × IsCharBoundary texts e)
