@@ -2,7 +2,8 @@
 use Rattle.std.specs.Prelude.{◌≡◌, ◌<◌, ◌+◌, ℕ, suc, List, [], ◌∷◌, ◌++◌, length, drop, slice_range, Option, Some, None}
 use Rattle.std.specs.Prelude.{Bool, if◌then◌else◌, is_none}
 use Rattle.std.specs.String.{string_bytes}
-use Rattle.markdown_links.specs.LinkEntries.{LinkBegun, LinkEntryView, link_entry, link_entries_of, opened_link, up_to_own_end}
+use Rattle.markdown_links.specs.LinkEntries.{LinkBegun, LinkEntryView, link_entry, link_entries_of, opened_link}
+use Rattle.markdown_links.specs.LinkEntries.{up_to_own_end}
 use Rattle.markdown_links.specs.CutOut.{AreCutOut, found_begun}
 use Rattle.markdown_links.specs.declared.events.Place.{Place}
 use Rattle.markdown_links.specs.declared.found.Found.{Found}

@@ -48,8 +48,8 @@ abbrev pub ends_link : EventView → Bool
 ends_link (end tag) = is_link_tag tag
 ends_link other = false
 
--- of the events inside a link or an image, of which `within` more have begun inside it and not ended yet, those up to its
--- own End, which is the one that comes when none of those is left, or all events if it has no End
+-- of the events inside a link or an image, of which `within` more have begun inside it and not ended yet, those up
+-- to its own End, which is the one that comes when none of those is left, or all events if it has no End
 abbrev pub up_to_own_end : (within : ℕ) → List Ranged → List Ranged
 up_to_own_end within [] = []
 up_to_own_end within (e ∷ events) =
@@ -57,8 +57,8 @@ up_to_own_end within (e ∷ events) =
     else if ends_link e.0 then (if within == 0 then [] else e ∷ up_to_own_end (within - 1) events)
     else e ∷ up_to_own_end within events
 
--- the entry that begins with a Start that has this range, from the events that follow: its text is that of the events up
--- to its own End, so also that of links and images inside it
+-- the entry that begins with a Start that has this range, from the events that follow: its text is that of the
+-- events up to its own End, so also that of links and images inside it
 abbrev pub begun_entry : Option LinkBegun → Range ℕ → List Ranged → List LinkEntryView
 begun_entry None range events = []
 begun_entry (Some begun) range events = link_entry begun (joined_text (up_to_own_end 0 events)) range ∷ []

@@ -37,7 +37,8 @@ fn begun<'a>(
     place: Place,
 ) -> Result<Found, AllocError>
     ensures { IfOk result (λ found. begun_at is_image
-        (link_view (link_type, texts.entry.0.now, texts.entry.1.now, texts.entry.2.now)) place found) }
+        (link_view (link_type, texts.entry.0.now, texts.entry.1.now, texts.entry.2.now)) place
+        found) }
 {
     let (dest_url, title, id) = texts;
     Ok(Found {

@@ -85,7 +85,8 @@ impl LinksSoFar {
         requires { AreKept self.old }
         ensures kept { OnOk result (AreKept self.new) }
         ensures ok { OnOk result ((later : List Ranged)
-            → all_links self.old ((event_view event.now, range) ∷ later) ≡ all_links self.new later) }
+            → all_links self.old ((event_view event.now, range) ∷ later)
+            ≡ all_links self.new later) }
         ensures refused { IfErr result (λ fault. (fault ≡ Memory)
             × HasLink self.old ((event_view event.now, range) ∷ [])) }
     {
@@ -113,7 +114,8 @@ impl LinksSoFar {
         requires { AreKept self.old }
         ensures kept { OnOk result (AreKept self.new) }
         ensures ok { OnOk result ((later : List Ranged)
-            → all_links self.old ((event_view event.entry, range) ∷ later) ≡ all_links self.new later) }
+            → all_links self.old ((event_view event.entry, range) ∷ later)
+            ≡ all_links self.new later) }
         ensures refused { IfErr result (λ fault. (fault ≡ Memory)
             × HasLink self.old ((event_view event.entry, range) ∷ [])) }
     {

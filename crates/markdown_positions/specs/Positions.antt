@@ -1,7 +1,7 @@
--- The position of a byte offset of a text: its line and its column, both counted from 1. Lines end with a line feed, with a
--- carriage return and a line feed, or with a carriage return alone, and columns count characters.
-use Rattle.std.specs.Prelude.{◌+◌, ◌-◌, ◌==◌, ◌&&◌, ◌||◌, ℕ, zero, suc, Bool, not, List, if◌then◌else◌, drop, length, min}
-use Rattle.std.specs.Prelude.{nat_lt, nat_le, slice_index}
+-- The position of a byte offset of a text: its line and its column, both counted from 1. Lines end with a line feed,
+-- with a carriage return and a line feed, or with a carriage return alone, and columns count characters.
+use Rattle.std.specs.Prelude.{◌+◌, ◌-◌, ◌==◌, ◌&&◌, ◌||◌, ℕ, zero, suc, Bool, not, List, if◌then◌else◌, drop, length}
+use Rattle.std.specs.Prelude.{min, nat_lt, nat_le, slice_index}
 use Rattle.markdown_positions.specs.declared.position.Position.{Position}
 
 -- that of the beginning
