@@ -1,17 +1,12 @@
--- What one more heading leaves of the open levels, and how often its anchor has occurred.
+-- What one more heading leaves of the open levels.
 use Rattle.std.proofs.Common.{◌≡◌, ℕ, ◌+◌, ◌<◌, ◌≤◌, Bool, true, false, cond, List, [], ◌∷◌, ◌++◌, map, reverse, length}
-use Rattle.std.proofs.Common.{get_or, take, Some}
-use Rattle.std.proofs.Common.{inl, inr, refl, sym, ap, ◌∙◌, subst, arith, BTreeMap, String, bytes_eq, unwrap_or}
-use Rattle.std.specs.BTreeMap.{IsEmpty, get_by_text}
-use Rattle.std.specs.Cmp.Lexicographic.{bytes_decides}
-use Rattle.std.specs.Map.{update}
+use Rattle.std.proofs.Common.{get_or, take}
+use Rattle.std.proofs.Common.{append_assoc, inl, inr, refl, sym, ap, ◌∙◌, subst, arith}
 use Rattle.std.proofs.lemmas.Bool.{cases_lt, cond_below, cond_above}
 use Rattle.std.proofs.lemmas.List.{map-append, reverse-append, take_more, length-reverse, length-take-le}
-use Rattle.std.proofs.lemmas.List.Sums.{sum_by_push, count_by-le-length}
 use Rattle.markdown.specs.OutlineWords.{EntryView}
-use Rattle.markdown_contents.specs.Contents.{depth, plain_anchor}
-use Rattle.markdown_contents.specs.ContentsSoFar.{AreOpen, AreReadyAfter, Counts, CountsOneMore, IsStair, lower_from}
-use Rattle.markdown_contents.specs.ContentsSoFar.{times_of}
+use Rattle.markdown_contents.specs.Contents.{depth, line_after, lines_after}
+use Rattle.markdown_contents.specs.ContentsSoFar.{AreLinesSoFar, AreOpen, IsStair, lower_from}
 
 -- a level is above where it is lower, and otherwise it is not
 depth-above : (level nearest : ℕ) (others : List ℕ) → nearest < level → depth level (nearest ∷ others)
@@ -120,54 +115,26 @@ pub above-made : (above level : ℕ) (open_old : List ℕ) → above ≤ length 
 above-made above level open_old within lower =
     sym (length-take-le above open_old within) ∙ sym (length-reverse (take above open_old)) ∙ ap length lower
 
-module _ {Y : Type 0} where
-  -- an anchor whose count was set to one more has occurred once more
-  pub counts-set : (old new : BTreeMap (String Y) ℕ) (anchor : List ℕ)
-      → ((other : List ℕ) → get_by_text new other ≡ update bytes_eq (get_by_text old) anchor
-      (Some (times_of old anchor + 1)) other)
-      → CountsOneMore old new anchor
-  counts-set old new anchor sets other = ap (λ o. unwrap_or o 0) (sets other) ∙ now (bytes_eq anchor other) refl
-    where
-      now : (same : Bool) → bytes_eq anchor other ≡ same
-          → unwrap_or (cond (bytes_eq anchor other) (Some (times_of old anchor + 1)) (get_by_text old other)) 0
-          ≡ times_of old other + cond (bytes_eq anchor other) 1 0
-      now true e = rw e (ap (λ a. times_of old a + 1) ((bytes_decides anchor other).0 e))
-      now false e = rw e (omega arith)
+-- before the first heading no level is open, and nothing is written
+pub lines_first : (file : List ℕ) (entries : List EntryView)
+    → AreLinesSoFar file [] [] entries (lines_after file [] entries)
+lines_first file entries = record {
+  levels = [];
+  open_levels_serve = record { stair = tt; same = λ level. refl };
+  lines = refl;
+}
 
-  -- so each has occurred as often as it is among all, with this one
-  pub counts-more : (old new : BTreeMap (String Y) ℕ) (anchors : List (List ℕ)) (anchor : List ℕ) → Counts old anchors
-      → CountsOneMore old new anchor → Counts new (anchors ++ anchor ∷ [])
-  counts-more old new anchors anchor counts more other =
-      more other ∙ ap (λ n. n + cond (bytes_eq anchor other) 1 0) (counts other)
-      ∙ sym (sum_by_push (λ a. cond (bytes_eq a other) 1 0) anchors anchor)
-
-  -- no more often than there are anchors
-  pub counts-few : (times : BTreeMap (String Y) ℕ) (anchors : List (List ℕ)) (anchor : List ℕ) → Counts times anchors
-      → times_of times anchor ≤ length anchors
-  counts-few times anchors anchor counts = omega
-      (arith, counts anchor, count_by-le-length (λ other. bytes_eq other anchor) anchors)
-
-  -- before the first heading no level is open, and no anchor has occurred
-  pub ready-first : (open_levels : List ℕ) (times : BTreeMap (String Y) ℕ) → open_levels ≡ [] → IsEmpty times
-      → AreReadyAfter open_levels times []
-  ready-first open_levels times none empty = record {
-    levels = rw none (record { stair = tt; same = λ level. refl });
-    anchors = λ anchor. rw empty refl;
-  }
-
-  -- one more heading
-  pub ready-next : (open_old open_new : List ℕ) (old new : BTreeMap (String Y) ℕ) (before : List EntryView)
-      (e : EntryView) → AreReadyAfter open_old old before
-      → ((levels : List ℕ) → AreOpen open_old levels → AreOpen open_new (e.level ∷ levels))
-      → CountsOneMore old new (plain_anchor e.text) → AreReadyAfter open_new new (before ++ e ∷ [])
-  ready-next open_old open_new old new before e ready opened counted = record {
-    levels = subst (AreOpen open_new)
-        (sym (ap reverse (map-append (λ (b : EntryView). b.level) before (e ∷ []))
-        ∙ reverse-append (map (λ (b : EntryView). b.level) before) (e.level ∷ [])))
-        (opened (reverse (map (λ (b : EntryView). b.level) before)) ready.levels);
-    anchors = subst (Counts new)
-        (sym (ap (map plain_anchor) (map-append (λ (b : EntryView). b.text) before (e ∷ []))
-        ∙ map-append plain_anchor (map (λ (b : EntryView). b.text) before) (e.text ∷ [])))
-        (counts-more old new (map plain_anchor (map (λ (b : EntryView). b.text) before)) (plain_anchor e.text)
-        ready.anchors counted);
-  }
+-- after the line of one more heading
+pub lines_next : (file open_old open_new list list' : List ℕ) (e : EntryView) (left : List EntryView) (whole : List ℕ)
+    → AreLinesSoFar file open_old list (e ∷ left) whole
+    → ((levels : List ℕ) → AreOpen open_old levels → AreOpen open_new (e.level ∷ levels))
+    → ((levels : List ℕ) → AreOpen open_old levels → list' ≡ list ++ line_after file levels e)
+    → AreLinesSoFar file open_new list' left whole
+lines_next file open_old open_new list list' e left whole so_far opened written = record {
+  levels = e.level ∷ so_far.levels;
+  open_levels_serve = opened so_far.levels so_far.open_levels_serve;
+  lines = ap (λ w. w ++ lines_after file (e.level ∷ so_far.levels) left)
+      (written so_far.levels so_far.open_levels_serve)
+      ∙ append_assoc list (line_after file so_far.levels e) _
+      ∙ so_far.lines;
+}

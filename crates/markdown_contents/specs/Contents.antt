@@ -1,34 +1,11 @@
--- The table of contents of headings: a nested Markdown list of links, each to its heading's anchor.
-use Rattle.std.specs.Prelude.{ℕ, zero, suc, ◌+◌, Bool, true, false, ◌==◌, ◌||◌, nat_lt, if◌then◌else◌}
-use Rattle.std.specs.Prelude.{List, [], ◌∷◌, ◌++◌, map, reverse, flat_map, count_by}
-use Rattle.std.specs.Prelude.{codes, chars, bytes_eq, decimal, encode_utf8}
-use Rattle.std.specs.Char.Unicode.Alphabetic.{is_alphabetic}
-use Rattle.std.specs.Char.Unicode.Numeric.{is_numeric}
+-- The table of contents of headings: a nested Markdown list of links, each to the id of its heading.
+use Rattle.std.specs.Prelude.{ℕ, zero, suc, ◌+◌, Bool, false, not, ◌==◌, ◌||◌, ◌&&◌, nat_lt, if◌then◌else◌}
+use Rattle.std.specs.Prelude.{List, [], ◌∷◌, ◌++◌, map, reverse, flat_map, Option, Some, None}
+use Rattle.std.specs.Prelude.{codes, chars, encode_utf8}
 use Rattle.std.specs.List.{list_any}
-use Rattle.std.specs.StrCase.Lower.{str_to_lowercase}
-use Rattle.markdown.specs.ByteWords.{carriage_return, hyphen, line_feed, space, underscore}
+use Rattle.percent_encoding.specs.Percent.{percent_encode_byte}
+use Rattle.markdown.specs.ByteWords.{carriage_return, colon, line_feed, slash, space}
 use Rattle.markdown.specs.OutlineWords.{EntryView}
-
--- whether an anchor keeps a character: it is a letter or a digit of any script, `-` or `_`
-abbrev pub stays_in_anchor : ℕ → Bool
-stays_in_anchor c = ((c == hyphen) || (c == underscore)) || (is_alphabetic c || is_numeric c)
-
--- what a character becomes in an anchor: `-` for a space, and nothing for one that an anchor does not keep
-abbrev pub anchor_char : ℕ → List ℕ
-anchor_char c = if c == space then codes "-" else if stays_in_anchor c then encode_utf8 c else []
-
--- the anchor of a heading's text, without a number: what its characters in lower case become
-abbrev pub plain_anchor : List ℕ → List ℕ
-plain_anchor text = flat_map anchor_char (chars (str_to_lowercase text))
-
--- an anchor that has occurred this number of times before: followed by that number, unless it is 0
-abbrev pub with_number : List ℕ → ℕ → List ℕ
-with_number anchor times = if times == 0 then anchor else anchor ++ codes "-" ++ decimal times
-
--- the anchor of a heading's text, after headings with these texts
-abbrev pub anchor_of : (before : List (List ℕ)) → List ℕ → List ℕ
-anchor_of before text =
-    with_number (plain_anchor text) (count_by (λ other. bytes_eq other (plain_anchor text)) (map plain_anchor before))
 
 -- whether a character may be markup in the text of a link
 abbrev pub is_markup : ℕ → Bool
@@ -58,20 +35,70 @@ abbrev pub indent : ℕ → List ℕ
 indent zero = []
 indent (suc depth) = codes "  " ++ indent depth
 
--- the line of a heading
-abbrev pub line : (depth : ℕ) (text anchor : List ℕ) → List ℕ
-line depth text anchor = indent depth ++ codes "- [" ++ escaped text ++ codes "](#" ++ anchor ++ codes ")\n"
+-- the last control character of ASCII
+abbrev pub delete : ℕ
+delete = 127
 
--- the line of a heading after these headings
-abbrev pub line_after : List EntryView → EntryView → List ℕ
-line_after before e =
-    line (depth e.level (reverse (map (λ b. b.level) before))) e.text (anchor_of (map (λ b. b.text) before) e.text)
+-- whether a character is written by its number in a destination: it is a space, a control character of ASCII, or DEL
+abbrev pub is_encoded : ℕ → Bool
+is_encoded c = nat_lt c (space + 1) || c == delete
 
--- the lines of headings after these headings
-abbrev pub lines_after : List EntryView → List EntryView → List ℕ
-lines_after before [] = []
-lines_after before (e ∷ entries) = line_after before e ++ lines_after (before ++ e ∷ []) entries
+-- whether a character has a meaning in a destination
+abbrev pub is_destination_markup : ℕ → Bool
+is_destination_markup c = list_any (λ mark. c == mark) (codes "\\()<>&")
 
--- the table of contents of these headings
+-- what a character of an id is written as in a destination
+abbrev pub id_char : ℕ → List ℕ
+id_char c =
+    if is_encoded c then percent_encode_byte c
+    else if is_destination_markup c then codes "\\" ++ encode_utf8 c
+    else encode_utf8 c
+
+-- an id in a destination
+abbrev pub id_in_destination : List ℕ → List ℕ
+id_in_destination id = flat_map id_char (chars id)
+
+-- whether a character of a file's name has a meaning in an address
+abbrev pub is_address_mark : ℕ → Bool
+is_address_mark c = list_any (λ mark. c == mark) (codes "%#?")
+
+-- what a character of a file's name is written as in a destination
+abbrev pub file_char : ℕ → List ℕ
+file_char c = if is_address_mark c then percent_encode_byte c else id_char c
+
+-- whether a file's name would be read as an address with a scheme: there is a colon before its first slash
+abbrev pub may_be_scheme : List ℕ → Bool
+may_be_scheme [] = false
+may_be_scheme (b ∷ name) = (b == colon) || (not (b == slash) && may_be_scheme name)
+
+-- a file's name in a destination
+abbrev pub file_in_destination : List ℕ → List ℕ
+file_in_destination name = (if may_be_scheme name then codes "./" else []) ++ flat_map file_char (chars name)
+
+-- the text of a heading without an id, and otherwise a link to the id in a file, or in this one if its name is empty
+abbrev pub link_to : (file text : List ℕ) → Option (List ℕ) → List ℕ
+link_to file text None = escaped text
+link_to file text (Some id) =
+    codes "[" ++ escaped text ++ codes "](" ++ file_in_destination file ++ codes "#" ++ id_in_destination id
+    ++ codes ")"
+
+-- the line of a heading below this number of others
+abbrev pub line : (file : List ℕ) (depth : ℕ) → EntryView → List ℕ
+line file depth e = indent depth ++ codes "- " ++ link_to file e.text e.id ++ codes "\n"
+
+-- the line of a heading after headings of these levels, of which the latest is first
+abbrev pub line_after : (file : List ℕ) (levels : List ℕ) → EntryView → List ℕ
+line_after file levels e = line file (depth e.level levels) e
+
+-- the lines of headings after headings of these levels
+abbrev pub lines_after : (file : List ℕ) (levels : List ℕ) → List EntryView → List ℕ
+lines_after file levels [] = []
+lines_after file levels (e ∷ entries) = line_after file levels e ++ lines_after file (e.level ∷ levels) entries
+
+-- the table of contents of the headings of a file
+abbrev pub contents_in : (file : List ℕ) → List EntryView → List ℕ
+contents_in file entries = lines_after file [] entries
+
+-- the same with links within one text
 abbrev pub contents_of : List EntryView → List ℕ
-contents_of entries = lines_after [] entries
+contents_of entries = contents_in [] entries

@@ -1,11 +1,8 @@
--- What the next heading depends on in the headings so far: the open levels, which it may be below, and how often each
--- anchor has occurred. Only private clauses cite this.
-use Rattle.std.specs.Prelude.{◌≡◌, ℕ, ◌+◌, nat_lt, if◌then◌else◌, List, [], ◌∷◌, length, map, reverse}
-use Rattle.std.specs.Prelude.{String, bytes_eq, count_by}
-use Rattle.std.specs.BTreeMap.{BTreeMap, get_by_text}
-use Rattle.std.specs.Option.{unwrap_or}
+-- What the next heading depends on in the headings so far: the open levels, which it may be below. Only private clauses
+-- cite this.
+use Rattle.std.specs.Prelude.{◌≡◌, ℕ, nat_lt, if◌then◌else◌, List, [], ◌∷◌, ◌++◌, length}
 use Rattle.markdown.specs.OutlineWords.{EntryView}
-use Rattle.markdown_contents.specs.Contents.{depth, plain_anchor}
+use Rattle.markdown_contents.specs.Contents.{depth, lines_after}
 
 -- of these levels, the nearest first, those from the first that is lower than this one
 abbrev pub lower_from : ℕ → List ℕ → List ℕ
@@ -22,22 +19,8 @@ pub record AreOpen (open_levels levels : List ℕ) : Type 0 where
   pub stair : IsStair open_levels
   pub same : (level : ℕ) → depth level open_levels ≡ depth level levels
 
-module _ {Y : Type 0} where
-  -- how often an anchor has occurred
-  abbrev pub times_of : BTreeMap (String Y) ℕ → List ℕ → ℕ
-  times_of times anchor = unwrap_or (get_by_text times anchor) 0
-
-  -- one anchor has occurred once more, and every other as often
-  abbrev pub CountsOneMore : (old new : BTreeMap (String Y) ℕ) → List ℕ → Type 0
-  CountsOneMore old new anchor =
-      (other : List ℕ) → times_of new other ≡ times_of old other + (if bytes_eq anchor other then 1 else 0)
-
-  -- each anchor has occurred as often as it is among these
-  abbrev pub Counts : BTreeMap (String Y) ℕ → List (List ℕ) → Type 0
-  Counts times anchors = (anchor : List ℕ) → times_of times anchor ≡ count_by (λ other. bytes_eq other anchor) anchors
-
-  -- the state after these headings
-  pub record AreReadyAfter (open_levels : List ℕ) (times : BTreeMap (String Y) ℕ) (before : List EntryView) : Type 0
-    where
-      pub levels : AreOpen open_levels (reverse (map (λ b. b.level) before))
-      pub anchors : Counts times (map plain_anchor (map (λ b. b.text) before))
+-- with the lines of these headings, which are left, what is written so far is the whole
+pub record AreLinesSoFar (file open_levels list : List ℕ) (left : List EntryView) (whole : List ℕ) : Type 0 where
+  pub levels : List ℕ
+  pub open_levels_serve : AreOpen open_levels levels
+  pub lines : list ++ lines_after file levels left ≡ whole

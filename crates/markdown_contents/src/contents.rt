@@ -1,81 +1,17 @@
 //! `list_of`: the table of contents of headings, a nested Markdown list of links to them.
-ghost use Rattle.std.specs.Prelude.{◌≡◌, ◌++◌, ◌∷◌, ◌+◌, ◌^◌, ◌<◌, ◌≤◌, ℕ, List, IfOk, IfErr, OnOk};
-ghost use Rattle.std.specs.Prelude.{encode_utf8, length, map, reverse, string_bytes, take};
+ghost use Rattle.std.specs.Prelude.{◌≡◌, ◌++◌, ◌∷◌, ◌<◌, ◌≤◌, ℕ, List, IfOk, IfErr, OnOk, chars, flat_map};
+ghost use Rattle.std.specs.Prelude.{length, map, option_map, reverse, string_bytes, take};
+ghost use Rattle.percent_encoding.specs.Percent.{percent_encode_byte};
 ghost use Rattle.markdown.specs.OutlineWords.{entry_view};
-ghost use Rattle.markdown_contents.specs.Contents.{contents_of};
-ghost use Rattle.markdown_contents.specs.Contents.{anchor_char, depth, escaped, escaped_char, is_markup};
-ghost use Rattle.markdown_contents.specs.Contents.{indent, line, with_number, plain_anchor, stays_in_anchor};
-ghost use Rattle.markdown_contents.specs.ContentsSoFar.{AreOpen, CountsOneMore, lower_from, times_of};
+ghost use Rattle.markdown_contents.specs.Contents.{contents_in, contents_of, depth, escaped, escaped_char, file_char};
+ghost use Rattle.markdown_contents.specs.Contents.{id_char, id_in_destination, indent, is_address_mark, is_encoded};
+ghost use Rattle.markdown_contents.specs.Contents.{is_destination_markup, is_markup, line, link_to, may_be_scheme};
+ghost use Rattle.markdown_contents.specs.ContentsSoFar.{AreOpen, lower_from};
 
 use markdown::Fault;
 use markdown::outline::Entry;
+use percent_encoding::percent_encode_byte;
 use std::alloc::Global;
-use std::collections::BTreeMap;
-
-/// Returns whether an anchor keeps a character: it is a letter or a digit of any script, `-` or `_`.
-fn stays_in_anchor(c: char) -> bool
-    ensures { result ≡ stays_in_anchor c }
-{
-    c == '-' || c == '_' || c.is_alphanumeric()
-}
-
-/// Appends what a character becomes in an anchor: `-` for a space, and nothing for one that is not kept.
-fn push_anchor_char(anchor: &mut String, c: char) -> Result<(), Fault>
-    ensures ok { OnOk result (string_bytes anchor.new ≡ string_bytes anchor.old ++ anchor_char c) }
-    ensures refused { IfErr result (λ fault. fault ≡ Fault.Memory) }
-{
-    if c == ' ' {
-        return Ok(anchor.push_str("-")?);
-    }
-    if stays_in_anchor(c) {
-        anchor.push(c)?;
-    }
-    Ok(())
-}
-
-/// Returns the anchor of a heading's text, without a number: the text in lower case, with `-` for each space, and without
-/// punctuation but `-` and `_`.
-fn plain_anchor(alloc: Global, text: &str) -> Result<String, Fault>
-    ensures anchor { IfOk result (λ anchor. string_bytes anchor ≡ plain_anchor text.now) }
-    ensures refused { IfErr result (λ fault. fault ≡ Fault.Memory) }
-{
-    let lower = text.to_lowercase(alloc)?;
-    let mut anchor = String::new(alloc);
-    for c in lower.as_str().chars() {
-        push_anchor_char(&mut anchor, c)?;
-    }
-    Ok(anchor)
-}
-
-/// Returns an anchor that has occurred `times` times before: followed by that number, unless it is 0.
-fn with_number(alloc: Global, anchor: &str, times: usize) -> Result<String, Fault>
-    ensures anchor { IfOk result (λ made. string_bytes made ≡ with_number anchor.now times) }
-    ensures refused { IfErr result (λ fault. fault ≡ Fault.Memory) }
-{
-    if times == 0 {
-        return Ok(String::from_str(alloc, anchor)?);
-    }
-    Ok(format!(in alloc; "{anchor}-{times}")?)
-}
-
-/// Returns the anchor of a heading's text, followed by a number if it has occurred before, and counts it once more.
-fn next_anchor(
-    alloc: Global,
-    times: &mut BTreeMap<String, usize>,
-    text: &str,
-) -> Result<String, Fault>
-    requires room { times_of times.old (plain_anchor text.now) + 1 < 2 ^ 64 }
-    ensures anchor { IfOk result (λ anchor. string_bytes anchor
-        ≡ with_number (plain_anchor text.now) (times_of times.old (plain_anchor text.now))) }
-    ensures counted { OnOk result (CountsOneMore times.old times.new (plain_anchor text.now)) }
-    ensures refused { IfErr result (λ fault. fault ≡ Fault.Memory) }
-{
-    let plain = plain_anchor(alloc, text)?;
-    let before = times.get(plain.as_str()).copied().unwrap_or(0);
-    let anchor = with_number(alloc, plain.as_str(), before)?;
-    times.insert(plain, before + 1)?;
-    Ok(anchor)
-}
 
 /// Returns the number of open levels above a heading of this level: all but those at the end that are not lower.
 fn count_above(open_levels: &[u8], level: u8) -> usize
@@ -153,25 +89,157 @@ fn push_indent(list: &mut String, depth: usize) -> Result<(), Fault>
     Ok(())
 }
 
-/// Appends the line of a heading.
-fn push_line(list: &mut String, depth: usize, text: &str, anchor: &str) -> Result<(), Fault>
-    ensures ok { OnOk result (string_bytes list.new
-        ≡ string_bytes list.old ++ line depth text.now anchor.now) }
+/// Returns whether a character is written by its number in a destination: it is a space or a control character of ASCII.
+fn is_encoded(c: char) -> bool
+    ensures { result ≡ is_encoded c }
+{
+    c <= ' ' || c == '\u{7f}'
+}
+
+/// Returns whether a character has a meaning in a destination.
+fn is_destination_markup(c: char) -> bool
+    ensures { result ≡ is_destination_markup c }
+{
+    matches!(c, '\\' | '(' | ')' | '<' | '>' | '&')
+}
+
+/// Appends a character by its number, `%` and two hexadecimal digits.
+fn push_encoded(list: &mut String, c: char) -> Result<(), Fault>
+    requires ascii { c < 128 }
+    ensures ok { OnOk result (string_bytes list.new ≡ string_bytes list.old ++ percent_encode_byte c) }
     ensures refused { IfErr result (λ fault. fault ≡ Fault.Memory) }
 {
-    push_indent(list, depth)?;
-    list.push_str("- [")?;
-    push_escaped(list, text)?;
-    list.push_str("](#")?;
-    list.push_str(anchor)?;
-    list.push_str(")\n")?;
+    Ok(list.push_str(percent_encode_byte(c as u8))?)
+}
+
+/// Appends a character of an id.
+fn push_id_char(list: &mut String, c: char) -> Result<(), Fault>
+    ensures ok { OnOk result (string_bytes list.new ≡ string_bytes list.old ++ id_char c) }
+    ensures refused { IfErr result (λ fault. fault ≡ Fault.Memory) }
+{
+    if is_encoded(c) {
+        return push_encoded(list, c);
+    }
+    if is_destination_markup(c) {
+        list.push_str("\\")?;
+    }
+    Ok(list.push(c)?)
+}
+
+/// Appends an id, as it stands in a destination.
+fn push_id(list: &mut String, id: &str) -> Result<(), Fault>
+    ensures ok { OnOk result
+        (string_bytes list.new ≡ string_bytes list.old ++ id_in_destination id.now) }
+    ensures refused { IfErr result (λ fault. fault ≡ Fault.Memory) }
+{
+    for c in id.chars() {
+        push_id_char(list, c)?;
+    }
     Ok(())
 }
 
-/// Returns the table of contents of these headings: a line for each, below the nearest heading before it of a lower level,
-/// with a link to its anchor. The anchor is GitHub's: the heading's text in lower case, with `-` for each space, without
-/// punctuation but `-` and `_`, and with `-1`, `-2` and so on where it has occurred before. For `n` headings it takes time
-/// in O(n log n).
+/// Returns whether a character has a meaning in an address.
+fn is_address_mark(c: char) -> bool
+    ensures { result ≡ is_address_mark c }
+{
+    matches!(c, '%' | '#' | '?')
+}
+
+/// Appends a character of a file's name.
+fn push_file_char(list: &mut String, c: char) -> Result<(), Fault>
+    ensures ok { OnOk result (string_bytes list.new ≡ string_bytes list.old ++ file_char c) }
+    ensures refused { IfErr result (λ fault. fault ≡ Fault.Memory) }
+{
+    if is_address_mark(c) {
+        return push_encoded(list, c);
+    }
+    push_id_char(list, c)
+}
+
+/// Appends the characters of a file's name.
+fn push_file(list: &mut String, name: &str) -> Result<(), Fault>
+    ensures ok { OnOk result
+        (string_bytes list.new ≡ string_bytes list.old ++ flat_map file_char (chars name.now)) }
+    ensures refused { IfErr result (λ fault. fault ≡ Fault.Memory) }
+{
+    for c in name.chars() {
+        push_file_char(list, c)?;
+    }
+    Ok(())
+}
+
+/// Returns whether a file's name would be read as an address with a scheme: there is a colon in its first part.
+fn may_be_scheme(name: &str) -> bool
+    ensures { result ≡ may_be_scheme name.now }
+{
+    let bytes = name.as_bytes();
+    'bytes: for byte in bytes {
+        if *byte == b':' {
+            return true;
+        }
+        if *byte == b'/' {
+            return false;
+        }
+    }
+    false
+}
+
+/// Appends the text of a heading without an id, and otherwise a link to the id in a file.
+fn push_link(list: &mut String, file: &str, heading: &Entry) -> Result<(), Fault>
+    ensures ok { OnOk result (string_bytes list.new ≡ string_bytes list.old
+        ++ link_to file.now (string_bytes heading.now.text) (option_map string_bytes heading.now.id)) }
+    ensures refused { IfErr result (λ fault. fault ≡ Fault.Memory) }
+{
+    let id = match &heading.id {
+        Some(id) => id,
+        None => return push_escaped(list, heading.text.as_str()),
+    };
+    list.push_str("[")?;
+    push_escaped(list, heading.text.as_str())?;
+    list.push_str("](")?;
+    if may_be_scheme(file) {
+        list.push_str("./")?;
+    }
+    push_file(list, file)?;
+    list.push_str("#")?;
+    push_id(list, id.as_str())?;
+    Ok(list.push_str(")")?)
+}
+
+/// Appends the line of a heading.
+fn push_line(list: &mut String, file: &str, depth: usize, heading: &Entry) -> Result<(), Fault>
+    ensures ok { OnOk result (string_bytes list.new
+        ≡ string_bytes list.old ++ line file.now depth (entry_view heading.now)) }
+    ensures refused { IfErr result (λ fault. fault ≡ Fault.Memory) }
+{
+    push_indent(list, depth)?;
+    list.push_str("- ")?;
+    push_link(list, file, heading)?;
+    Ok(list.push_str("\n")?)
+}
+
+/// Returns the table of contents of the headings of a file: a line for each, below the nearest heading before it of a lower
+/// level, with a link to its id in the file of this name, or in the same text if the name is empty. A heading without an id
+/// is its text alone. Takes linear time.
+///
+/// # Errors
+///
+/// `Memory` if an allocation fails; there is no other error.
+pub fn list_in(alloc: Global, file: &str, headings: &[Entry]) -> Result<String, Fault>
+    ensures list { IfOk result (λ list.
+        string_bytes list ≡ contents_in file.now (map entry_view headings.now)) }
+    ensures refused { IfErr result (λ fault. fault ≡ Fault.Memory) }
+{
+    let mut list = String::new(alloc);
+    let mut open_levels = Vec::new(alloc);
+    'headings: for heading in headings {
+        let depth = next_depth(&mut open_levels, heading.level)?;
+        push_line(&mut list, file, depth, heading)?;
+    }
+    Ok(list)
+}
+
+/// Returns the table of contents of these headings, with links to their ids in the same text.
 ///
 /// # Errors
 ///
@@ -181,15 +249,5 @@ pub fn list_of(alloc: Global, headings: &[Entry]) -> Result<String, Fault>
         string_bytes list ≡ contents_of (map entry_view headings.now)) }
     ensures refused { IfErr result (λ fault. fault ≡ Fault.Memory) }
 {
-    let mut list = String::new(alloc);
-    let mut open_levels = Vec::new(alloc);
-    // Ordered, not hashed, so that no choice of headings makes look-ups slow.
-    let mut times = BTreeMap::new(alloc);
-    for at in 0..headings.len() {
-        let heading = &headings[at];
-        let depth = next_depth(&mut open_levels, heading.level)?;
-        let anchor = next_anchor(alloc, &mut times, heading.text.as_str())?;
-        push_line(&mut list, depth, heading.text.as_str(), anchor.as_str())?;
-    }
-    Ok(list)
+    list_in(alloc, "", headings)
 }

@@ -3,4 +3,4 @@
 
 pub mod contents;
 
-pub use contents::list_of;
+pub use contents::{list_in, list_of};

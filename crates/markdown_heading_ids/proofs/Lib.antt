@@ -1,0 +1,14 @@
+-- the anchor of a heading, which id is given, and what a `Taken` stands for
+pub mod AnchorLemmas
+pub mod FreeIdLemmas
+pub mod TakenLemmas
+pub mod TakenReadLemmas
+pub mod TakenBlocksLemmas
+-- what the adapter reads, and what it returned in a run
+pub mod HeadingReadLemmas
+pub mod HeadingIdsRunLemmas
+-- events with their ids
+pub mod IdsOfEventsLemmas
+pub mod MergedIdsLemmas
+-- ids with a prefix
+pub mod PrefixedLemmas

@@ -11,7 +11,7 @@ mod of_text;
 mod read;
 
 pub use entry::Entry;
-pub use headings::text_added;
+pub use headings::{ends_heading, text_added};
 pub use of_blocks::outline_of;
 pub use of_text::outline_source;
 pub use read::outline;

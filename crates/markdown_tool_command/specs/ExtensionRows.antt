@@ -3,4 +3,4 @@ use Rattle.markdown_tool_command.specs.Extensions.{Offered, row}
 use Rattle.markdown_tool_command.specs.declared.extensions.Extension.{Extension}
 
 abbrev pub offered : Extension → Offered
-offered e = row e.name.now e.option e.enabler
+offered e = row e.name.now e.effect e.enabler

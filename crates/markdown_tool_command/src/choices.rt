@@ -1,6 +1,6 @@
 //! What a command line chooses among, and which choices do not go together.
 ghost use Rattle.std.specs.Prelude.{◌≡◌};
-ghost use Rattle.markdown_tool_command.specs.Choices.{checked_format, format_named};
+ghost use Rattle.markdown_tool_command.specs.Choices.{checked_format, format_named, html_format, is_of_lines, line_format};
 
 /// What is made of a text.
 #[derive(Clone, Copy, Debug, PartialEq, Eq, Drop)]
@@ -15,6 +15,10 @@ pub enum Format {
     Outline,
     /// A table of contents: a nested Markdown list of links to the headings.
     Contents,
+    /// A line of JSON for each link and each image, with its range.
+    Links,
+    /// A line of JSON for each reference without a definition, with its range.
+    Broken,
 }
 
 /// What is wrong with a command line whose words are known.
@@ -26,8 +30,23 @@ pub enum Misuse {
     SafeWithoutHtml,
     /// `--full-page` with a format other than HTML.
     PageWithoutHtml,
-    /// `--title` or `--css` without `--full-page`.
+    /// `--title`, `--css`, `--lang` or `--toc` without `--full-page`.
     PartWithoutPage,
+    /// `--positions` with a format that has no lines of JSON.
+    PositionsWithoutLines,
+}
+
+/// What is chosen beside a format.
+#[derive(Clone, Copy, Debug, PartialEq, Eq, Drop)]
+pub struct Choices {
+    /// `--safe` is given.
+    pub safe: bool,
+    /// `--full-page` is given.
+    pub page: bool,
+    /// A part of the page is asked for: its title, its style sheet, its language or its contents.
+    pub part: bool,
+    /// `--positions` is given.
+    pub positions: bool,
 }
 
 impl Misuse {
@@ -37,13 +56,16 @@ impl Misuse {
             Misuse::UnknownFormat => "the format is not offered",
             Misuse::SafeWithoutHtml => "--safe is for --to html alone",
             Misuse::PageWithoutHtml => "--full-page is for --to html alone",
-            Misuse::PartWithoutPage => "--title and --css need --full-page",
+            Misuse::PartWithoutPage => "--title, --css, --lang and --toc need --full-page",
+            Misuse::PositionsWithoutLines => {
+                "--positions is for --to events, outline, links and broken"
+            }
         }
     }
 }
 
 /// The names of the formats. HTML is safe or not by a flag of its own.
-pub static FORMATS: [&str; 4] = ["html", "events", "outline", "toc"];
+pub static FORMATS: [&str; 6] = ["html", "events", "outline", "toc", "links", "broken"];
 
 /// Returns the format of this name, or `None` where none is offered.
 pub fn format_named(name: &str) -> Option<Format>
@@ -54,26 +76,62 @@ pub fn format_named(name: &str) -> Option<Format>
         "events" => Format::Events,
         "outline" => Format::Outline,
         "toc" => Format::Contents,
+        "links" => Format::Links,
+        "broken" => Format::Broken,
         _ => return None,
     })
 }
 
-/// Returns the format that is made where a named one is asked for: safe HTML for HTML where `safe` is set. `page` is
-/// whether a page is asked for, and `part` whether its title or its style sheet is.
-pub fn checked_format(named: Format, safe: bool, page: bool, part: bool) -> Result<Format, Misuse>
-    ensures { result ≡ checked_format named safe page part }
+/// Returns the format that is made where HTML is named.
+fn html_format(choices: Choices) -> Result<Format, Misuse>
+    ensures { result ≡ html_format choices }
 {
-    if part && !page {
-        return Err(Misuse::PartWithoutPage);
+    if choices.positions {
+        return Err(Misuse::PositionsWithoutLines);
     }
-    if named == Format::Html {
-        return Ok(if safe { Format::SafeHtml } else { named });
+    Ok(if choices.safe {
+        Format::SafeHtml
+    } else {
+        Format::Html
+    })
+}
+
+/// Returns whether a format has lines of JSON.
+fn is_of_lines(format: Format) -> bool
+    ensures { result ≡ is_of_lines format }
+{
+    match format {
+        Format::Events | Format::Outline | Format::Links | Format::Broken => true,
+        Format::Html | Format::SafeHtml | Format::Contents => false,
     }
-    if safe {
+}
+
+/// Returns the format that is made where one other than HTML is named.
+fn line_format(named: Format, choices: Choices) -> Result<Format, Misuse>
+    ensures { result ≡ line_format named choices }
+{
+    if choices.safe {
         return Err(Misuse::SafeWithoutHtml);
     }
-    if page {
+    if choices.page {
         return Err(Misuse::PageWithoutHtml);
     }
+    if choices.positions && !is_of_lines(named) {
+        return Err(Misuse::PositionsWithoutLines);
+    }
     Ok(named)
+}
+
+/// Returns the format that is made where one is named, with these choices: safe HTML for HTML if `safe` is set. Of several
+/// mistakes it is the first in the order of `PartWithoutPage`, `SafeWithoutHtml`, `PageWithoutHtml`, `PositionsWithoutLines`.
+pub fn checked_format(named: Format, choices: Choices) -> Result<Format, Misuse>
+    ensures { result ≡ checked_format named choices }
+{
+    if choices.part && !choices.page {
+        return Err(Misuse::PartWithoutPage);
+    }
+    match named {
+        Format::Html => html_format(choices),
+        _ => line_format(named, choices),
+    }
 }

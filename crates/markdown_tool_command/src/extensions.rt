@@ -1,9 +1,10 @@
-//! The extensions that the command line offers: those that have an effect by the full reading.
+//! The extensions that the command line offers: those that have an effect by the full reading, and what is added to the
+//! events of a text.
 ghost use Rattle.std.specs.Prelude.{◌≡◌, map, option_map};
 ghost use Rattle.std.specs.List.{list_any};
 ghost use Rattle.markdown_tool_command.specs.Lists.{disables, enables};
-ghost use Rattle.markdown_tool_command.specs.Extensions.{enabled_by, enabled_options, extensions, is_enabled, says_of};
-ghost use Rattle.markdown_tool_command.specs.Extensions.{unknown_part};
+ghost use Rattle.markdown_tool_command.specs.Extensions.{all_enabled, enabled_by, extensions, is_enabled, nothing_enabled};
+ghost use Rattle.markdown_tool_command.specs.Extensions.{says_of, unknown_part, with_effect};
 ghost use Rattle.markdown_tool_command.specs.ExtensionRows.{offered};
 
 use crate::lists::{disables, enables};
@@ -12,6 +13,8 @@ use markdown_base::options::Options;
 /// What enables an extension beside its own name.
 #[derive(Clone, Copy, PartialEq, Eq, Drop)]
 pub enum Enabler {
+    /// `--all-extensions`, `--gfm` and `--full-page`.
+    AllGfmAndPage,
     /// `--all-extensions` and `--gfm`.
     AllAndGfm,
     /// `--all-extensions`.
@@ -27,86 +30,119 @@ pub struct Sets {
     pub all: bool,
     /// `--gfm` is given.
     pub gfm: bool,
+    /// `--full-page` is given.
+    pub page: bool,
+}
+
+/// What an extension enables.
+#[derive(Clone, Copy, PartialEq, Eq, Drop)]
+pub enum Effect {
+    /// An option of the parser.
+    Option(Options),
+    /// Links of bare addresses.
+    Autolinks,
+    /// Ids of headings.
+    HeadingIds,
+}
+
+/// What is enabled.
+#[derive(Clone, Copy, Debug, PartialEq, Eq, Drop)]
+pub struct Enabled {
+    /// The options of the parser.
+    pub options: Options,
+    /// Whether bare addresses become links.
+    pub autolinks: bool,
+    /// Whether headings without an id get one.
+    pub heading_ids: bool,
 }
 
 /// An extension that is offered.
 #[derive(Drop)]
 pub struct Extension {
     pub name: &'static str,
-    /// The option that it enables.
-    pub option: Options,
+    pub effect: Effect,
     pub enabler: Enabler,
 }
 
-static EXTENSIONS: [Extension; 14] = [
+static EXTENSIONS: [Extension; 16] = [
     Extension {
         name: "alerts",
-        option: Options::ENABLE_GFM,
+        effect: Effect::Option(Options::ENABLE_GFM),
+        enabler: Enabler::AllAndGfm,
+    },
+    Extension {
+        name: "autolinks",
+        effect: Effect::Autolinks,
         enabler: Enabler::AllAndGfm,
     },
     Extension {
         name: "footnotes",
-        option: Options::ENABLE_FOOTNOTES,
+        effect: Effect::Option(Options::ENABLE_FOOTNOTES),
         enabler: Enabler::AllAndGfm,
     },
     Extension {
         name: "heading-attributes",
-        option: Options::ENABLE_HEADING_ATTRIBUTES,
+        effect: Effect::Option(Options::ENABLE_HEADING_ATTRIBUTES),
         enabler: Enabler::All,
     },
     Extension {
+        name: "heading-ids",
+        effect: Effect::HeadingIds,
+        enabler: Enabler::AllGfmAndPage,
+    },
+    Extension {
         name: "math",
-        option: Options::ENABLE_MATH,
+        effect: Effect::Option(Options::ENABLE_MATH),
         enabler: Enabler::All,
     },
     Extension {
         name: "old-footnotes",
-        option: Options::ENABLE_OLD_FOOTNOTES,
+        effect: Effect::Option(Options::ENABLE_OLD_FOOTNOTES),
         enabler: Enabler::NameAlone,
     },
     Extension {
         name: "pluses",
-        option: Options::ENABLE_PLUSES_DELIMITED_METADATA_BLOCKS,
+        effect: Effect::Option(Options::ENABLE_PLUSES_DELIMITED_METADATA_BLOCKS),
         enabler: Enabler::All,
     },
     Extension {
         name: "smart",
-        option: Options::ENABLE_SMART_PUNCTUATION,
+        effect: Effect::Option(Options::ENABLE_SMART_PUNCTUATION),
         enabler: Enabler::All,
     },
     Extension {
         name: "strikethrough",
-        option: Options::ENABLE_STRIKETHROUGH,
+        effect: Effect::Option(Options::ENABLE_STRIKETHROUGH),
         enabler: Enabler::AllAndGfm,
     },
     Extension {
         name: "subscript",
-        option: Options::ENABLE_SUBSCRIPT,
+        effect: Effect::Option(Options::ENABLE_SUBSCRIPT),
         enabler: Enabler::All,
     },
     Extension {
         name: "superscript",
-        option: Options::ENABLE_SUPERSCRIPT,
+        effect: Effect::Option(Options::ENABLE_SUPERSCRIPT),
         enabler: Enabler::All,
     },
     Extension {
         name: "tables",
-        option: Options::ENABLE_TABLES,
+        effect: Effect::Option(Options::ENABLE_TABLES),
         enabler: Enabler::AllAndGfm,
     },
     Extension {
         name: "tasklists",
-        option: Options::ENABLE_TASKLISTS,
+        effect: Effect::Option(Options::ENABLE_TASKLISTS),
         enabler: Enabler::AllAndGfm,
     },
     Extension {
         name: "wikilinks",
-        option: Options::ENABLE_WIKILINKS,
+        effect: Effect::Option(Options::ENABLE_WIKILINKS),
         enabler: Enabler::All,
     },
     Extension {
         name: "yaml",
-        option: Options::ENABLE_YAML_STYLE_METADATA_BLOCKS,
+        effect: Effect::Option(Options::ENABLE_YAML_STYLE_METADATA_BLOCKS),
         enabler: Enabler::All,
     },
 ];
@@ -150,6 +186,7 @@ fn enabled_by(sets: Sets, enabler: Enabler) -> bool
     ensures { result ≡ enabled_by sets enabler }
 {
     match enabler {
+        Enabler::AllGfmAndPage => sets.all || sets.gfm || sets.page,
         Enabler::AllAndGfm => sets.all || sets.gfm,
         Enabler::All => sets.all,
         Enabler::NameAlone => false,
@@ -187,17 +224,43 @@ fn is_enabled(row: &Extension, sets: Sets, parts: &[&str]) -> bool
     (enabled_by(sets, row.enabler) || is_named(row.name, parts)) && !is_disabled(row.name, parts)
 }
 
-/// Returns the options of the extensions that are enabled: those of the sets and those that a part enables, but those that
+impl Enabled {
+    /// Returns that nothing is enabled.
+    fn nothing() -> Enabled
+        ensures { result ≡ nothing_enabled }
+    {
+        Enabled {
+            options: Options::empty(),
+            autolinks: false,
+            heading_ids: false,
+        }
+    }
+
+    /// Returns what is enabled with one effect more.
+    fn with(self, effect: Effect) -> Enabled
+        ensures { result ≡ with_effect effect self }
+    {
+        let mut enabled = self;
+        match effect {
+            Effect::Option(option) => enabled.options = enabled.options.union(option),
+            Effect::Autolinks => enabled.autolinks = true,
+            Effect::HeadingIds => enabled.heading_ids = true,
+        }
+        enabled
+    }
+}
+
+/// Returns what the extensions enable that are enabled: those of the sets and those that a part enables, but those that
 /// a part disables.
-pub fn enabled_options(sets: Sets, parts: &[&str]) -> Options
-    ensures { result ≡ enabled_options sets (map (λ part. part.now) parts.now) }
+pub fn all_enabled(sets: Sets, parts: &[&str]) -> Enabled
+    ensures { result ≡ all_enabled sets (map (λ part. part.now) parts.now) }
 {
-    let mut options = Options::empty();
+    let mut enabled = Enabled::nothing();
     let table = table();
     'rows: for row in table {
         if is_enabled(row, sets, parts) {
-            options = options.union(row.option);
+            enabled = enabled.with(row.effect);
         }
     }
-    options
+    enabled
 }

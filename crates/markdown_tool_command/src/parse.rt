@@ -6,7 +6,8 @@ ghost use Rattle.markdown_tool_command.specs.Choices.{format_names};
 ghost use Rattle.markdown_tool_command.specs.CommandLine.{IsRefusedBy, IsRequestBy, IsRefusedFor, IsRequestFor};
 ghost use Rattle.markdown_tool_command.specs.CommandLine.{flag, tool, valued, versioned};
 ghost use Rattle.markdown_tool_command.specs.CommandLine.{extension_rule, file_rule, output_rule, to_rule};
-ghost use Rattle.markdown_tool_command.specs.CommandLine.{with_extension_rules, with_page_rules, with_file_rules};
+ghost use Rattle.markdown_tool_command.specs.CommandLine.{with_contents_rules, with_extension_rules};
+ghost use Rattle.markdown_tool_command.specs.CommandLine.{with_file_rules, with_line_rules, with_page_rules};
 
 use crate::choices::FORMATS;
 use crate::request::{Refusal, Request, STANDARD, request_asked};
@@ -91,36 +92,56 @@ fn with_extensions<'a>(alloc: Global, command: Command<'a>) -> Result<Command<'a
     with_all.arg(gfm)
 }
 
-/// Adds the arguments for a page.
+/// Adds the arguments for a page, its title and its style sheet.
 fn with_page<'a>(alloc: Global, command: Command<'a>) -> Result<Command<'a>, AllocError>
     ensures { IfOk result (λ made. app_of made ≡ with_page_rules (app_of command.entry)) }
 {
     let full_page = flag(alloc, "full-page")
         .short('f')
-        .help("Write a whole page of HTML");
+        .help("Write a whole page of HTML, with heading-ids");
     let title = option_with_value(alloc, "title", "TITLE").help(
-        "The title of the page [default: the name of the first file]",
+        "The title of the page [default: that of the text, or the name of the first file]",
     );
-    let css = option_with_value(alloc, "css", "URL").help("The style sheet of the page");
+    let css = option_with_value(alloc, "css", "URL").help(
+        "The style sheet of the page, in place of the default style; '' for none",
+    );
     let paged = command.arg(full_page)?;
     let titled = paged.arg(title)?;
     titled.arg(css)
+}
+
+/// Adds the arguments for the language and the contents of a page.
+fn with_contents<'a>(alloc: Global, command: Command<'a>) -> Result<Command<'a>, AllocError>
+    ensures { IfOk result (λ made. app_of made ≡ with_contents_rules (app_of command.entry)) }
+{
+    let lang = option_with_value(alloc, "lang", "TAG").help("The language of the page");
+    let toc = flag(alloc, "toc").help("Begin the page with a table of contents");
+    let with_lang = command.arg(lang)?;
+    with_lang.arg(toc)
+}
+
+/// Adds the arguments for lines of JSON, and for bytes that are not UTF-8.
+fn with_lines<'a>(alloc: Global, command: Command<'a>) -> Result<Command<'a>, AllocError>
+    ensures { IfOk result (λ made. app_of made ≡ with_line_rules (app_of command.entry)) }
+{
+    let positions = flag(alloc, "positions").help("Add lines and columns to lines of JSON");
+    let lossy = flag(alloc, "lossy").help("Read bytes that are not UTF-8 as U+FFFD");
+    let with_positions = command.arg(positions)?;
+    with_positions.arg(lossy)
 }
 
 /// Adds the arguments for files.
 fn with_files<'a>(alloc: Global, command: Command<'a>) -> Result<Command<'a>, AllocError>
     ensures { IfOk result (λ made. app_of made ≡ with_file_rules (app_of command.entry)) }
 {
-    let lossy = flag(alloc, "lossy").help("Read bytes that are not UTF-8 as U+FFFD");
-    let with_lossy = command.arg(lossy)?;
-    with_lossy.arg(output(alloc))?.arg(file(alloc))
+    command.arg(output(alloc))?.arg(file(alloc))
 }
 
 /// The end of the help: the extensions, in the order of their table, and the exit statuses. A star marks those that `--gfm`
 /// enables.
 const AFTER_HELP: &str =
-    "Extensions: alerts*, footnotes*, heading-attributes, math, old-footnotes, pluses, smart, strikethrough*, \
-    subscript,\nsuperscript, tables*, tasklists*, wikilinks, yaml.\n\n\
+    "Extensions: alerts*, autolinks*, footnotes*, heading-attributes, heading-ids*, math, old-footnotes, pluses, \
+    smart,\nstrikethrough*, subscript, superscript, tables*, tasklists*, wikilinks, yaml.\n\n\
     Exit status: 0 if all was written, 1 if something failed, 2 if the command line is wrong.";
 
 /// Returns the command without its arguments.
@@ -129,7 +150,9 @@ fn bare<'a>(alloc: Global) -> Result<Command<'a>, AllocError>
 {
     Command::new(alloc, "markdown")
         .version(VERSION)
-        .about("Turn Markdown into HTML, events, an outline or a table of contents.")
+        .about(
+            "Turn Markdown into HTML, events, an outline, a table of contents or lists of links.",
+        )
         .after_help(AFTER_HELP)
         .bin_name("markdown")
 }
@@ -144,7 +167,9 @@ fn command<'a>(alloc: Global, formats: &'a [&'a str]) -> Result<Command<'a>, All
     let with_safe = with_formats.arg(safe)?;
     let extended = with_extensions(alloc, with_safe)?;
     let paged = with_page(alloc, extended)?;
-    with_files(alloc, paged)
+    let with_contents = with_contents(alloc, paged)?;
+    let lined = with_lines(alloc, with_contents)?;
+    with_files(alloc, lined)
 }
 
 /// Returns the message about a part of a list of extensions that names none.

@@ -1,16 +1,15 @@
 //! What a command line asks for.
 ghost use Rattle.std.specs.Prelude.{◌≡◌, IfOk, IfErr, codes, map, option_map, string_bytes};
 ghost use Rattle.clap.specs.Words.{found_of, rows_of};
-ghost use Rattle.markdown_tool_command.specs.Requests.{AreOptionsOf, IsExtensionRefusal, IsRefusal, IsRequestOf, asks_part};
-ghost use Rattle.markdown_tool_command.specs.Requests.{format_asked, named_format, or_standard, page_asked, page_texts};
-ghost use Rattle.markdown_tool_command.specs.Requests.{parts_asked, sets_asked, values_given};
+ghost use Rattle.markdown_tool_command.specs.Requests.{AreEnabledBy, IsExtensionRefusal, IsRefusal, IsRequestOf};
+ghost use Rattle.markdown_tool_command.specs.Requests.{asks_part, choices_asked, format_asked, named_format, or_standard};
+ghost use Rattle.markdown_tool_command.specs.Requests.{page_asked, page_view, parts_asked, sets_asked, values_given};
 
-use crate::choices::{Format, Misuse, checked_format, format_named};
-use crate::extensions::{Sets, enabled_options, unknown_part};
+use crate::choices::{Choices, Format, Misuse, checked_format, format_named};
+use crate::extensions::{Enabled, Sets, all_enabled, unknown_part};
 use crate::lists::list_parts;
 use crate::values::{is_given, value_of, values_of};
 use clap::ArgMatches;
-use markdown_base::options::Options;
 use std::alloc::{AllocError, AllocFailed, Global};
 
 /// The page that HTML stands in.
@@ -18,15 +17,22 @@ use std::alloc::{AllocError, AllocFailed, Global};
 pub struct Page {
     /// Its title, where one is given.
     pub title: Option<String>,
-    /// The address of its style sheet, where one is given.
+    /// The address of its style sheet, where one is given in place of the default style; an empty one is for none.
     pub style: Option<String>,
+    /// The tag of its language, where one is given.
+    pub language: Option<String>,
+    /// Whether it begins with a table of contents.
+    pub contents: bool,
 }
 
 /// What a command line asks for.
 #[derive(Debug, Drop)]
 pub struct Request {
     pub format: Format,
-    pub options: Options,
+    /// The extensions.
+    pub enabled: Enabled,
+    /// Whether lines of JSON have lines and columns; then the format has such lines.
+    pub positions: bool,
     /// The page that is asked for, where one is; then the format is HTML, safe or not.
     pub page: Option<Page>,
     /// Whether files that are not UTF-8 are read too, with U+FFFD for what is none.
@@ -119,31 +125,35 @@ fn sets_asked(matches: &ArgMatches<'_>) -> Sets
     Sets {
         all: is_given(matches, "all-extensions"),
         gfm: is_given(matches, "gfm"),
+        page: is_given(matches, "full-page"),
     }
 }
 
-/// Returns the options that are asked for.
+/// Returns what is enabled.
 ///
 /// # Errors
 ///
 /// `Memory` if an allocation fails, and `UnknownExtension` at the first part of a list that neither enables nor disables an
 /// extension that is offered.
-fn options_asked<'a>(alloc: Global, matches: &ArgMatches<'a>) -> Result<Options, Refusal<'a>>
-    ensures options { IfOk result (AreOptionsOf (rows_of (found_of matches.now))) }
+fn enabled_by<'a>(alloc: Global, matches: &ArgMatches<'a>) -> Result<Enabled, Refusal<'a>>
+    ensures enabled { IfOk result (AreEnabledBy (rows_of (found_of matches.now))) }
     ensures refused { IfErr result (IsExtensionRefusal (rows_of (found_of matches.now))) }
 {
     let parts = parts_asked(alloc, matches)?;
     match unknown_part(parts.as_slice()) {
         Some(part) => Err(Refusal::UnknownExtension(part)),
-        None => Ok(enabled_options(sets_asked(matches), parts.as_slice())),
+        None => Ok(all_enabled(sets_asked(matches), parts.as_slice())),
     }
 }
 
-/// Returns whether a part of a page is asked for: its title or its style sheet.
+/// Returns whether a part of a page is asked for: its title, its style sheet, its language or its contents.
 fn asks_part(matches: &ArgMatches<'_>) -> bool
     ensures { result ≡ asks_part (rows_of (found_of matches.now)) }
 {
-    value_of(matches, "title").is_some() || value_of(matches, "css").is_some()
+    value_of(matches, "title").is_some()
+        || value_of(matches, "css").is_some()
+        || value_of(matches, "lang").is_some()
+        || is_given(matches, "toc")
 }
 
 /// Returns the format that is named, or `None` where it is not offered.
@@ -156,21 +166,31 @@ fn named_format(matches: &ArgMatches<'_>) -> Option<Format>
     }
 }
 
+/// Returns what is chosen beside the format.
+fn choices_asked(matches: &ArgMatches<'_>) -> Choices
+    ensures { result ≡ choices_asked (rows_of (found_of matches.now)) }
+{
+    Choices {
+        safe: is_given(matches, "safe"),
+        page: is_given(matches, "full-page"),
+        part: asks_part(matches),
+        positions: is_given(matches, "positions"),
+    }
+}
+
 /// Returns the format that is asked for, or what does not go together with it.
 fn format_asked(matches: &ArgMatches<'_>) -> Result<Format, Misuse>
     ensures { result ≡ format_asked (rows_of (found_of matches.now)) }
 {
-    let safe = is_given(matches, "safe");
-    let page = is_given(matches, "full-page");
     match named_format(matches) {
-        Some(named) => checked_format(named, safe, page, asks_part(matches)),
+        Some(named) => checked_format(named, choices_asked(matches)),
         None => Err(Misuse::UnknownFormat),
     }
 }
 
 /// Returns the page that is asked for, if one is.
 fn page_asked(alloc: Global, matches: &ArgMatches<'_>) -> Result<Option<Page>, AllocError>
-    ensures { IfOk result (λ page. option_map page_texts page
+    ensures { IfOk result (λ page. option_map page_view page
         ≡ page_asked (rows_of (found_of matches.now))) }
 {
     if !is_given(matches, "full-page") {
@@ -178,7 +198,13 @@ fn page_asked(alloc: Global, matches: &ArgMatches<'_>) -> Result<Option<Page>, A
     }
     let title = copy_of(alloc, value_of(matches, "title"))?;
     let style = copy_of(alloc, value_of(matches, "css"))?;
-    Ok(Some(Page { title, style }))
+    let language = copy_of(alloc, value_of(matches, "lang"))?;
+    Ok(Some(Page {
+        title,
+        style,
+        language,
+        contents: is_given(matches, "toc"),
+    }))
 }
 
 /// Returns the names of the files that are asked for.
@@ -197,7 +223,7 @@ fn inputs_asked(alloc: Global, matches: &ArgMatches<'_>) -> Result<Vec<String>, 
 /// # Errors
 ///
 /// `Memory` if an allocation fails, `Misuse` where choices do not go together, and otherwise `UnknownExtension`, as of
-/// `options_asked`.
+/// `enabled_by`.
 pub(crate) fn request_asked<'a>(
     alloc: Global,
     matches: &ArgMatches<'a>,
@@ -209,13 +235,14 @@ pub(crate) fn request_asked<'a>(
         Ok(format) => format,
         Err(misuse) => return Err(Refusal::Misuse(misuse)),
     };
-    let options = options_asked(alloc, matches)?;
+    let enabled = enabled_by(alloc, matches)?;
     let page = page_asked(alloc, matches)?;
     let output = String::from_str(alloc, value_of(matches, "output").unwrap_or(STANDARD))?;
     let inputs = inputs_asked(alloc, matches)?;
     Ok(Request {
         format,
-        options,
+        enabled,
+        positions: is_given(matches, "positions"),
         page,
         lossy: is_given(matches, "lossy"),
         output,

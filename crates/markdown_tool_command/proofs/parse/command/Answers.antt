@@ -3,7 +3,8 @@ use Rattle.std.proofs.Common.{rules, ◌≡◌, ◌∙◌, ap, ap₂, codes}
 use Rattle.std.proofs.lemmas.Result.{IfOk-weaker}
 use Rattle.clap.specs.Words.{app_of, rule_of, with_rule}
 use Rattle.clap.specs.declared.builder.value_parser.ValueParser.TheVariants.{Names}
-use Rattle.markdown_tool_command.specs.CommandLine.{flag, tool, with_extension_rules, with_file_rules, with_page_rules}
+use Rattle.markdown_tool_command.specs.CommandLine.{flag, tool, with_contents_rules, with_extension_rules}
+use Rattle.markdown_tool_command.specs.CommandLine.{with_file_rules, with_line_rules, with_page_rules}
 use Rattle.markdown_tool_command.proofs.parse.command.Goals as goal
 
 pub returns : goal.returns
@@ -14,6 +15,8 @@ returns c =
     let with_safe = c.in_ok-with_safe.ensures.shape (search rules) ∙ ap₂ with_rule with_formats safe in
     let extended = c.in_ok-extended.ensures ∙ ap with_extension_rules with_safe in
     let paged = c.in_ok-paged.ensures ∙ ap with_page_rules extended in
-    IfOk-weaker c.with_files.result (λ made. app_of made ≡ with_file_rules (app_of c.in_ok-paged.paged))
+    let contents = c.in_ok-with_contents.ensures ∙ ap with_contents_rules paged in
+    let lined = c.in_ok-lined.ensures ∙ ap with_line_rules contents in
+    IfOk-weaker c.with_files.result (λ made. app_of made ≡ with_file_rules (app_of c.in_ok-lined.lined))
     (λ made. app_of made ≡ tool (Names c.args.formats))
-    (λ made is. is ∙ ap with_file_rules paged) c.with_files.ensures
+    (λ made is. is ∙ ap with_file_rules lined) c.with_files.ensures

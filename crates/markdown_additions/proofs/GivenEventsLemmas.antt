@@ -1,0 +1,172 @@
+-- What a parser gives, and the adapters over what gives some events.
+use Rattle.std.proofs.Common.{◌≡◌, ◌⊎◌, ⊎_elim, ℕ, false, List, [], ◌∷◌, ◌++◌, map, Ok, Err, Option, Some, None, Result}
+use Rattle.std.proofs.Common.{ap, refl, sym, ◌∙◌, is_some}
+use Rattle.std.specs.Iterator.{Drains, Yields}
+use Rattle.std.specs.declared.ops.Range.{Range}
+use Rattle.markdown_additions.specs.Additions.{AreFirstOfText, AreFirstWithPrefix, AreFirstWithTheirIds}
+use Rattle.markdown_additions.specs.GivenEvents.{GivesEvents}
+use Rattle.markdown_base.specs.Questions.{Question, Answer, Answers}
+use Rattle.markdown_base.specs.Source.{Source}
+use Rattle.markdown_base.specs.declared.event.Event.{Event}
+use Rattle.markdown_base.specs.declared.fault.Fault.{Fault}
+use Rattle.markdown_base.specs.declared.fault.Fault.TheVariants.{Memory}
+use Rattle.markdown_blocks.specs.Blocks.{IsBlocksOf}
+use Rattle.markdown_blocks.specs.declared.blocks.Blocks.{Blocks}
+use Rattle.markdown_defs.specs.Callback.{Asks}
+use Rattle.markdown_heading_ids.specs.HeadingIds.{Id, with_ids}
+use Rattle.markdown_heading_ids.specs.HeadingIdsLaws.{AreFirstOf, ReturnsWithIds}
+use Rattle.markdown_heading_ids.specs.HeadingIdsNext.{IdsState, ids_steps}
+use Rattle.markdown_heading_ids.specs.PrefixedItems.{AreAllPrefixed, AreFirstPrefixed, IsPrefixedItem}
+use Rattle.markdown_heading_ids.specs.PrefixedItems.{prefix_of, prefixed_steps, unprefixed_source}
+use Rattle.markdown_heading_ids.specs.Prefixes.{prefixed_events}
+use Rattle.markdown_heading_ids.specs.declared.prefixed.Prefixed.{Prefixed}
+use Rattle.markdown_inline.specs.Balanced.{ranged}
+use Rattle.markdown_inline.specs.Elements.{Element, event, events_of}
+use Rattle.markdown_inline.specs.NextGives.{NextGives, IsPlacedOf}
+use Rattle.markdown_inline.specs.ParserLeft.{ReadsBlocks, elements, offset_parser, parser_callback, reading_of}
+use Rattle.markdown_inline.specs.declared.walk.OffsetIter.{OffsetIter}
+use Rattle.markdown_inline.proofs.ReadingOfTextLemmas.{text-law}
+use Rattle.markdown_inline.proofs.RunLemmas.{events_of-questions}
+use Rattle.markdown_outline.specs.Outline.{Ranged}
+use Rattle.markdown_outline.specs.OutlineRead.{event_items, ranged_view}
+
+-- an event with its range, and an item that holds one or an error
+abbrev Placed : Type 0
+Placed = Event × Range ℕ
+
+abbrev Item : Type 0
+Item = Result Placed Fault
+
+-- with no callback nothing is asked, and there is none afterwards
+unasked : {F : Type 0} (step : F → Question → Option Answer → F → Type 0) (after : Option F) (questions : List Question)
+    (answers : Answers) → Asks step None questions answers after → (answers ≡ []) × (after ≡ None)
+unasked step after [] [] asked = (refl, sym asked)
+unasked step after [] (a ∷ answers) asked = absurd asked
+unasked step after (q ∷ questions) [] asked = absurd asked
+unasked step after (q ∷ questions) (a ∷ answers) asked = absurd asked
+
+module _ {F : Type 0} (step : F → Question → Option Answer → F → Type 0) where
+  -- calls of `next` of a parser
+  abbrev Steps : OffsetIter F → Option Item → OffsetIter F → Type 0
+  Steps o item t = NextGives step IsPlacedOf (offset_parser o) item (offset_parser t)
+
+  -- an error item is one of memory
+  memory_alone : (o left : OffsetIter F) (given : List Placed) (fault : Fault)
+      → Yields Steps o (event_items given ++ Err fault ∷ []) left → fault ≡ Memory
+  memory_alone o left [] fault (j, h, y) = h.gives.memory
+  memory_alone o left (e ∷ given) fault (j, h, y) = memory_alone j left given fault y
+
+  -- without a callback, the events returned are those of what was left
+  drained : (o : OffsetIter F) (given : List Placed) → Drains Steps o (event_items given)
+      → parser_callback (offset_parser o) ≡ None
+      → map ranged_view given ≡ ranged (events_of (elements (offset_parser o) []))
+  drained o [] (u, (t, y, z)) none = rw (y, z.gives.none_left []) refl
+  drained o (e ∷ given) (u, (t, (j, h, y), z)) none =
+      let g = h.gives in
+      let asked = rw none at g.asked in
+      let nobody = unasked step (parser_callback (offset_parser j)) g.questions g.answers asked in
+      let left = rw nobody.0 at (g.left []) in
+      let rest = drained j given (u, (t, y, z)) nobody.1 in
+      rw (
+        left,
+        events_of-questions g.questions (event g.placed ∷ elements (offset_parser j) []),
+        g.is_item.is_event.view,
+        g.is_item.range,
+        rest,
+      ) refl
+
+  -- and at any time they are the first of these
+  begun : (o t : OffsetIter F) (given : List Placed) → Yields Steps o (event_items given) t
+      → parser_callback (offset_parser o) ≡ None
+      → AreFirstOf (map ranged_view given) (ranged (events_of (elements (offset_parser o) [])))
+  begun o t [] y none = record { missing = ranged (events_of (elements (offset_parser o) [])); is = refl }
+  begun o t (e ∷ given) (j, h, y) none =
+      let g = h.gives in
+      let asked = rw none at g.asked in
+      let nobody = unasked step (parser_callback (offset_parser j)) g.questions g.answers asked in
+      let left = rw nobody.0 at (g.left []) in
+      let rest = begun j t given y nobody.1 in
+      record {
+        missing = rest.missing;
+        is = rw (
+          left,
+          events_of-questions g.questions (event g.placed ∷ elements (offset_parser j) []),
+          g.is_item.is_event.view,
+          g.is_item.range,
+          rest.is,
+        ) refl;
+      }
+
+  -- so a new parser of a block result of a text, without a callback, gives the events of the text
+  pub gives_text : (s : Source) (blocks : Blocks) (o : OffsetIter F) → IsBlocksOf s blocks
+      → ReadsBlocks blocks (offset_parser o) → parser_callback (offset_parser o) ≡ None
+      → GivesEvents Steps o (ranged (events_of_text s)) (AreFirstOfText s)
+  gives_text s blocks o of reads none =
+      let left : ranged (events_of (elements (offset_parser o) [])) ≡ ranged (events_of_text s) =
+      ap (λ (es : List Element). ranged (events_of es))
+      (reads [] ∙ ap (λ (c : Option F). reading_of blocks (is_some c) []) none ∙ text-law s blocks of false []) in
+      record {
+        whole = λ given d. drained o given d none ∙ left;
+        first = λ given t y. rw left at (begun o t given y none);
+        memory = λ given t fault y. memory_alone o t given fault y;
+      }
+
+-- a new adapter of ids gives the events with the ids of their headings
+module _ {S M : Type 0} (steps : S → Option Item → S → Type 0) (state : M → IdsState S) where
+  pub gives_ids : (taken : List Id) (m : M) (events : List Ranged) (begins : List Ranged → Type 0)
+      → ReturnsWithIds steps state taken m → GivesEvents steps (state m).iter events begins
+      → GivesEvents (ids_steps steps state) m (with_ids taken events) (AreFirstWithTheirIds taken begins)
+  gives_ids taken m events begins returns gives = record {
+    whole = λ given d. let a = returns.all given d in a.are ∙ ap (with_ids taken) (gives.whole a.events a.read);
+    first = λ given t y. let f = returns.first given t y in
+        record {
+          events = map ranged_view f.events;
+          begin = gives.first f.events f.left f.read;
+          first = f.first;
+        };
+    memory = λ given t fault y. ⊎_elim (λ e. gives.memory e.events e.left fault e.read) (λ is. is)
+        (returns.error given t fault y);
+  }
+
+-- an adapter of a prefix gives the events with the prefix of their ids
+module _ {I : Type 0} (steps : I → Option Item → I → Type 0) where
+  -- an error is one of memory, where each of the iterator is
+  memory_prefixed : (p left : Prefixed I) (given : List Placed) (fault : Fault)
+      → ((read : List Placed) (l : I) (f : Fault)
+      → Yields steps (unprefixed_source p) (event_items read ++ Err f ∷ []) l → f ≡ Memory)
+      → Yields (prefixed_steps steps) p (event_items given ++ Err fault ∷ []) left → fault ≡ Memory
+  memory_prefixed p left [] fault memory (j, h, y) = by_item h.0.0 h.0.1 h.0.2
+    where
+      by_item : (item : Item) → steps (unprefixed_source p) (Some item) (unprefixed_source j)
+          → IsPrefixedItem (prefix_of p) item (Err fault) → fault ≡ Memory
+      by_item (Ok e) read made = made
+      by_item (Err other) read made =
+          let same : fault ≡ other = cc made in
+          same ∙ memory [] (unprefixed_source j) other (unprefixed_source j, read, refl)
+  memory_prefixed p left (e ∷ given) fault memory (j, h, y) = by_item h.0.0 h.0.1 h.0.2
+    where
+      by_item : (item : Item) → steps (unprefixed_source p) (Some item) (unprefixed_source j)
+          → IsPrefixedItem (prefix_of p) item (Ok e) → fault ≡ Memory
+      by_item (Ok event) read made =
+          memory_prefixed j left given fault
+          (λ events l f z. memory (event ∷ events) l f (unprefixed_source j, read, z)) y
+      by_item (Err other) read made = cc made
+
+  pub gives_prefixed : (prefix : List ℕ) (p : Prefixed I) (events : List Ranged) (begins : List Ranged → Type 0)
+      → prefix_of p ≡ prefix → GivesEvents steps (unprefixed_source p) events begins
+      → ((given : List Placed) → Drains (prefixed_steps steps) p (event_items given) → AreAllPrefixed steps p given)
+      → ((given : List Placed) (t : Prefixed I) → Yields (prefixed_steps steps) p (event_items given) t
+      → AreFirstPrefixed steps p t given)
+      → GivesEvents (prefixed_steps steps) p (prefixed_events prefix events) (AreFirstWithPrefix prefix begins)
+  gives_prefixed prefix p events begins is gives all first = record {
+    whole = λ given d. let a = all given d in
+        a.2 ∙ ap (λ (x : List ℕ). prefixed_events x (map ranged_view a.0)) is
+        ∙ ap (prefixed_events prefix) (gives.whole a.0 a.1);
+    first = λ given t y. let f = first given t y in
+        record {
+          events = map ranged_view f.0;
+          begin = gives.first f.0 (unprefixed_source t) f.1;
+          is = f.2 ∙ ap (λ (x : List ℕ). prefixed_events x (map ranged_view f.0)) is;
+        };
+    memory = λ given t fault y. memory_prefixed p t given fault gives.memory y;
+  }

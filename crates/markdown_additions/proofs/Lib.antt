@@ -1,0 +1,3 @@
+-- what iterators give, and what is written of it
+pub mod GivenEventsLemmas
+pub mod WrittenLemmas

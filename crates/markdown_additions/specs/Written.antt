@@ -1,0 +1,65 @@
+-- What is written of events with their ranges, by form, and why nothing is.
+use Rattle.std.specs.Prelude.{◌≡◌, ◌⊎◌, ℕ, Bool, List, map, if◌then◌else◌}
+use Rattle.std.specs.List.{flat_map}
+use Rattle.markdown_additions.specs.Additions.{AreFirstAdded, added_events}
+use Rattle.markdown_additions.specs.declared.additions.Additions.{Additions}
+use Rattle.markdown_additions.specs.declared.written.Form.{Form}
+use Rattle.markdown_additions.specs.declared.written.Form.TheVariants.{Html, SafeHtml, Lines}
+use Rattle.markdown_base.specs.Event.{EventView}
+use Rattle.markdown_base.specs.Source.{Source}
+use Rattle.markdown_base.specs.declared.fault.Fault.{Fault}
+use Rattle.markdown_base.specs.declared.fault.Fault.TheVariants.{Depth, Memory}
+use Rattle.markdown_json.specs.Json.{line_json}
+use Rattle.markdown_out.specs.EventHtml.{html_of}
+use Rattle.markdown_out.specs.LookBacks.{IsTooDeep}
+use Rattle.markdown_outline.specs.Outline.{EntryView, Ranged, entries_of}
+use Rattle.markdown_safe.specs.SafeEvents.{safe_event, safe_events}
+
+-- events without their ranges
+abbrev pub bare_events : List Ranged → List EventView
+bare_events events = map (λ e. e.0) events
+
+-- the line of JSON of an event
+abbrev pub ranged_line : Ranged → List ℕ
+ranged_line e = line_json e.0 e.1.start e.1.end
+
+-- what is written of events
+abbrev pub written_of : Form → List Ranged → List ℕ
+written_of Html events = html_of (bare_events events)
+written_of SafeHtml events = html_of (safe_events (bare_events events))
+written_of Lines events = flat_map ranged_line events
+
+-- among first events, as they are written in a form, more Starts are open in an image than can be counted
+abbrev pub IsTooDeepIn : Form → List Ranged → Type 0
+IsTooDeepIn Html events = IsTooDeep (bare_events events)
+IsTooDeepIn SafeHtml events = IsTooDeep (safe_events (bare_events events))
+IsTooDeepIn Lines events = ⊥
+
+-- first events that are so
+pub record BeginsTooDeep (form : Form) (begins : List Ranged → Type 0) : Type 0 where
+  pub events : List Ranged
+  pub begin : begins events
+  pub deep : IsTooDeepIn form events
+
+-- this is why nothing is written: memory was refused, or the first events are too deep
+abbrev pub IsFaultOfWriting : Form → (begins : List Ranged → Type 0) → Fault → Type 0
+IsFaultOfWriting form begins fault = (fault ≡ Memory) ⊎ ((fault ≡ Depth) × BeginsTooDeep form begins)
+
+-- what is written of the events of a text with what is added
+abbrev pub written_of_text : Form → Additions → Source → List ℕ
+written_of_text form a s = written_of form (added_events a s)
+
+-- this is why nothing is written of a text
+abbrev pub IsFaultOfWritingText : Form → Additions → Source → Fault → Type 0
+IsFaultOfWritingText form a s fault = IsFaultOfWriting form (AreFirstAdded a s) fault
+
+-- events made safe, where that is asked for; their ranges stay
+abbrev pub safe_ranged : List Ranged → List Ranged
+safe_ranged events = map (λ (e : Ranged). (safe_event e.0, e.1)) events
+
+abbrev pub safe_if : Bool → List Ranged → List Ranged
+safe_if asked events = if asked then safe_ranged events else events
+
+-- the headings of a text with what is added, made safe where that is asked for
+abbrev pub headings_of_text : (safe : Bool) → Additions → Source → List EntryView
+headings_of_text safe a s = entries_of (safe_if safe (added_events a s))
