@@ -1,5 +1,5 @@
 //! `Positions`, which looks up the positions of byte offsets of a text.
-ghost use Rattle.std.specs.Prelude.{◌≡◌, ◌≤◌, ◌<◌, ◌^◌, length, IfOk};
+ghost use Rattle.std.specs.Prelude.{◌≡◌, ◌≤◌, ◌<◌, ◌^◌, drop, length, IfOk};
 ghost use Rattle.std.proofs.Props.{props};
 ghost use Rattle.markdown_positions.specs.Positions.{mark_length, position_in};
 ghost use Rattle.markdown_positions.specs.Samples.{AreSamples};
@@ -14,12 +14,15 @@ const STEP: usize = 64;
 /// however long the lines.
 #[derive(Drop)]
 pub struct Positions<'x> {
-    /// The bytes of the text, without its byte order mark.
-    bytes: &'x [u8],
-    /// The number of bytes of that mark.
+    text: &'x str,
+    /// The number of bytes of its byte order mark.
     mark: usize,
+    /// The bytes after that mark.
+    bytes: &'x [u8],
     /// The positions of the offsets in `bytes` that are multiples of `STEP`.
     samples: Vec<Position>,
+    ghost marked: { mark ≡ mark_length text.now } by { Prim.hlevel props },
+    ghost after: { bytes.now ≡ drop (mark_length text.now) text.now } by { Prim.hlevel props },
     ghost sampled: { AreSamples bytes.now samples.items } by { Prim.hlevel props },
     ghost few: { length bytes.now < 2 ^ 63 } by { Prim.hlevel props },
 }
@@ -72,28 +75,29 @@ fn mark_length(bytes: &[u8]) -> usize
 }
 
 impl<'x> Positions<'x> {
-    ghost use Rattle.std.specs.Prelude.{◌≡◌, ℕ, List, IfOk};
+    ghost use Rattle.std.specs.Prelude.{◌≡◌, IfOk};
     ghost use Rattle.markdown_positions.specs.Positions.{position_of};
-    ghost use Rattle.markdown_positions.specs.PositionsOf.{IsOfText};
+    ghost use Rattle.markdown_positions.specs.PositionsOf.{positions_text};
 
     /// Returns the positions of a text. Takes time in proportion to it, and memory for a position for each 64 bytes.
     pub fn new(alloc: Global, text: &'x str) -> Result<Positions<'x>, AllocError>
-        ensures { IfOk result (λ positions. IsOfText positions text.entry.now) }
+        ensures { IfOk result (λ positions. positions_text positions ≡ text.entry.now) }
     {
         let all = text.as_bytes();
         let mark = mark_length(all);
         let bytes = &all[mark..];
         let samples = samples_of(alloc, bytes)?;
         Ok(Positions {
-            bytes,
+            text,
             mark,
+            bytes,
             samples,
         })
     }
 
     /// Returns the position of a byte offset; beyond the end of the text, that of its end.
     pub fn look_up(&self, offset: usize) -> Position
-        ensures { (text : List ℕ) → IsOfText self.now text → result ≡ position_of text offset }
+        ensures { result ≡ position_of (positions_text self.now) offset }
     {
         let at = offset.saturating_sub(self.mark).min(self.bytes.len());
         let from = at / STEP;
