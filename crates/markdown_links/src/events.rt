@@ -1,6 +1,5 @@
 //! What an event means for links: whether one begins or ends with it.
-ghost use Rattle.std.specs.Prelude.{◌≡◌, IfOk, IsSome, None, OnErr, string_bytes};
-ghost use Rattle.std.specs.Option.{option_map};
+ghost use Rattle.std.specs.Prelude.{◌≡◌, IfOk, IsSome, None, OnErr};
 ghost use Rattle.markdown_base.specs.Event.{event_view, link_view};
 ghost use Rattle.markdown_links.specs.LinkEntries.{ends_link, opened_link};
 ghost use Rattle.markdown_links.specs.FoundLinks.{begun_at, is_opened_by};
