@@ -1,0 +1,3 @@
+-- Lemmas of the lines, by the views of what they show, and of the loop over events.
+pub mod LintJsonLemmas
+pub mod PlacedEventsLemmas
