@@ -1,0 +1,6 @@
+-- The lines of links and images, and those of headings with lines and columns.
+pub mod PlaceJson
+pub mod LinkJson
+pub mod PlacedOutline
+-- the terms of private clauses
+pub mod ShownMembers
