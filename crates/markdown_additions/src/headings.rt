@@ -54,9 +54,11 @@ fn headings_prefixed<'a>(
     safe: bool,
     events: Prefixed<'a, EventsWithIds<'a>>,
 ) -> Result<Vec<Entry>, Fault>
-    ensures headings { IfOk result (λ headings. (s : Source) → IsNewWithIds s (unprefixed_source events.entry)
-        → map entry_view headings.items ≡ headings_of_text safe (prefixed_ids (prefix_of events.entry)) s) }
-    ensures refused { IfErr result (λ fault. (s : Source) → IsNewWithIds s (unprefixed_source events.entry)
+    ensures headings { IfOk result (λ headings. (s : Source)
+        → IsNewWithIds s (unprefixed_source events.entry) → map entry_view headings.items
+        ≡ headings_of_text safe (prefixed_ids (prefix_of events.entry)) s) }
+    ensures refused { IfErr result (λ fault. (s : Source)
+        → IsNewWithIds s (unprefixed_source events.entry)
         → fault ≡ Fault.Memory) }
 {
     if safe {

@@ -70,9 +70,11 @@ fn written_prefixed<'a>(
     form: Form,
     events: Prefixed<'a, EventsWithIds<'a>>,
 ) -> Result<String, Fault>
-    ensures written { IfOk result (λ written. (s : Source) → IsNewWithIds s (unprefixed_source events.entry)
+    ensures written { IfOk result (λ written. (s : Source)
+        → IsNewWithIds s (unprefixed_source events.entry)
         → string_bytes written ≡ written_of_text form (prefixed_ids (prefix_of events.entry)) s) }
-    ensures faults { IfErr result (λ fault. (s : Source) → IsNewWithIds s (unprefixed_source events.entry)
+    ensures faults { IfErr result (λ fault. (s : Source)
+        → IsNewWithIds s (unprefixed_source events.entry)
         → IsFaultOfWritingText form (prefixed_ids (prefix_of events.entry)) s fault) }
 {
     let mut written = String::new(alloc);

@@ -106,7 +106,8 @@ fn is_destination_markup(c: char) -> bool
 /// Appends a character by its number, `%` and two hexadecimal digits.
 fn push_encoded(list: &mut String, c: char) -> Result<(), Fault>
     requires ascii { c < 128 }
-    ensures ok { OnOk result (string_bytes list.new ≡ string_bytes list.old ++ percent_encode_byte c) }
+    ensures ok { OnOk result
+        (string_bytes list.new ≡ string_bytes list.old ++ percent_encode_byte c) }
     ensures refused { IfErr result (λ fault. fault ≡ Fault.Memory) }
 {
     Ok(list.push_str(percent_encode_byte(c as u8))?)
@@ -186,8 +187,8 @@ fn may_be_scheme(name: &str) -> bool
 
 /// Appends the text of a heading without an id, and otherwise a link to the id in a file.
 fn push_link(list: &mut String, file: &str, heading: &Entry) -> Result<(), Fault>
-    ensures ok { OnOk result (string_bytes list.new ≡ string_bytes list.old
-        ++ link_to file.now (string_bytes heading.now.text) (option_map string_bytes heading.now.id)) }
+    ensures ok { let h = entry_view heading.now in OnOk result (string_bytes list.new
+        ≡ string_bytes list.old ++ link_to file.now h.text h.id) }
     ensures refused { IfErr result (λ fault. fault ≡ Fault.Memory) }
 {
     let id = match &heading.id {

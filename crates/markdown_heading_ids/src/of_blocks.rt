@@ -60,9 +60,11 @@ fn id_of_body<'t>(parts: &'t BlockParts<'_>, body: ItemBody) -> Option<&'t str>
 impl Taken {
     /// Takes the ids of the nodes with these numbers.
     fn take_nodes(&mut self, blocks: &Blocks<'_>, order: &[usize]) -> Result<(), Fault>
-        requires within { AllByRecursion (λ ix. ix < length (block_arena blocks.now).nodes) order.now }
-        ensures taken { OnOk result ((taken : List Id) → StandsFor self.old taken → StandsFor self.new
-            (taken_after (ids_at (block_parts blocks.now) (block_arena blocks.now).nodes) order.now taken)) }
+        requires within { AllByRecursion (λ ix. ix < length (block_arena blocks.now).nodes)
+            order.now }
+        ensures taken { let ids = ids_at (block_parts blocks.now) (block_arena blocks.now).nodes in
+            OnOk result ((taken : List Id) → StandsFor self.old taken
+            → StandsFor self.new (taken_after ids order.now taken)) }
         ensures refused { IfErr result (λ fault. fault ≡ Fault.Memory) }
     {
         'order: for ix in order {

@@ -2,7 +2,6 @@
 use Rattle.std.specs.Prelude.{◌≡◌, ℕ, suc, Bool, false, not, ◌&&◌, if◌then◌else◌, List, [], ◌∷◌, ◌++◌, length}
 use Rattle.std.specs.Prelude.{◌⊎◌, ◌==◌, Option, Some, None, bytes_eq, is_some}
 use Rattle.std.specs.Prelude.{option_map, codes, decimal, map, nat_lt, slice_get, string_bytes, unwrap_or}
-use Rattle.std.specs.List.{Any}
 use denote.Ref.{Bor}
 use Rattle.markdown_additions.specs.Additions.{AdditionsView, heading_ids, nothing, prefixed_ids}
 use Rattle.markdown_additions.specs.Written.{IsFaultOfWritingText, headings_of_text, written_of_text}
@@ -15,6 +14,7 @@ use Rattle.markdown_base.specs.declared.fault.Fault.TheVariants as fault_kind
 use Rattle.markdown_contents.specs.Contents.{contents_in_file}
 use Rattle.markdown_json.specs.Json.{string}
 use Rattle.markdown_contents.specs.HtmlList.{html_list_of}
+use Rattle.markdown_lint_json.specs.LinkJson.{links_json_of_text}
 use Rattle.markdown_outline.specs.Outline.{EntryView}
 use Rattle.markdown_page.specs.FileTitle.{file_title}
 use Rattle.markdown_page.specs.MetadataTitle.{shown_title}
@@ -68,7 +68,9 @@ output_of_file format.Html e f = written_of_text form.Html (html_additions e f) 
 output_of_file format.SafeHtml e f = written_of_text form.SafeHtml (html_additions e f) (file_source e f)
 output_of_file format.Events e f = written_of_text form.Lines (line_additions e) (file_source e f)
 output_of_file format.Outline e f = outline_of_file e f
-output_of_file format.Contents e f = contents_in_file (link_name f) (headings_of_text false heading_ids (file_source e f))
+output_of_file format.Links e f = links_json_of_text (file_source e f)
+output_of_file format.Contents e f = contents_in_file (link_name f) (headings_of_text false heading_ids (file_source
+    e f))
 
 -- this is why nothing is written for a file: an allocation was refused, or its text is too deep for HTML
 abbrev pub IsFaultOfFile : Format → Enabled → FileView → Fault → Type 0
@@ -77,6 +79,7 @@ IsFaultOfFile format.SafeHtml e f fault =
     IsFaultOfWritingText form.SafeHtml (html_additions e f) (file_source e f) fault
 IsFaultOfFile format.Events e f fault = IsFaultOfWritingText form.Lines (line_additions e) (file_source e f) fault
 IsFaultOfFile format.Outline e f fault = fault ≡ fault_kind.Memory
+IsFaultOfFile format.Links e f fault = fault ≡ fault_kind.Memory
 IsFaultOfFile format.Contents e f fault = fault ≡ fault_kind.Memory
 
 -- the line that names one of several files before its lines of JSON
@@ -88,6 +91,7 @@ file_line format.Html f = []
 file_line format.SafeHtml f = []
 file_line format.Events f = named_line f
 file_line format.Outline f = named_line f
+file_line format.Links f = named_line f
 file_line format.Contents f = []
 
 -- the files of a request with these texts, of which the first is after this number of others
@@ -109,9 +113,10 @@ abbrev pub outputs_of : Format → Enabled → List FileView → List ℕ
 outputs_of format e [] = []
 outputs_of format e (f ∷ files) = (file_line format f ++ output_of_file format e f) ++ outputs_of format e files
 
--- this is why nothing is written for files: it is so for one of them
+-- this is why nothing is written for files: for one of them nothing is
 abbrev pub IsFaultOfFiles : Format → Enabled → List FileView → Fault → Type 0
-IsFaultOfFiles format e files fault = (fault ≡ fault_kind.Memory) ⊎ Any (λ f. IsFaultOfFile format e f fault) files
+IsFaultOfFiles format e [] fault = fault ≡ fault_kind.Memory
+IsFaultOfFiles format e (f ∷ files) fault = IsFaultOfFile format e f fault ⊎ IsFaultOfFiles format e files fault
 
 -- the text of the first heading of level 1 that has one
 abbrev pub first_title : List EntryView → Option (List ℕ)

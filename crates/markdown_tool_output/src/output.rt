@@ -1,6 +1,7 @@
 //! What is written for a request: a function of the request and of the texts alone.
 ghost use Rattle.std.specs.Prelude.{◌≡◌, ◌++◌, IfErr, IfOk, OnOk, map, string_bytes};
 ghost use Rattle.markdown_additions.specs.Written.{IsFaultOfWritingText, written_of_text};
+ghost use Rattle.markdown_lint_json.specs.LinkJson.{links_json_of_text};
 ghost use Rattle.markdown_tool_output.specs.Files.{file_view};
 ghost use Rattle.markdown_tool_output.specs.Outputs.{IsFaultOfFile, IsFaultOfFiles, IsFaultOfOutput, file_line};
 ghost use Rattle.markdown_tool_output.specs.Outputs.{file_source, html_additions, line_additions, named_line};
@@ -14,6 +15,7 @@ use markdown_additions::{Additions, Form, written_source};
 use markdown_base::fault::Fault;
 use markdown_base::syntax::Syntax;
 use markdown_json::{Piece, push_pieces};
+use markdown_lint_json::links_json_source;
 use markdown_tool_command::extensions::Enabled;
 use markdown_tool_command::{Format, Request};
 use std::alloc::{AllocError, Global};
@@ -64,6 +66,16 @@ fn lines_of_file(alloc: Global, enabled: Enabled, file: File<'_>) -> Result<Stri
     }
 }
 
+/// Returns the lines of the links and images of a file.
+fn links_of_file(alloc: Global, enabled: Enabled, file: File<'_>) -> Result<String, Fault>
+    ensures lines { IfOk result (λ lines.
+        string_bytes lines ≡ links_json_of_text (file_source enabled (file_view file.entry))) }
+    ensures refused { IfErr result (λ fault. fault ≡ Fault.Memory) }
+{
+    let syntax = Syntax::full(enabled.options);
+    links_json_source(alloc, without_mark(file.text), syntax)
+}
+
 /// Returns what is written in a format for a file.
 fn output_of_file(
     alloc: Global,
@@ -80,6 +92,7 @@ fn output_of_file(
         Format::SafeHtml => html_of_file(alloc, Form::SafeHtml, enabled, file),
         Format::Events => lines_of_file(alloc, enabled, file),
         Format::Outline => outline_of_file(alloc, enabled, file),
+        Format::Links => links_of_file(alloc, enabled, file),
         Format::Contents => contents_of_file(alloc, enabled, file),
     }
 }
@@ -109,7 +122,7 @@ fn push_file_line(outputs: &mut String, format: Format, file: File<'_>) -> Resul
 {
     match format {
         Format::Html | Format::SafeHtml | Format::Contents => Ok(()),
-        Format::Events | Format::Outline => push_named_line(outputs, file),
+        Format::Events | Format::Outline | Format::Links => push_named_line(outputs, file),
     }
 }
 

@@ -119,8 +119,9 @@ pub(crate) struct Inside<'a> {
 
 /// Returns a page with this in it.
 pub(crate) fn page_of(alloc: Global, page: &Page, inside: Inside<'_>) -> Result<String, Fault>
-    ensures html { let i = inside.entry in IfOk result (λ html. string_bytes html
-        ≡ in_page (Some (page_view page.now)) i.format i.enabled (map file_view i.files.now) i.html.now) }
+    ensures html { let i = inside.entry in let files = map file_view i.files.now in IfOk result
+        (λ html. string_bytes html
+        ≡ in_page (Some (page_view page.now)) i.format i.enabled files i.html.now) }
     ensures refused { IfErr result (λ fault. fault ≡ Fault.Memory) }
 {
     let title = title_shown(alloc, page, inside.format, inside.enabled, inside.files)?;
