@@ -76,15 +76,15 @@ abbrev pub file_in_destination : List ℕ → List ℕ
 file_in_destination name = (if may_be_scheme name then codes "./" else []) ++ flat_map file_char (chars name)
 
 -- the text of a heading without an id, and otherwise a link to the id in a file, or in this one if its name is empty
-abbrev pub link_to : (file text : List ℕ) → Option (List ℕ) → List ℕ
-link_to file text None = escaped text
-link_to file text (Some id) =
+abbrev pub heading_link : (file text : List ℕ) → Option (List ℕ) → List ℕ
+heading_link file text None = escaped text
+heading_link file text (Some id) =
     codes "[" ++ escaped text ++ codes "](" ++ file_in_destination file ++ codes "#" ++ id_in_destination id
     ++ codes ")"
 
 -- the line of a heading below this number of others
 abbrev pub line : (file : List ℕ) (depth : ℕ) → EntryView → List ℕ
-line file depth e = indent depth ++ codes "- " ++ link_to file e.text e.id ++ codes "\n"
+line file depth e = indent depth ++ codes "- " ++ heading_link file e.text e.id ++ codes "\n"
 
 -- the line of a heading after headings of these levels, of which the latest is first
 abbrev pub line_after : (file : List ℕ) (levels : List ℕ) → EntryView → List ℕ
@@ -96,9 +96,9 @@ lines_after file levels [] = []
 lines_after file levels (e ∷ entries) = line_after file levels e ++ lines_after file (e.level ∷ levels) entries
 
 -- the table of contents of the headings of a file
-abbrev pub contents_in : (file : List ℕ) → List EntryView → List ℕ
-contents_in file entries = lines_after file [] entries
+abbrev pub contents_in_file : (file : List ℕ) → List EntryView → List ℕ
+contents_in_file file entries = lines_after file [] entries
 
 -- the same with links within one text
 abbrev pub contents_of : List EntryView → List ℕ
-contents_of entries = contents_in [] entries
+contents_of entries = contents_in_file [] entries

@@ -3,9 +3,9 @@ ghost use Rattle.std.specs.Prelude.{◌≡◌, ◌++◌, ◌∷◌, ◌<◌, ◌
 ghost use Rattle.std.specs.Prelude.{length, map, option_map, reverse, string_bytes, take};
 ghost use Rattle.percent_encoding.specs.Percent.{percent_encode_byte};
 ghost use Rattle.markdown.specs.OutlineWords.{entry_view};
-ghost use Rattle.markdown_contents.specs.Contents.{contents_in, contents_of, depth, escaped, escaped_char, file_char};
+ghost use Rattle.markdown_contents.specs.Contents.{contents_in_file, contents_of, depth, escaped, escaped_char, file_char};
 ghost use Rattle.markdown_contents.specs.Contents.{id_char, id_in_destination, indent, is_address_mark, is_encoded};
-ghost use Rattle.markdown_contents.specs.Contents.{is_destination_markup, is_markup, line, link_to, may_be_scheme};
+ghost use Rattle.markdown_contents.specs.Contents.{heading_link, is_destination_markup, is_markup, line, may_be_scheme};
 ghost use Rattle.markdown_contents.specs.ContentsSoFar.{AreOpen, lower_from};
 
 use markdown::Fault;
@@ -187,7 +187,7 @@ fn may_be_scheme(name: &str) -> bool
 /// Appends the text of a heading without an id, and otherwise a link to the id in a file.
 fn push_link(list: &mut String, file: &str, heading: &Entry) -> Result<(), Fault>
     ensures ok { OnOk result (string_bytes list.new ≡ string_bytes list.old
-        ++ link_to file.now (string_bytes heading.now.text) (option_map string_bytes heading.now.id)) }
+        ++ heading_link file.now (string_bytes heading.now.text) (option_map string_bytes heading.now.id)) }
     ensures refused { IfErr result (λ fault. fault ≡ Fault.Memory) }
 {
     let id = match &heading.id {
@@ -227,7 +227,7 @@ fn push_line(list: &mut String, file: &str, depth: usize, heading: &Entry) -> Re
 /// `Memory` if an allocation fails; there is no other error.
 pub fn list_in(alloc: Global, file: &str, headings: &[Entry]) -> Result<String, Fault>
     ensures list { IfOk result (λ list.
-        string_bytes list ≡ contents_in file.now (map entry_view headings.now)) }
+        string_bytes list ≡ contents_in_file file.now (map entry_view headings.now)) }
     ensures refused { IfErr result (λ fault. fault ≡ Fault.Memory) }
 {
     let mut list = String::new(alloc);
