@@ -90,7 +90,8 @@ fn push_indent(list: &mut String, depth: usize) -> Result<(), Fault>
     Ok(())
 }
 
-/// Returns whether a character is written by its number in a destination: it is a space or a control character of ASCII.
+/// Returns whether a character is written by its number in a destination: it is a space or a control character of
+/// ASCII.
 fn is_encoded(c: char) -> bool
     ensures { result ≡ is_encoded c }
 {
@@ -107,7 +108,8 @@ fn is_destination_markup(c: char) -> bool
 /// Appends a character by its number, `%` and two hexadecimal digits.
 fn push_encoded(list: &mut String, c: char) -> Result<(), Fault>
     requires ascii { c < 128 }
-    ensures ok { OnOk result (string_bytes list.new ≡ string_bytes list.old ++ percent_encode_byte c) }
+    ensures ok { OnOk result
+        (string_bytes list.new ≡ string_bytes list.old ++ percent_encode_byte c) }
     ensures refused { IfErr result (λ fault. fault ≡ Fault.Memory) }
 {
     Ok(list.push_str(percent_encode_byte(c as u8))?)
@@ -188,7 +190,8 @@ fn may_be_scheme(name: &str) -> bool
 /// Appends the text of a heading without an id, and otherwise a link to the id in a file.
 fn push_link(list: &mut String, file: &str, heading: &Entry) -> Result<(), Fault>
     ensures ok { OnOk result (string_bytes list.new ≡ string_bytes list.old
-        ++ heading_link file.now (string_bytes heading.now.text) (option_map string_bytes heading.now.id)) }
+        ++ heading_link file.now (string_bytes heading.now.text)
+        (option_map string_bytes heading.now.id)) }
     ensures refused { IfErr result (λ fault. fault ≡ Fault.Memory) }
 {
     let id = match &heading.id {
@@ -219,9 +222,9 @@ fn push_line(list: &mut String, file: &str, depth: usize, heading: &Entry) -> Re
     Ok(list.push_str("\n")?)
 }
 
-/// Returns the table of contents of the headings of a file: a line for each, below the nearest heading before it of a lower
-/// level, with a link to its id in the file of this name, or in the same text if the name is empty. A heading without an id
-/// is its text alone. Takes linear time.
+/// Returns the table of contents of the headings of a file: a line for each, below the nearest heading before it of a
+/// lower level, with a link to its id in the file of this name, or in the same text if the name is empty. A heading
+/// without an id is its text alone. Takes linear time.
 ///
 /// # Errors
 ///
