@@ -166,6 +166,6 @@ module _ {S : Type 0} (steps : S → Option (Result Event Fault) → S → Type 
 
     pub only_memory : (old new : List ℕ) (fault : Fault)
         → StopsAtError steps s old new fault ⊎ IsOwnFault steps s old new fault → fault ≡ Fault.Memory
-    only_memory old new fault (inl stops) = absurd (no_error given s stops.left stops.events fault gives.runs
-        stops.read)
+    only_memory old new fault (inl stops) =
+        absurd (no_error given s stops.left stops.events fault gives.runs stops.read)
     only_memory old new fault (inr own) = own_fault old new fault own

@@ -76,15 +76,15 @@ abbrev pub file_in_destination : List ℕ → List ℕ
 file_in_destination name = (if may_be_scheme name then codes "./" else []) ++ flat_map file_char (chars name)
 
 -- the text of a heading without an id, and otherwise a link to the id in a file, or in this one if its name is empty
-abbrev pub link_to : (file text : List ℕ) → Option (List ℕ) → List ℕ
-link_to file text None = escaped text
-link_to file text (Some id) =
+abbrev pub heading_link : (file text : List ℕ) → Option (List ℕ) → List ℕ
+heading_link file text None = escaped text
+heading_link file text (Some id) =
     codes "[" ++ escaped text ++ codes "](" ++ file_in_destination file ++ codes "#" ++ id_in_destination id
     ++ codes ")"
 
 -- the line of a heading below this number of others
 abbrev pub line : (file : List ℕ) (depth : ℕ) → EntryView → List ℕ
-line file depth e = indent depth ++ codes "- " ++ link_to file e.text e.id ++ codes "\n"
+line file depth e = indent depth ++ codes "- " ++ heading_link file e.text e.id ++ codes "\n"
 
 -- the line of a heading after headings of these levels, of which the latest is first
 abbrev pub line_after : (file : List ℕ) (levels : List ℕ) → EntryView → List ℕ

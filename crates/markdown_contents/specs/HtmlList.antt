@@ -14,7 +14,7 @@ label_events words (Some id) =
     ∷ text words ∷ end TagEnd.Link ∷ []
 
 -- the number of lists that are open after headings of these levels, of which the latest is first: the one that it is
--- in, and those that this one is in
+-- in, and those around that
 abbrev pub open_lists : List ℕ → ℕ
 open_lists [] = 0
 open_lists (level ∷ levels) = depth level levels + 1
@@ -25,7 +25,7 @@ list_ends zero = []
 list_ends (suc lists) = end TagEnd.Item ∷ end (TagEnd.List false) ∷ list_ends lists
 
 -- what stands before an item at a depth, where this many lists are open: if it is deeper than the item before it, a
--- list begins; otherwise the lists that are deeper end, and the item before it in its own list
+-- list begins; otherwise the lists that are deeper end, and then the item before it in its own list
 abbrev pub before_item : (lists depth : ℕ) → List EventView
 before_item lists depth =
     if nat_lt depth lists then list_ends (lists - (depth + 1)) ++ end TagEnd.Item ∷ []

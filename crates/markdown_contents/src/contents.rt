@@ -3,9 +3,10 @@ ghost use Rattle.std.specs.Prelude.{◌≡◌, ◌++◌, ◌∷◌, ◌<◌, ◌
 ghost use Rattle.std.specs.Prelude.{length, map, option_map, reverse, string_bytes, take};
 ghost use Rattle.percent_encoding.specs.Percent.{percent_encode_byte};
 ghost use Rattle.markdown.specs.OutlineWords.{entry_view};
-ghost use Rattle.markdown_contents.specs.Contents.{contents_in_file, contents_of, depth, escaped, escaped_char, file_char};
-ghost use Rattle.markdown_contents.specs.Contents.{id_char, id_in_destination, indent, is_address_mark, is_encoded};
-ghost use Rattle.markdown_contents.specs.Contents.{is_destination_markup, is_markup, line, link_to, may_be_scheme};
+ghost use Rattle.markdown_contents.specs.Contents.{contents_in_file, contents_of, depth, escaped, escaped_char};
+ghost use Rattle.markdown_contents.specs.Contents.{file_char, heading_link, id_char, id_in_destination, indent};
+ghost use Rattle.markdown_contents.specs.Contents.{is_address_mark, is_destination_markup, is_encoded, is_markup};
+ghost use Rattle.markdown_contents.specs.Contents.{line, may_be_scheme};
 ghost use Rattle.markdown_contents.specs.ContentsSoFar.{AreOpen, lower_from};
 
 use markdown::Fault;
@@ -89,7 +90,8 @@ fn push_indent(list: &mut String, depth: usize) -> Result<(), Fault>
     Ok(())
 }
 
-/// Returns whether a character is written by its number in a destination: it is a space or a control character of ASCII.
+/// Returns whether a character is written by its number in a destination: it is a space or a control character of
+/// ASCII.
 fn is_encoded(c: char) -> bool
     ensures { result ≡ is_encoded c }
 {
@@ -187,8 +189,9 @@ fn may_be_scheme(name: &str) -> bool
 
 /// Appends the text of a heading without an id, and otherwise a link to the id in a file.
 fn push_link(list: &mut String, file: &str, heading: &Entry) -> Result<(), Fault>
-    ensures ok { let h = entry_view heading.now in OnOk result (string_bytes list.new
-        ≡ string_bytes list.old ++ link_to file.now h.text h.id) }
+    ensures ok { OnOk result (string_bytes list.new ≡ string_bytes list.old
+        ++ heading_link file.now (string_bytes heading.now.text)
+        (option_map string_bytes heading.now.id)) }
     ensures refused { IfErr result (λ fault. fault ≡ Fault.Memory) }
 {
     let id = match &heading.id {
@@ -219,9 +222,9 @@ fn push_line(list: &mut String, file: &str, depth: usize, heading: &Entry) -> Re
     Ok(list.push_str("\n")?)
 }
 
-/// Returns the table of contents of the headings of a file: a line for each, below the nearest heading before it of a lower
-/// level, with a link to its id in the file of this name, or in the same text if the name is empty. A heading without an id
-/// is its text alone. Takes linear time.
+/// Returns the table of contents of the headings of a file: a line for each, below the nearest heading before it of a
+/// lower level, with a link to its id in the file of this name, or in the same text if the name is empty. A heading
+/// without an id is its text alone. Takes linear time.
 ///
 /// # Errors
 ///

@@ -105,9 +105,9 @@ fn item<'h>(event: Event<'h>) -> Result<Event<'h>, Fault>
     Ok(event)
 }
 
-/// Returns the table of contents of these headings as HTML: a list item for each, in a list within the item of the nearest
-/// heading before it of a lower level, with a link to its id in the same text. A heading without an id is its text alone.
-/// Without headings there is no list. Takes linear time.
+/// Returns the table of contents of these headings as HTML: a list item for each, in a list within the item of the
+/// nearest heading before it of a lower level, with a link to its id in the same text. A heading without an id is its
+/// text alone. Without headings there is no list. Takes linear time.
 ///
 /// # Errors
 ///
