@@ -1,10 +1,12 @@
 -- What a parser gives, and the adapters over what gives some events.
 use Rattle.std.proofs.Common.{◌≡◌, ◌⊎◌, ⊎_elim, ℕ, false, List, [], ◌∷◌, ◌++◌, map, Ok, Err, Option, Some, None, Result}
-use Rattle.std.proofs.Common.{ap, refl, sym, ◌∙◌, is_some}
+use Rattle.std.proofs.Common.{ap, refl, subst, sym, ◌∙◌, is_some}
 use Rattle.std.specs.Iterator.{Drains, Yields}
 use Rattle.std.specs.declared.ops.Range.{Range}
-use Rattle.markdown_additions.specs.Additions.{AreFirstOfText, AreFirstWithPrefix, AreFirstWithTheirIds}
+use Rattle.markdown_additions.specs.Additions.{AreFirstAdded, AreFirstOfText, AreFirstWithPrefix, AreFirstWithTheirIds}
+use Rattle.markdown_additions.specs.Additions.{added_events, heading_ids, nothing, prefixed_ids}
 use Rattle.markdown_additions.specs.GivenEvents.{GivesEvents}
+use Rattle.markdown_additions.specs.TextEvents.{IsNewParser, IsNewWithIds}
 use Rattle.markdown_base.specs.Questions.{Question, Answer, Answers}
 use Rattle.markdown_base.specs.Source.{Source}
 use Rattle.markdown_base.specs.declared.event.Event.{Event}
@@ -16,6 +18,14 @@ use Rattle.markdown_defs.specs.Callback.{Asks}
 use Rattle.markdown_heading_ids.specs.HeadingIds.{Id, with_ids}
 use Rattle.markdown_heading_ids.specs.HeadingIdsLaws.{AreFirstOf, ReturnsWithIds}
 use Rattle.markdown_heading_ids.specs.HeadingIdsNext.{IdsState, ids_steps}
+use Rattle.markdown_heading_ids.specs.HeadingIdsState.{ids_state}
+use Rattle.markdown_heading_ids.specs.IdsOfText.{taken_in_text}
+use Rattle.markdown_heading_ids.specs.TakenIds.{StandsFor}
+use Rattle.markdown_heading_ids.specs.declared.adapter.HeadingIds.{HeadingIds}
+use Rattle.markdown_heading_ids.specs.declared.taken.Taken.{Taken}
+use Rattle.markdown_heading_ids.proofs.HeadingIdsRunLemmas.{returns_with_ids}
+use Rattle.markdown_heading_ids.proofs.PrefixedLemmas.{all_prefixed, first_prefixed}
+use Rattle.markdown_inline.specs.ReadingOfText.{events_of_text}
 use Rattle.markdown_heading_ids.specs.PrefixedItems.{AreAllPrefixed, AreFirstPrefixed, IsPrefixedItem}
 use Rattle.markdown_heading_ids.specs.PrefixedItems.{prefix_of, prefixed_steps, unprefixed_source}
 use Rattle.markdown_heading_ids.specs.Prefixes.{prefixed_events}
@@ -170,3 +180,43 @@ module _ {I : Type 0} (steps : I → Option Item → I → Type 0) where
         };
     memory = λ given t fault y. memory_prefixed p t given fault gives.memory y;
   }
+
+-- ---- new parsers, under the adapters
+
+module _ {F : Type 0} (step : F → Question → Option Answer → F → Type 0) where
+  abbrev pub ParserSteps : OffsetIter F → Option Item → OffsetIter F → Type 0
+  ParserSteps o item t = NextGives step IsPlacedOf (offset_parser o) item (offset_parser t)
+
+  pub gives_new : (s : Source) (o : OffsetIter F) → IsNewParser s o
+      → GivesEvents ParserSteps o (added_events nothing s) (AreFirstAdded nothing s)
+  gives_new s o new = gives_text step s new.blocks o new.of_text new.reads new.alone
+
+  pub gives_new_with_ids : (s : Source) (h : HeadingIds (OffsetIter F)) → IsNewWithIds s h
+      → GivesEvents (ids_steps ParserSteps ids_state) h (added_events heading_ids s) (AreFirstAdded heading_ids s)
+  gives_new_with_ids s h new =
+      gives_ids ParserSteps ids_state (taken_in_text s) h (added_events nothing s) (AreFirstAdded nothing s)
+      (returns_with_ids ParserSteps ids_state h (taken_in_text s) new.ids) (gives_new s (ids_state h).iter new.parser)
+
+  pub gives_new_prefixed : (s : Source) (p : Prefixed (HeadingIds (OffsetIter F))) → IsNewWithIds s (unprefixed_source p)
+      → GivesEvents (prefixed_steps (ids_steps ParserSteps ids_state)) p (added_events (prefixed_ids (prefix_of p)) s)
+      (AreFirstAdded (prefixed_ids (prefix_of p)) s)
+  gives_new_prefixed s p new =
+      let steps = ids_steps ParserSteps ids_state in
+      gives_prefixed steps (prefix_of p) p (added_events heading_ids s) (AreFirstAdded heading_ids s) refl
+      (gives_new_with_ids s (unprefixed_source p) new)
+      (λ given d. all_prefixed steps p given d) (λ given t y. first_prefixed steps p t given y)
+
+-- a new adapter of ids over a new parser
+pub new_with_ids : {F : Type 0} (s : Source) (h : HeadingIds (OffsetIter F)) (o : OffsetIter F) (t : Taken)
+    → ids_state h ≡ record { iter = o; kept = []; inside = false; taken = t; over = false } → IsNewParser s o
+    → StandsFor t (taken_in_text s) → IsNewWithIds s h
+new_with_ids {F} s h o t is new stands = record {
+  parser = subst (λ (x : OffsetIter F). IsNewParser s x) (sym (ap (λ (st : IdsState (OffsetIter F)). st.iter) is)) new;
+  ids = record {
+    nothing = ap (λ (st : IdsState (OffsetIter F)). st.kept) is;
+    outside = ap (λ (st : IdsState (OffsetIter F)). st.inside) is;
+    goes_on = ap (λ (st : IdsState (OffsetIter F)). st.over) is;
+    stands = subst (λ (x : Taken). StandsFor x (taken_in_text s))
+        (sym (ap (λ (st : IdsState (OffsetIter F)). st.taken) is)) stands;
+  };
+}

@@ -28,6 +28,42 @@ pub enum Form {
     Lines,
 }
 
+/// Returns the HTML of the events of a text.
+fn html_alone(alloc: Global, events: Events<'_>) -> Result<String, Fault>
+    ensures written { IfOk result (λ written. (s : Source) → IsNewParser s events.entry
+        → string_bytes written ≡ written_of_text Form.Html nothing s) }
+    ensures faults { IfErr result (λ fault. (s : Source) → IsNewParser s events.entry
+        → IsFaultOfWritingText Form.Html nothing s fault) }
+{
+    let mut written = String::new(alloc);
+    push_html(alloc, &mut written, Unplaced::new(events))?;
+    Ok(written)
+}
+
+/// Returns the safe HTML of the events of a text.
+fn safe_html_alone(alloc: Global, events: Events<'_>) -> Result<String, Fault>
+    ensures written { IfOk result (λ written. (s : Source) → IsNewParser s events.entry
+        → string_bytes written ≡ written_of_text Form.SafeHtml nothing s) }
+    ensures faults { IfErr result (λ fault. (s : Source) → IsNewParser s events.entry
+        → IsFaultOfWritingText Form.SafeHtml nothing s fault) }
+{
+    let mut written = String::new(alloc);
+    push_html(alloc, &mut written, Safe::new(alloc, Unplaced::new(events)))?;
+    Ok(written)
+}
+
+/// Returns the lines of the events of a text.
+fn lines_alone(alloc: Global, events: Events<'_>) -> Result<String, Fault>
+    ensures written { IfOk result (λ written. (s : Source) → IsNewParser s events.entry
+        → string_bytes written ≡ written_of_text Form.Lines nothing s) }
+    ensures faults { IfErr result (λ fault. (s : Source) → IsNewParser s events.entry
+        → IsFaultOfWritingText Form.Lines nothing s fault) }
+{
+    let mut written = String::new(alloc);
+    push_json(alloc, &mut written, events)?;
+    Ok(written)
+}
+
 /// Returns what is written in a form of the events of a text.
 fn written_alone(alloc: Global, form: Form, events: Events<'_>) -> Result<String, Fault>
     ensures written { IfOk result (λ written. (s : Source) → IsNewParser s events.entry
@@ -35,14 +71,46 @@ fn written_alone(alloc: Global, form: Form, events: Events<'_>) -> Result<String
     ensures faults { IfErr result (λ fault. (s : Source) → IsNewParser s events.entry
         → IsFaultOfWritingText form nothing s fault) }
 {
-    let mut written = String::new(alloc);
     match form {
-        Form::Html => push_html(alloc, &mut written, Unplaced::new(events))?,
-        Form::SafeHtml => {
-            push_html(alloc, &mut written, Safe::new(alloc, Unplaced::new(events)))?
-        }
-        Form::Lines => push_json(alloc, &mut written, events)?,
+        Form::Html => html_alone(alloc, events),
+        Form::SafeHtml => safe_html_alone(alloc, events),
+        Form::Lines => lines_alone(alloc, events),
     }
+}
+
+/// Returns the HTML of the events of a text with the ids of their headings.
+fn html_with_ids(alloc: Global, events: EventsWithIds<'_>) -> Result<String, Fault>
+    ensures written { IfOk result (λ written. (s : Source) → IsNewWithIds s events.entry
+        → string_bytes written ≡ written_of_text Form.Html heading_ids s) }
+    ensures faults { IfErr result (λ fault. (s : Source) → IsNewWithIds s events.entry
+        → IsFaultOfWritingText Form.Html heading_ids s fault) }
+{
+    let mut written = String::new(alloc);
+    push_html(alloc, &mut written, Unplaced::new(events))?;
+    Ok(written)
+}
+
+/// Returns the safe HTML of the events of a text with the ids of their headings.
+fn safe_html_with_ids(alloc: Global, events: EventsWithIds<'_>) -> Result<String, Fault>
+    ensures written { IfOk result (λ written. (s : Source) → IsNewWithIds s events.entry
+        → string_bytes written ≡ written_of_text Form.SafeHtml heading_ids s) }
+    ensures faults { IfErr result (λ fault. (s : Source) → IsNewWithIds s events.entry
+        → IsFaultOfWritingText Form.SafeHtml heading_ids s fault) }
+{
+    let mut written = String::new(alloc);
+    push_html(alloc, &mut written, Safe::new(alloc, Unplaced::new(events)))?;
+    Ok(written)
+}
+
+/// Returns the lines of the events of a text with the ids of their headings.
+fn lines_with_ids(alloc: Global, events: EventsWithIds<'_>) -> Result<String, Fault>
+    ensures written { IfOk result (λ written. (s : Source) → IsNewWithIds s events.entry
+        → string_bytes written ≡ written_of_text Form.Lines heading_ids s) }
+    ensures faults { IfErr result (λ fault. (s : Source) → IsNewWithIds s events.entry
+        → IsFaultOfWritingText Form.Lines heading_ids s fault) }
+{
+    let mut written = String::new(alloc);
+    push_json(alloc, &mut written, events)?;
     Ok(written)
 }
 
@@ -53,14 +121,61 @@ fn written_with_ids(alloc: Global, form: Form, events: EventsWithIds<'_>) -> Res
     ensures faults { IfErr result (λ fault. (s : Source) → IsNewWithIds s events.entry
         → IsFaultOfWritingText form heading_ids s fault) }
 {
-    let mut written = String::new(alloc);
     match form {
-        Form::Html => push_html(alloc, &mut written, Unplaced::new(events))?,
-        Form::SafeHtml => {
-            push_html(alloc, &mut written, Safe::new(alloc, Unplaced::new(events)))?
-        }
-        Form::Lines => push_json(alloc, &mut written, events)?,
+        Form::Html => html_with_ids(alloc, events),
+        Form::SafeHtml => safe_html_with_ids(alloc, events),
+        Form::Lines => lines_with_ids(alloc, events),
     }
+}
+
+/// Returns the HTML of these with a prefix of all ids.
+fn html_prefixed<'a>(
+    alloc: Global,
+    events: Prefixed<'a, EventsWithIds<'a>>,
+) -> Result<String, Fault>
+    ensures written { IfOk result (λ written. (s : Source)
+        → IsNewWithIds s (unprefixed_source events.entry)
+        → string_bytes written ≡ written_of_text Form.Html (prefixed_ids (prefix_of events.entry)) s) }
+    ensures faults { IfErr result (λ fault. (s : Source)
+        → IsNewWithIds s (unprefixed_source events.entry)
+        → IsFaultOfWritingText Form.Html (prefixed_ids (prefix_of events.entry)) s fault) }
+{
+    let mut written = String::new(alloc);
+    push_html(alloc, &mut written, Unplaced::new(events))?;
+    Ok(written)
+}
+
+/// Returns the safe HTML of these with a prefix of all ids.
+fn safe_html_prefixed<'a>(
+    alloc: Global,
+    events: Prefixed<'a, EventsWithIds<'a>>,
+) -> Result<String, Fault>
+    ensures written { IfOk result (λ written. (s : Source)
+        → IsNewWithIds s (unprefixed_source events.entry)
+        → string_bytes written ≡ written_of_text Form.SafeHtml (prefixed_ids (prefix_of events.entry)) s) }
+    ensures faults { IfErr result (λ fault. (s : Source)
+        → IsNewWithIds s (unprefixed_source events.entry)
+        → IsFaultOfWritingText Form.SafeHtml (prefixed_ids (prefix_of events.entry)) s fault) }
+{
+    let mut written = String::new(alloc);
+    push_html(alloc, &mut written, Safe::new(alloc, Unplaced::new(events)))?;
+    Ok(written)
+}
+
+/// Returns the lines of these with a prefix of all ids.
+fn lines_prefixed<'a>(
+    alloc: Global,
+    events: Prefixed<'a, EventsWithIds<'a>>,
+) -> Result<String, Fault>
+    ensures written { IfOk result (λ written. (s : Source)
+        → IsNewWithIds s (unprefixed_source events.entry)
+        → string_bytes written ≡ written_of_text Form.Lines (prefixed_ids (prefix_of events.entry)) s) }
+    ensures faults { IfErr result (λ fault. (s : Source)
+        → IsNewWithIds s (unprefixed_source events.entry)
+        → IsFaultOfWritingText Form.Lines (prefixed_ids (prefix_of events.entry)) s fault) }
+{
+    let mut written = String::new(alloc);
+    push_json(alloc, &mut written, events)?;
     Ok(written)
 }
 
@@ -77,15 +192,11 @@ fn written_prefixed<'a>(
         → IsNewWithIds s (unprefixed_source events.entry)
         → IsFaultOfWritingText form (prefixed_ids (prefix_of events.entry)) s fault) }
 {
-    let mut written = String::new(alloc);
     match form {
-        Form::Html => push_html(alloc, &mut written, Unplaced::new(events))?,
-        Form::SafeHtml => {
-            push_html(alloc, &mut written, Safe::new(alloc, Unplaced::new(events)))?
-        }
-        Form::Lines => push_json(alloc, &mut written, events)?,
+        Form::Html => html_prefixed(alloc, events),
+        Form::SafeHtml => safe_html_prefixed(alloc, events),
+        Form::Lines => lines_prefixed(alloc, events),
     }
-    Ok(written)
 }
 
 /// Returns what is written in a form of the events of a text of which `syntax` is read, with what is added to them. There is
