@@ -5,4 +5,4 @@ pub mod Written
 pub mod GivenEvents
 pub mod UnplacedItems
 -- the terms of private clauses
-pub mod TakenIfAsked
+pub mod TextEvents

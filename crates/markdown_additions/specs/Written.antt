@@ -1,8 +1,7 @@
 -- What is written of events with their ranges, by form, and why nothing is.
 use Rattle.std.specs.Prelude.{◌≡◌, ◌⊎◌, ℕ, Bool, List, map, if◌then◌else◌}
 use Rattle.std.specs.List.{flat_map}
-use Rattle.markdown_additions.specs.Additions.{AreFirstAdded, added_events}
-use Rattle.markdown_additions.specs.declared.additions.Additions.{Additions}
+use Rattle.markdown_additions.specs.Additions.{AdditionsView, AreFirstAdded, added_events}
 use Rattle.markdown_additions.specs.declared.written.Form.{Form}
 use Rattle.markdown_additions.specs.declared.written.Form.TheVariants.{Html, SafeHtml, Lines}
 use Rattle.markdown_base.specs.Event.{EventView}
@@ -46,11 +45,11 @@ abbrev pub IsFaultOfWriting : Form → (begins : List Ranged → Type 0) → Fau
 IsFaultOfWriting form begins fault = (fault ≡ Memory) ⊎ ((fault ≡ Depth) × BeginsTooDeep form begins)
 
 -- what is written of the events of a text with what is added
-abbrev pub written_of_text : Form → Additions → Source → List ℕ
+abbrev pub written_of_text : Form → AdditionsView → Source → List ℕ
 written_of_text form a s = written_of form (added_events a s)
 
 -- this is why nothing is written of a text
-abbrev pub IsFaultOfWritingText : Form → Additions → Source → Fault → Type 0
+abbrev pub IsFaultOfWritingText : Form → AdditionsView → Source → Fault → Type 0
 IsFaultOfWritingText form a s fault = IsFaultOfWriting form (AreFirstAdded a s) fault
 
 -- events made safe, where that is asked for; their ranges stay
@@ -61,5 +60,5 @@ abbrev pub safe_if : Bool → List Ranged → List Ranged
 safe_if asked events = if asked then safe_ranged events else events
 
 -- the headings of a text with what is added, made safe where that is asked for
-abbrev pub headings_of_text : (safe : Bool) → Additions → Source → List EntryView
+abbrev pub headings_of_text : (safe : Bool) → AdditionsView → Source → List EntryView
 headings_of_text safe a s = entries_of (safe_if safe (added_events a s))

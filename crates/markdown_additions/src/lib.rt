@@ -2,6 +2,7 @@
 #![tactic(auto)]
 
 mod additions;
+mod events;
 mod headings;
 mod unplaced;
 mod written;

@@ -26,7 +26,8 @@ impl<'a, I> Unplaced<'a, I> {
     }
 }
 
-impl<'a, I: Iterator<Item = Result<(Event<'a>, Range<usize>), Fault>>> Iterator for Unplaced<'a, I> {
+impl<'a, I: Iterator<Item = Result<(Event<'a>, Range<usize>), Fault>>> Iterator
+    for Unplaced<'a, I> {
     type Item = Result<Event<'a>, Fault>;
 
     ghost use Rattle.markdown_additions.specs.UnplacedItems.{placed_iter, unplaced_steps};

@@ -1,27 +1,21 @@
 //! What is written of events: HTML, safe HTML, or lines of JSON.
-ghost use Rattle.std.specs.Prelude.{◌≡◌, IfErr, IfOk, List, option_map, string_bytes};
-ghost use Rattle.std.specs.Iterator.{IsFinite};
-ghost use Rattle.markdown_additions.specs.Additions.{AreFirstPrefixedIf, with_prefix};
-ghost use Rattle.markdown_additions.specs.GivenEvents.{GivesEvents};
-ghost use Rattle.markdown_additions.specs.Written.{IsFaultOfWriting, IsFaultOfWritingText, written_of, written_of_text};
-ghost use Rattle.markdown_base.specs.Source.{source_as};
-ghost use Rattle.markdown_outline.specs.Outline.{Ranged};
+ghost use Rattle.std.specs.Prelude.{◌≡◌, IfErr, IfOk, string_bytes};
+ghost use Rattle.markdown_additions.specs.Additions.{additions_view, heading_ids, nothing, prefixed_ids};
+ghost use Rattle.markdown_additions.specs.TextEvents.{IsNewParser, IsNewWithIds};
+ghost use Rattle.markdown_additions.specs.Written.{IsFaultOfWritingText, written_of_text};
+ghost use Rattle.markdown_base.specs.Source.{Source, source_as};
+ghost use Rattle.markdown_heading_ids.specs.PrefixedItems.{prefix_of, unprefixed_source};
 
-use crate::additions::{Additions, taken_if};
+use crate::additions::Additions;
+use crate::events::{Events, EventsWithIds, text_events, text_events_with_ids};
 use crate::unplaced::Unplaced;
-use markdown_base::event::Event;
 use markdown_base::fault::Fault;
-use markdown_base::options::Options;
 use markdown_base::syntax::Syntax;
-use markdown_blocks::Blocks;
-use markdown_defs::DefaultBrokenLinkCallback;
-use markdown_heading_ids::{HeadingIds, Prefixed};
-use markdown_inline::walk::Parser;
+use markdown_heading_ids::Prefixed;
 use markdown_json::push_json;
 use markdown_out::push_html;
 use markdown_safe::Safe;
 use std::alloc::Global;
-use std::ops::Range;
 
 /// What is written of events.
 #[derive(Clone, Copy, Debug, PartialEq, Eq, Drop)]
@@ -34,56 +28,64 @@ pub enum Form {
     Lines,
 }
 
-/// Returns what is written of the events of an iterator.
-///
-/// # Errors
-///
-/// `Memory` if an allocation fails, and `Depth` where more than 2^64 - 1 Starts are open in one image.
-fn written_of<'a, I>(alloc: Global, form: Form, iter: I) -> Result<String, Fault>
-where
-    I: Iterator<Item = Result<(Event<'a>, Range<usize>), Fault>>,
-    requires can { I.can_next iter }
-    requires ends { IsFinite (I.remaining iter) }
-    ensures written { IfOk result (λ written. (events : List Ranged) (begins : List Ranged → Type 0)
-        → GivesEvents I.next_gives iter events begins → string_bytes written ≡ written_of form events) }
-    ensures faults { IfErr result (λ fault. (events : List Ranged) (begins : List Ranged → Type 0)
-        → GivesEvents I.next_gives iter events begins → IsFaultOfWriting form begins fault) }
+/// Returns what is written in a form of the events of a text.
+fn written_alone(alloc: Global, form: Form, events: Events<'_>) -> Result<String, Fault>
+    ensures written { IfOk result (λ written. (s : Source) → IsNewParser s events.entry
+        → string_bytes written ≡ written_of_text form nothing s) }
+    ensures faults { IfErr result (λ fault. (s : Source) → IsNewParser s events.entry
+        → IsFaultOfWritingText form nothing s fault) }
 {
     let mut written = String::new(alloc);
     match form {
-        Form::Html => push_html(alloc, &mut written, Unplaced::new(iter))?,
-        Form::SafeHtml => push_html(alloc, &mut written, Safe::new(alloc, Unplaced::new(iter)))?,
-        Form::Lines => push_json(alloc, &mut written, iter)?,
+        Form::Html => push_html(alloc, &mut written, Unplaced::new(events))?,
+        Form::SafeHtml => {
+            push_html(alloc, &mut written, Safe::new(alloc, Unplaced::new(events)))?
+        }
+        Form::Lines => push_json(alloc, &mut written, events)?,
     }
     Ok(written)
 }
 
-/// Returns what is written of the events of an iterator, with this prefix of their ids, if there is one; errors are those of
-/// `written_of`.
-fn written_with_prefix<'a, I>(
+/// Returns what is written in a form of the events of a text with the ids of their headings.
+fn written_with_ids(alloc: Global, form: Form, events: EventsWithIds<'_>) -> Result<String, Fault>
+    ensures written { IfOk result (λ written. (s : Source) → IsNewWithIds s events.entry
+        → string_bytes written ≡ written_of_text form heading_ids s) }
+    ensures faults { IfErr result (λ fault. (s : Source) → IsNewWithIds s events.entry
+        → IsFaultOfWritingText form heading_ids s fault) }
+{
+    let mut written = String::new(alloc);
+    match form {
+        Form::Html => push_html(alloc, &mut written, Unplaced::new(events))?,
+        Form::SafeHtml => {
+            push_html(alloc, &mut written, Safe::new(alloc, Unplaced::new(events)))?
+        }
+        Form::Lines => push_json(alloc, &mut written, events)?,
+    }
+    Ok(written)
+}
+
+/// Returns what is written in a form of these with a prefix of all ids.
+fn written_prefixed<'a>(
     alloc: Global,
     form: Form,
-    prefix: Option<&str>,
-    iter: I,
+    events: Prefixed<'a, EventsWithIds<'a>>,
 ) -> Result<String, Fault>
-where
-    I: Iterator<Item = Result<(Event<'a>, Range<usize>), Fault>>,
-    requires can { I.can_next iter }
-    requires ends { IsFinite (I.remaining iter) }
-    ensures written { IfOk result (λ written. (events : List Ranged) (begins : List Ranged → Type 0)
-        → GivesEvents I.next_gives iter events begins
-        → string_bytes written ≡ written_of form (with_prefix (option_map (λ p. p.now) prefix.entry) events)) }
-    ensures faults { IfErr result (λ fault. (events : List Ranged) (begins : List Ranged → Type 0)
-        → GivesEvents I.next_gives iter events begins
-        → IsFaultOfWriting form (AreFirstPrefixedIf (option_map (λ p. p.now) prefix.entry) begins) fault) }
+    ensures written { IfOk result (λ written. (s : Source)
+        → IsNewWithIds s (unprefixed_source events.entry)
+        → string_bytes written ≡ written_of_text form (prefixed_ids (prefix_of events.entry)) s) }
+    ensures faults { IfErr result (λ fault. (s : Source)
+        → IsNewWithIds s (unprefixed_source events.entry)
+        → IsFaultOfWritingText form (prefixed_ids (prefix_of events.entry)) s fault) }
 {
-    match prefix {
-        Some(prefix) => {
-            let prefix = String::from_str(alloc, prefix)?;
-            written_of(alloc, form, Prefixed::new(alloc, prefix, iter))
+    let mut written = String::new(alloc);
+    match form {
+        Form::Html => push_html(alloc, &mut written, Unplaced::new(events))?,
+        Form::SafeHtml => {
+            push_html(alloc, &mut written, Safe::new(alloc, Unplaced::new(events)))?
         }
-        None => written_of(alloc, form, iter),
+        Form::Lines => push_json(alloc, &mut written, events)?,
     }
+    Ok(written)
 }
 
 /// Returns what is written in a form of the events of a text of which `syntax` is read, with what is added to them. There is
@@ -99,20 +101,20 @@ pub fn written_source(
     additions: Additions<'_>,
     form: Form,
 ) -> Result<String, Fault>
-    ensures written { IfOk result (λ written.
-        string_bytes written ≡ written_of_text form additions.entry (source_as syntax text.now)) }
+    ensures written { IfOk result (λ written. string_bytes written
+        ≡ written_of_text form (additions_view additions.entry) (source_as syntax text.now)) }
     ensures faults { IfErr result
-        (IsFaultOfWritingText form additions.entry (source_as syntax text.now)) }
+        (IsFaultOfWritingText form (additions_view additions.entry) (source_as syntax text.now)) }
 {
-    let blocks = Blocks::of_source(alloc, text, Options::empty(), syntax)?;
-    let taken = taken_if(alloc, &blocks, additions.heading_ids)?;
-    let nobody: Option<DefaultBrokenLinkCallback> = None;
-    let events = Parser::from_blocks(alloc, blocks, nobody)?.into_offset_iter();
-    match taken {
-        Some(taken) => {
-            let with_ids = HeadingIds::new(alloc, taken, events);
-            written_with_prefix(alloc, form, additions.prefix, with_ids)
+    match additions {
+        Additions::Nothing => written_alone(alloc, form, text_events(alloc, text, syntax)?),
+        Additions::HeadingIds => {
+            written_with_ids(alloc, form, text_events_with_ids(alloc, text, syntax)?)
         }
-        None => written_with_prefix(alloc, form, additions.prefix, events),
+        Additions::PrefixedIds(prefix) => {
+            let prefix = String::from_str(alloc, prefix)?;
+            let events = text_events_with_ids(alloc, text, syntax)?;
+            written_prefixed(alloc, form, Prefixed::new(alloc, prefix, events))
+        }
     }
 }

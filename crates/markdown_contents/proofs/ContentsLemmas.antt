@@ -1,10 +1,9 @@
 -- What one more character makes of a text that is written character by character, and one more level of an indent.
-use Rattle.std.proofs.Common.{◌≡◌, ℕ, zero, suc, ◌+◌, ◌<◌, ◌≤◌, List, [], ◌∷◌, ◌++◌, map, reverse, length, get_or, take}
-use Rattle.std.proofs.Common.{drop}
-use Rattle.std.proofs.Common.{refl, sym, ap, ◌∙◌, append_assoc, add-one, chars, encode_utf8, IsUtf8, flat_map, count_by}
-use Rattle.std.proofs.Common.{bytes_eq, codes}
+use Rattle.std.proofs.Common.{◌≡◌, ℕ, zero, suc, ◌+◌, List, [], ◌++◌, length}
+use Rattle.std.proofs.Common.{refl, sym, ap, ◌∙◌, append_assoc, add-one, chars, encode_utf8, IsUtf8, flat_map}
+use Rattle.std.proofs.Common.{codes}
 use Rattle.std.proofs.lemmas.Str.{chars_past_char, chars-nil}
-use Rattle.std.proofs.lemmas.List.{nil_from_length, map-append, take_more, at_drop_more, at_drop_all}
+use Rattle.std.proofs.lemmas.List.{nil_from_length}
 use Rattle.markdown_contents.specs.Contents.{indent}
 
 -- what is written for the characters of a text, where one comes first

@@ -1,15 +1,15 @@
 -- What one more heading leaves of the open levels.
-use Rattle.std.proofs.Common.{◌≡◌, ℕ, ◌+◌, ◌<◌, ◌≤◌, Bool, true, false, cond, List, [], ◌∷◌, ◌++◌, map, reverse, length}
+use Rattle.std.proofs.Common.{◌≡◌, ℕ, ◌+◌, ◌<◌, ◌≤◌, List, [], ◌∷◌, ◌++◌, reverse, length}
 use Rattle.std.proofs.Common.{get_or, take}
 use Rattle.std.proofs.Common.{append_assoc, inl, inr, refl, sym, ap, ◌∙◌, subst, arith}
 use Rattle.std.proofs.lemmas.Bool.{cases_lt, cond_below, cond_above}
-use Rattle.std.proofs.lemmas.List.{map-append, reverse-append, take_more, length-reverse, length-take-le}
+use Rattle.std.proofs.lemmas.List.{reverse-append, take_more, length-reverse, length-take-le}
 use Rattle.markdown.specs.OutlineWords.{EntryView}
 use Rattle.markdown_contents.specs.Contents.{depth, line_after, lines_after}
 use Rattle.markdown_contents.specs.ContentsSoFar.{AreLinesSoFar, AreOpen, IsStair, lower_from}
 
 -- a level is above where it is lower, and otherwise it is not
-depth-above : (level nearest : ℕ) (others : List ℕ) → nearest < level → depth level (nearest ∷ others)
+pub depth-above : (level nearest : ℕ) (others : List ℕ) → nearest < level → depth level (nearest ∷ others)
     ≡ depth nearest others + 1
 depth-above level nearest others l = sym (cond_below nearest level (depth nearest others + 1) (depth level others) l)
 

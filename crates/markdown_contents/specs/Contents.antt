@@ -1,6 +1,6 @@
 -- The table of contents of headings: a nested Markdown list of links, each to the id of its heading.
 use Rattle.std.specs.Prelude.{ℕ, zero, suc, ◌+◌, Bool, false, not, ◌==◌, ◌||◌, ◌&&◌, nat_lt, if◌then◌else◌}
-use Rattle.std.specs.Prelude.{List, [], ◌∷◌, ◌++◌, map, reverse, flat_map, Option, Some, None}
+use Rattle.std.specs.Prelude.{List, [], ◌∷◌, ◌++◌, flat_map, Option, Some, None}
 use Rattle.std.specs.Prelude.{codes, chars, encode_utf8}
 use Rattle.std.specs.List.{list_any}
 use Rattle.percent_encoding.specs.Percent.{percent_encode_byte}
@@ -96,9 +96,9 @@ lines_after file levels [] = []
 lines_after file levels (e ∷ entries) = line_after file levels e ++ lines_after file (e.level ∷ levels) entries
 
 -- the table of contents of the headings of a file
-abbrev pub contents_in : (file : List ℕ) → List EntryView → List ℕ
-contents_in file entries = lines_after file [] entries
+abbrev pub contents_in_file : (file : List ℕ) → List EntryView → List ℕ
+contents_in_file file entries = lines_after file [] entries
 
 -- the same with links within one text
 abbrev pub contents_of : List EntryView → List ℕ
-contents_of entries = contents_in [] entries
+contents_of entries = contents_in_file [] entries

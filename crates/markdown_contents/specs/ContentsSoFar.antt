@@ -1,8 +1,10 @@
 -- What the next heading depends on in the headings so far: the open levels, which it may be below. Only private clauses
 -- cite this.
 use Rattle.std.specs.Prelude.{◌≡◌, ℕ, nat_lt, if◌then◌else◌, List, [], ◌∷◌, ◌++◌, length}
+use Rattle.markdown.specs.EventWords.{EventView}
 use Rattle.markdown.specs.OutlineWords.{EntryView}
 use Rattle.markdown_contents.specs.Contents.{depth, lines_after}
+use Rattle.markdown_contents.specs.HtmlList.{items_after}
 
 -- of these levels, the nearest first, those from the first that is lower than this one
 abbrev pub lower_from : ℕ → List ℕ → List ℕ
@@ -24,3 +26,10 @@ pub record AreLinesSoFar (file open_levels list : List ℕ) (left : List EntryVi
   pub levels : List ℕ
   pub open_levels_serve : AreOpen open_levels levels
   pub lines : list ++ lines_after file levels left ≡ whole
+
+-- with the items of these headings, which are left, the events so far are the whole
+pub record AreEventsSoFar (open_levels : List ℕ) (events : List EventView) (left : List EntryView)
+    (whole : List EventView) : Type 0 where
+  pub levels : List ℕ
+  pub open_levels_serve : AreOpen open_levels levels
+  pub items : events ++ items_after levels left ≡ whole

@@ -3,7 +3,7 @@ ghost use Rattle.std.specs.Prelude.{◌≡◌, ◌++◌, ◌∷◌, ◌<◌, ◌
 ghost use Rattle.std.specs.Prelude.{length, map, option_map, reverse, string_bytes, take};
 ghost use Rattle.percent_encoding.specs.Percent.{percent_encode_byte};
 ghost use Rattle.markdown.specs.OutlineWords.{entry_view};
-ghost use Rattle.markdown_contents.specs.Contents.{contents_in, contents_of, depth, escaped, escaped_char, file_char};
+ghost use Rattle.markdown_contents.specs.Contents.{contents_in_file, contents_of, depth, escaped, escaped_char, file_char};
 ghost use Rattle.markdown_contents.specs.Contents.{id_char, id_in_destination, indent, is_address_mark, is_encoded};
 ghost use Rattle.markdown_contents.specs.Contents.{is_destination_markup, is_markup, line, link_to, may_be_scheme};
 ghost use Rattle.markdown_contents.specs.ContentsSoFar.{AreOpen, lower_from};
@@ -28,7 +28,7 @@ fn count_above(open_levels: &[u8], level: u8) -> usize
 
 /// Returns the number of headings above the next heading, which has this level. Its level is then open, and of the
 /// levels before it only those above it, so that each is removed once.
-fn next_depth(open_levels: &mut Vec<u8>, level: u8) -> Result<usize, Fault>
+pub(crate) fn next_depth(open_levels: &mut Vec<u8>, level: u8) -> Result<usize, Fault>
     ensures depth { IfOk result (λ above. (levels : List ℕ)
         → AreOpen (reverse open_levels.old.items) levels → above ≡ depth level levels) }
     ensures open_levels { OnOk result ((levels : List ℕ)
@@ -106,7 +106,8 @@ fn is_destination_markup(c: char) -> bool
 /// Appends a character by its number, `%` and two hexadecimal digits.
 fn push_encoded(list: &mut String, c: char) -> Result<(), Fault>
     requires ascii { c < 128 }
-    ensures ok { OnOk result (string_bytes list.new ≡ string_bytes list.old ++ percent_encode_byte c) }
+    ensures ok { OnOk result
+        (string_bytes list.new ≡ string_bytes list.old ++ percent_encode_byte c) }
     ensures refused { IfErr result (λ fault. fault ≡ Fault.Memory) }
 {
     Ok(list.push_str(percent_encode_byte(c as u8))?)
@@ -186,8 +187,8 @@ fn may_be_scheme(name: &str) -> bool
 
 /// Appends the text of a heading without an id, and otherwise a link to the id in a file.
 fn push_link(list: &mut String, file: &str, heading: &Entry) -> Result<(), Fault>
-    ensures ok { OnOk result (string_bytes list.new ≡ string_bytes list.old
-        ++ link_to file.now (string_bytes heading.now.text) (option_map string_bytes heading.now.id)) }
+    ensures ok { let h = entry_view heading.now in OnOk result (string_bytes list.new
+        ≡ string_bytes list.old ++ link_to file.now h.text h.id) }
     ensures refused { IfErr result (λ fault. fault ≡ Fault.Memory) }
 {
     let id = match &heading.id {
@@ -227,7 +228,7 @@ fn push_line(list: &mut String, file: &str, depth: usize, heading: &Entry) -> Re
 /// `Memory` if an allocation fails; there is no other error.
 pub fn list_in(alloc: Global, file: &str, headings: &[Entry]) -> Result<String, Fault>
     ensures list { IfOk result (λ list.
-        string_bytes list ≡ contents_in file.now (map entry_view headings.now)) }
+        string_bytes list ≡ contents_in_file file.now (map entry_view headings.now)) }
     ensures refused { IfErr result (λ fault. fault ≡ Fault.Memory) }
 {
     let mut list = String::new(alloc);

@@ -10,13 +10,14 @@ use Rattle.markdown_base.specs.declared.fault.Fault.{Fault}
 use Rattle.markdown_base.specs.declared.fault.Fault.TheVariants.{Memory}
 use Rattle.markdown_heading_ids.specs.HeadingIds.{Id, given_id, with_given, with_ids, with_ids_from}
 use Rattle.markdown_heading_ids.specs.HeadingIdsLaws.{AreAllWithIds, AreFirstOf, AreFirstWithIds, AreWithIdsUntil}
-use Rattle.markdown_heading_ids.specs.HeadingIdsLaws.{IsNewIds, ReturnsWithIds, StopsAt}
-use Rattle.markdown_heading_ids.specs.HeadingIdsNext.{CallsSource, GivesIds, HasReturnedAll, IdsState, IsRefusedAnId, MayCallSource}
+use Rattle.markdown_heading_ids.specs.HeadingIdsLaws.{IsNewIds, ReturnsWithIds}
+use Rattle.markdown_heading_ids.specs.HeadingIdsNext.{CallsSource, GivesIds, HasReturnedAll}
+use Rattle.markdown_heading_ids.specs.HeadingIdsNext.{IdsState, IsRefusedAnId, MayCallSource}
 use Rattle.markdown_heading_ids.specs.HeadingIdsNext.{PassesItem, SourceItem, count_to_come, ids_steps, items_to_come}
 use Rattle.markdown_heading_ids.specs.HeadingIdsNext.{item_seen, unless_over}
 use Rattle.markdown_heading_ids.specs.HeadingItems.{RangedItem, items_with_ids, until_error}
 use Rattle.markdown_heading_ids.specs.TakenIds.{StandsFor}
-use Rattle.markdown_out.specs.MergeNext.{CanMerge, Gave}
+use Rattle.markdown_out.specs.MergeNext.{CanMerge}
 use Rattle.markdown_out.specs.OutLaws.{StaysEnded}
 use Rattle.markdown_outline.specs.Outline.{Ranged, ends_heading, opened_heading}
 use Rattle.markdown_outline.specs.OutlineRead.{event_items, ranged_view}
@@ -298,7 +299,8 @@ module _ {S : Type 0} (steps : S → Option SourceItem → S → Type 0) where
   }
 
   -- what a new adapter returned, of what was read
-  new_gives : {s t : IdsState S} {given : List SourceItem} {taken : List Id} → IsNewIds s taken → (run : IsRun s given t)
+  new_gives : {s t : IdsState S} {given : List SourceItem} {taken : List Id} → IsNewIds s taken
+      → (run : IsRun s given t)
       → (later : List RangedItem)
       → (after : List Id) × (items_with_ids false taken (map item_seen run.items ++ unless_over t.over later)
       ≡ map item_seen given ++ items_to_come t after later)
@@ -312,7 +314,8 @@ module _ {S : Type 0} (steps : S → Option SourceItem → S → Type 0) where
           ≡ map item_seen given ++ items_to_come t after later
       is after e = let made = rw (new.nothing, new.outside, new.goes_on) at e in made
 
-  new_calls : {s t : IdsState S} {given : List SourceItem} {taken : List Id} → IsNewIds s taken → (run : IsRun s given t)
+  new_calls : {s t : IdsState S} {given : List SourceItem} {taken : List Id} → IsNewIds s taken
+      → (run : IsRun s given t)
       → CallsSource steps false t.over s.iter run.items t.iter
   new_calls {s} {t} new run = subst (λ (b : Bool). CallsSource steps b t.over s.iter run.items t.iter) new.goes_on
       run.read
@@ -519,7 +522,8 @@ module _ {S M : Type 0} (steps : S → Option SourceItem → S → Type 0) (stat
   no_fault : (e : Placed) → Ok e ≡ Err Memory → ⊥
   no_fault e h = cc
 
-  passed : {m t : M} (e : Placed) → PassesItem steps (state m) (Ok e) (state t) ⊎ IsRefusedAnId steps (state m) (Ok e) (state t)
+  passed : {m t : M} (e : Placed)
+      → PassesItem steps (state m) (Ok e) (state t) ⊎ IsRefusedAnId steps (state m) (Ok e) (state t)
       → PassesItem steps (state m) (Ok e) (state t)
   passed e (inl p) = p
   passed e (inr q) = absurd (no_fault e q.is)
@@ -566,7 +570,8 @@ module _ {S M : Type 0} (steps : S → Option SourceItem → S → Type 0) (stat
 
   -- ---- after None
 
-  over_stays : (s t : IdsState S) (r : Option SourceItem) → s.over ≡ true → s.kept ≡ [] → GivesIds steps s r t → r ≡ None
+  over_stays : (s t : IdsState S) (r : Option SourceItem) → s.over ≡ true → s.kept ≡ [] → GivesIds steps s r t
+      → r ≡ None
   over_stays s t None over nothing g = refl
   over_stays s t (Some item) over nothing (inl p) = absurd (no (sym nothing ∙ p.kept over))
     where
@@ -589,7 +594,10 @@ module _ {S M : Type 0} (steps : S → Option SourceItem → S → Type 0) (stat
     callable = may;
     ends = tt;
     goes_on = λ answers t u gave m_ f none. (
-      record { callable = λ goes_on. absurd (not_both none.over goes_on); ends = λ goes_on. absurd (not_both none.over goes_on) },
+      record {
+        callable = λ goes_on. absurd (not_both none.over goes_on);
+        ends = λ goes_on. absurd (not_both none.over goes_on);
+      },
       fewer rest none,
     );
   }

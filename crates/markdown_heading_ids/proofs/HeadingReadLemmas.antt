@@ -1,5 +1,5 @@
 -- What the adapter has read of a heading, and what a call returns by it.
-use Rattle.std.proofs.Common.{◌≡◌, ◌⊎◌, ℕ, Bool, true, false, not, List, [], ◌∷◌, ◌++◌, map, Ok, Err, Result, Option, Some}
+use Rattle.std.proofs.Common.{◌≡◌, ℕ, Bool, true, false, not, List, [], ◌∷◌, ◌++◌, map, Ok, Err, Option, Some}
 use Rattle.std.proofs.Common.{None, refl, sym, ap, ◌∙◌, append_assoc, append-nil}
 use Rattle.std.specs.Prelude.{is_some}
 use Rattle.std.specs.Iterator.{Count, Yields, size}
@@ -13,10 +13,10 @@ use Rattle.markdown_base.specs.declared.fault.Fault.{Fault}
 use Rattle.markdown_base.specs.declared.fault.Fault.TheVariants.{Memory}
 use Rattle.markdown_heading_ids.specs.Anchors.{heading_anchor}
 use Rattle.markdown_heading_ids.specs.HeadingIds.{Id, free_id, given_id, id_unless, with_given}
-use Rattle.markdown_heading_ids.specs.HeadingIdsNext.{CallsSource, GivesOne, HasReturnedAll, IdsState, IsRefusedAnId, PassesItem}
+use Rattle.markdown_heading_ids.specs.HeadingIdsNext.{CallsSource, HasReturnedAll, IdsState, IsRefusedAnId, PassesItem}
 use Rattle.markdown_heading_ids.specs.HeadingIdsNext.{SourceItem, count_to_come, items_to_come, item_seen, unless_over}
 use Rattle.markdown_heading_ids.specs.HeadingItems.{RangedItem, items_with_ids, until_error}
-use Rattle.markdown_heading_ids.specs.HeadingRead.{HeadingIsRead, TakesEvent, GivesIdsTo, ends_with, has_no_id}
+use Rattle.markdown_heading_ids.specs.HeadingRead.{HeadingIsRead, TakesEvent, ends_with, has_no_id}
 use Rattle.markdown_heading_ids.specs.HeadingRead.{heading_words, lacks_id, words_added}
 use Rattle.markdown_heading_ids.specs.TakenIds.{StandsFor}
 use Rattle.markdown_heading_ids.specs.declared.taken.Taken.{Taken}
@@ -62,8 +62,8 @@ one_more items item later =
     ∙ append_assoc (map item_seen items) (item_seen item ∷ []) later
 
 module _ {S : Type 0} (steps : S → Option SourceItem → S → Type 0) where
-  -- these items were read after the Start of a heading, which goes on: whatever follows, this is the text so far, and the
-  -- next item is inside
+  -- these items were read after the Start of a heading, which goes on: whatever follows, this is the text so far, and
+  -- the next item is inside
   pub record IsReadingHeading (s : S) (items : List SourceItem) (words : List ℕ) (t : S) : Type 0 where
     pub read : Yields steps s items t
     pub words_are : (later : List RangedItem) → heading_words (map item_seen items ++ later)
@@ -329,7 +329,8 @@ module _ {S : Type 0} (steps : S → Option SourceItem → S → Type 0) where
 
   -- memory is refused
   pub is_refused : (s t : IdsState S) (j : S) (e : Event × Range ℕ) (fault : Fault) → s.over ≡ false
-      → steps s.iter (Some (Ok e)) j → fault ≡ Memory → s.inside ≡ false → lacks_id (event_view e.0) ≡ true → t.kept ≡ [] → t.over ≡ true
+      → steps s.iter (Some (Ok e)) j → fault ≡ Memory → s.inside ≡ false → lacks_id (event_view e.0) ≡ true
+      → t.kept ≡ [] → t.over ≡ true
       → IsRefusedAnId steps s (Err fault) t
   is_refused s t j e fault goes_on step memory outside lacks nothing over =
       let h = lacking (opened_heading (event_view e.0)) lacks in

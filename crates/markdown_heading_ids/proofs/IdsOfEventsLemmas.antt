@@ -1,19 +1,19 @@
 -- Laws of events with the ids of their headings.
-use Rattle.std.proofs.Common.{◌≡◌, ◌⊎◌, ◌+◌, ◌<◌, ◌≤◌, ◌^◌, ℕ, length, Bool, true, false, not, if◌then◌else◌, List, [], ◌∷◌, ◌++◌, map, Option, Some}
+use Rattle.std.proofs.Common.{◌≡◌, ◌⊎◌, ◌+◌, ◌<◌, ◌≤◌, ◌^◌, ℕ, length, Bool, true}
+use Rattle.std.proofs.Common.{false, not, if◌then◌else◌, List, [], ◌∷◌, ◌++◌, map, Option, Some}
 use Rattle.std.proofs.Common.{None, refl, sym, ap, subst, ◌∙◌, inl, inr, arith}
-use Rattle.std.specs.Prelude.{is_some, IsSome}
+use Rattle.std.specs.Prelude.{is_some}
 use Rattle.std.specs.List.{AllZip}
-use Rattle.std.specs.declared.ops.Range.{Range}
-use Rattle.markdown_base.specs.Event.{EventView, HeadingView, TagView, end, heading, start}
+use Rattle.markdown_base.specs.Event.{EventView, HeadingView, TagView, heading, start}
 use Rattle.markdown_heading_ids.specs.Anchors.{heading_anchor}
 use Rattle.markdown_heading_ids.specs.HeadingIds.{Id, event_with_id, free_id, given_id, id_unless, is_taken, with_given}
 use Rattle.markdown_heading_ids.specs.HeadingIds.{with_ids, with_ids_from}
 use Rattle.markdown_heading_ids.specs.IdsOfEvents.{ASecondTimeChangesNothing, AreFresh, EachHeadingHasAnId, GainsId}
-use Rattle.markdown_heading_ids.specs.IdsOfEvents.{GivenIdsAreFresh, HasId, HaveIdsFrom, OnlyIdsAreAdded, OutlineHasIds}
+use Rattle.markdown_heading_ids.specs.IdsOfEvents.{GivenIdsAreFresh, HasId, HaveIdsFrom, OnlyIdsAreAdded}
 use Rattle.markdown_heading_ids.specs.IdsOfEvents.{OutlinesHaveIds, heading_ids, ids_given_from, start_ids_from}
 use Rattle.markdown_heading_ids.specs.IdsOfEvents.{without_id}
 use Rattle.markdown_outline.specs.Outline.{EntryView, Ranged, ends_heading, entries_from, heading_entry, joined_text}
-use Rattle.markdown_outline.specs.Outline.{opened_entry, opened_heading, tag_heading, text_added, up_to_end}
+use Rattle.markdown_outline.specs.Outline.{opened_entry, opened_heading, text_added, up_to_end}
 
 -- ---- an event with the id that it is given
 
@@ -105,7 +105,8 @@ has_it e {ids} (gets_id h id is lacks given) =
     let P : Ranged → Type 0 = λ f. HasId (opened_heading f.0) in
     subst P (sym (ap (λ (xs : List Id). with_given xs e) given ∙ made e h id is)) refl
 
-have_ids : (inside : Bool) (taken : List Id) (events : List Ranged) → HaveIdsFrom inside (with_ids_from inside taken events)
+have_ids : (inside : Bool) (taken : List Id) (events : List Ranged)
+    → HaveIdsFrom inside (with_ids_from inside taken events)
 have_ids inside taken [] = tt
 have_ids true taken (e ∷ events) = have_ids (not (ends_heading e.0)) taken events
 have_ids false taken (e ∷ events) =
@@ -120,7 +121,8 @@ each_heading_has_an_id taken events = have_ids false taken events
 
 -- ---- a second time
 
-nothing_given : (o : Option HeadingView) (taken : List Id) (events : List Ranged) → HasId o → given_id o taken events ≡ []
+nothing_given : (o : Option HeadingView) (taken : List Id) (events : List Ranged) → HasId o
+    → given_id o taken events ≡ []
 nothing_given None taken events has = refl
 nothing_given (Some h) taken events has = by h.id refl
   where
@@ -223,7 +225,8 @@ same_entry : (e : Ranged) {ids : List Id} (more events : List Ranged) → Gets e
 same_entry e {ids} more events (gets_none none has) words =
     rw none (by (opened_heading e.0))
   where
-    by : (o : Option HeadingView) → map without_id (opened_entry o e.1 more) ≡ map without_id (opened_entry o e.1 events)
+    by : (o : Option HeadingView)
+        → map without_id (opened_entry o e.1 more) ≡ map without_id (opened_entry o e.1 events)
     by None = refl
     by (Some h) = ap (λ (t : List ℕ). without_id (heading_entry h t e.1) ∷ []) words
 same_entry e {ids} more events (gets_id h id is lacks given) words =

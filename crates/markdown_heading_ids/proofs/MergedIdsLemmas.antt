@@ -4,17 +4,16 @@ use Rattle.std.proofs.Common.{Option, Some, None, refl, sym, ap, subst, ◌∙�
 use Rattle.std.specs.Prelude.{is_some}
 use Rattle.std.specs.List.{flat_map}
 use Rattle.std.specs.declared.ops.Range.{Range}
-use Rattle.markdown_base.specs.Event.{HeadingView, text}
-use Rattle.markdown_heading_ids.specs.Anchors.{heading_anchor}
-use Rattle.markdown_heading_ids.specs.HeadingIds.{Id, event_ids, free_id, given_id, id_unless, taken_from_the_start}
-use Rattle.markdown_heading_ids.specs.HeadingIds.{with_all_ids, with_given, with_ids}
+use Rattle.markdown_base.specs.Event.{HeadingView}
+use Rattle.markdown_heading_ids.specs.HeadingIds.{Id, event_ids, given_id, id_unless, taken_from_the_start}
+use Rattle.markdown_heading_ids.specs.HeadingIds.{with_given, with_ids}
 use Rattle.markdown_heading_ids.specs.HeadingItems.{RangedItem, items_with_ids, until_error}
 use Rattle.markdown_heading_ids.specs.HeadingRead.{heading_words}
 use Rattle.markdown_heading_ids.specs.IdsOfEvents.{MergingKeepsIds}
 use Rattle.markdown_heading_ids.proofs.HeadingIdsRunLemmas.{ids_of_all, oks}
 use Rattle.markdown_heading_ids.proofs.IdsOfEventsLemmas.{Gets, gets, gets_none, gets_id, made}
 use Rattle.markdown_out.specs.EventRanges.{through_ranges}
-use Rattle.markdown_out.specs.Merge.{Item, PlacedText, Run, alone, texts, before_runs, last_text, merged, run_items, runs}
+use Rattle.markdown_out.specs.Merge.{PlacedText, Run, alone, texts, before_runs, last_text, merged, run_items, runs}
 use Rattle.markdown_out.specs.Merge.{text_item, text_of_item, unless_empty}
 use Rattle.markdown_out.proofs.MergeLawsLemmas.{IsText, text_or_none}
 use Rattle.markdown_outline.specs.Outline.{Ranged, ends_heading, joined_text, opened_heading, text_added, up_to_end}

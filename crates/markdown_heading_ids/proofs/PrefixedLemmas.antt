@@ -25,7 +25,11 @@ module _ {I : Type 0} (reads : I → Option (Result Placed Fault) → I → Type
 
   pub all_prefixed : (p : Prefixed I) (given : List Placed) → Drains (prefixed_steps reads) p (event_items given)
       → AreAllPrefixed reads p given
-  all_prefixed p [] (u, (t, y, z)) = ([], (unprefixed_source u, (unprefixed_source t, ap unprefixed_source y, z.0)), refl)
+  all_prefixed p [] (u, (t, y, z)) = (
+    [],
+    (unprefixed_source u, (unprefixed_source t, ap unprefixed_source y, z.0)),
+    refl,
+  )
   all_prefixed p (e ∷ given) (u, (t, (j, h, y), z)) =
       before p j h.0.0 e given h.0.1 h.0.2 h.1 (all_prefixed j given (u, (t, y, z)))
 

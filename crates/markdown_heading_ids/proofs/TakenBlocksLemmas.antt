@@ -1,5 +1,8 @@
 -- What is taken by the blocks of a block result, node by node in preorder.
-use Rattle.std.proofs.Common.{◌≡◌, ℕ, List, [], ◌∷◌, ◌++◌, Option, Some, None, refl, ap, ◌∙◌, flat_map, map}
+use Rattle.std.proofs.Common.{◌≡◌, ℕ, Bool, true, false, ◌||◌, List, []}
+use Rattle.std.proofs.Common.{◌∷◌, ◌++◌, Option, Some, None, refl, sym, ap, ◌∙◌}
+use Rattle.std.proofs.Common.{bytes_eq, flat_map, map}
+use Rattle.std.proofs.lemmas.List.Folds.{list_any-append}
 use Rattle.markdown_base.proofs.ForestLemmas.{preorder-relabelled, relabelled-relabelled}
 use Rattle.markdown_base.specs.ArenaForest.{numbers_below}
 use Rattle.markdown_base.specs.BlockTree.{Numbered, item_at, numbered, tree_of}
@@ -11,12 +14,15 @@ use Rattle.markdown_base.specs.declared.item.Item.{Item}
 use Rattle.markdown_base.specs.declared.item.ItemBody.{ItemBody}
 use Rattle.markdown_base.specs.declared.item.ItemBody.TheVariants as body
 use Rattle.markdown_base.specs.declared.node.Node.{Node}
-use Rattle.markdown_blocks.specs.Blocks.{IsBlocksOf}
+use Rattle.markdown_blocks.specs.Blocks.{IsBlocksOf, block_arena, block_parts}
 use Rattle.markdown_blocks.specs.declared.blocks.Blocks.{Blocks}
 use Rattle.markdown_builder.specs.Shown.{Parts, Shown, shown_item, shown_result, stored_parts, unnumbered}
-use Rattle.markdown_heading_ids.specs.HeadingIds.{Id}
+use Rattle.markdown_heading_ids.specs.HeadingIds.{Id, is_taken}
 use Rattle.markdown_heading_ids.specs.IdsOfText.{block_ids, taken_in_blocks, taken_in_text, taken_in_trees}
-use Rattle.markdown_heading_ids.specs.TakenBlocks.{ids_at}
+use Rattle.markdown_heading_ids.specs.TakenBlocks.{ids_at, taken_after}
+use Rattle.markdown_heading_ids.specs.TakenIds.{StandsFor}
+use Rattle.markdown_heading_ids.specs.declared.taken.Taken.{Taken}
+use Rattle.markdown_heading_ids.proofs.TakenLemmas.{stands_alike}
 
 -- the number by which a body refers to a part is no matter
 unnumbered_ids : (text : Option (List ℕ)) (attributes : Option HeadingView) (b : ItemBody)
@@ -58,3 +64,39 @@ module _ (nodes : List (Node Item)) (parts : BlockParts) where
 -- the same ids are taken in a text and in its block result
 pub taken_in_blocks_of : (s : Source) (b : Blocks) → IsBlocksOf s b → taken_in_blocks b ≡ taken_in_text s
 taken_in_blocks_of s b is = ap taken_in_trees is.by_rules.tree
+
+-- whether an id is among others does not depend on their order
+passed_over : (new later old : Bool) → (later || (new || old)) ≡ ((new || later) || old)
+passed_over false later old = refl
+passed_over true false old = refl
+passed_over true true old = refl
+
+-- what is taken after the ids of these is what is taken, and their ids
+after_is : {X : Type 0} (ids : X → List Id) (xs : List X) (taken : List Id) (id : Id)
+    → is_taken (taken_after ids xs taken) id ≡ (is_taken (flat_map ids xs) id || is_taken taken id)
+after_is ids [] taken id = refl
+after_is ids (x ∷ xs) taken id =
+    let test : Id → Bool = λ other. bytes_eq other id in
+    after_is ids xs (ids x ++ taken) id
+    ∙ ap (λ b. is_taken (flat_map ids xs) id || b) (list_any-append test (ids x) taken)
+    ∙ passed_over (is_taken (ids x) id) (is_taken (flat_map ids xs) id) (is_taken taken id)
+    ∙ ap (λ b. b || is_taken taken id) (sym (list_any-append test (ids x) (flat_map ids xs)))
+
+-- an id or another
+either : (a b : Bool) → (a || (b || false)) ≡ (b || a)
+either false false = refl
+either false true = refl
+either true false = refl
+either true true = refl
+
+-- so after the ids of all nodes those are taken that are so from the start
+pub stands_for_blocks : (t : Taken) (b : Blocks) (order : List ℕ)
+    → order ≡ preorder (numbers_below (block_arena b).nodes)
+    → StandsFor t (taken_after (ids_at (block_parts b) (block_arena b).nodes) order ([] ∷ []))
+    → StandsFor t (taken_in_blocks b)
+stands_for_blocks t b order is stands =
+    let ids : ℕ → List Id = ids_at (block_parts b) (block_arena b).nodes in
+    stands_alike t (taken_after ids order ([] ∷ [])) (taken_in_blocks b) stands
+    (λ id. sym (after_is ids order ([] ∷ []) id ∙ either (is_taken (flat_map ids order) id) (bytes_eq [] id)
+    ∙ ap (λ (xs : List ℕ). is_taken ([] ∷ flat_map ids xs) id) is
+    ∙ ap (λ (taken : List Id). is_taken taken id) (sym (taken_in_order (block_arena b).nodes (block_parts b)))))

@@ -1,6 +1,7 @@
 -- The anchor of a heading, as GitHub has it: its text in lower case, with a hyphen for each space, and of the other
 -- characters the hyphens, and those of words: letters, marks, decimal digits, letter numbers and connectors.
-use Rattle.std.specs.Prelude.{ℕ, Bool, true, false, ◌==◌, ◌||◌, if◌then◌else◌, List, [], codes, chars, encode_utf8, flat_map}
+use Rattle.std.specs.Prelude.{ℕ, Bool, true, false, ◌==◌, ◌||◌}
+use Rattle.std.specs.Prelude.{if◌then◌else◌, List, [], codes, chars, encode_utf8, flat_map}
 use Rattle.std.specs.StrCase.Lower.{str_to_lowercase}
 use Rattle.markdown_base.specs.Bytes.{hyphen, space}
 use Rattle.ucd_category.specs.GeneralCategory.{general_category}

@@ -34,7 +34,8 @@ abbrev pub id_unless : Option Id → (taken : List Id) → (words : List ℕ) �
 id_unless (Some own) taken words = []
 id_unless None taken words = free_id taken (heading_anchor words) ∷ []
 
--- the id that is given to the heading that an event opens, from the events that follow, where it opens one without an id
+-- the id that is given to the heading that an event opens, from the events that follow, where it opens one without an
+-- id
 abbrev pub given_id : Option HeadingView → (taken : List Id) → List Ranged → List Id
 given_id None taken events = []
 given_id (Some h) taken events = id_unless h.id taken (joined_text (up_to_end events))

@@ -53,8 +53,8 @@ module _ {S : Type 0} (steps : S → Option SourceItem → S → Type 0) where
       pub read : Yields steps it (event_items events ++ Err fault ∷ []) left
       pub are : map ranged_view given ≡ with_ids taken (map ranged_view events)
 
-  -- what is returned where these ids are taken: up to None the events with their ids, at any time the first of them; and
-  -- before an error those before it, unless memory is refused
+  -- what is returned where these ids are taken: up to None the events with their ids, at any time the first of them;
+  -- and before an error those before it, unless memory is refused
   pub record ReturnsWithIds {M : Type 0} (state : M → IdsState S) (taken : List Id) (m : M) : Type 0 where
     pub all : (given : List (Event × Range ℕ)) → Drains (ids_steps steps state) m (event_items given)
         → AreAllWithIds (state m).iter taken given

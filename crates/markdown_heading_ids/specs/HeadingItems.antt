@@ -15,8 +15,8 @@ until_error [] = []
 until_error (Err fault ∷ items) = []
 until_error (Ok e ∷ items) = e ∷ until_error items
 
--- items, of which the first is inside a heading or outside, with the ids that are given to the headings that begin among
--- them, where these ids are taken: those of `with_ids_from`, but that after an error the next item is outside
+-- items, of which the first is inside a heading or outside, with the ids that are given to the headings that begin
+-- among them, where these ids are taken: those of `with_ids_from`, but that after an error the next item is outside
 abbrev pub items_with_ids : (inside : Bool) → (taken : List Id) → List RangedItem → List RangedItem
 items_with_ids inside taken [] = []
 items_with_ids inside taken (Err fault ∷ items) = Err fault ∷ items_with_ids false taken items

@@ -1,6 +1,6 @@
 -- What the adapter has read of a heading. Only private clauses cite this.
-use Rattle.std.specs.Prelude.{◌≡◌, ℕ, Bool, true, false, not, List, [], ◌∷◌, ◌++◌, Ok, Err, map, Option, Some, None, is_some}
-use Rattle.std.specs.declared.ops.Range.{Range}
+use Rattle.std.specs.Prelude.{◌≡◌, ℕ, Bool, true, false, not, List, []}
+use Rattle.std.specs.Prelude.{◌∷◌, ◌++◌, Ok, Err, map, Option, Some, None, is_some}
 use Rattle.markdown_base.specs.Event.{EventView, HeadingView}
 use Rattle.markdown_heading_ids.specs.HeadingIds.{Id, with_given}
 use Rattle.markdown_heading_ids.specs.HeadingIdsNext.{CallsSource, IdsState, SourceItem, items_to_come, item_seen}
@@ -42,8 +42,8 @@ module _ {S : Type 0} (steps : S → Option SourceItem → S → Type 0) where
         → items_with_ids true taken (map item_seen items ++ unless_over over later)
         ≡ map item_seen items ++ items_with_ids false taken (unless_over over later)
 
-  -- where these ids are taken, and whatever items follow, this event is to be given these ids, and then comes what is to
-  -- come now
+  -- where these ids are taken, and whatever items follow, this event is to be given these ids, and then comes what is
+  -- to come now
   pub record GivesIdsTo (s : IdsState S) (e : Ranged) (ids : List Id) (read : List SourceItem) (t : IdsState S)
       (taken : List Id) : Type 0 where
     pub after : List Id

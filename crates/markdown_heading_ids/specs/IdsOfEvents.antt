@@ -1,5 +1,6 @@
 -- Laws of events with the ids of their headings.
-use Rattle.std.specs.Prelude.{◌≡◌, ◌⊎◌, ◌+◌, ◌<◌, ◌^◌, ℕ, Bool, true, false, not, List, [], ◌∷◌, ◌++◌, map, Option, Some, None, IsSome}
+use Rattle.std.specs.Prelude.{◌≡◌, ◌⊎◌, ◌+◌, ◌<◌, ◌^◌, Bool, true, false, not}
+use Rattle.std.specs.Prelude.{List, [], ◌∷◌, ◌++◌, map, Option, Some, None, IsSome}
 use Rattle.std.specs.Prelude.{is_some, length}
 use Rattle.std.specs.List.{AllZip}
 use Rattle.markdown_base.specs.Event.{HeadingView, heading, start}
@@ -68,7 +69,8 @@ heading_ids (Some h) = h.id ∷ []
 abbrev pub start_ids_from : (inside : Bool) → List Ranged → List (Option Id)
 start_ids_from inside [] = []
 start_ids_from true (e ∷ events) = start_ids_from (not (ends_heading e.0)) events
-start_ids_from false (e ∷ events) = heading_ids (opened_heading e.0) ++ start_ids_from (is_some (opened_heading e.0)) events
+start_ids_from false (e ∷ events) = heading_ids (opened_heading e.0)
+    ++ start_ids_from (is_some (opened_heading e.0)) events
 
 -- an entry without its id
 abbrev pub without_id : EntryView → EntryView

@@ -1,7 +1,6 @@
 -- The events of a text with the ids of their headings. What is taken from the start is read off its blocks, so that it
 -- is known before the first event.
 use Rattle.std.specs.Prelude.{ℕ, List, [], ◌∷◌, Option, Some, None, flat_map}
-use Rattle.markdown_base.specs.BlockTree.{tree_of}
 use Rattle.markdown_base.specs.Event.{HeadingView}
 use Rattle.markdown_base.specs.Forest.{Forest, preorder}
 use Rattle.markdown_base.specs.Source.{Source}

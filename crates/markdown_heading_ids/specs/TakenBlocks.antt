@@ -1,5 +1,5 @@
 -- The ids of stored blocks, by the parts that they refer to. Only private clauses cite this.
-use Rattle.std.specs.Prelude.{ℕ, List, map}
+use Rattle.std.specs.Prelude.{ℕ, List, [], ◌∷◌, ◌++◌, map}
 use Rattle.markdown_base.specs.BlockTree.{item_at}
 use Rattle.markdown_base.specs.CowText.{text_of}
 use Rattle.markdown_base.specs.HeadingWords.{words_of}
@@ -19,3 +19,8 @@ ids_of_body parts b = block_ids (text_shown (map text_of parts.cows.items) b)
 -- the id that the block of a node has
 abbrev pub ids_at : BlockParts → List (Node Item) → ℕ → List Id
 ids_at parts nodes ix = ids_of_body parts (item_at nodes ix).body
+
+-- what is taken after the ids of these, one by one
+abbrev pub taken_after : {X : Type 0} → (X → List Id) → List X → (taken : List Id) → List Id
+taken_after ids [] taken = taken
+taken_after ids (x ∷ xs) taken = taken_after ids xs (ids x ++ taken)

@@ -165,7 +165,8 @@ impl<'a, I: Iterator<Item = Placed<'a>>> HeadingIds<'a, I> {
         ensures takes { IfOk result (λ id. (range : Range ℕ) → TakesEvent I.next_gives
             (ids_state self.old) (event_view event.now, range)
             (option_to_list (option_map string_bytes id)) (ids_state self.new)) }
-        ensures again { IfOk result (λ id. MayCallSource I.can_next I.remaining (ids_state self.new)) }
+        ensures again { IfOk result
+            (λ id. MayCallSource I.can_next I.remaining (ids_state self.new)) }
         ensures fewer { IfOk result (λ id. count_to_come I.remaining (ids_state self.new)
             ≤ count_to_come I.remaining (ids_state self.old)) }
         ensures refused { IfErr result (λ fault. (fault ≡ Fault.Memory) × (self.old.inside ≡ false)

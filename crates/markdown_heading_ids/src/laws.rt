@@ -5,8 +5,8 @@ ghost use Rattle.markdown_heading_ids.specs.HeadingIds.{Id};
 ghost use Rattle.markdown_heading_ids.specs.HeadingIdsLaws.{IsNewIds, ReturnsWithIds};
 ghost use Rattle.markdown_heading_ids.specs.HeadingIdsNext.{MayCallSource, count_to_come, ids_steps};
 ghost use Rattle.markdown_heading_ids.specs.HeadingIdsState.{ids_state};
-ghost use Rattle.markdown_heading_ids.specs.IdsOfEvents.{ASecondTimeChangesNothing, EachHeadingHasAnId, OnlyIdsAreAdded};
-ghost use Rattle.markdown_heading_ids.specs.IdsOfEvents.{MergingKeepsIds, OutlinesHaveIds};
+ghost use Rattle.markdown_heading_ids.specs.IdsOfEvents.{ASecondTimeChangesNothing, EachHeadingHasAnId, GivenIdsAreFresh};
+ghost use Rattle.markdown_heading_ids.specs.IdsOfEvents.{MergingKeepsIds, OnlyIdsAreAdded, OutlinesHaveIds};
 ghost use Rattle.markdown_out.specs.MergeNext.{CanMerge};
 ghost use Rattle.markdown_out.specs.OutLaws.{StaysEnded};
 
@@ -38,11 +38,12 @@ pub fn an_adapter_stays_ended<'a, I: Iterator<Item = Result<(Event<'a>, Range<us
 {}
 
 /// States what the events with their ids are: without the ids that are given, the events before; each heading that is in
-/// none has an id; a second time changes nothing; and the outline is that of the events before, with the ids of the
-/// Starts; and merging changes no id.
+/// none has an id; those given differ from each other and from what is taken; a second time changes nothing; the outline
+/// is that of the events before, with the ids of the Starts; and merging changes no id.
 pub fn events_gain_ids_alone()
     ensures only { OnlyIdsAreAdded }
     ensures each { EachHeadingHasAnId }
+    ensures fresh { GivenIdsAreFresh }
     ensures again { ASecondTimeChangesNothing }
     ensures outline { OutlinesHaveIds }
     ensures merged { MergingKeepsIds }

@@ -1,15 +1,16 @@
 //! `Taken::of_blocks`: the ids of a block result.
-ghost use Rattle.std.specs.Prelude.{◌≡◌, ◌++◌, IfOk, IfErr, List, Some};
+ghost use Rattle.std.specs.Prelude.{◌≡◌, ◌<◌, IfOk, IfErr, List, OnOk, Some, length};
+ghost use Rattle.std.specs.List.{AllByRecursion};
 ghost use Rattle.std.specs.Option.{option_map};
 ghost use Rattle.markdown_base.specs.declared.item.ItemBody.TheVariants as body;
 ghost use Rattle.markdown_base.specs.declared.tag.HeadingLevel.{HeadingLevel};
-ghost use Rattle.markdown_heading_ids.specs.HeadingIds.{own_ids};
+ghost use Rattle.markdown_heading_ids.specs.HeadingIds.{Id, own_ids};
 ghost use Rattle.markdown_heading_ids.specs.IdsOfText.{taken_in_blocks, taken_in_text};
-ghost use Rattle.markdown_heading_ids.specs.TakenBlocks.{ids_of_body};
+ghost use Rattle.markdown_heading_ids.specs.TakenBlocks.{ids_at, ids_of_body, taken_after};
 ghost use Rattle.markdown_heading_ids.specs.TakenIds.{StandsFor};
 ghost use Rattle.markdown_base.specs.Source.{Source};
 ghost use Rattle.markdown_base.specs.declared.fault.Fault.{Fault};
-ghost use Rattle.markdown_blocks.specs.Blocks.{IsBlocksOf};
+ghost use Rattle.markdown_blocks.specs.Blocks.{IsBlocksOf, block_arena, block_parts};
 
 use crate::taken::Taken;
 use markdown_base::block_parts::BlockParts;
@@ -57,6 +58,22 @@ fn id_of_body<'t>(parts: &'t BlockParts<'_>, body: ItemBody) -> Option<&'t str>
 }
 
 impl Taken {
+    /// Takes the ids of the nodes with these numbers.
+    fn take_nodes(&mut self, blocks: &Blocks<'_>, order: &[usize]) -> Result<(), Fault>
+        requires within { AllByRecursion (λ ix. ix < length (block_arena blocks.now).nodes)
+            order.now }
+        ensures taken { let ids = ids_at (block_parts blocks.now) (block_arena blocks.now).nodes in
+            OnOk result ((taken : List Id) → StandsFor self.old taken
+            → StandsFor self.new (taken_after ids order.now taken)) }
+        ensures refused { IfErr result (λ fault. fault ≡ Fault.Memory) }
+    {
+        'order: for ix in order {
+            let item = blocks.tree().item(*ix);
+            self.take_id(id_of_body(blocks.parts(), item.body))?;
+        }
+        Ok(())
+    }
+
     /// Returns what is taken on a page of a block result: the empty id, and the ids that its headings and footnote
     /// definitions have. Nothing is parsed for it.
     ///
@@ -71,10 +88,7 @@ impl Taken {
     {
         let order = blocks.preorder(alloc)?;
         let mut taken = Taken::new(alloc)?;
-        for at in 0..order.len() {
-            let item = blocks.tree().item(order[at]);
-            taken.take_id(id_of_body(blocks.parts(), item.body))?;
-        }
+        taken.take_nodes(blocks, order.as_slice())?;
         Ok(taken)
     }
 }

@@ -13,8 +13,8 @@ use Rattle.markdown_base.specs.declared.tag.CodeBlockKind.TheVariants as code_bl
 use Rattle.markdown_out.specs.ByteLists.{AppendsPrefix}
 use Rattle.markdown_out.proofs.ByteListsLemmas.{append-more, prefix-after, prefix-first, joined-flat_map}
 use Rattle.markdown_json.specs.Json.{string, optional_value, array, after_comma, attribute_json, heading_json}
-use Rattle.markdown_json.specs.Json.{level_json, tag_json, variant, event_json, line_json, line_start}
-use Rattle.markdown_json.specs.JsonParts.{text_json, pair_json, heading_of, code_block_json, range_json, range_object}
+use Rattle.markdown_json.specs.Json.{level_json, tag_json, variant, event_json, line_json}
+use Rattle.markdown_json.specs.JsonParts.{text_json, pair_json, heading_of, code_block_json, range_json}
 use Rattle.markdown_json.specs.JsonPieces.{piece_json, spelled}
 use Rattle.markdown_json.specs.declared.heading.HeadingFields.{HeadingFields}
 use Rattle.markdown_json.specs.declared.pieces.Piece.{Piece}
@@ -100,9 +100,3 @@ pub line_appended : (old mid new : List ℕ) (e : EventView) (start end : ℕ) �
     → new ≡ mid ++ range_json (decimal start) (decimal end) → new ≡ old ++ line_json e start end
 line_appended old mid new e start end event range =
     append-more old mid new (codes "[" ++ event_json e) (range_json (decimal start) (decimal end)) event range
-
--- and so its start
-pub start_appended : (old mid new : List ℕ) (e : EventView) (start end : ℕ) → mid ≡ old ++ (codes "[" ++ event_json e)
-    → new ≡ mid ++ range_object (decimal start) (decimal end) → new ≡ old ++ line_start e start end
-start_appended old mid new e start end event range =
-    append-more old mid new (codes "[" ++ event_json e) (range_object (decimal start) (decimal end)) event range

@@ -198,8 +198,3 @@ event_json (event.task_list_marker done) = variant (codes "TaskListMarker") (boo
 abbrev pub line_json : EventView → ℕ → ℕ → List ℕ
 line_json e start end = joined (codes "[" ∷ event_json e
     ∷ codes ",{\"start\":" ∷ decimal start ∷ codes ",\"end\":" ∷ decimal end ∷ codes "}]\n" ∷ [])
-
--- the same line but for its end, so that more elements can follow
-abbrev pub line_start : EventView → ℕ → ℕ → List ℕ
-line_start e start end = joined (codes "[" ∷ event_json e
-    ∷ codes ",{\"start\":" ∷ decimal start ∷ codes ",\"end\":" ∷ decimal end ∷ codes "}" ∷ [])

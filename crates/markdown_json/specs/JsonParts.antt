@@ -18,10 +18,6 @@ abbrev pub range_json : List ℕ → List ℕ → List ℕ
 range_json start end =
     joined (codes ",{\"start\":" ∷ start ∷ codes ",\"end\":" ∷ end ∷ codes "}]\n" ∷ [])
 
--- a range after a comma, from the digits of its ends
-abbrev pub range_object : List ℕ → List ℕ → List ℕ
-range_object start end = joined (codes ",{\"start\":" ∷ start ∷ codes ",\"end\":" ∷ end ∷ codes "}" ∷ [])
-
 -- a text in any of its forms
 abbrev pub text_json : CowStr → List ℕ
 text_json text = string (text_of text)

@@ -6,7 +6,6 @@ mod escape;
 mod events;
 mod heading;
 pub mod laws;
-mod line_start;
 mod link;
 pub mod pieces;
 pub mod push;
@@ -15,7 +14,6 @@ mod tags;
 mod value;
 mod words;
 
-pub use line_start::push_line_start;
 pub use pieces::{Piece, push_pieces};
 pub use push::push_json;
 pub use words::link_type_text;

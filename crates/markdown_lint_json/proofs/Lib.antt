@@ -1,3 +1,2 @@
--- Lemmas of the lines, by the views of what they show, and of the loop over events.
+-- Lemmas of the lines, by the views of what they show.
 pub mod LintJsonLemmas
-pub mod PlacedEventsLemmas

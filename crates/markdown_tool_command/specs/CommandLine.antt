@@ -56,18 +56,14 @@ with_page_rules app = with_rule (with_rule (with_rule app
 abbrev pub with_contents_rules : App → App
 with_contents_rules app = with_rule (with_rule app (valued (codes "lang"))) (flag (codes "toc"))
 
--- a command with those for lines of JSON, and for bytes that are not UTF-8
-abbrev pub with_line_rules : App → App
-with_line_rules app = with_rule (with_rule app (flag (codes "positions"))) (flag (codes "lossy"))
-
 -- a command with those for files
 abbrev pub with_file_rules : App → App
-with_file_rules app = with_rule (with_rule app output_rule) file_rule
+with_file_rules app = with_rule (with_rule (with_rule app (flag (codes "lossy"))) output_rule) file_rule
 
 -- the command, with all arguments
 abbrev pub tool : (formats : ValueParser) → App
-tool formats = with_file_rules (with_line_rules (with_contents_rules (with_page_rules (with_extension_rules
-    (with_rule (with_rule (versioned (new_app (codes "markdown"))) (to_rule formats)) (flag (codes "safe")))))))
+tool formats = with_file_rules (with_contents_rules (with_page_rules (with_extension_rules
+    (with_rule (with_rule (versioned (new_app (codes "markdown"))) (to_rule formats)) (flag (codes "safe"))))))
 
 module _ (formats : ValueParser) (words : List (List ℕ)) where
   -- this is the request of the words, where these formats are offered

@@ -1,5 +1,5 @@
 -- The request of a command line, by the values of its words: for each argument a row, under its name.
-use Rattle.std.specs.Prelude.{◌≡◌, ◌⊎◌, ℕ, Bool, false, ◌||◌, List, [], ◌∷◌, map, Option, Some, None, is_some}
+use Rattle.std.specs.Prelude.{◌≡◌, ℕ, Bool, false, ◌||◌, List, [], ◌∷◌, map, Option, Some, None, is_some}
 use Rattle.std.specs.Prelude.{option_map}
 use Rattle.std.specs.Prelude.{Result, Ok, Err, if◌then◌else◌, codes, unwrap_or, string_bytes}
 use Rattle.std.specs.Option.{IsSome, option_map_or}
@@ -64,7 +64,6 @@ choices_asked rows = record {
   safe = is_given (codes "safe") rows;
   page = is_given (codes "full-page") rows;
   part = asks_part rows;
-  positions = is_given (codes "positions") rows;
 }
 
 -- the format that is named; None where it is not offered
@@ -114,7 +113,6 @@ or_standard (name ∷ names) = name ∷ names
 pub record IsRequestOf (rows : List Row) (request : Request) : Type 0 where
   pub format : format_asked rows ≡ Ok request.format
   pub enabled : AreEnabledBy rows request.enabled
-  pub positions : request.positions ≡ is_given (codes "positions") rows
   pub page : option_map page_view request.page ≡ page_asked rows
   pub lossy : request.lossy ≡ is_given (codes "lossy") rows
   pub output : string_bytes request.output ≡ unwrap_or (first_of (codes "output") rows) standard

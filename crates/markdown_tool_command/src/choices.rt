@@ -1,6 +1,6 @@
 //! What a command line chooses among, and which choices do not go together.
 ghost use Rattle.std.specs.Prelude.{◌≡◌};
-ghost use Rattle.markdown_tool_command.specs.Choices.{checked_format, format_named, html_format, is_of_lines, line_format};
+ghost use Rattle.markdown_tool_command.specs.Choices.{checked_format, format_named, other_format};
 
 /// What is made of a text.
 #[derive(Clone, Copy, Debug, PartialEq, Eq, Drop)]
@@ -17,8 +17,6 @@ pub enum Format {
     Contents,
     /// A line of JSON for each link and each image, with its range.
     Links,
-    /// A line of JSON for each reference without a definition, with its range.
-    Broken,
 }
 
 /// What is wrong with a command line whose words are known.
@@ -32,8 +30,6 @@ pub enum Misuse {
     PageWithoutHtml,
     /// `--title`, `--css`, `--lang` or `--toc` without `--full-page`.
     PartWithoutPage,
-    /// `--positions` with a format that has no lines of JSON.
-    PositionsWithoutLines,
 }
 
 /// What is chosen beside a format.
@@ -45,8 +41,6 @@ pub struct Choices {
     pub page: bool,
     /// A part of the page is asked for: its title, its style sheet, its language or its contents.
     pub part: bool,
-    /// `--positions` is given.
-    pub positions: bool,
 }
 
 impl Misuse {
@@ -57,15 +51,12 @@ impl Misuse {
             Misuse::SafeWithoutHtml => "--safe is for --to html alone",
             Misuse::PageWithoutHtml => "--full-page is for --to html alone",
             Misuse::PartWithoutPage => "--title, --css, --lang and --toc need --full-page",
-            Misuse::PositionsWithoutLines => {
-                "--positions is for --to events, outline, links and broken"
-            }
         }
     }
 }
 
 /// The names of the formats. HTML is safe or not by a flag of its own.
-pub static FORMATS: [&str; 6] = ["html", "events", "outline", "toc", "links", "broken"];
+pub static FORMATS: [&str; 5] = ["html", "events", "outline", "toc", "links"];
 
 /// Returns the format of this name, or `None` where none is offered.
 pub fn format_named(name: &str) -> Option<Format>
@@ -77,38 +68,13 @@ pub fn format_named(name: &str) -> Option<Format>
         "outline" => Format::Outline,
         "toc" => Format::Contents,
         "links" => Format::Links,
-        "broken" => Format::Broken,
         _ => return None,
     })
 }
 
-/// Returns the format that is made where HTML is named.
-fn html_format(choices: Choices) -> Result<Format, Misuse>
-    ensures { result ≡ html_format choices }
-{
-    if choices.positions {
-        return Err(Misuse::PositionsWithoutLines);
-    }
-    Ok(if choices.safe {
-        Format::SafeHtml
-    } else {
-        Format::Html
-    })
-}
-
-/// Returns whether a format has lines of JSON.
-fn is_of_lines(format: Format) -> bool
-    ensures { result ≡ is_of_lines format }
-{
-    match format {
-        Format::Events | Format::Outline | Format::Links | Format::Broken => true,
-        Format::Html | Format::SafeHtml | Format::Contents => false,
-    }
-}
-
 /// Returns the format that is made where one other than HTML is named.
-fn line_format(named: Format, choices: Choices) -> Result<Format, Misuse>
-    ensures { result ≡ line_format named choices }
+fn other_format(named: Format, choices: Choices) -> Result<Format, Misuse>
+    ensures { result ≡ other_format named choices }
 {
     if choices.safe {
         return Err(Misuse::SafeWithoutHtml);
@@ -116,14 +82,11 @@ fn line_format(named: Format, choices: Choices) -> Result<Format, Misuse>
     if choices.page {
         return Err(Misuse::PageWithoutHtml);
     }
-    if choices.positions && !is_of_lines(named) {
-        return Err(Misuse::PositionsWithoutLines);
-    }
     Ok(named)
 }
 
 /// Returns the format that is made where one is named, with these choices: safe HTML for HTML if `safe` is set. Of several
-/// mistakes it is the first in the order of `PartWithoutPage`, `SafeWithoutHtml`, `PageWithoutHtml`, `PositionsWithoutLines`.
+/// mistakes it is the first in the order of `PartWithoutPage`, `SafeWithoutHtml`, `PageWithoutHtml`.
 pub fn checked_format(named: Format, choices: Choices) -> Result<Format, Misuse>
     ensures { result ≡ checked_format named choices }
 {
@@ -131,7 +94,11 @@ pub fn checked_format(named: Format, choices: Choices) -> Result<Format, Misuse>
         return Err(Misuse::PartWithoutPage);
     }
     match named {
-        Format::Html => html_format(choices),
-        _ => line_format(named, choices),
+        Format::Html => Ok(if choices.safe {
+            Format::SafeHtml
+        } else {
+            named
+        }),
+        _ => other_format(named, choices),
     }
 }

@@ -7,7 +7,7 @@ ghost use Rattle.markdown_tool_command.specs.CommandLine.{IsRefusedBy, IsRequest
 ghost use Rattle.markdown_tool_command.specs.CommandLine.{flag, tool, valued, versioned};
 ghost use Rattle.markdown_tool_command.specs.CommandLine.{extension_rule, file_rule, output_rule, to_rule};
 ghost use Rattle.markdown_tool_command.specs.CommandLine.{with_contents_rules, with_extension_rules};
-ghost use Rattle.markdown_tool_command.specs.CommandLine.{with_file_rules, with_line_rules, with_page_rules};
+ghost use Rattle.markdown_tool_command.specs.CommandLine.{with_file_rules, with_page_rules};
 
 use crate::choices::FORMATS;
 use crate::request::{Refusal, Request, STANDARD, request_asked};
@@ -120,28 +120,20 @@ fn with_contents<'a>(alloc: Global, command: Command<'a>) -> Result<Command<'a>,
     with_lang.arg(toc)
 }
 
-/// Adds the arguments for lines of JSON, and for bytes that are not UTF-8.
-fn with_lines<'a>(alloc: Global, command: Command<'a>) -> Result<Command<'a>, AllocError>
-    ensures { IfOk result (λ made. app_of made ≡ with_line_rules (app_of command.entry)) }
-{
-    let positions = flag(alloc, "positions").help("Add lines and columns to lines of JSON");
-    let lossy = flag(alloc, "lossy").help("Read bytes that are not UTF-8 as U+FFFD");
-    let with_positions = command.arg(positions)?;
-    with_positions.arg(lossy)
-}
-
 /// Adds the arguments for files.
 fn with_files<'a>(alloc: Global, command: Command<'a>) -> Result<Command<'a>, AllocError>
     ensures { IfOk result (λ made. app_of made ≡ with_file_rules (app_of command.entry)) }
 {
-    command.arg(output(alloc))?.arg(file(alloc))
+    let lossy = flag(alloc, "lossy").help("Read bytes that are not UTF-8 as U+FFFD");
+    let with_lossy = command.arg(lossy)?;
+    with_lossy.arg(output(alloc))?.arg(file(alloc))
 }
 
 /// The end of the help: the extensions, in the order of their table, and the exit statuses. A star marks those that `--gfm`
 /// enables.
 const AFTER_HELP: &str =
-    "Extensions: alerts*, autolinks*, footnotes*, heading-attributes, heading-ids*, math, old-footnotes, pluses, \
-    smart,\nstrikethrough*, subscript, superscript, tables*, tasklists*, wikilinks, yaml.\n\n\
+    "Extensions: alerts*, footnotes*, heading-attributes, heading-ids*, math, old-footnotes, pluses, smart, \
+    strikethrough*,\n subscript, superscript, tables*, tasklists*, wikilinks, yaml.\n\n\
     Exit status: 0 if all was written, 1 if something failed, 2 if the command line is wrong.";
 
 /// Returns the command without its arguments.
@@ -151,7 +143,7 @@ fn bare<'a>(alloc: Global) -> Result<Command<'a>, AllocError>
     Command::new(alloc, "markdown")
         .version(VERSION)
         .about(
-            "Turn Markdown into HTML, events, an outline, a table of contents or lists of links.",
+            "Turn Markdown into HTML, events, an outline, a table of contents or a list of links.",
         )
         .after_help(AFTER_HELP)
         .bin_name("markdown")
@@ -168,8 +160,7 @@ fn command<'a>(alloc: Global, formats: &'a [&'a str]) -> Result<Command<'a>, All
     let extended = with_extensions(alloc, with_safe)?;
     let paged = with_page(alloc, extended)?;
     let with_contents = with_contents(alloc, paged)?;
-    let lined = with_lines(alloc, with_contents)?;
-    with_files(alloc, lined)
+    with_files(alloc, with_contents)
 }
 
 /// Returns the message about a part of a list of extensions that names none.

@@ -31,8 +31,6 @@ pub struct Request {
     pub format: Format,
     /// The extensions.
     pub enabled: Enabled,
-    /// Whether lines of JSON have lines and columns; then the format has such lines.
-    pub positions: bool,
     /// The page that is asked for, where one is; then the format is HTML, safe or not.
     pub page: Option<Page>,
     /// Whether files that are not UTF-8 are read too, with U+FFFD for what is none.
@@ -174,7 +172,6 @@ fn choices_asked(matches: &ArgMatches<'_>) -> Choices
         safe: is_given(matches, "safe"),
         page: is_given(matches, "full-page"),
         part: asks_part(matches),
-        positions: is_given(matches, "positions"),
     }
 }
 
@@ -242,7 +239,6 @@ pub(crate) fn request_asked<'a>(
     Ok(Request {
         format,
         enabled,
-        positions: is_given(matches, "positions"),
         page,
         lossy: is_given(matches, "lossy"),
         output,

@@ -1,5 +1,4 @@
 -- Lemmas on what is written for texts, and on steps.
-pub mod AppendLemmas
 pub mod ConversionLemmas
 pub mod FileTextLemmas
 pub mod OutputsLemmas

@@ -1,59 +1,50 @@
--- What is written for texts, one more at a time, and why nothing is.
-use Rattle.std.proofs.Common.{◌≡◌, ◌∙◌, ℕ, ◌+◌, ◌<◌, ◌≤◌, List, [], ◌∷◌, ◌++◌, map, length, drop, get_or, string_bytes}
-use Rattle.std.proofs.Common.{String, Global, inl, inr, refl, sym, ap, subst, append-nil, append_assoc}
-use Rattle.std.proofs.lemmas.List.{drop_more, drop_all, get_or-map, length-map}
-use Rattle.markdown.specs.EventWords.{Fault}
-use Rattle.markdown.specs.OptionWords.{Syntax, source_as}
+-- What is written for one more file, and why nothing is; and a page from its parts.
+use Rattle.std.proofs.Common.{◌≡◌, ◌⊎◌, ℕ, List, [], ◌∷◌, ◌++◌, Option}
+use Rattle.std.proofs.Common.{Some, None, append_assoc, ap, inr, refl, sym, ◌∙◌}
+use Rattle.std.proofs.Common.{option_map}
+use denote.Ref.{Bor}
+use Rattle.markdown_base.specs.declared.fault.Fault.{Fault}
+use Rattle.markdown_base.specs.declared.fault.Fault.TheVariants.{Memory}
+use Rattle.markdown_page.specs.PageHtml.{page_html, style_of}
+use Rattle.markdown_page.specs.declared.page.Page.{Page}
+use Rattle.markdown_tool_command.specs.Requests.{PageView}
 use Rattle.markdown_tool_command.specs.declared.choices.Format.{Format}
-use Rattle.markdown_tool_output.specs.FileText.{without_mark}
-use Rattle.markdown_tool_output.specs.Outputs.{IsFaultOfText, IsFaultOfTexts, file_source, output_of_text, outputs_of}
+use Rattle.markdown_tool_command.specs.declared.extensions.Enabled.{Enabled}
+use Rattle.markdown_tool_output.specs.Outputs.{FileView, IsFaultOfFiles, page_around, text_of_page}
 
-module _ (format : Format) (syntax : Syntax) (texts : List (String Global)) where
-  -- what is written for these
-  abbrev outputs : List (String Global) → List ℕ
-  outputs some = outputs_of format syntax (map string_bytes some)
+-- a refused allocation is a fault of any files
+pub memory_of_files : (format : Format) (e : Enabled) (files : List FileView) (fault : Fault) → fault ≡ Memory
+    → IsFaultOfFiles format e files fault
+memory_of_files format e [] fault is = is
+memory_of_files format e (f ∷ files) fault is = inr (memory_of_files format e files fault is)
 
-  -- what is written so far, with what is written for the texts from this one on, is what is written for all
-  abbrev pub Serves : (at : ℕ) → (so_far : List ℕ) → Type 0
-  Serves at so_far = so_far ++ outputs (drop at texts) ≡ outputs texts
+-- after two parts more, what is written is that and the two together
+pub two_parts : (so_far first second now once then_written rest whole : List ℕ) → once ≡ so_far ++ first
+    → now ≡ once ++ second → then_written ≡ first ++ second → so_far ++ (then_written ++ rest) ≡ whole
+    → now ++ rest ≡ whole
+two_parts so_far first second now once then_written rest whole once_is now_is parts before =
+    ap (λ w. w ++ rest) (now_is ∙ ap (λ w. w ++ second) once_is ∙ append_assoc so_far first second
+    ∙ ap (λ w. so_far ++ w) (sym parts))
+    ∙ append_assoc so_far then_written rest
+    ∙ before
 
-  -- and with what is written for this one, it serves for those after it
-  pub serves_more : (at : ℕ) (text : String Global) (so_far so_far' part : List ℕ) → at < length texts
-      → text ≡ get_or texts at text → part ≡ output_of_text format (file_source syntax (string_bytes text))
-      → so_far' ≡ so_far ++ part → Serves at so_far → Serves (at + 1) so_far'
-  serves_more at text so_far so_far' part l is made more before =
-      ap (λ s. s ++ outputs (drop (at + 1) texts)) more
-      ∙ append_assoc so_far part (outputs (drop (at + 1) texts))
-      ∙ ap (λ p. so_far ++ (p ++ outputs (drop (at + 1) texts))) made
-      ∙ ap (λ (some : List (String Global)). so_far ++ outputs some)
-      (sym (drop_more texts at text l ∙ ap (λ (t : String Global). t ∷ drop (at + 1) texts) (sym is)))
-      ∙ before
-
-  -- where no text is left, it is what is written for all
-  pub serves_all : (at : ℕ) (so_far : List ℕ) → length texts ≤ at → Serves at so_far → so_far ≡ outputs texts
-  serves_all at so_far l before =
-      sym (append-nil so_far)
-      ∙ ap (λ (some : List (String Global)). so_far ++ outputs some) (sym (drop_all at texts l)) ∙ before
-
-  -- the fault of one of the texts
-  fault_in : (at : ℕ) (text : String Global) (fault : Fault) → at < length texts → text ≡ get_or texts at text
-      → IsFaultOfText format (file_source syntax (string_bytes text)) fault
-      → IsFaultOfTexts format syntax (map string_bytes texts) fault
-  fault_in at text fault l is (inl memory) = inl memory
-  fault_in at text fault l is (inr (depth, deep)) = inr (
-    depth,
-    (
-      at,
-      string_bytes text,
-      subst (λ n. at < n) (sym (length-map texts string_bytes)) l,
-      get_or-map string_bytes texts at text (string_bytes text) l ∙ ap string_bytes (sym is),
-      deep,
-    ),
-  )
-
-  pub fault_of_one : (at : ℕ) (text : String Global) (given : List ℕ) (fault : Fault) → at < length texts
-      → text ≡ get_or texts at text → given ≡ without_mark (string_bytes text)
-      → IsFaultOfText format (source_as syntax given) fault
-      → IsFaultOfTexts format syntax (map string_bytes texts) fault
-  fault_of_one at text given fault l is same why = fault_in at text fault l is
-      (subst (λ (t : List ℕ). IsFaultOfText format (source_as syntax t) fault) same why)
+-- the style of a page does not depend on where its address is in memory
+same_page : (language style : Option (Bor (List ℕ))) (title contents html : Bor (List ℕ))
+    → page_html (record {
+      language = language;
+      title = title;
+      style = style_of style;
+      contents = contents;
+      html = html;
+    })
+    ≡ page_html (record {
+      language = option_map (λ (t : Bor (List ℕ)). text_of_page t.now) language;
+      title = text_of_page title.now;
+      style = style_of (option_map (λ (t : Bor (List ℕ)). text_of_page t.now) style);
+      contents = text_of_page contents.now;
+      html = text_of_page html.now;
+    })
+same_page None None title contents html = refl
+same_page None (Some address) title contents html = refl
+same_page (Some language) None title contents html = refl
+same_page (Some language) (Some address) title contents html = refl

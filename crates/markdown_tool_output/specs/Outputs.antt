@@ -1,70 +1,184 @@
--- What is written for texts, by format, and for a request.
-use Rattle.std.specs.Prelude.{◌≡◌, ◌⊎◌, ℕ, List, [], ◌∷◌, Option, Some, None, map, string_bytes}
-use Rattle.std.specs.List.{Any, flat_map}
-use Rattle.markdown.specs.EventWords.{Fault}
-use Rattle.markdown.specs.HtmlWords.{IsTextTooDeep, html_of_text}
-use Rattle.markdown.specs.OptionWords.{Source, Syntax, full_syntax, source_as}
-use Rattle.markdown.specs.OutlineWords.{outline_of_text}
-use Rattle.markdown.specs.SafeWords.{IsSafeTextTooDeep, safe_html_of_text}
+-- What is written for files, by format, and for a request.
+use Rattle.std.specs.Prelude.{◌≡◌, ℕ, suc, Bool, false, not, ◌&&◌, if◌then◌else◌, List, [], ◌∷◌, ◌++◌, length}
+use Rattle.std.specs.Prelude.{◌⊎◌, ◌==◌, Option, Some, None, bytes_eq, is_some}
+use Rattle.std.specs.Prelude.{option_map, codes, decimal, map, nat_lt, slice_get, string_bytes, unwrap_or}
+use denote.Ref.{Bor}
+use Rattle.markdown_additions.specs.Additions.{AdditionsView, heading_ids, nothing, prefixed_ids}
+use Rattle.markdown_additions.specs.Written.{IsFaultOfWritingText, headings_of_text, written_of_text}
+use Rattle.markdown_additions.specs.declared.written.Form.{Form}
+use Rattle.markdown_additions.specs.declared.written.Form.TheVariants as form
+use Rattle.markdown_base.specs.Source.{Source, source_as}
+use Rattle.markdown_base.specs.Syntax.{full_syntax}
+use Rattle.markdown_base.specs.declared.fault.Fault.{Fault}
 use Rattle.markdown_base.specs.declared.fault.Fault.TheVariants as fault_kind
-use Rattle.markdown_tool_command.specs.Requests.{page_texts, standard}
+use Rattle.markdown_contents.specs.Contents.{contents_in_file}
+use Rattle.markdown_json.specs.Json.{string}
+use Rattle.markdown_contents.specs.HtmlList.{html_list_of}
+use Rattle.markdown_lint_json.specs.LinkJson.{links_json_of_text}
+use Rattle.markdown_outline.specs.Outline.{EntryView}
+use Rattle.markdown_page.specs.FileTitle.{file_title}
+use Rattle.markdown_page.specs.MetadataTitle.{shown_title}
+use Rattle.markdown_page.specs.PageHtml.{page_html, style_of}
+use Rattle.markdown_text_json.specs.OutlineJson.{outline_lines, outline_lines_with_ids}
+use Rattle.markdown_tool_command.specs.Requests.{PageView, page_view, standard}
 use Rattle.markdown_tool_command.specs.declared.choices.Format.{Format}
-use Rattle.markdown_tool_command.specs.declared.choices.Format.TheVariants.{Html, SafeHtml, Events, Outline, Contents}
+use Rattle.markdown_tool_command.specs.declared.choices.Format.TheVariants as format
+use Rattle.markdown_tool_command.specs.declared.extensions.Enabled.{Enabled}
 use Rattle.markdown_tool_command.specs.declared.request.Page.{Page}
 use Rattle.markdown_tool_command.specs.declared.request.Request.{Request}
-use Rattle.markdown_contents.specs.Contents.{contents_of}
-use Rattle.markdown_text_json.specs.OutlineJson.{outline_json_of_text}
-use Rattle.markdown_text_json.specs.TextJson.{json_of_text}
 use Rattle.markdown_tool_output.specs.FileText.{without_mark}
-use Rattle.markdown_tool_output.specs.PageHtml.{page_html}
 
--- what is written for a text
-abbrev pub output_of_text : Format → Source → List ℕ
-output_of_text Html s = html_of_text s
-output_of_text SafeHtml s = safe_html_of_text s
-output_of_text Events s = json_of_text s
-output_of_text Outline s = outline_json_of_text s
-output_of_text Contents s = contents_of (outline_of_text s)
+-- one of the files that are read: its name, its number from 1, whether there are several, and its text
+pub record FileView : Type 0 where
+  pub name : List ℕ
+  pub number : ℕ
+  pub several : Bool
+  pub text : List ℕ
 
--- a text is too deep: for HTML alone
-abbrev pub IsTooDeepText : Format → Source → Type 0
-IsTooDeepText Html s = IsTextTooDeep s
-IsTooDeepText SafeHtml s = IsSafeTextTooDeep s
-IsTooDeepText Events s = ⊥
-IsTooDeepText Outline s = ⊥
-IsTooDeepText Contents s = ⊥
+-- what begins all ids of one of several files, of which none begins with that of another
+abbrev pub file_prefix : ℕ → List ℕ
+file_prefix number = codes "f" ++ decimal number ++ codes "-"
 
--- this is why nothing is written for a text: an allocation was refused, or the text is too deep
-abbrev pub IsFaultOfText : Format → Source → Fault → Type 0
-IsFaultOfText format s fault = (fault ≡ fault_kind.Memory) ⊎ ((fault ≡ fault_kind.Depth) × IsTooDeepText format s)
+-- what is added to the events of a file that becomes HTML
+abbrev pub html_additions : Enabled → FileView → AdditionsView
+html_additions e f =
+    if e.heading_ids then (if f.several then prefixed_ids (file_prefix f.number) else heading_ids) else nothing
+
+-- and to those of a file that becomes lines
+abbrev pub line_additions : Enabled → AdditionsView
+line_additions e = if e.heading_ids then heading_ids else nothing
 
 -- the source that a file's text is: without a byte order mark
-abbrev pub file_source : Syntax → (text : List ℕ) → Source
-file_source syntax text = source_as syntax (without_mark text)
+abbrev pub file_source : Enabled → FileView → Source
+file_source e f = source_as (full_syntax e.options) (without_mark f.text)
 
--- what is written for texts, one after another
-abbrev pub outputs_of : Format → Syntax → (texts : List (List ℕ)) → List ℕ
-outputs_of format syntax texts = flat_map (λ text. output_of_text format (file_source syntax text)) texts
+-- the lines of the headings of a file, with their ids where those are enabled
+abbrev pub outline_of_file : Enabled → FileView → List ℕ
+outline_of_file e f =
+    if e.heading_ids then outline_lines_with_ids (headings_of_text false heading_ids (file_source e f))
+    else outline_lines (headings_of_text false nothing (file_source e f))
 
--- this is why nothing is written for texts
-abbrev pub IsFaultOfTexts : Format → Syntax → (texts : List (List ℕ)) → Fault → Type 0
-IsFaultOfTexts format syntax texts fault = (fault ≡ fault_kind.Memory)
-    ⊎ ((fault ≡ fault_kind.Depth) × Any (λ text. IsTooDeepText format (file_source syntax text)) texts)
+-- the name by which links lead to a file: none if it is the only one, or standard input
+abbrev pub link_name : FileView → List ℕ
+link_name f = if f.several && not (bytes_eq f.name standard) then f.name else []
 
--- the name of the first file
-abbrev pub first_of_names : List (List ℕ) → List ℕ
-first_of_names [] = standard
-first_of_names (name ∷ names) = name
+-- what is written for a file
+abbrev pub output_of_file : Format → Enabled → FileView → List ℕ
+output_of_file format.Html e f = written_of_text form.Html (html_additions e f) (file_source e f)
+output_of_file format.SafeHtml e f = written_of_text form.SafeHtml (html_additions e f) (file_source e f)
+output_of_file format.Events e f = written_of_text form.Lines (line_additions e) (file_source e f)
+output_of_file format.Outline e f = outline_of_file e f
+output_of_file format.Links e f = links_json_of_text (file_source e f)
+output_of_file format.Contents e f = contents_in_file (link_name f) (headings_of_text false heading_ids (file_source
+    e f))
 
-abbrev pub first_name : Request → List ℕ
-first_name request = first_of_names (map string_bytes request.inputs.items)
+-- this is why nothing is written for a file: an allocation was refused, or its text is too deep for HTML
+abbrev pub IsFaultOfFile : Format → Enabled → FileView → Fault → Type 0
+IsFaultOfFile format.Html e f fault = IsFaultOfWritingText form.Html (html_additions e f) (file_source e f) fault
+IsFaultOfFile format.SafeHtml e f fault =
+    IsFaultOfWritingText form.SafeHtml (html_additions e f) (file_source e f) fault
+IsFaultOfFile format.Events e f fault = IsFaultOfWritingText form.Lines (line_additions e) (file_source e f) fault
+IsFaultOfFile format.Outline e f fault = fault ≡ fault_kind.Memory
+IsFaultOfFile format.Links e f fault = fault ≡ fault_kind.Memory
+IsFaultOfFile format.Contents e f fault = fault ≡ fault_kind.Memory
+
+-- the line that names one of several files before its lines of JSON
+abbrev pub named_line : FileView → List ℕ
+named_line f = if f.several then codes "{\"file\":" ++ string f.name ++ codes "}\n" else []
+
+abbrev pub file_line : Format → FileView → List ℕ
+file_line format.Html f = []
+file_line format.SafeHtml f = []
+file_line format.Events f = named_line f
+file_line format.Outline f = named_line f
+file_line format.Links f = named_line f
+file_line format.Contents f = []
+
+-- the files of a request with these texts, of which the first is after this number of others
+abbrev pub files_from : Request → (several : Bool) → ℕ → (texts : List (List ℕ)) → List FileView
+files_from r several before [] = []
+files_from r several before (text ∷ texts) = record {
+  name = unwrap_or (slice_get (map string_bytes r.inputs.items) before) standard;
+  number = suc before;
+  several = several;
+  text = text;
+} ∷ files_from r several (suc before) texts
+
+-- the files of a request whose files hold these texts
+abbrev pub files_of : Request → (texts : List (List ℕ)) → List FileView
+files_of r texts = files_from r (nat_lt 1 (length texts)) 0 texts
+
+-- what is written for files, one after another
+abbrev pub outputs_of : Format → Enabled → List FileView → List ℕ
+outputs_of format e [] = []
+outputs_of format e (f ∷ files) = (file_line format f ++ output_of_file format e f) ++ outputs_of format e files
+
+-- this is why nothing is written for files: for one of them nothing is
+abbrev pub IsFaultOfFiles : Format → Enabled → List FileView → Fault → Type 0
+IsFaultOfFiles format e [] fault = fault ≡ fault_kind.Memory
+IsFaultOfFiles format e (f ∷ files) fault = IsFaultOfFile format e f fault ⊎ IsFaultOfFiles format e files fault
+
+-- the text of the first heading of level 1 that has one
+abbrev pub first_title : List EntryView → Option (List ℕ)
+first_title [] = None
+first_title (e ∷ entries) = if e.level == 1 && is_some (shown_title e.text) then shown_title e.text
+    else first_title entries
+
+-- whether the events of a file are made safe
+abbrev pub is_safe : Format → Bool
+is_safe format.SafeHtml = true
+is_safe other = false
+
+-- the headings of a file as its HTML shows them
+abbrev pub headings_of_file : Format → Enabled → FileView → List EntryView
+headings_of_file format e f = headings_of_text (is_safe format) (html_additions e f) (file_source e f)
+
+-- the title of a page without one of its own: that of the first file's first heading of level 1, or of its name
+abbrev pub title_of_file : Format → Enabled → FileView → List ℕ
+title_of_file format e f = unwrap_or (first_title (headings_of_file format e f)) (file_title f.name)
+
+abbrev pub title_of_files : Format → Enabled → List FileView → List ℕ
+title_of_files format e [] = []
+title_of_files format e (f ∷ files) = title_of_file format e f
+
+-- the contents of a page: for each file the list of its headings
+abbrev pub contents_of_files : Format → Enabled → List FileView → List ℕ
+contents_of_files format e [] = []
+contents_of_files format e (f ∷ files) = html_list_of (headings_of_file format e f) ++ contents_of_files format e files
+
+-- a text as a field of a page, wherever it is in memory
+abbrev pub text_of_page : List ℕ → Bor (List ℕ)
+text_of_page text = record { ref_ptr = (0, 0); now = text }
+
+-- the title of a page: its own, or that of its files
+abbrev pub title_shown : PageView → Format → Enabled → List FileView → List ℕ
+title_shown page format e files = unwrap_or page.title (title_of_files format e files)
+
+-- a page with this title, these contents and this HTML
+abbrev pub page_around : PageView → (title contents html : List ℕ) → List ℕ
+page_around page title contents html = page_html (record {
+  language = option_map text_of_page page.language;
+  title = text_of_page title;
+  style = style_of (option_map text_of_page page.style);
+  contents = text_of_page contents;
+  html = text_of_page html;
+})
+
+-- the contents of a page, where they are asked for
+abbrev pub contents_asked : PageView → Format → Enabled → List FileView → List ℕ
+contents_asked page format e files = if page.contents then contents_of_files format e files else []
 
 -- what is written, in a page where one is asked for
-abbrev pub in_page : Option Page → (name outputs : List ℕ) → List ℕ
-in_page None name outputs = outputs
-in_page (Some page) name outputs = page_html (page_texts page) name outputs
+abbrev pub in_page : Option PageView → Format → Enabled → List FileView → (outputs : List ℕ) → List ℕ
+in_page None format e files outputs = outputs
+in_page (Some page) format e files outputs =
+    page_around page (title_shown page format e files) (contents_asked page format e files) outputs
 
--- what is written for a request whose files hold these texts: they are read in full
+-- what is written for a request whose files hold these texts
 abbrev pub output_of : Request → (texts : List (List ℕ)) → List ℕ
-output_of request texts =
-    in_page request.page (first_name request) (outputs_of request.format (full_syntax request.options) texts)
+output_of r texts = in_page (option_map page_view r.page) r.format r.enabled (files_of r texts)
+    (outputs_of r.format r.enabled (files_of r texts))
+
+-- this is why nothing is written for a request
+abbrev pub IsFaultOfOutput : Request → (texts : List (List ℕ)) → Fault → Type 0
+IsFaultOfOutput r texts fault = IsFaultOfFiles r.format r.enabled (files_of r texts) fault

@@ -2,12 +2,14 @@
 #![tactic(auto)]
 
 pub mod failure;
+mod file;
 pub mod files;
+mod headings;
 pub mod output;
-pub mod page;
+mod page;
 pub mod run;
 pub mod text;
 
 pub use files::Files;
-pub use output::{output_of, output_of_text};
+pub use output::output_of;
 pub use run::run_tool;

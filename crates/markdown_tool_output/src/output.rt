@@ -1,71 +1,146 @@
 //! What is written for a request: a function of the request and of the texts alone.
-ghost use Rattle.std.specs.Prelude.{◌≡◌, IfOk, IfErr, map, string_bytes};
-ghost use Rattle.markdown.specs.OptionWords.{full_syntax, source_as};
-ghost use Rattle.markdown.specs.OutlineWords.{outline_of_text};
-ghost use Rattle.markdown_contents.specs.Contents.{contents_of};
-ghost use Rattle.markdown_tool_output.specs.Outputs.{IsFaultOfText, IsFaultOfTexts, first_name};
-ghost use Rattle.markdown_tool_output.specs.Outputs.{output_of, output_of_text, outputs_of};
+ghost use Rattle.std.specs.Prelude.{◌≡◌, ◌++◌, IfErr, IfOk, OnOk, map, string_bytes};
+ghost use Rattle.markdown_additions.specs.Written.{IsFaultOfWritingText, written_of_text};
+ghost use Rattle.markdown_lint_json.specs.LinkJson.{links_json_of_text};
+ghost use Rattle.markdown_tool_output.specs.Files.{file_view};
+ghost use Rattle.markdown_tool_output.specs.Outputs.{IsFaultOfFile, IsFaultOfFiles, IsFaultOfOutput, file_line};
+ghost use Rattle.markdown_tool_output.specs.Outputs.{file_source, html_additions, line_additions, named_line};
+ghost use Rattle.markdown_tool_output.specs.Outputs.{output_of, output_of_file, outputs_of};
 
-use crate::page::page_html;
+use crate::file::{File, file_prefix, files_of};
+use crate::headings::{contents_of_file, outline_of_file};
+use crate::page::{Inside, page_of};
 use crate::text::without_mark;
-use markdown::html::render_source;
-use markdown::outline::outline_source;
-use markdown::safe::safe_html_source;
-use markdown::{DefaultBrokenLinkCallback, Fault, Syntax};
-use markdown_contents::list_of;
-use markdown_text_json::{outline_json_source, text_json_source};
-use markdown_tool_command::{Format, Request, STANDARD};
-use std::alloc::Global;
+use markdown_additions::{Additions, Form, written_source};
+use markdown_base::fault::Fault;
+use markdown_base::syntax::Syntax;
+use markdown_json::{Piece, push_pieces};
+use markdown_lint_json::links_json_source;
+use markdown_tool_command::extensions::Enabled;
+use markdown_tool_command::{Format, Request};
+use std::alloc::{AllocError, Global};
 
-/// Returns the table of contents of a text of which `syntax` is read.
-fn contents_source(alloc: Global, text: &str, syntax: Syntax) -> Result<String, Fault>
-    ensures list { IfOk result (λ list.
-        string_bytes list ≡ contents_of (outline_of_text (source_as syntax text.now))) }
-    ensures refused { IfErr result (λ fault. fault ≡ Fault.Memory) }
+/// Returns the HTML of a file, safe or not.
+fn html_of_file(
+    alloc: Global,
+    form: Form,
+    enabled: Enabled,
+    file: File<'_>,
+) -> Result<String, Fault>
+    ensures html { let f = file_view file.entry in IfOk result (λ html. string_bytes html
+        ≡ written_of_text form (html_additions enabled f) (file_source enabled f)) }
+    ensures faults { let f = file_view file.entry in IfErr result
+        (IsFaultOfWritingText form (html_additions enabled f) (file_source enabled f)) }
 {
-    let headings = outline_source(alloc, text, syntax)?;
-    list_of(alloc, headings.as_slice())
+    let syntax = Syntax::full(enabled.options);
+    let text = without_mark(file.text);
+    if !enabled.heading_ids {
+        return written_source(alloc, text, syntax, Additions::Nothing, form);
+    }
+    if !file.several {
+        return written_source(alloc, text, syntax, Additions::HeadingIds, form);
+    }
+    let prefix = file_prefix(alloc, file.number)?;
+    written_source(
+        alloc,
+        text,
+        syntax,
+        Additions::PrefixedIds(prefix.as_str()),
+        form,
+    )
 }
 
-/// Returns what is written in a format for one text of which `syntax` is read.
-///
-/// # Errors
-///
-/// `Memory` if an allocation fails, and `Depth` where more than 2^64 - 1 Starts are open in one image.
-pub fn output_of_text(
-    alloc: Global,
-    format: Format,
-    syntax: Syntax,
-    text: &str,
-) -> Result<String, Fault>
-    ensures output { IfOk result (λ output.
-        string_bytes output ≡ output_of_text format (source_as syntax text.now)) }
-    ensures faults { IfErr result (IsFaultOfText format (source_as syntax text.now)) }
+/// Returns the lines of the events of a file.
+fn lines_of_file(alloc: Global, enabled: Enabled, file: File<'_>) -> Result<String, Fault>
+    ensures lines { let f = file_view file.entry in IfOk result (λ lines. string_bytes lines
+        ≡ written_of_text Form.Lines (line_additions enabled) (file_source enabled f)) }
+    ensures faults { let f = file_view file.entry in IfErr result
+        (IsFaultOfWritingText Form.Lines (line_additions enabled) (file_source enabled f)) }
 {
-    let nobody = None::<DefaultBrokenLinkCallback>;
-    match format {
-        Format::Html => render_source(alloc, text, syntax, nobody),
-        Format::SafeHtml => safe_html_source(alloc, text, syntax, nobody),
-        Format::Events => text_json_source(alloc, text, syntax),
-        Format::Outline => outline_json_source(alloc, text, syntax),
-        Format::Contents => contents_source(alloc, text, syntax),
+    let syntax = Syntax::full(enabled.options);
+    let text = without_mark(file.text);
+    if enabled.heading_ids {
+        written_source(alloc, text, syntax, Additions::HeadingIds, Form::Lines)
+    } else {
+        written_source(alloc, text, syntax, Additions::Nothing, Form::Lines)
     }
 }
 
-/// Returns what is written for these texts, one after another, each without a byte order mark at its beginning.
+/// Returns the lines of the links and images of a file.
+fn links_of_file(alloc: Global, enabled: Enabled, file: File<'_>) -> Result<String, Fault>
+    ensures lines { IfOk result (λ lines.
+        string_bytes lines ≡ links_json_of_text (file_source enabled (file_view file.entry))) }
+    ensures refused { IfErr result (λ fault. fault ≡ Fault.Memory) }
+{
+    let syntax = Syntax::full(enabled.options);
+    links_json_source(alloc, without_mark(file.text), syntax)
+}
+
+/// Returns what is written in a format for a file.
+fn output_of_file(
+    alloc: Global,
+    format: Format,
+    enabled: Enabled,
+    file: File<'_>,
+) -> Result<String, Fault>
+    ensures output { IfOk result (λ output.
+        string_bytes output ≡ output_of_file format enabled (file_view file.entry)) }
+    ensures faults { IfErr result (IsFaultOfFile format enabled (file_view file.entry)) }
+{
+    match format {
+        Format::Html => html_of_file(alloc, Form::Html, enabled, file),
+        Format::SafeHtml => html_of_file(alloc, Form::SafeHtml, enabled, file),
+        Format::Events => lines_of_file(alloc, enabled, file),
+        Format::Outline => outline_of_file(alloc, enabled, file),
+        Format::Links => links_of_file(alloc, enabled, file),
+        Format::Contents => contents_of_file(alloc, enabled, file),
+    }
+}
+
+/// Appends the line that names one of several files.
+fn push_named_line(outputs: &mut String, file: File<'_>) -> Result<(), AllocError>
+    ensures { OnOk result (string_bytes outputs.new
+        ≡ string_bytes outputs.old ++ named_line (file_view file.entry)) }
+{
+    if !file.several {
+        return Ok(());
+    }
+    push_pieces(
+        outputs,
+        &[
+            Piece::Raw("{\"file\":"),
+            Piece::Text(file.name),
+            Piece::Raw("}\n"),
+        ],
+    )
+}
+
+/// Appends the line that names one of several files, in a format of lines.
+fn push_file_line(outputs: &mut String, format: Format, file: File<'_>) -> Result<(), AllocError>
+    ensures { OnOk result (string_bytes outputs.new
+        ≡ string_bytes outputs.old ++ file_line format (file_view file.entry)) }
+{
+    match format {
+        Format::Html | Format::SafeHtml | Format::Contents => Ok(()),
+        Format::Events | Format::Outline | Format::Links => push_named_line(outputs, file),
+    }
+}
+
+/// Returns what is written for files, one after another.
 fn outputs_of(
     alloc: Global,
     format: Format,
-    syntax: Syntax,
-    texts: &[String],
+    enabled: Enabled,
+    files: &[File<'_>],
 ) -> Result<String, Fault>
     ensures outputs { IfOk result (λ outputs.
-        string_bytes outputs ≡ outputs_of format syntax (map string_bytes texts.now)) }
-    ensures faults { IfErr result (IsFaultOfTexts format syntax (map string_bytes texts.now)) }
+        string_bytes outputs ≡ outputs_of format enabled (map file_view files.now)) }
+    ensures faults { IfErr result (IsFaultOfFiles format enabled (map file_view files.now)) }
 {
     let mut outputs = String::new(alloc);
-    'texts: for text in texts {
-        let output = output_of_text(alloc, format, syntax, without_mark(text.as_str()))?;
+    'files: for file in files {
+        push_file_line(&mut outputs, format, *file)?;
+        let output = output_of_file(alloc, format, enabled, *file)?;
         outputs.push_str(output.as_str())?;
     }
     Ok(outputs)
@@ -76,27 +151,24 @@ fn outputs_of(
 ///
 /// # Errors
 ///
-/// Those of `output_of_text`, for one of the texts.
+/// `Memory` if an allocation fails, and `Depth` where in a text more than 2^64 - 1 Starts are open in one image.
 pub fn output_of(alloc: Global, request: &Request, texts: &[String]) -> Result<String, Fault>
     ensures output { IfOk result (λ output.
         string_bytes output ≡ output_of request.now (map string_bytes texts.now)) }
-    ensures faults { IfErr result (IsFaultOfTexts request.now.format
-        (full_syntax request.now.options) (map string_bytes texts.now)) }
+    ensures faults { IfErr result (IsFaultOfOutput request.now (map string_bytes texts.now)) }
 {
-    let syntax = Syntax::full(request.options);
-    let outputs = outputs_of(alloc, request.format, syntax, texts)?;
+    let files = files_of(alloc, request, texts)?;
+    let outputs = outputs_of(alloc, request.format, request.enabled, files.as_slice())?;
     match &request.page {
-        Some(page) => page_html(alloc, page, first_name(request), outputs.as_str()),
+        Some(page) => {
+            let inside = Inside {
+                format: request.format,
+                enabled: request.enabled,
+                files: files.as_slice(),
+                html: outputs.as_str(),
+            };
+            page_of(alloc, page, inside)
+        }
         None => Ok(outputs),
-    }
-}
-
-/// Returns the name of the first file.
-fn first_name(request: &Request) -> &str
-    ensures { result.now ≡ first_name request.now }
-{
-    match request.inputs.as_slice().first() {
-        Some(name) => name.as_str(),
-        None => STANDARD,
     }
 }

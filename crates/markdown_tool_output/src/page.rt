@@ -1,106 +1,137 @@
-//! The page that HTML stands in.
-ghost use Rattle.std.specs.Prelude.{◌≡◌, ◌++◌, OnOk, IfOk, IfErr, option_map, string_bytes};
-ghost use Rattle.markdown_tool_command.specs.Requests.{page_texts};
-ghost use Rattle.markdown_tool_output.specs.PageHtml.{head, html_char, html_escaped, page_html, style_element, style_link};
-ghost use Rattle.markdown_tool_output.specs.PageHtml.{title_element};
+//! The page that a request asks for.
+ghost use Rattle.std.specs.Prelude.{◌≡◌, IfErr, IfOk, OnOk, map, string_bytes};
+ghost use Rattle.markdown_tool_command.specs.Requests.{page_view};
+ghost use Rattle.markdown_tool_output.specs.Files.{file_view};
+ghost use Rattle.markdown_tool_output.specs.Outputs.{contents_asked, contents_of_files, in_page, title_of_file};
+ghost use Rattle.markdown_tool_output.specs.Outputs.{title_of_files, title_shown};
+ghost use Rattle.std.specs.Prelude.{Some};
 
+use crate::file::File;
+use crate::headings::{first_title, headings_of_file};
 use markdown_base::fault::Fault;
-use markdown_tool_command::Page;
+use markdown_contents::html_list_of;
+use markdown_page::{Style, file_title, page_html};
+use markdown_tool_command::extensions::Enabled;
+use markdown_tool_command::{Format, Page};
 use std::alloc::Global;
 
-/// Appends a character, escaped.
-fn push_escaped_char(html: &mut String, c: char) -> Result<(), Fault>
-    ensures ok { OnOk result (string_bytes html.new ≡ string_bytes html.old ++ html_char c) }
+/// Returns the title that a file gives a page.
+fn title_of_file(
+    alloc: Global,
+    format: Format,
+    enabled: Enabled,
+    file: File<'_>,
+) -> Result<String, Fault>
+    ensures title { IfOk result (λ title.
+        string_bytes title ≡ title_of_file format enabled (file_view file.entry)) }
     ensures refused { IfErr result (λ fault. fault ≡ Fault.Memory) }
 {
-    match c {
-        '<' => html.push_str("&lt;")?,
-        '>' => html.push_str("&gt;")?,
-        '&' => html.push_str("&amp;")?,
-        '"' => html.push_str("&quot;")?,
-        _ => html.push(c)?,
-    }
-    Ok(())
-}
-
-/// Appends a text with `<`, `>`, `&` and `"` escaped, for an element or for an attribute in quotes.
-fn push_escaped(html: &mut String, text: &str) -> Result<(), Fault>
-    ensures ok { OnOk result
-        (string_bytes html.new ≡ string_bytes html.old ++ html_escaped text.now) }
-    ensures refused { IfErr result (λ fault. fault ≡ Fault.Memory) }
-{
-    for c in text.chars() {
-        push_escaped_char(html, c)?;
-    }
-    Ok(())
-}
-
-/// Appends the link to a style sheet.
-fn push_link(html: &mut String, url: &str) -> Result<(), Fault>
-    ensures ok { OnOk result
-        (string_bytes html.new ≡ string_bytes html.old ++ style_element url.now) }
-    ensures refused { IfErr result (λ fault. fault ≡ Fault.Memory) }
-{
-    html.push_str("<link rel=\"stylesheet\" href=\"")?;
-    push_escaped(html, url)?;
-    html.push_str("\">\n")?;
-    Ok(())
-}
-
-/// Appends the link to a style sheet, where there is one.
-fn push_style(html: &mut String, style: Option<&str>) -> Result<(), Fault>
-    ensures ok { OnOk result (string_bytes html.new
-        ≡ string_bytes html.old ++ style_link (option_map (λ url. url.now) style.entry)) }
-    ensures refused { IfErr result (λ fault. fault ≡ Fault.Memory) }
-{
-    match style {
-        Some(url) => push_link(html, url),
-        None => Ok(()),
+    let headings = headings_of_file(alloc, format, enabled, file)?;
+    match first_title(headings.as_slice()) {
+        Some(title) => Ok(String::from_str(alloc, title)?),
+        None => Ok(String::from_str(alloc, file_title(file.name))?),
     }
 }
 
-/// Appends the title of a page.
-fn push_title(html: &mut String, title: &str) -> Result<(), Fault>
-    ensures ok { OnOk result
-        (string_bytes html.new ≡ string_bytes html.old ++ title_element title.now) }
+/// Returns the title that the first of some files gives a page.
+fn title_of_files(
+    alloc: Global,
+    format: Format,
+    enabled: Enabled,
+    files: &[File<'_>],
+) -> Result<String, Fault>
+    ensures title { IfOk result (λ title.
+        string_bytes title ≡ title_of_files format enabled (map file_view files.now)) }
     ensures refused { IfErr result (λ fault. fault ≡ Fault.Memory) }
 {
-    html.push_str("<title>")?;
-    push_escaped(html, title)?;
-    html.push_str("</title>\n")?;
-    Ok(())
+    match files.first() {
+        Some(file) => title_of_file(alloc, format, enabled, *file),
+        None => Ok(String::new(alloc)),
+    }
 }
 
-/// Appends the head of a page.
-fn push_head(html: &mut String, title: &str, style: Option<&str>) -> Result<(), Fault>
-    ensures ok { OnOk result (string_bytes html.new
-        ≡ string_bytes html.old ++ head title.now (option_map (λ url. url.now) style.entry)) }
+/// Returns the title of a page, its own or that of its files.
+fn title_shown(
+    alloc: Global,
+    page: &Page,
+    format: Format,
+    enabled: Enabled,
+    files: &[File<'_>],
+) -> Result<String, Fault>
+    ensures title { IfOk result (λ title. string_bytes title
+        ≡ title_shown (page_view page.now) format enabled (map file_view files.now)) }
     ensures refused { IfErr result (λ fault. fault ≡ Fault.Memory) }
 {
-    html.push_str("<!DOCTYPE html>\n<html>\n<head>\n<meta charset=\"utf-8\">\n")?;
-    push_title(html, title)?;
-    push_style(html, style)?;
-    html.push_str("</head>\n<body>\n")?;
-    Ok(())
+    match &page.title {
+        Some(title) => Ok(String::from_str(alloc, title.as_str())?),
+        None => title_of_files(alloc, format, enabled, files),
+    }
 }
 
-/// Returns a page with this HTML in it. Its title is that of the page, or this name where the page has none.
-pub fn page_html(alloc: Global, page: &Page, name: &str, inside: &str) -> Result<String, Fault>
-    ensures html { IfOk result (λ html. string_bytes html
-        ≡ page_html (page_texts page.now) name.now inside.now) }
+/// Returns the lists of the headings of files, one after another.
+fn contents_of_files(
+    alloc: Global,
+    format: Format,
+    enabled: Enabled,
+    files: &[File<'_>],
+) -> Result<String, Fault>
+    ensures contents { IfOk result (λ contents.
+        string_bytes contents ≡ contents_of_files format enabled (map file_view files.now)) }
     ensures refused { IfErr result (λ fault. fault ≡ Fault.Memory) }
 {
-    let title = match &page.title {
-        Some(title) => title.as_str(),
-        None => name,
+    let mut contents = String::new(alloc);
+    'files: for file in files {
+        let headings = headings_of_file(alloc, format, enabled, *file)?;
+        let list = html_list_of(alloc, headings.as_slice())?;
+        contents.push_str(list.as_str())?;
+    }
+    Ok(contents)
+}
+
+/// Returns the contents of a page, where they are asked for.
+fn contents_asked(
+    alloc: Global,
+    page: &Page,
+    format: Format,
+    enabled: Enabled,
+    files: &[File<'_>],
+) -> Result<String, Fault>
+    ensures contents { IfOk result (λ contents. string_bytes contents
+        ≡ contents_asked (page_view page.now) format enabled (map file_view files.now)) }
+    ensures refused { IfErr result (λ fault. fault ≡ Fault.Memory) }
+{
+    if page.contents {
+        contents_of_files(alloc, format, enabled, files)
+    } else {
+        Ok(String::new(alloc))
+    }
+}
+
+/// What becomes a page.
+#[derive(Clone, Copy, Drop)]
+pub(crate) struct Inside<'a> {
+    pub format: Format,
+    pub enabled: Enabled,
+    pub files: &'a [File<'a>],
+    /// The HTML of the files.
+    pub html: &'a str,
+}
+
+/// Returns a page with this in it.
+pub(crate) fn page_of(alloc: Global, page: &Page, inside: Inside<'_>) -> Result<String, Fault>
+    ensures html { let i = inside.entry in let files = map file_view i.files.now in IfOk result
+        (λ html. string_bytes html
+        ≡ in_page (Some (page_view page.now)) i.format i.enabled files i.html.now) }
+    ensures refused { IfErr result (λ fault. fault ≡ Fault.Memory) }
+{
+    let title = title_shown(alloc, page, inside.format, inside.enabled, inside.files)?;
+    let contents = contents_asked(alloc, page, inside.format, inside.enabled, inside.files)?;
+    let whole = markdown_page::Page {
+        language: page.language.as_deref(),
+        title: title.as_str(),
+        style: Style::of(page.style.as_deref()),
+        contents: contents.as_str(),
+        html: inside.html,
     };
-    let style = match &page.style {
-        Some(style) => Some(style.as_str()),
-        None => None,
-    };
-    let mut html = String::new(alloc);
-    push_head(&mut html, title, style)?;
-    html.push_str(inside)?;
-    html.push_str("</body>\n</html>\n")?;
-    Ok(html)
+    page_html(alloc, &whole)
 }

@@ -121,11 +121,52 @@ const LOSSY: &[Row] = &[
     ),
 ];
 
+/// Ids of headings, with a prefix where several files become HTML, and where they are shown.
+const IDS: &[Row] = &[
+    (
+        &["-e", "heading-ids", "b.md"],
+        "-: <h1 id=\"b-c\">B <em>c</em></h1>\n<h2 id=\"d\">D</h2>\n",
+    ),
+    (
+        &["--gfm", "--safe", "b.md"],
+        "-: <h1 id=\"user-content-b-c\">B <em>c</em></h1>\n<h2 id=\"user-content-d\">D</h2>\n",
+    ),
+    (
+        &["-a", "-e", "no-heading-ids", "b.md"],
+        "-: <h1>B <em>c</em></h1>\n<h2>D</h2>\n",
+    ),
+    (
+        &["-e", "heading-ids", "a.md", "mark.md"],
+        "-: <p>a</p>\n<h1 id=\"f2-a\">A</h1>\n",
+    ),
+    (
+        &["-e", "heading-ids", "-t", "outline", "mark.md"],
+        "-: {\"level\":1,\"text\":\"A\",\"range\":{\"start\":0,\"end\":3},\"id\":\"a\"}\n",
+    ),
+    (
+        &["-t", "toc", "b.md", "mark.md"],
+        "-: - [B c](b.md#b-c)\n  - [D](b.md#d)\n- [A](mark.md#a)\n",
+    ),
+    (
+        &["-t", "outline", "a.md", "mark.md"],
+        "-: {\"file\":\"a.md\"}\n{\"file\":\"mark.md\"}\n\
+        {\"level\":1,\"text\":\"A\",\"range\":{\"start\":0,\"end\":3}}\n",
+    ),
+];
+
 const PAGES: &[Row] = &[
     (
-        &["-f", "a.md", "mark.md"],
-        "-: <!DOCTYPE html>\n<html>\n<head>\n<meta charset=\"utf-8\">\n<title>a.md</title>\n</head>\n<body>\n\
-        <p>a</p>\n<h1>A</h1>\n</body>\n</html>\n",
+        &["-f", "--css", "", "a.md", "mark.md"],
+        "-: <!DOCTYPE html>\n<html>\n<head>\n<meta charset=\"utf-8\">\n\
+        <meta name=\"viewport\" content=\"width=device-width, initial-scale=1\">\n<title>a</title>\n</head>\n<body>\n\
+        <main>\n<p>a</p>\n<h1 id=\"f2-a\">A</h1>\n</main>\n</body>\n</html>\n",
+    ),
+    (
+        &["-f", "--css", "", "--toc", "--lang", "en", "b.md"],
+        "-: <!DOCTYPE html>\n<html lang=\"en\">\n<head>\n<meta charset=\"utf-8\">\n\
+        <meta name=\"viewport\" content=\"width=device-width, initial-scale=1\">\n<title>B c</title>\n</head>\n<body>\n\
+        <nav>\n<ul>\n<li><a href=\"#b-c\">B c</a>\n<ul>\n<li><a href=\"#d\">D</a></li>\n</ul>\n</li>\n</ul>\n</nav>\n\
+        <main>\n<h1 id=\"b-c\">B <em>c</em></h1>\n<h2 id=\"d\">D</h2>\n</main>\n</body>\n</html>\n",
     ),
     (
         &[
@@ -138,9 +179,10 @@ const PAGES: &[Row] = &[
             "html.md",
         ],
         "-: <!DOCTYPE html>\n<html>\n<head>\n<meta charset=\"utf-8\">\n\
+        <meta name=\"viewport\" content=\"width=device-width, initial-scale=1\">\n\
         <title>&lt;a&gt; &amp; &quot;b&quot;</title>\n\
         <link rel=\"stylesheet\" href=\"c?d&amp;e&quot;\">\n</head>\n<body>\n\
-        <p>a&lt;b&gt;c&lt;/b&gt;©</p>\n</body>\n</html>\n",
+        <main>\n<p>a&lt;b&gt;c&lt;/b&gt;©</p>\n</main>\n</body>\n</html>\n",
     ),
 ];
 
@@ -164,6 +206,7 @@ fn files(rt: HostRuntime) -> Result<(), Fail> {
     writes(rt.alloc(), &mut rows, EXTENSIONS)?;
     writes(rt.alloc(), &mut rows, LISTS)?;
     writes(rt.alloc(), &mut rows, LOSSY)?;
+    writes(rt.alloc(), &mut rows, IDS)?;
     writes(rt.alloc(), &mut rows, PAGES)?;
     rows.end()
 }

@@ -2,7 +2,7 @@
 use Rattle.std.proofs.Common.{◌∙◌, ◌++◌, List, ap, drop, map, reverse, string_bytes, subst, sym, ◌∷◌, ◌+◌, ◌≡◌}
 use Rattle.std.proofs.lemmas.List.{at_drop_more}
 use Rattle.markdown.specs.OutlineWords.{Entry, EntryView, entry_view}
-use Rattle.markdown_contents.specs.Contents.{contents_in, line}
+use Rattle.markdown_contents.specs.Contents.{contents_in_file, line}
 use Rattle.markdown_contents.specs.ContentsSoFar.{AreLinesSoFar}
 use Rattle.markdown_contents.proofs.ContentsSoFarLemmas.{lines_next}
 use Rattle.markdown_contents.proofs.contents.list_in.Goals as goal
@@ -12,7 +12,7 @@ headings-preserved c =
     let i = c.headings.heading-index in
     let all = c.args.headings.now in
     let e = c.heading-item.result in
-    let whole = contents_in c.args.file.now (map entry_view all) in
+    let whole = contents_in_file c.args.file.now (map entry_view all) in
     let left : map entry_view (drop i all) ≡ entry_view e ∷ map entry_view (drop (i + 1) all) =
     at_drop_more (λ (es : List Entry). map entry_view es) all i e c.headings-test.true
     ∙ ap (λ (x : Entry). entry_view x ∷ map entry_view (drop (i + 1) all)) (sym c.heading-item.is) in

@@ -7,7 +7,8 @@ use Rattle.markdown_heading_ids.proofs.adapter.read_heading.Goals as goal
 pub returns-then-ends-clause-read : goal.returns-then-ends-clause-read
 returns-then-ends-clause-read g c =
     let pushed = c.in_ok-ends-in-Some.ensures in
-    ends_with_item g.I.Iterator.next_gives c.in-Some.item c.reading.invariant.reading c.in-Some.ensures.steps pushed.ends
+    ends_with_item g.I.Iterator.next_gives c.in-Some.item c.reading.invariant.reading c.in-Some.ensures.steps
+    pushed.ends
     c.if-ends.true c.in_ok-push_back-in-Some.ensures.items pushed.words
 
 pub reading-preserved : goal.reading-preserved

@@ -4,7 +4,7 @@ use Rattle.std.proofs.lemmas.Result.{IfOk-weaker}
 use Rattle.clap.specs.Words.{app_of, rule_of, with_rule}
 use Rattle.clap.specs.declared.builder.value_parser.ValueParser.TheVariants.{Names}
 use Rattle.markdown_tool_command.specs.CommandLine.{flag, tool, with_contents_rules, with_extension_rules}
-use Rattle.markdown_tool_command.specs.CommandLine.{with_file_rules, with_line_rules, with_page_rules}
+use Rattle.markdown_tool_command.specs.CommandLine.{with_file_rules, with_page_rules}
 use Rattle.markdown_tool_command.proofs.parse.command.Goals as goal
 
 pub returns : goal.returns
@@ -16,7 +16,6 @@ returns c =
     let extended = c.in_ok-extended.ensures ∙ ap with_extension_rules with_safe in
     let paged = c.in_ok-paged.ensures ∙ ap with_page_rules extended in
     let contents = c.in_ok-with_contents.ensures ∙ ap with_contents_rules paged in
-    let lined = c.in_ok-lined.ensures ∙ ap with_line_rules contents in
-    IfOk-weaker c.with_files.result (λ made. app_of made ≡ with_file_rules (app_of c.in_ok-lined.lined))
+    IfOk-weaker c.with_files.result (λ made. app_of made ≡ with_file_rules (app_of c.in_ok-with_contents.with_contents))
     (λ made. app_of made ≡ tool (Names c.args.formats))
-    (λ made is. is ∙ ap with_file_rules lined) c.with_files.ensures
+    (λ made is. is ∙ ap with_file_rules contents) c.with_files.ensures

@@ -1,0 +1,15 @@
+-- What is left begins where the search stands, and white space alone was passed.
+use Rattle.std.proofs.Common.{◌≡◌, IsUtf8, chars}
+use Rattle.std.specs.Str.Iter.{chars_rest}
+use denote.Text.{Utf8}
+use denote.Shadow.{shadow}
+use Rattle.markdown_page.specs.MetadataTitle.{past_gap}
+use Rattle.markdown_page.proofs.line.past_gap.Given as goal
+
+abbrev pub invariant-loop-c : goal.invariant-loop-c
+invariant-loop-c l = record {
+  text : shadow (Utf8 l.left);
+  utf8 : IsUtf8 (chars_rest l.rest);
+  left : l.left ≡ chars_rest l.rest;
+  passed : past_gap (chars (chars_rest l.rest)) ≡ past_gap (chars l.text);
+}

@@ -1,0 +1,148 @@
+//! The headings of a file: its outline, its table of contents, and what a page has of them.
+ghost use Rattle.std.specs.Prelude.{◌≡◌, IfErr, IfOk, OnOk, map, option_copied, string_bytes};
+ghost use Rattle.markdown_additions.specs.Additions.{heading_ids, nothing};
+ghost use Rattle.markdown_additions.specs.Written.{headings_of_text};
+ghost use Rattle.markdown_contents.specs.Contents.{contents_in_file};
+ghost use Rattle.markdown_outline.specs.Outline.{entry_view};
+ghost use Rattle.markdown_text_json.specs.OutlineJson.{outline_lines, outline_lines_with_ids};
+ghost use Rattle.markdown_tool_output.specs.Files.{file_view};
+ghost use Rattle.markdown_tool_output.specs.Outputs.{file_source, first_title, headings_of_file, is_safe, link_name};
+ghost use Rattle.markdown_tool_output.specs.Outputs.{outline_of_file};
+
+use crate::file::{File, file_prefix, link_name};
+use crate::text::without_mark;
+use markdown_additions::{Additions, headings_source};
+use markdown_base::fault::Fault;
+use markdown_base::syntax::Syntax;
+use markdown_contents::list_in;
+use markdown_outline::Entry;
+use markdown_page::heading_title;
+use markdown_text_json::{push_outline, push_outline_with_ids};
+use markdown_tool_command::Format;
+use markdown_tool_command::extensions::Enabled;
+use std::alloc::Global;
+
+/// Returns the headings of a file, with ids that have no prefix.
+fn headings_with_ids(alloc: Global, enabled: Enabled, file: File<'_>) -> Result<Vec<Entry>, Fault>
+    ensures headings { IfOk result (λ headings. map entry_view headings.items
+        ≡ headings_of_text false heading_ids (file_source enabled (file_view file.entry))) }
+    ensures refused { IfErr result (λ fault. fault ≡ Fault.Memory) }
+{
+    let syntax = Syntax::full(enabled.options);
+    headings_source(
+        alloc,
+        without_mark(file.text),
+        syntax,
+        Additions::HeadingIds,
+        false,
+    )
+}
+
+/// Returns the lines of the headings of a file, with their ids.
+fn outline_with_ids(alloc: Global, enabled: Enabled, file: File<'_>) -> Result<String, Fault>
+    ensures lines { IfOk result (λ lines. string_bytes lines ≡ outline_lines_with_ids
+        (headings_of_text false heading_ids (file_source enabled (file_view file.entry)))) }
+    ensures refused { IfErr result (λ fault. fault ≡ Fault.Memory) }
+{
+    let headings = headings_with_ids(alloc, enabled, file)?;
+    let mut lines = String::new(alloc);
+    push_outline_with_ids(&mut lines, headings.as_slice())?;
+    Ok(lines)
+}
+
+/// Returns the lines of the headings of a file, without ids.
+fn outline_alone(alloc: Global, enabled: Enabled, file: File<'_>) -> Result<String, Fault>
+    ensures lines { IfOk result (λ lines. string_bytes lines ≡ outline_lines
+        (headings_of_text false nothing (file_source enabled (file_view file.entry)))) }
+    ensures refused { IfErr result (λ fault. fault ≡ Fault.Memory) }
+{
+    let syntax = Syntax::full(enabled.options);
+    let text = without_mark(file.text);
+    let headings = headings_source(alloc, text, syntax, Additions::Nothing, false)?;
+    let mut lines = String::new(alloc);
+    push_outline(&mut lines, headings.as_slice())?;
+    Ok(lines)
+}
+
+/// Returns the lines of the headings of a file, with their ids where those are enabled.
+pub(crate) fn outline_of_file(
+    alloc: Global,
+    enabled: Enabled,
+    file: File<'_>,
+) -> Result<String, Fault>
+    ensures lines { IfOk result (λ lines.
+        string_bytes lines ≡ outline_of_file enabled (file_view file.entry)) }
+    ensures refused { IfErr result (λ fault. fault ≡ Fault.Memory) }
+{
+    if enabled.heading_ids {
+        outline_with_ids(alloc, enabled, file)
+    } else {
+        outline_alone(alloc, enabled, file)
+    }
+}
+
+/// Returns the table of contents of a file.
+pub(crate) fn contents_of_file(
+    alloc: Global,
+    enabled: Enabled,
+    file: File<'_>,
+) -> Result<String, Fault>
+    ensures list { IfOk result (λ list. string_bytes list
+        ≡ contents_in_file (link_name (file_view file.entry))
+        (headings_of_text false heading_ids (file_source enabled (file_view file.entry)))) }
+    ensures refused { IfErr result (λ fault. fault ≡ Fault.Memory) }
+{
+    let headings = headings_with_ids(alloc, enabled, file)?;
+    list_in(alloc, link_name(file), headings.as_slice())
+}
+
+/// Returns whether the events of a file are made safe.
+fn is_safe(format: Format) -> bool
+    ensures { result ≡ is_safe format }
+{
+    matches!(format, Format::SafeHtml)
+}
+
+/// Returns the headings of a file as its HTML shows them.
+pub(crate) fn headings_of_file(
+    alloc: Global,
+    format: Format,
+    enabled: Enabled,
+    file: File<'_>,
+) -> Result<Vec<Entry>, Fault>
+    ensures headings { IfOk result (λ headings. map entry_view headings.items
+        ≡ headings_of_file format enabled (file_view file.entry)) }
+    ensures refused { IfErr result (λ fault. fault ≡ Fault.Memory) }
+{
+    let syntax = Syntax::full(enabled.options);
+    let text = without_mark(file.text);
+    let safe = is_safe(format);
+    if !enabled.heading_ids {
+        return headings_source(alloc, text, syntax, Additions::Nothing, safe);
+    }
+    if !file.several {
+        return headings_source(alloc, text, syntax, Additions::HeadingIds, safe);
+    }
+    let prefix = file_prefix(alloc, file.number)?;
+    headings_source(
+        alloc,
+        text,
+        syntax,
+        Additions::PrefixedIds(prefix.as_str()),
+        safe,
+    )
+}
+
+/// Returns the title of the first heading of level 1 that has one.
+pub(crate) fn first_title(headings: &[Entry]) -> Option<&str>
+    ensures { option_copied result ≡ first_title (map entry_view headings.now) }
+{
+    'headings: for heading in headings {
+        if heading.level == 1 {
+            if let Some(title) = heading_title(heading.text.as_str()) {
+                return Some(title);
+            }
+        }
+    }
+    None
+}
