@@ -1,15 +1,12 @@
-//! The lines of JSON of links, and those of links, headings and events with lines and columns.
+//! The lines of JSON of links, and those of links and headings with lines and columns.
 use markdown_base::options::Options;
 use markdown_base::syntax::Syntax;
 use markdown_links::links_source;
-use markdown_lint_json::{
-    links_json_source, push_json_with_places, push_links_with_places, push_outline_with_places,
-};
+use markdown_lint_json::{links_json_source, push_links_with_places, push_outline_with_places};
 use markdown_outline::outline_source;
 use markdown_positions::Positions;
 use markdown_test_helpers::rows::gives;
 use markdown_test_parsers::faults::or_fail;
-use markdown_test_parsers::parsers::extended_parser;
 use std::test::Fail;
 
 /// Links and images of each kind, and an image in a link.
@@ -90,28 +87,5 @@ fn places_of_headings(rt: HostRuntime) -> Result<(), Fail> {
         \"line\":1,\"column\":1,\"end_line\":2,\"end_column\":1}\n\
         {\"level\":2,\"text\":\"B\",\"range\":{\"start\":10,\"end\":15},\
         \"line\":3,\"column\":1,\"end_line\":4,\"end_column\":1}\n",
-    )
-}
-
-#[test]
-fn places_of_events(rt: HostRuntime) -> Result<(), Fail> {
-    let text = "é\r\na";
-    let events = extended_parser(rt.alloc(), text, Options::empty())?.into_offset_iter();
-    let positions = Positions::new(rt.alloc(), text)?;
-    let mut json = String::new(rt.alloc());
-    or_fail(push_json_with_places(&mut json, events, &positions))?;
-    gives(
-        "places of events",
-        json.as_str(),
-        "[{\"Start\":\"Paragraph\"},{\"start\":0,\"end\":5},\
-        {\"line\":1,\"column\":1,\"end_line\":2,\"end_column\":2}]\n\
-        [{\"Text\":\"é\"},{\"start\":0,\"end\":2},\
-        {\"line\":1,\"column\":1,\"end_line\":1,\"end_column\":2}]\n\
-        [\"SoftBreak\",{\"start\":2,\"end\":4},\
-        {\"line\":1,\"column\":2,\"end_line\":2,\"end_column\":1}]\n\
-        [{\"Text\":\"a\"},{\"start\":4,\"end\":5},\
-        {\"line\":2,\"column\":1,\"end_line\":2,\"end_column\":2}]\n\
-        [{\"End\":\"Paragraph\"},{\"start\":0,\"end\":5},\
-        {\"line\":1,\"column\":1,\"end_line\":2,\"end_column\":2}]\n",
     )
 }
