@@ -1,5 +1,5 @@
 -- What the links found so far become, at each kind of event.
-use Rattle.std.proofs.Common.{◌≡◌, ◌≤◌, ◌<◌, ◌+◌, ◌-◌, ℕ, zero, suc, true, false, List, [], ◌∷◌, ◌++◌, Option}
+use Rattle.std.proofs.Common.{◌≡◌, ◌≤◌, ◌<◌, ◌+◌, ◌-◌, ℕ, suc, true, false, List, [], ◌∷◌, ◌++◌, Option}
 use Rattle.std.proofs.Common.{Some, None, refl, sym, ap, ◌∙◌, length, drop, map, append_assoc, append-nil}
 use Rattle.std.proofs.Common.{slice_range, IsCharBoundary, IsUtf8, IfSome, set, get_or, arith}
 use Rattle.std.proofs.lemmas.List.{length-append, length-drop, drop-append-le, nil_from_length, take_all}
