@@ -13,8 +13,6 @@ mod extended;
 #[cfg(test)]
 mod html;
 #[cfg(test)]
-mod lint_lines;
-#[cfg(test)]
 mod merged;
 #[cfg(test)]
 mod merges;

@@ -1,0 +1,1 @@
+-- No definition: the tests have no contracts.
