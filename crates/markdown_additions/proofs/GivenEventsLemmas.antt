@@ -153,14 +153,17 @@ module _ {I : Type 0} (steps : I → Option Item → I → Type 0) where
       by_item (Err other) read made =
           let same : fault ≡ other = cc made in
           same ∙ memory [] (unprefixed_source j) other (unprefixed_source j, read, refl)
-  memory_prefixed p left (e ∷ given) fault memory (j, h, y) = by_item h.0.0 h.0.1 h.0.2
+  memory_prefixed p left (e ∷ given) fault memory (j, h, y) =
+      by_item h.0.0 h.0.1 h.0.2 (λ later. memory_prefixed j left given fault later y)
     where
       by_item : (item : Item) → steps (unprefixed_source p) (Some item) (unprefixed_source j)
-          → IsPrefixedItem (prefix_of p) item (Ok e) → fault ≡ Memory
-      by_item (Ok event) read made =
-          memory_prefixed j left given fault
-          (λ events l f z. memory (event ∷ events) l f (unprefixed_source j, read, z)) y
-      by_item (Err other) read made = cc made
+          → IsPrefixedItem (prefix_of p) item (Ok e)
+          → (((read : List Placed) (l : I) (f : Fault)
+          → Yields steps (unprefixed_source j) (event_items read ++ Err f ∷ []) l → f ≡ Memory) → fault ≡ Memory)
+          → fault ≡ Memory
+      by_item (Ok got) read made rest =
+          rest (λ events l f z. memory (got ∷ events) l f (unprefixed_source j, read, z))
+      by_item (Err other) read made rest = cc made
 
   pub gives_prefixed : (prefix : List ℕ) (p : Prefixed I) (events : List Ranged) (begins : List Ranged → Type 0)
       → prefix_of p ≡ prefix → GivesEvents steps (unprefixed_source p) events begins
@@ -182,6 +185,12 @@ module _ {I : Type 0} (steps : I → Option Item → I → Type 0) where
   }
 
 -- ---- new parsers, under the adapters
+
+-- what an iterator gives, another name of it gives too
+pub at_source : {S : Type 0} {steps : S → Option Item → S → Type 0} {x y : S} {events : List Ranged}
+    {begins : List Ranged → Type 0} → x ≡ y → GivesEvents steps y events begins → GivesEvents steps x events begins
+at_source {S} {steps} {x} {y} {events} {begins} is gives =
+    subst (λ (z : S). GivesEvents steps z events begins) (sym is) gives
 
 module _ {F : Type 0} (step : F → Question → Option Answer → F → Type 0) where
   abbrev pub ParserSteps : OffsetIter F → Option Item → OffsetIter F → Type 0

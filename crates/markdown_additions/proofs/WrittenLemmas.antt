@@ -65,7 +65,12 @@ module _ {S M : Type 0} (steps : S → Option Item → S → Type 0) (iter : M �
   first_bare m t (e ∷ given) (j, h, y) =
       let r = read_event (iter m) (iter j) h.0 e h.1 h.2 in
       let rest = first_bare j t given y in
-      record { read = r.read ∷ rest.read; steps_to = (iter j, r.step, rest.steps_to); are = rw (r.is, rest.are) refl }
+      record {
+        read = r.read ∷ rest.read;
+        steps_to = (iter j, r.step, rest.steps_to);
+        are = ap (λ (es : List EventView). event_view e ∷ es) rest.are
+            ∙ ap (λ (x : Event). event_view x ∷ bare_events (map ranged_view rest.read)) r.is;
+      }
 
   record AreAllBare (s : S) (given : List Event) : Type 0 where
     read : List Placed
@@ -152,7 +157,7 @@ module _ {S M : Type 0} (reads : S → Option (Result Event Fault) → S → Typ
       by_item (Err other) step made =
           let same : fault ≡ other = cc made in
           inr (record { events = []; left = source j; read = (source j, rw same step, refl) })
-  error_safe m t (e ∷ given) fault (j, h, y) = by_item h.0 h.1 h.2
+  error_safe m t (e ∷ given) fault (j, h, y) = by_item h.0 h.1 h.2 (error_safe j t given fault y)
     where
       more : (event : Event) → reads (source m) (Some (Ok event)) (source j) → IsOfSource (source j) fault
           → IsOfSource (source m) fault
@@ -163,10 +168,9 @@ module _ {S M : Type 0} (reads : S → Option (Result Event Fault) → S → Typ
       }
 
       by_item : (x : Result Event Fault) → reads (source m) (Some x) (source j) → IsSafeItem x (Ok e)
-          → (fault ≡ Memory) ⊎ IsOfSource (source m) fault
-      by_item (Ok event) step made =
-          ⊎_elim (λ is. inl is) (λ rest. inr (more event step rest)) (error_safe j t given fault y)
-      by_item (Err other) step made = cc made
+          → (fault ≡ Memory) ⊎ IsOfSource (source j) fault → (fault ≡ Memory) ⊎ IsOfSource (source m) fault
+      by_item (Ok event) step made rest = ⊎_elim (λ is. inl is) (λ r. inr (more event step r)) rest
+      by_item (Err other) step made rest = cc made
 
 module _ {S M N : Type 0} (steps : S → Option Item → S → Type 0) (iter : M → S) (source : N → M) (events : List Ranged)
     (begins : List Ranged → Type 0) where

@@ -36,7 +36,8 @@ fn html_alone(alloc: Global, events: Events<'_>) -> Result<String, Fault>
         → IsFaultOfWritingText Form.Html nothing s fault) }
 {
     let mut written = String::new(alloc);
-    push_html(alloc, &mut written, Unplaced::new(events))?;
+    let unplaced = Unplaced::new(events);
+    push_html(alloc, &mut written, unplaced)?;
     Ok(written)
 }
 
@@ -48,7 +49,9 @@ fn safe_html_alone(alloc: Global, events: Events<'_>) -> Result<String, Fault>
         → IsFaultOfWritingText Form.SafeHtml nothing s fault) }
 {
     let mut written = String::new(alloc);
-    push_html(alloc, &mut written, Safe::new(alloc, Unplaced::new(events)))?;
+    let unplaced = Unplaced::new(events);
+    let safe = Safe::new(alloc, unplaced);
+    push_html(alloc, &mut written, safe)?;
     Ok(written)
 }
 
@@ -86,7 +89,8 @@ fn html_with_ids(alloc: Global, events: EventsWithIds<'_>) -> Result<String, Fau
         → IsFaultOfWritingText Form.Html heading_ids s fault) }
 {
     let mut written = String::new(alloc);
-    push_html(alloc, &mut written, Unplaced::new(events))?;
+    let unplaced = Unplaced::new(events);
+    push_html(alloc, &mut written, unplaced)?;
     Ok(written)
 }
 
@@ -98,7 +102,9 @@ fn safe_html_with_ids(alloc: Global, events: EventsWithIds<'_>) -> Result<String
         → IsFaultOfWritingText Form.SafeHtml heading_ids s fault) }
 {
     let mut written = String::new(alloc);
-    push_html(alloc, &mut written, Safe::new(alloc, Unplaced::new(events)))?;
+    let unplaced = Unplaced::new(events);
+    let safe = Safe::new(alloc, unplaced);
+    push_html(alloc, &mut written, safe)?;
     Ok(written)
 }
 
@@ -141,7 +147,8 @@ fn html_prefixed<'a>(
         → IsFaultOfWritingText Form.Html (prefixed_ids (prefix_of events.entry)) s fault) }
 {
     let mut written = String::new(alloc);
-    push_html(alloc, &mut written, Unplaced::new(events))?;
+    let unplaced = Unplaced::new(events);
+    push_html(alloc, &mut written, unplaced)?;
     Ok(written)
 }
 
@@ -158,7 +165,9 @@ fn safe_html_prefixed<'a>(
         → IsFaultOfWritingText Form.SafeHtml (prefixed_ids (prefix_of events.entry)) s fault) }
 {
     let mut written = String::new(alloc);
-    push_html(alloc, &mut written, Safe::new(alloc, Unplaced::new(events)))?;
+    let unplaced = Unplaced::new(events);
+    let safe = Safe::new(alloc, unplaced);
+    push_html(alloc, &mut written, safe)?;
     Ok(written)
 }
 
