@@ -4,7 +4,7 @@ use Rattle.std.proofs.Common.{ap, refl, subst, sym, ◌∙◌, is_some}
 use Rattle.std.specs.Iterator.{Drains, Yields}
 use Rattle.std.specs.declared.ops.Range.{Range}
 use Rattle.markdown_additions.specs.Additions.{AreFirstAdded, AreFirstOfText, AreFirstWithPrefix, AreFirstWithTheirIds}
-use Rattle.markdown_additions.specs.Additions.{added_events, heading_ids, nothing, prefixed_ids}
+use Rattle.markdown_additions.specs.Additions.{added_events, adds_ids, adds_nothing, adds_prefixed_ids}
 use Rattle.markdown_additions.specs.GivenEvents.{GivesEvents}
 use Rattle.markdown_additions.specs.TextEvents.{IsNewParser, IsNewWithIds}
 use Rattle.markdown_base.specs.Questions.{Question, Answer, Answers}
@@ -197,21 +197,23 @@ module _ {F : Type 0} (step : F → Question → Option Answer → F → Type 0)
   ParserSteps o item t = NextGives step IsPlacedOf (offset_parser o) item (offset_parser t)
 
   pub gives_new : (s : Source) (o : OffsetIter F) → IsNewParser s o
-      → GivesEvents ParserSteps o (added_events nothing s) (AreFirstAdded nothing s)
+      → GivesEvents ParserSteps o (added_events adds_nothing s) (AreFirstAdded adds_nothing s)
   gives_new s o new = gives_text step s new.blocks o new.of_text new.reads new.alone
 
   pub gives_new_with_ids : (s : Source) (h : HeadingIds (OffsetIter F)) → IsNewWithIds s h
-      → GivesEvents (ids_steps ParserSteps ids_state) h (added_events heading_ids s) (AreFirstAdded heading_ids s)
+      → GivesEvents (ids_steps ParserSteps ids_state) h (added_events adds_ids s) (AreFirstAdded adds_ids s)
   gives_new_with_ids s h new =
-      gives_ids ParserSteps ids_state (taken_in_text s) h (added_events nothing s) (AreFirstAdded nothing s)
+      gives_ids ParserSteps ids_state (taken_in_text s) h (added_events adds_nothing s) (AreFirstAdded adds_nothing s)
       (returns_with_ids ParserSteps ids_state h (taken_in_text s) new.ids) (gives_new s (ids_state h).iter new.parser)
 
-  pub gives_new_prefixed : (s : Source) (p : Prefixed (HeadingIds (OffsetIter F))) → IsNewWithIds s (unprefixed_source p)
-      → GivesEvents (prefixed_steps (ids_steps ParserSteps ids_state)) p (added_events (prefixed_ids (prefix_of p)) s)
-      (AreFirstAdded (prefixed_ids (prefix_of p)) s)
+  pub gives_new_prefixed : (s : Source) (p : Prefixed (HeadingIds (OffsetIter F)))
+      → IsNewWithIds s (unprefixed_source p)
+      → GivesEvents (prefixed_steps (ids_steps ParserSteps ids_state)) p (added_events (adds_prefixed_ids (prefix_of
+      p)) s)
+      (AreFirstAdded (adds_prefixed_ids (prefix_of p)) s)
   gives_new_prefixed s p new =
       let steps = ids_steps ParserSteps ids_state in
-      gives_prefixed steps (prefix_of p) p (added_events heading_ids s) (AreFirstAdded heading_ids s) refl
+      gives_prefixed steps (prefix_of p) p (added_events adds_ids s) (AreFirstAdded adds_ids s) refl
       (gives_new_with_ids s (unprefixed_source p) new)
       (λ given d. all_prefixed steps p given d) (λ given t y. first_prefixed steps p t given y)
 

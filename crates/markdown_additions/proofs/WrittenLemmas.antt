@@ -174,7 +174,7 @@ module _ {S M : Type 0} (reads : S → Option (Result Event Fault) → S → Typ
 
 module _ {S M N : Type 0} (steps : S → Option Item → S → Type 0) (iter : M → S) (source : N → M) (events : List Ranged)
     (begins : List Ranged → Type 0) where
-  abbrev SafeBare : N → Option (Result Event Fault) → N → Type 0
+  abbrev pub SafeBare : N → Option (Result Event Fault) → N → Type 0
   SafeBare s r t = GivesSafe (unplaced_steps steps iter) (source s) r (source t)
 
   pub safe_written : (n : N) (old new : List ℕ) → old ≡ [] → GivesEvents steps (iter (source n)) events begins

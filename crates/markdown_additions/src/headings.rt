@@ -1,6 +1,6 @@
 //! The headings of a text, with what is added to its events.
 ghost use Rattle.std.specs.Prelude.{◌≡◌, IfErr, IfOk, false, map, true};
-ghost use Rattle.markdown_additions.specs.Additions.{additions_view, heading_ids, nothing, prefixed_ids};
+ghost use Rattle.markdown_additions.specs.Additions.{additions_view, adds_ids, adds_nothing, adds_prefixed_ids};
 ghost use Rattle.markdown_additions.specs.TextEvents.{IsNewParser, IsNewWithIds};
 ghost use Rattle.markdown_additions.specs.Written.{headings_of_text};
 ghost use Rattle.markdown_base.specs.Source.{Source, source_as};
@@ -20,7 +20,7 @@ use std::alloc::Global;
 fn plain_headings_alone(alloc: Global, events: Events<'_>) -> Result<Vec<Entry>, Fault>
     ensures headings { IfOk result (λ headings. (s : Source)
         → IsNewParser s events.entry
-        → map entry_view headings.items ≡ headings_of_text false nothing s) }
+        → map entry_view headings.items ≡ headings_of_text false adds_nothing s) }
     ensures refused { IfErr result (λ fault. (s : Source)
         → IsNewParser s events.entry → fault ≡ Fault.Memory) }
 {
@@ -31,7 +31,7 @@ fn plain_headings_alone(alloc: Global, events: Events<'_>) -> Result<Vec<Entry>,
 fn safe_headings_alone(alloc: Global, events: Events<'_>) -> Result<Vec<Entry>, Fault>
     ensures headings { IfOk result (λ headings. (s : Source)
         → IsNewParser s events.entry
-        → map entry_view headings.items ≡ headings_of_text true nothing s) }
+        → map entry_view headings.items ≡ headings_of_text true adds_nothing s) }
     ensures refused { IfErr result (λ fault. (s : Source)
         → IsNewParser s events.entry → fault ≡ Fault.Memory) }
 {
@@ -43,7 +43,7 @@ fn safe_headings_alone(alloc: Global, events: Events<'_>) -> Result<Vec<Entry>, 
 fn headings_alone(alloc: Global, safe: bool, events: Events<'_>) -> Result<Vec<Entry>, Fault>
     ensures headings { IfOk result (λ headings. (s : Source)
         → IsNewParser s events.entry
-        → map entry_view headings.items ≡ headings_of_text safe nothing s) }
+        → map entry_view headings.items ≡ headings_of_text safe adds_nothing s) }
     ensures refused { IfErr result (λ fault. (s : Source)
         → IsNewParser s events.entry → fault ≡ Fault.Memory) }
 {
@@ -58,7 +58,7 @@ fn headings_alone(alloc: Global, safe: bool, events: Events<'_>) -> Result<Vec<E
 fn plain_headings_with_ids(alloc: Global, events: EventsWithIds<'_>) -> Result<Vec<Entry>, Fault>
     ensures headings { IfOk result (λ headings. (s : Source)
         → IsNewWithIds s events.entry
-        → map entry_view headings.items ≡ headings_of_text false heading_ids s) }
+        → map entry_view headings.items ≡ headings_of_text false adds_ids s) }
     ensures refused { IfErr result (λ fault. (s : Source)
         → IsNewWithIds s events.entry → fault ≡ Fault.Memory) }
 {
@@ -69,7 +69,7 @@ fn plain_headings_with_ids(alloc: Global, events: EventsWithIds<'_>) -> Result<V
 fn safe_headings_with_ids(alloc: Global, events: EventsWithIds<'_>) -> Result<Vec<Entry>, Fault>
     ensures headings { IfOk result (λ headings. (s : Source)
         → IsNewWithIds s events.entry
-        → map entry_view headings.items ≡ headings_of_text true heading_ids s) }
+        → map entry_view headings.items ≡ headings_of_text true adds_ids s) }
     ensures refused { IfErr result (λ fault. (s : Source)
         → IsNewWithIds s events.entry → fault ≡ Fault.Memory) }
 {
@@ -85,7 +85,7 @@ fn headings_with_ids(
 ) -> Result<Vec<Entry>, Fault>
     ensures headings { IfOk result (λ headings. (s : Source)
         → IsNewWithIds s events.entry
-        → map entry_view headings.items ≡ headings_of_text safe heading_ids s) }
+        → map entry_view headings.items ≡ headings_of_text safe adds_ids s) }
     ensures refused { IfErr result (λ fault. (s : Source)
         → IsNewWithIds s events.entry → fault ≡ Fault.Memory) }
 {
@@ -103,7 +103,8 @@ fn plain_headings_prefixed<'a>(
 ) -> Result<Vec<Entry>, Fault>
     ensures headings { IfOk result (λ headings. (s : Source)
         → IsNewWithIds s (unprefixed_source events.entry)
-        → map entry_view headings.items ≡ headings_of_text false (prefixed_ids (prefix_of events.entry)) s) }
+        → map entry_view headings.items
+        ≡ headings_of_text false (adds_prefixed_ids (prefix_of events.entry)) s) }
     ensures refused { IfErr result (λ fault. (s : Source)
         → IsNewWithIds s (unprefixed_source events.entry) → fault ≡ Fault.Memory) }
 {
@@ -117,7 +118,8 @@ fn safe_headings_prefixed<'a>(
 ) -> Result<Vec<Entry>, Fault>
     ensures headings { IfOk result (λ headings. (s : Source)
         → IsNewWithIds s (unprefixed_source events.entry)
-        → map entry_view headings.items ≡ headings_of_text true (prefixed_ids (prefix_of events.entry)) s) }
+        → map entry_view headings.items
+        ≡ headings_of_text true (adds_prefixed_ids (prefix_of events.entry)) s) }
     ensures refused { IfErr result (λ fault. (s : Source)
         → IsNewWithIds s (unprefixed_source events.entry) → fault ≡ Fault.Memory) }
 {
@@ -133,7 +135,8 @@ fn headings_prefixed<'a>(
 ) -> Result<Vec<Entry>, Fault>
     ensures headings { IfOk result (λ headings. (s : Source)
         → IsNewWithIds s (unprefixed_source events.entry)
-        → map entry_view headings.items ≡ headings_of_text safe (prefixed_ids (prefix_of events.entry)) s) }
+        → map entry_view headings.items
+        ≡ headings_of_text safe (adds_prefixed_ids (prefix_of events.entry)) s) }
     ensures refused { IfErr result (λ fault. (s : Source)
         → IsNewWithIds s (unprefixed_source events.entry) → fault ≡ Fault.Memory) }
 {

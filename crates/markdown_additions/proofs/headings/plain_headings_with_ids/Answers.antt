@@ -8,10 +8,12 @@ use Rattle.markdown_additions.proofs.headings.plain_headings_with_ids.Goals as g
 pub returns-clause-headings : goal.returns-clause-headings
 returns-clause-headings c =
     IfOk-weaker c.outline.result _ _
-    (λ entries read s new. headings_read _ _ _ _ (gives_new_with_ids _ s c.args.events new) _ read) c.outline.ensures.entries
+    (λ entries read s new. headings_read _ _ _ _ (gives_new_with_ids _ s c.args.events new) _ read)
+    c.outline.ensures.entries
 
 pub returns-clause-refused : goal.returns-clause-refused
 returns-clause-refused c =
     IfErr-weaker c.outline.result _ _
-    (λ fault why s new. ⊎_elim (λ m. headings_stopped _ _ _ _ (gives_new_with_ids _ s c.args.events new) fault m) (λ n. n.0) why)
+    (λ fault why s new. ⊎_elim (λ m. headings_stopped _ _ _ _ (gives_new_with_ids _ s c.args.events new) fault m) (λ
+    n. n.0) why)
     c.outline.ensures.fault
