@@ -1,5 +1,5 @@
 -- What is written of an iterator that gives some events.
-use Rattle.std.proofs.Common.{◌≡◌, ◌⊎◌, ⊎_elim, ℕ, List, [], ◌∷◌, ◌++◌, map, Ok, Err, Option, Some, None, Result}
+use Rattle.std.proofs.Common.{◌≡◌, ◌⊎◌, ⊎_elim, ℕ, List, [], ◌∷◌, ◌++◌, map, Ok, Err, Option, Some, Result}
 use Rattle.std.proofs.Common.{ap, inl, inr, refl, sym, subst, ◌∙◌}
 use Rattle.std.proofs.lemmas.List.Folds.{flat_map-map}
 use Rattle.std.specs.Iterator.{Drains, Yields}
@@ -7,9 +7,8 @@ use Rattle.std.specs.List.{flat_map}
 use Rattle.std.specs.declared.ops.Range.{Range}
 use Rattle.markdown_additions.specs.GivenEvents.{GivesEvents}
 use Rattle.markdown_additions.specs.UnplacedItems.{IsUnplaced, unplaced_steps}
-use Rattle.markdown_additions.specs.Written.{BeginsTooDeep, IsFaultOfWriting, IsTooDeepIn, bare_events, ranged_line}
+use Rattle.markdown_additions.specs.Written.{BeginsTooDeep, IsFaultOfWriting, bare_events, ranged_line}
 use Rattle.markdown_additions.specs.Written.{safe_ranged, written_of}
-use Rattle.markdown_additions.specs.declared.written.Form.{Form}
 use Rattle.markdown_additions.specs.declared.written.Form.TheVariants.{Html, SafeHtml, Lines}
 use Rattle.markdown_base.specs.Event.{EventView, event_view}
 use Rattle.markdown_base.specs.declared.event.Event.{Event}
