@@ -1,11 +1,10 @@
 -- What is written for files, by format, and for a request.
 use Rattle.std.specs.Prelude.{◌≡◌, ℕ, suc, Bool, false, not, ◌&&◌, if◌then◌else◌, List, [], ◌∷◌, ◌++◌, length}
-use Rattle.std.specs.Prelude.{◌⊎◌, ◌==◌, Option, Some, None, bytes_eq, is_some}
+use Rattle.std.specs.Prelude.{◌⊎◌, ◌==◌, Option, Some, None, bytes_eq, is_some, true}
 use Rattle.std.specs.Prelude.{option_map, codes, decimal, map, nat_lt, slice_get, string_bytes, unwrap_or}
 use denote.Ref.{Bor}
 use Rattle.markdown_additions.specs.Additions.{AdditionsView, heading_ids, nothing, prefixed_ids}
 use Rattle.markdown_additions.specs.Written.{IsFaultOfWritingText, headings_of_text, written_of_text}
-use Rattle.markdown_additions.specs.declared.written.Form.{Form}
 use Rattle.markdown_additions.specs.declared.written.Form.TheVariants as form
 use Rattle.markdown_base.specs.Source.{Source, source_as}
 use Rattle.markdown_base.specs.Syntax.{full_syntax}
@@ -24,7 +23,6 @@ use Rattle.markdown_tool_command.specs.Requests.{PageView, page_view, standard}
 use Rattle.markdown_tool_command.specs.declared.choices.Format.{Format}
 use Rattle.markdown_tool_command.specs.declared.choices.Format.TheVariants as format
 use Rattle.markdown_tool_command.specs.declared.extensions.Enabled.{Enabled}
-use Rattle.markdown_tool_command.specs.declared.request.Page.{Page}
 use Rattle.markdown_tool_command.specs.declared.request.Request.{Request}
 use Rattle.markdown_tool_output.specs.FileText.{without_mark}
 
