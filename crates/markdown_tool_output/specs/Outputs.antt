@@ -3,7 +3,7 @@ use Rattle.std.specs.Prelude.{◌≡◌, ℕ, suc, Bool, false, not, ◌&&◌, i
 use Rattle.std.specs.Prelude.{◌⊎◌, ◌==◌, Option, Some, None, bytes_eq, is_some, true}
 use Rattle.std.specs.Prelude.{option_map, codes, decimal, map, nat_lt, slice_get, string_bytes, unwrap_or}
 use denote.Ref.{Bor}
-use Rattle.markdown_additions.specs.Additions.{AdditionsView, heading_ids, nothing, prefixed_ids}
+use Rattle.markdown_additions.specs.Additions.{AdditionsView, adds_ids, adds_nothing, adds_prefixed_ids}
 use Rattle.markdown_additions.specs.Written.{IsFaultOfWritingText, headings_of_text, written_of_text}
 use Rattle.markdown_additions.specs.declared.written.Form.TheVariants as form
 use Rattle.markdown_base.specs.Source.{Source, source_as}
@@ -40,11 +40,11 @@ file_prefix number = codes "f" ++ decimal number ++ codes "-"
 -- what is added to the events of a file that becomes HTML
 abbrev pub html_additions : Enabled → FileView → AdditionsView
 html_additions e f =
-    if e.heading_ids then (if f.several then prefixed_ids (file_prefix f.number) else heading_ids) else nothing
+    if e.heading_ids then (if f.several then adds_prefixed_ids (file_prefix f.number) else adds_ids) else adds_nothing
 
 -- and to those of a file that becomes lines
 abbrev pub line_additions : Enabled → AdditionsView
-line_additions e = if e.heading_ids then heading_ids else nothing
+line_additions e = if e.heading_ids then adds_ids else adds_nothing
 
 -- the source that a file's text is: without a byte order mark
 abbrev pub file_source : Enabled → FileView → Source
@@ -53,8 +53,8 @@ file_source e f = source_as (full_syntax e.options) (without_mark f.text)
 -- the lines of the headings of a file, with their ids where those are enabled
 abbrev pub outline_of_file : Enabled → FileView → List ℕ
 outline_of_file e f =
-    if e.heading_ids then outline_lines_with_ids (headings_of_text false heading_ids (file_source e f))
-    else outline_lines (headings_of_text false nothing (file_source e f))
+    if e.heading_ids then outline_lines_with_ids (headings_of_text false adds_ids (file_source e f))
+    else outline_lines (headings_of_text false adds_nothing (file_source e f))
 
 -- the name by which links lead to a file: none if it is the only one, or standard input
 abbrev pub link_name : FileView → List ℕ
@@ -67,7 +67,7 @@ output_of_file format.SafeHtml e f = written_of_text form.SafeHtml (html_additio
 output_of_file format.Events e f = written_of_text form.Lines (line_additions e) (file_source e f)
 output_of_file format.Outline e f = outline_of_file e f
 output_of_file format.Links e f = links_json_of_text (file_source e f)
-output_of_file format.Contents e f = contents_in_file (link_name f) (headings_of_text false heading_ids (file_source
+output_of_file format.Contents e f = contents_in_file (link_name f) (headings_of_text false adds_ids (file_source
     e f))
 
 -- this is why nothing is written for a file: an allocation was refused, or its text is too deep for HTML

@@ -1,6 +1,6 @@
 //! The headings of a file: its outline, its table of contents, and what a page has of them.
 ghost use Rattle.std.specs.Prelude.{◌≡◌, IfErr, IfOk, OnOk, false, map, option_copied, string_bytes};
-ghost use Rattle.markdown_additions.specs.Additions.{heading_ids, nothing};
+ghost use Rattle.markdown_additions.specs.Additions.{adds_ids, adds_nothing};
 ghost use Rattle.markdown_additions.specs.Written.{headings_of_text};
 ghost use Rattle.markdown_contents.specs.Contents.{contents_in_file};
 ghost use Rattle.markdown_outline.specs.Outline.{entry_view};
@@ -25,7 +25,7 @@ use std::alloc::Global;
 /// Returns the headings of a file, with ids that have no prefix.
 fn headings_with_ids(alloc: Global, enabled: Enabled, file: File<'_>) -> Result<Vec<Entry>, Fault>
     ensures headings { IfOk result (λ headings. map entry_view headings.items
-        ≡ headings_of_text false heading_ids (file_source enabled (file_view file.entry))) }
+        ≡ headings_of_text false adds_ids (file_source enabled (file_view file.entry))) }
     ensures refused { IfErr result (λ fault. fault ≡ Fault.Memory) }
 {
     let syntax = Syntax::full(enabled.options);
@@ -41,7 +41,7 @@ fn headings_with_ids(alloc: Global, enabled: Enabled, file: File<'_>) -> Result<
 /// Returns the lines of the headings of a file, with their ids.
 fn outline_with_ids(alloc: Global, enabled: Enabled, file: File<'_>) -> Result<String, Fault>
     ensures lines { IfOk result (λ lines. string_bytes lines ≡ outline_lines_with_ids
-        (headings_of_text false heading_ids (file_source enabled (file_view file.entry)))) }
+        (headings_of_text false adds_ids (file_source enabled (file_view file.entry)))) }
     ensures refused { IfErr result (λ fault. fault ≡ Fault.Memory) }
 {
     let headings = headings_with_ids(alloc, enabled, file)?;
@@ -53,7 +53,7 @@ fn outline_with_ids(alloc: Global, enabled: Enabled, file: File<'_>) -> Result<S
 /// Returns the lines of the headings of a file, without ids.
 fn outline_alone(alloc: Global, enabled: Enabled, file: File<'_>) -> Result<String, Fault>
     ensures lines { IfOk result (λ lines. string_bytes lines ≡ outline_lines
-        (headings_of_text false nothing (file_source enabled (file_view file.entry)))) }
+        (headings_of_text false adds_nothing (file_source enabled (file_view file.entry)))) }
     ensures refused { IfErr result (λ fault. fault ≡ Fault.Memory) }
 {
     let syntax = Syntax::full(enabled.options);
@@ -89,7 +89,7 @@ pub(crate) fn contents_of_file(
 ) -> Result<String, Fault>
     ensures list { IfOk result (λ list. string_bytes list
         ≡ contents_in_file (link_name (file_view file.entry))
-        (headings_of_text false heading_ids (file_source enabled (file_view file.entry)))) }
+        (headings_of_text false adds_ids (file_source enabled (file_view file.entry)))) }
     ensures refused { IfErr result (λ fault. fault ≡ Fault.Memory) }
 {
     let headings = headings_with_ids(alloc, enabled, file)?;
