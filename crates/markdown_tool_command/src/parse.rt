@@ -133,7 +133,7 @@ fn with_files<'a>(alloc: Global, command: Command<'a>) -> Result<Command<'a>, Al
 /// enables.
 const AFTER_HELP: &str =
     "Extensions: alerts*, footnotes*, heading-attributes, heading-ids*, math, old-footnotes, pluses, smart, \
-    strikethrough*,\n subscript, superscript, tables*, tasklists*, wikilinks, yaml.\n\n\
+    strikethrough*,\nsubscript, superscript, tables*, tasklists*, wikilinks, yaml.\n\n\
     Exit status: 0 if all was written, 1 if something failed, 2 if the command line is wrong.";
 
 /// Returns the command without its arguments.
