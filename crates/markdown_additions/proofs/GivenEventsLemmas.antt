@@ -1,10 +1,10 @@
 -- What a parser gives, and the adapters over what gives some events.
-use Rattle.std.proofs.Common.{◌≡◌, ◌⊎◌, ⊎_elim, ℕ, false, List, [], ◌∷◌, ◌++◌, map, Ok, Err, Option, Some, None, Result}
+use Rattle.std.proofs.Common.{◌≡◌, ⊎_elim, ℕ, false, List, [], ◌∷◌, ◌++◌, map, Ok, Err, Option, Some, None, Result}
 use Rattle.std.proofs.Common.{ap, refl, subst, sym, ◌∙◌, is_some}
 use Rattle.std.specs.Iterator.{Drains, Yields}
 use Rattle.std.specs.declared.ops.Range.{Range}
 use Rattle.markdown_additions.specs.Additions.{AreFirstAdded, AreFirstOfText, AreFirstWithPrefix, AreFirstWithTheirIds}
-use Rattle.markdown_additions.specs.Additions.{added_events, heading_ids, nothing, prefixed_ids}
+use Rattle.markdown_additions.specs.Additions.{added_events, adds_ids, adds_nothing, adds_prefixed_ids}
 use Rattle.markdown_additions.specs.GivenEvents.{GivesEvents}
 use Rattle.markdown_additions.specs.TextEvents.{IsNewParser, IsNewWithIds}
 use Rattle.markdown_base.specs.Questions.{Question, Answer, Answers}
@@ -153,14 +153,17 @@ module _ {I : Type 0} (steps : I → Option Item → I → Type 0) where
       by_item (Err other) read made =
           let same : fault ≡ other = cc made in
           same ∙ memory [] (unprefixed_source j) other (unprefixed_source j, read, refl)
-  memory_prefixed p left (e ∷ given) fault memory (j, h, y) = by_item h.0.0 h.0.1 h.0.2
+  memory_prefixed p left (e ∷ given) fault memory (j, h, y) =
+      by_item h.0.0 h.0.1 h.0.2 (λ later. memory_prefixed j left given fault later y)
     where
       by_item : (item : Item) → steps (unprefixed_source p) (Some item) (unprefixed_source j)
-          → IsPrefixedItem (prefix_of p) item (Ok e) → fault ≡ Memory
-      by_item (Ok event) read made =
-          memory_prefixed j left given fault
-          (λ events l f z. memory (event ∷ events) l f (unprefixed_source j, read, z)) y
-      by_item (Err other) read made = cc made
+          → IsPrefixedItem (prefix_of p) item (Ok e)
+          → (((read : List Placed) (l : I) (f : Fault)
+          → Yields steps (unprefixed_source j) (event_items read ++ Err f ∷ []) l → f ≡ Memory) → fault ≡ Memory)
+          → fault ≡ Memory
+      by_item (Ok got) read made rest =
+          rest (λ events l f z. memory (got ∷ events) l f (unprefixed_source j, read, z))
+      by_item (Err other) read made rest = cc made
 
   pub gives_prefixed : (prefix : List ℕ) (p : Prefixed I) (events : List Ranged) (begins : List Ranged → Type 0)
       → prefix_of p ≡ prefix → GivesEvents steps (unprefixed_source p) events begins
@@ -183,26 +186,34 @@ module _ {I : Type 0} (steps : I → Option Item → I → Type 0) where
 
 -- ---- new parsers, under the adapters
 
+-- what an iterator gives, another name of it gives too
+pub at_source : {S : Type 0} {steps : S → Option Item → S → Type 0} {x y : S} {events : List Ranged}
+    {begins : List Ranged → Type 0} → x ≡ y → GivesEvents steps y events begins → GivesEvents steps x events begins
+at_source {S} {steps} {x} {y} {events} {begins} is gives =
+    subst (λ (z : S). GivesEvents steps z events begins) (sym is) gives
+
 module _ {F : Type 0} (step : F → Question → Option Answer → F → Type 0) where
   abbrev pub ParserSteps : OffsetIter F → Option Item → OffsetIter F → Type 0
   ParserSteps o item t = NextGives step IsPlacedOf (offset_parser o) item (offset_parser t)
 
   pub gives_new : (s : Source) (o : OffsetIter F) → IsNewParser s o
-      → GivesEvents ParserSteps o (added_events nothing s) (AreFirstAdded nothing s)
+      → GivesEvents ParserSteps o (added_events adds_nothing s) (AreFirstAdded adds_nothing s)
   gives_new s o new = gives_text step s new.blocks o new.of_text new.reads new.alone
 
   pub gives_new_with_ids : (s : Source) (h : HeadingIds (OffsetIter F)) → IsNewWithIds s h
-      → GivesEvents (ids_steps ParserSteps ids_state) h (added_events heading_ids s) (AreFirstAdded heading_ids s)
+      → GivesEvents (ids_steps ParserSteps ids_state) h (added_events adds_ids s) (AreFirstAdded adds_ids s)
   gives_new_with_ids s h new =
-      gives_ids ParserSteps ids_state (taken_in_text s) h (added_events nothing s) (AreFirstAdded nothing s)
+      gives_ids ParserSteps ids_state (taken_in_text s) h (added_events adds_nothing s) (AreFirstAdded adds_nothing s)
       (returns_with_ids ParserSteps ids_state h (taken_in_text s) new.ids) (gives_new s (ids_state h).iter new.parser)
 
-  pub gives_new_prefixed : (s : Source) (p : Prefixed (HeadingIds (OffsetIter F))) → IsNewWithIds s (unprefixed_source p)
-      → GivesEvents (prefixed_steps (ids_steps ParserSteps ids_state)) p (added_events (prefixed_ids (prefix_of p)) s)
-      (AreFirstAdded (prefixed_ids (prefix_of p)) s)
+  pub gives_new_prefixed : (s : Source) (p : Prefixed (HeadingIds (OffsetIter F)))
+      → IsNewWithIds s (unprefixed_source p)
+      → GivesEvents (prefixed_steps (ids_steps ParserSteps ids_state)) p (added_events (adds_prefixed_ids (prefix_of
+      p)) s)
+      (AreFirstAdded (adds_prefixed_ids (prefix_of p)) s)
   gives_new_prefixed s p new =
       let steps = ids_steps ParserSteps ids_state in
-      gives_prefixed steps (prefix_of p) p (added_events heading_ids s) (AreFirstAdded heading_ids s) refl
+      gives_prefixed steps (prefix_of p) p (added_events adds_ids s) (AreFirstAdded adds_ids s) refl
       (gives_new_with_ids s (unprefixed_source p) new)
       (λ given d. all_prefixed steps p given d) (λ given t y. first_prefixed steps p t given y)
 

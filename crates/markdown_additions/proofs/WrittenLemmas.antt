@@ -1,5 +1,5 @@
 -- What is written of an iterator that gives some events.
-use Rattle.std.proofs.Common.{◌≡◌, ◌⊎◌, ⊎_elim, ℕ, List, [], ◌∷◌, ◌++◌, map, Ok, Err, Option, Some, None, Result}
+use Rattle.std.proofs.Common.{◌≡◌, ◌⊎◌, ⊎_elim, ℕ, List, [], ◌∷◌, ◌++◌, map, Ok, Err, Option, Some, Result}
 use Rattle.std.proofs.Common.{ap, inl, inr, refl, sym, subst, ◌∙◌}
 use Rattle.std.proofs.lemmas.List.Folds.{flat_map-map}
 use Rattle.std.specs.Iterator.{Drains, Yields}
@@ -7,9 +7,8 @@ use Rattle.std.specs.List.{flat_map}
 use Rattle.std.specs.declared.ops.Range.{Range}
 use Rattle.markdown_additions.specs.GivenEvents.{GivesEvents}
 use Rattle.markdown_additions.specs.UnplacedItems.{IsUnplaced, unplaced_steps}
-use Rattle.markdown_additions.specs.Written.{BeginsTooDeep, IsFaultOfWriting, IsTooDeepIn, bare_events, ranged_line}
+use Rattle.markdown_additions.specs.Written.{BeginsTooDeep, IsFaultOfWriting, bare_events, ranged_line}
 use Rattle.markdown_additions.specs.Written.{safe_ranged, written_of}
-use Rattle.markdown_additions.specs.declared.written.Form.{Form}
 use Rattle.markdown_additions.specs.declared.written.Form.TheVariants.{Html, SafeHtml, Lines}
 use Rattle.markdown_base.specs.Event.{EventView, event_view}
 use Rattle.markdown_base.specs.declared.event.Event.{Event}
@@ -65,7 +64,12 @@ module _ {S M : Type 0} (steps : S → Option Item → S → Type 0) (iter : M �
   first_bare m t (e ∷ given) (j, h, y) =
       let r = read_event (iter m) (iter j) h.0 e h.1 h.2 in
       let rest = first_bare j t given y in
-      record { read = r.read ∷ rest.read; steps_to = (iter j, r.step, rest.steps_to); are = rw (r.is, rest.are) refl }
+      record {
+        read = r.read ∷ rest.read;
+        steps_to = (iter j, r.step, rest.steps_to);
+        are = ap (λ (es : List EventView). event_view e ∷ es) rest.are
+            ∙ ap (λ (x : Event). event_view x ∷ bare_events (map ranged_view rest.read)) r.is;
+      }
 
   record AreAllBare (s : S) (given : List Event) : Type 0 where
     read : List Placed
@@ -152,7 +156,7 @@ module _ {S M : Type 0} (reads : S → Option (Result Event Fault) → S → Typ
       by_item (Err other) step made =
           let same : fault ≡ other = cc made in
           inr (record { events = []; left = source j; read = (source j, rw same step, refl) })
-  error_safe m t (e ∷ given) fault (j, h, y) = by_item h.0 h.1 h.2
+  error_safe m t (e ∷ given) fault (j, h, y) = by_item h.0 h.1 h.2 (error_safe j t given fault y)
     where
       more : (event : Event) → reads (source m) (Some (Ok event)) (source j) → IsOfSource (source j) fault
           → IsOfSource (source m) fault
@@ -163,14 +167,13 @@ module _ {S M : Type 0} (reads : S → Option (Result Event Fault) → S → Typ
       }
 
       by_item : (x : Result Event Fault) → reads (source m) (Some x) (source j) → IsSafeItem x (Ok e)
-          → (fault ≡ Memory) ⊎ IsOfSource (source m) fault
-      by_item (Ok event) step made =
-          ⊎_elim (λ is. inl is) (λ rest. inr (more event step rest)) (error_safe j t given fault y)
-      by_item (Err other) step made = cc made
+          → (fault ≡ Memory) ⊎ IsOfSource (source j) fault → (fault ≡ Memory) ⊎ IsOfSource (source m) fault
+      by_item (Ok event) step made rest = ⊎_elim (λ is. inl is) (λ r. inr (more event step r)) rest
+      by_item (Err other) step made rest = cc made
 
 module _ {S M N : Type 0} (steps : S → Option Item → S → Type 0) (iter : M → S) (source : N → M) (events : List Ranged)
     (begins : List Ranged → Type 0) where
-  abbrev SafeBare : N → Option (Result Event Fault) → N → Type 0
+  abbrev pub SafeBare : N → Option (Result Event Fault) → N → Type 0
   SafeBare s r t = GivesSafe (unplaced_steps steps iter) (source s) r (source t)
 
   pub safe_written : (n : N) (old new : List ℕ) → old ≡ [] → GivesEvents steps (iter (source n)) events begins

@@ -13,20 +13,20 @@ use Rattle.markdown_outline.specs.Outline.{Ranged}
 
 -- what is added: nothing, ids of headings, or these and a prefix of all ids
 pub data AdditionsView : Type 0 where
-  nothing : AdditionsView
-  heading_ids : AdditionsView
-  prefixed_ids : List ℕ → AdditionsView
+  adds_nothing : AdditionsView
+  adds_ids : AdditionsView
+  adds_prefixed_ids : List ℕ → AdditionsView
 
 abbrev pub additions_view : Additions → AdditionsView
-additions_view adds.Nothing = nothing
-additions_view adds.HeadingIds = heading_ids
-additions_view (adds.PrefixedIds prefix) = prefixed_ids prefix.now
+additions_view adds.Nothing = adds_nothing
+additions_view adds.HeadingIds = adds_ids
+additions_view (adds.PrefixedIds prefix) = adds_prefixed_ids prefix.now
 
 -- the events of a text that is read without a callback, with what is added
 abbrev pub added_events : AdditionsView → Source → List Ranged
-added_events nothing s = ranged (events_of_text s)
-added_events heading_ids s = events_with_ids s
-added_events (prefixed_ids prefix) s = prefixed_events prefix (events_with_ids s)
+added_events adds_nothing s = ranged (events_of_text s)
+added_events adds_ids s = events_with_ids s
+added_events (adds_prefixed_ids prefix) s = prefixed_events prefix (events_with_ids s)
 
 -- these are the first events of a text
 abbrev pub AreFirstOfText : Source → List Ranged → Type 0
@@ -46,7 +46,7 @@ pub record AreFirstWithPrefix (prefix : List ℕ) (begins : List Ranged → Type
 
 -- these are the first events of a text with what is added
 abbrev pub AreFirstAdded : AdditionsView → Source → List Ranged → Type 0
-AreFirstAdded nothing s given = AreFirstOfText s given
-AreFirstAdded heading_ids s given = AreFirstWithTheirIds (taken_in_text s) (AreFirstOfText s) given
-AreFirstAdded (prefixed_ids prefix) s given =
+AreFirstAdded adds_nothing s given = AreFirstOfText s given
+AreFirstAdded adds_ids s given = AreFirstWithTheirIds (taken_in_text s) (AreFirstOfText s) given
+AreFirstAdded (adds_prefixed_ids prefix) s given =
     AreFirstWithPrefix prefix (AreFirstWithTheirIds (taken_in_text s) (AreFirstOfText s)) given

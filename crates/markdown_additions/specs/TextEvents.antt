@@ -1,6 +1,6 @@
 -- The events of a parser that has just been made of a text, with the ids that are taken from the start. Only private
 -- clauses cite this.
-use Rattle.std.specs.Prelude.{◌≡◌, List, None, Option}
+use Rattle.std.specs.Prelude.{◌≡◌, None}
 use Rattle.markdown_base.specs.Source.{Source}
 use Rattle.markdown_blocks.specs.Blocks.{IsBlocksOf}
 use Rattle.markdown_blocks.specs.declared.blocks.Blocks.{Blocks}

@@ -1,6 +1,6 @@
 //! The headings of a text, with what is added to its events.
-ghost use Rattle.std.specs.Prelude.{◌≡◌, IfErr, IfOk, map};
-ghost use Rattle.markdown_additions.specs.Additions.{additions_view, heading_ids, nothing, prefixed_ids};
+ghost use Rattle.std.specs.Prelude.{◌≡◌, IfErr, IfOk, false, map, true};
+ghost use Rattle.markdown_additions.specs.Additions.{additions_view, adds_ids, adds_nothing, adds_prefixed_ids};
 ghost use Rattle.markdown_additions.specs.TextEvents.{IsNewParser, IsNewWithIds};
 ghost use Rattle.markdown_additions.specs.Written.{headings_of_text};
 ghost use Rattle.markdown_base.specs.Source.{Source, source_as};
@@ -16,55 +16,134 @@ use markdown_outline::{Entry, outline};
 use markdown_safe::SafeWithOffset;
 use std::alloc::Global;
 
-/// Returns the headings of the events of a text, which are made safe if `safe` is set.
+/// Returns the headings of a text.
+fn plain_headings_alone(alloc: Global, events: Events<'_>) -> Result<Vec<Entry>, Fault>
+    ensures headings { IfOk result (λ headings. (s : Source)
+        → IsNewParser s events.entry
+        → map entry_view headings.items ≡ headings_of_text false adds_nothing s) }
+    ensures refused { IfErr result (λ fault. (s : Source)
+        → IsNewParser s events.entry → fault ≡ Fault.Memory) }
+{
+    outline(alloc, events)
+}
+
+/// Returns the headings of a text among events made safe.
+fn safe_headings_alone(alloc: Global, events: Events<'_>) -> Result<Vec<Entry>, Fault>
+    ensures headings { IfOk result (λ headings. (s : Source)
+        → IsNewParser s events.entry
+        → map entry_view headings.items ≡ headings_of_text true adds_nothing s) }
+    ensures refused { IfErr result (λ fault. (s : Source)
+        → IsNewParser s events.entry → fault ≡ Fault.Memory) }
+{
+    let safe = SafeWithOffset::new(alloc, events);
+    outline(alloc, safe)
+}
+
+/// Returns the headings of a text, among events that are made safe if `safe` is set.
 fn headings_alone(alloc: Global, safe: bool, events: Events<'_>) -> Result<Vec<Entry>, Fault>
-    ensures headings { IfOk result (λ headings. (s : Source) → IsNewParser s events.entry
-        → map entry_view headings.items ≡ headings_of_text safe nothing s) }
-    ensures refused { IfErr result (λ fault. (s : Source) → IsNewParser s events.entry
-        → fault ≡ Fault.Memory) }
+    ensures headings { IfOk result (λ headings. (s : Source)
+        → IsNewParser s events.entry
+        → map entry_view headings.items ≡ headings_of_text safe adds_nothing s) }
+    ensures refused { IfErr result (λ fault. (s : Source)
+        → IsNewParser s events.entry → fault ≡ Fault.Memory) }
 {
     if safe {
-        outline(alloc, SafeWithOffset::new(alloc, events))
+        safe_headings_alone(alloc, events)
     } else {
-        outline(alloc, events)
+        plain_headings_alone(alloc, events)
     }
 }
 
-/// Returns the headings of the events of a text with the ids of their headings, which are made safe if `safe` is set.
+/// Returns the headings of a text, with their ids.
+fn plain_headings_with_ids(alloc: Global, events: EventsWithIds<'_>) -> Result<Vec<Entry>, Fault>
+    ensures headings { IfOk result (λ headings. (s : Source)
+        → IsNewWithIds s events.entry
+        → map entry_view headings.items ≡ headings_of_text false adds_ids s) }
+    ensures refused { IfErr result (λ fault. (s : Source)
+        → IsNewWithIds s events.entry → fault ≡ Fault.Memory) }
+{
+    outline(alloc, events)
+}
+
+/// Returns the headings of a text, with their ids among events made safe.
+fn safe_headings_with_ids(alloc: Global, events: EventsWithIds<'_>) -> Result<Vec<Entry>, Fault>
+    ensures headings { IfOk result (λ headings. (s : Source)
+        → IsNewWithIds s events.entry
+        → map entry_view headings.items ≡ headings_of_text true adds_ids s) }
+    ensures refused { IfErr result (λ fault. (s : Source)
+        → IsNewWithIds s events.entry → fault ≡ Fault.Memory) }
+{
+    let safe = SafeWithOffset::new(alloc, events);
+    outline(alloc, safe)
+}
+
+/// Returns the headings of a text, with their ids, among events that are made safe if `safe` is set.
 fn headings_with_ids(
     alloc: Global,
     safe: bool,
     events: EventsWithIds<'_>,
 ) -> Result<Vec<Entry>, Fault>
-    ensures headings { IfOk result (λ headings. (s : Source) → IsNewWithIds s events.entry
-        → map entry_view headings.items ≡ headings_of_text safe heading_ids s) }
-    ensures refused { IfErr result (λ fault. (s : Source) → IsNewWithIds s events.entry
-        → fault ≡ Fault.Memory) }
+    ensures headings { IfOk result (λ headings. (s : Source)
+        → IsNewWithIds s events.entry
+        → map entry_view headings.items ≡ headings_of_text safe adds_ids s) }
+    ensures refused { IfErr result (λ fault. (s : Source)
+        → IsNewWithIds s events.entry → fault ≡ Fault.Memory) }
 {
     if safe {
-        outline(alloc, SafeWithOffset::new(alloc, events))
+        safe_headings_with_ids(alloc, events)
     } else {
-        outline(alloc, events)
+        plain_headings_with_ids(alloc, events)
     }
 }
 
-/// Returns the headings of these with a prefix of all ids, which are made safe if `safe` is set.
+/// Returns the headings of a text, with a prefix of their ids.
+fn plain_headings_prefixed<'a>(
+    alloc: Global,
+    events: Prefixed<'a, EventsWithIds<'a>>,
+) -> Result<Vec<Entry>, Fault>
+    ensures headings { IfOk result (λ headings. (s : Source)
+        → IsNewWithIds s (unprefixed_source events.entry)
+        → map entry_view headings.items
+        ≡ headings_of_text false (adds_prefixed_ids (prefix_of events.entry)) s) }
+    ensures refused { IfErr result (λ fault. (s : Source)
+        → IsNewWithIds s (unprefixed_source events.entry) → fault ≡ Fault.Memory) }
+{
+    outline(alloc, events)
+}
+
+/// Returns the headings of a text, with a prefix of their ids among events made safe.
+fn safe_headings_prefixed<'a>(
+    alloc: Global,
+    events: Prefixed<'a, EventsWithIds<'a>>,
+) -> Result<Vec<Entry>, Fault>
+    ensures headings { IfOk result (λ headings. (s : Source)
+        → IsNewWithIds s (unprefixed_source events.entry)
+        → map entry_view headings.items
+        ≡ headings_of_text true (adds_prefixed_ids (prefix_of events.entry)) s) }
+    ensures refused { IfErr result (λ fault. (s : Source)
+        → IsNewWithIds s (unprefixed_source events.entry) → fault ≡ Fault.Memory) }
+{
+    let safe = SafeWithOffset::new(alloc, events);
+    outline(alloc, safe)
+}
+
+/// Returns the headings of a text, with a prefix of their ids, among events that are made safe if `safe` is set.
 fn headings_prefixed<'a>(
     alloc: Global,
     safe: bool,
     events: Prefixed<'a, EventsWithIds<'a>>,
 ) -> Result<Vec<Entry>, Fault>
     ensures headings { IfOk result (λ headings. (s : Source)
-        → IsNewWithIds s (unprefixed_source events.entry) → map entry_view headings.items
-        ≡ headings_of_text safe (prefixed_ids (prefix_of events.entry)) s) }
-    ensures refused { IfErr result (λ fault. (s : Source)
         → IsNewWithIds s (unprefixed_source events.entry)
-        → fault ≡ Fault.Memory) }
+        → map entry_view headings.items
+        ≡ headings_of_text safe (adds_prefixed_ids (prefix_of events.entry)) s) }
+    ensures refused { IfErr result (λ fault. (s : Source)
+        → IsNewWithIds s (unprefixed_source events.entry) → fault ≡ Fault.Memory) }
 {
     if safe {
-        outline(alloc, SafeWithOffset::new(alloc, events))
+        safe_headings_prefixed(alloc, events)
     } else {
-        outline(alloc, events)
+        plain_headings_prefixed(alloc, events)
     }
 }
 

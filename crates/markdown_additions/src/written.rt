@@ -1,6 +1,6 @@
 //! What is written of events: HTML, safe HTML, or lines of JSON.
 ghost use Rattle.std.specs.Prelude.{◌≡◌, IfErr, IfOk, string_bytes};
-ghost use Rattle.markdown_additions.specs.Additions.{additions_view, heading_ids, nothing, prefixed_ids};
+ghost use Rattle.markdown_additions.specs.Additions.{additions_view, adds_ids, adds_nothing, adds_prefixed_ids};
 ghost use Rattle.markdown_additions.specs.TextEvents.{IsNewParser, IsNewWithIds};
 ghost use Rattle.markdown_additions.specs.Written.{IsFaultOfWritingText, written_of_text};
 ghost use Rattle.markdown_base.specs.Source.{Source, source_as};
@@ -31,33 +31,36 @@ pub enum Form {
 /// Returns the HTML of the events of a text.
 fn html_alone(alloc: Global, events: Events<'_>) -> Result<String, Fault>
     ensures written { IfOk result (λ written. (s : Source) → IsNewParser s events.entry
-        → string_bytes written ≡ written_of_text Form.Html nothing s) }
+        → string_bytes written ≡ written_of_text Form.Html adds_nothing s) }
     ensures faults { IfErr result (λ fault. (s : Source) → IsNewParser s events.entry
-        → IsFaultOfWritingText Form.Html nothing s fault) }
+        → IsFaultOfWritingText Form.Html adds_nothing s fault) }
 {
     let mut written = String::new(alloc);
-    push_html(alloc, &mut written, Unplaced::new(events))?;
+    let unplaced = Unplaced::new(events);
+    push_html(alloc, &mut written, unplaced)?;
     Ok(written)
 }
 
 /// Returns the safe HTML of the events of a text.
 fn safe_html_alone(alloc: Global, events: Events<'_>) -> Result<String, Fault>
     ensures written { IfOk result (λ written. (s : Source) → IsNewParser s events.entry
-        → string_bytes written ≡ written_of_text Form.SafeHtml nothing s) }
+        → string_bytes written ≡ written_of_text Form.SafeHtml adds_nothing s) }
     ensures faults { IfErr result (λ fault. (s : Source) → IsNewParser s events.entry
-        → IsFaultOfWritingText Form.SafeHtml nothing s fault) }
+        → IsFaultOfWritingText Form.SafeHtml adds_nothing s fault) }
 {
     let mut written = String::new(alloc);
-    push_html(alloc, &mut written, Safe::new(alloc, Unplaced::new(events)))?;
+    let unplaced = Unplaced::new(events);
+    let safe = Safe::new(alloc, unplaced);
+    push_html(alloc, &mut written, safe)?;
     Ok(written)
 }
 
 /// Returns the lines of the events of a text.
 fn lines_alone(alloc: Global, events: Events<'_>) -> Result<String, Fault>
     ensures written { IfOk result (λ written. (s : Source) → IsNewParser s events.entry
-        → string_bytes written ≡ written_of_text Form.Lines nothing s) }
+        → string_bytes written ≡ written_of_text Form.Lines adds_nothing s) }
     ensures faults { IfErr result (λ fault. (s : Source) → IsNewParser s events.entry
-        → IsFaultOfWritingText Form.Lines nothing s fault) }
+        → IsFaultOfWritingText Form.Lines adds_nothing s fault) }
 {
     let mut written = String::new(alloc);
     push_json(alloc, &mut written, events)?;
@@ -67,9 +70,9 @@ fn lines_alone(alloc: Global, events: Events<'_>) -> Result<String, Fault>
 /// Returns what is written in a form of the events of a text.
 fn written_alone(alloc: Global, form: Form, events: Events<'_>) -> Result<String, Fault>
     ensures written { IfOk result (λ written. (s : Source) → IsNewParser s events.entry
-        → string_bytes written ≡ written_of_text form nothing s) }
+        → string_bytes written ≡ written_of_text form adds_nothing s) }
     ensures faults { IfErr result (λ fault. (s : Source) → IsNewParser s events.entry
-        → IsFaultOfWritingText form nothing s fault) }
+        → IsFaultOfWritingText form adds_nothing s fault) }
 {
     match form {
         Form::Html => html_alone(alloc, events),
@@ -81,33 +84,36 @@ fn written_alone(alloc: Global, form: Form, events: Events<'_>) -> Result<String
 /// Returns the HTML of the events of a text with the ids of their headings.
 fn html_with_ids(alloc: Global, events: EventsWithIds<'_>) -> Result<String, Fault>
     ensures written { IfOk result (λ written. (s : Source) → IsNewWithIds s events.entry
-        → string_bytes written ≡ written_of_text Form.Html heading_ids s) }
+        → string_bytes written ≡ written_of_text Form.Html adds_ids s) }
     ensures faults { IfErr result (λ fault. (s : Source) → IsNewWithIds s events.entry
-        → IsFaultOfWritingText Form.Html heading_ids s fault) }
+        → IsFaultOfWritingText Form.Html adds_ids s fault) }
 {
     let mut written = String::new(alloc);
-    push_html(alloc, &mut written, Unplaced::new(events))?;
+    let unplaced = Unplaced::new(events);
+    push_html(alloc, &mut written, unplaced)?;
     Ok(written)
 }
 
 /// Returns the safe HTML of the events of a text with the ids of their headings.
 fn safe_html_with_ids(alloc: Global, events: EventsWithIds<'_>) -> Result<String, Fault>
     ensures written { IfOk result (λ written. (s : Source) → IsNewWithIds s events.entry
-        → string_bytes written ≡ written_of_text Form.SafeHtml heading_ids s) }
+        → string_bytes written ≡ written_of_text Form.SafeHtml adds_ids s) }
     ensures faults { IfErr result (λ fault. (s : Source) → IsNewWithIds s events.entry
-        → IsFaultOfWritingText Form.SafeHtml heading_ids s fault) }
+        → IsFaultOfWritingText Form.SafeHtml adds_ids s fault) }
 {
     let mut written = String::new(alloc);
-    push_html(alloc, &mut written, Safe::new(alloc, Unplaced::new(events)))?;
+    let unplaced = Unplaced::new(events);
+    let safe = Safe::new(alloc, unplaced);
+    push_html(alloc, &mut written, safe)?;
     Ok(written)
 }
 
 /// Returns the lines of the events of a text with the ids of their headings.
 fn lines_with_ids(alloc: Global, events: EventsWithIds<'_>) -> Result<String, Fault>
     ensures written { IfOk result (λ written. (s : Source) → IsNewWithIds s events.entry
-        → string_bytes written ≡ written_of_text Form.Lines heading_ids s) }
+        → string_bytes written ≡ written_of_text Form.Lines adds_ids s) }
     ensures faults { IfErr result (λ fault. (s : Source) → IsNewWithIds s events.entry
-        → IsFaultOfWritingText Form.Lines heading_ids s fault) }
+        → IsFaultOfWritingText Form.Lines adds_ids s fault) }
 {
     let mut written = String::new(alloc);
     push_json(alloc, &mut written, events)?;
@@ -117,9 +123,9 @@ fn lines_with_ids(alloc: Global, events: EventsWithIds<'_>) -> Result<String, Fa
 /// Returns what is written in a form of the events of a text with the ids of their headings.
 fn written_with_ids(alloc: Global, form: Form, events: EventsWithIds<'_>) -> Result<String, Fault>
     ensures written { IfOk result (λ written. (s : Source) → IsNewWithIds s events.entry
-        → string_bytes written ≡ written_of_text form heading_ids s) }
+        → string_bytes written ≡ written_of_text form adds_ids s) }
     ensures faults { IfErr result (λ fault. (s : Source) → IsNewWithIds s events.entry
-        → IsFaultOfWritingText form heading_ids s fault) }
+        → IsFaultOfWritingText form adds_ids s fault) }
 {
     match form {
         Form::Html => html_with_ids(alloc, events),
@@ -135,13 +141,15 @@ fn html_prefixed<'a>(
 ) -> Result<String, Fault>
     ensures written { IfOk result (λ written. (s : Source)
         → IsNewWithIds s (unprefixed_source events.entry)
-        → string_bytes written ≡ written_of_text Form.Html (prefixed_ids (prefix_of events.entry)) s) }
+        → string_bytes written
+        ≡ written_of_text Form.Html (adds_prefixed_ids (prefix_of events.entry)) s) }
     ensures faults { IfErr result (λ fault. (s : Source)
         → IsNewWithIds s (unprefixed_source events.entry)
-        → IsFaultOfWritingText Form.Html (prefixed_ids (prefix_of events.entry)) s fault) }
+        → IsFaultOfWritingText Form.Html (adds_prefixed_ids (prefix_of events.entry)) s fault) }
 {
     let mut written = String::new(alloc);
-    push_html(alloc, &mut written, Unplaced::new(events))?;
+    let unplaced = Unplaced::new(events);
+    push_html(alloc, &mut written, unplaced)?;
     Ok(written)
 }
 
@@ -152,13 +160,16 @@ fn safe_html_prefixed<'a>(
 ) -> Result<String, Fault>
     ensures written { IfOk result (λ written. (s : Source)
         → IsNewWithIds s (unprefixed_source events.entry)
-        → string_bytes written ≡ written_of_text Form.SafeHtml (prefixed_ids (prefix_of events.entry)) s) }
+        → string_bytes written
+        ≡ written_of_text Form.SafeHtml (adds_prefixed_ids (prefix_of events.entry)) s) }
     ensures faults { IfErr result (λ fault. (s : Source)
         → IsNewWithIds s (unprefixed_source events.entry)
-        → IsFaultOfWritingText Form.SafeHtml (prefixed_ids (prefix_of events.entry)) s fault) }
+        → IsFaultOfWritingText Form.SafeHtml (adds_prefixed_ids (prefix_of events.entry)) s fault) }
 {
     let mut written = String::new(alloc);
-    push_html(alloc, &mut written, Safe::new(alloc, Unplaced::new(events)))?;
+    let unplaced = Unplaced::new(events);
+    let safe = Safe::new(alloc, unplaced);
+    push_html(alloc, &mut written, safe)?;
     Ok(written)
 }
 
@@ -169,10 +180,11 @@ fn lines_prefixed<'a>(
 ) -> Result<String, Fault>
     ensures written { IfOk result (λ written. (s : Source)
         → IsNewWithIds s (unprefixed_source events.entry)
-        → string_bytes written ≡ written_of_text Form.Lines (prefixed_ids (prefix_of events.entry)) s) }
+        → string_bytes written
+        ≡ written_of_text Form.Lines (adds_prefixed_ids (prefix_of events.entry)) s) }
     ensures faults { IfErr result (λ fault. (s : Source)
         → IsNewWithIds s (unprefixed_source events.entry)
-        → IsFaultOfWritingText Form.Lines (prefixed_ids (prefix_of events.entry)) s fault) }
+        → IsFaultOfWritingText Form.Lines (adds_prefixed_ids (prefix_of events.entry)) s fault) }
 {
     let mut written = String::new(alloc);
     push_json(alloc, &mut written, events)?;
@@ -187,10 +199,11 @@ fn written_prefixed<'a>(
 ) -> Result<String, Fault>
     ensures written { IfOk result (λ written. (s : Source)
         → IsNewWithIds s (unprefixed_source events.entry)
-        → string_bytes written ≡ written_of_text form (prefixed_ids (prefix_of events.entry)) s) }
+        → string_bytes written
+        ≡ written_of_text form (adds_prefixed_ids (prefix_of events.entry)) s) }
     ensures faults { IfErr result (λ fault. (s : Source)
         → IsNewWithIds s (unprefixed_source events.entry)
-        → IsFaultOfWritingText form (prefixed_ids (prefix_of events.entry)) s fault) }
+        → IsFaultOfWritingText form (adds_prefixed_ids (prefix_of events.entry)) s fault) }
 {
     match form {
         Form::Html => html_prefixed(alloc, events),

@@ -2,13 +2,13 @@
 use Rattle.std.specs.Prelude.{ℕ, List, false}
 use Rattle.markdown.specs.OptionWords.{commonmark, source_as}
 use Rattle.markdown.specs.OutlineWords.{EntryView}
-use Rattle.markdown_additions.specs.Additions.{heading_ids}
+use Rattle.markdown_additions.specs.Additions.{adds_ids}
 use Rattle.markdown_additions.specs.Written.{headings_of_text}
 use Rattle.markdown_contents.specs.Contents.{contents_of}
 
 -- the headings of a text with no extension enabled, with their ids
 abbrev pub headings_in : (text : List ℕ) → List EntryView
-headings_in text = headings_of_text false heading_ids (source_as commonmark text)
+headings_in text = headings_of_text false adds_ids (source_as commonmark text)
 
 -- their table of contents
 abbrev pub contents_in : (text : List ℕ) → List ℕ

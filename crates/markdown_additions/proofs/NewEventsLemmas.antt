@@ -1,0 +1,85 @@
+-- What is written of an iterator that gives the events of a text with what is added, through the adapters that are
+-- over it.
+use Rattle.std.proofs.Common.{◌≡◌, ◌⊎◌, ℕ, true, List, [], Option, Result, ap, sym, subst, ◌∙◌}
+use Rattle.std.specs.declared.ops.Range.{Range}
+use Rattle.markdown_additions.specs.Additions.{AdditionsView, AreFirstAdded, added_events}
+use Rattle.markdown_additions.specs.GivenEvents.{GivesEvents}
+use Rattle.markdown_additions.specs.UnplacedItems.{placed_iter, unplaced_steps}
+use Rattle.markdown_additions.specs.Written.{IsFaultOfWritingText, headings_of_text, written_of_text}
+use Rattle.markdown_additions.specs.declared.unplaced.Unplaced.{Unplaced}
+use Rattle.markdown_additions.specs.declared.written.Form.TheVariants.{Html, SafeHtml}
+use Rattle.markdown_base.specs.Source.{Source}
+use Rattle.markdown_base.specs.declared.event.Event.{Event}
+use Rattle.markdown_base.specs.declared.fault.Fault.{Fault}
+use Rattle.markdown_base.specs.declared.fault.Fault.TheVariants.{Memory}
+use Rattle.markdown_out.specs.HtmlCorrect.{IsOwnFault, IsRendered, StopsAtError}
+use Rattle.markdown_outline.specs.Outline.{EntryView}
+use Rattle.markdown_outline.specs.OutlineRead.{IsOutlineOfAll, MeetsError}
+use Rattle.markdown_safe.specs.SafeItems.{GivesSafePlaced}
+use Rattle.markdown_safe.specs.SafeSource.{placed_source, safe_source}
+use Rattle.markdown_safe.specs.declared.adapter.Safe.{Safe}
+use Rattle.markdown_safe.specs.declared.adapter.SafeWithOffset.{SafeWithOffset}
+use Rattle.markdown_additions.proofs.WrittenLemmas.{SafeBare, html_faults, html_written, safe_faults, safe_written}
+use Rattle.markdown_additions.proofs.WrittenLemmas.{headings_read_safe, headings_stopped_safe}
+
+abbrev Item : Type 0
+Item = Result (Event × Range ℕ) Fault
+
+module _ {S : Type 0} (steps : S → Option Item → S → Type 0) (view : AdditionsView) (s : Source) (events : S)
+    (gives : GivesEvents steps events (added_events view s) (AreFirstAdded view s)) where
+  -- it gives them by any name
+  here : (x : S) → x ≡ events → GivesEvents steps x (added_events view s) (AreFirstAdded view s)
+  here x is = subst (λ (y : S). GivesEvents steps y (added_events view s) (AreFirstAdded view s)) (sym is) gives
+
+  -- without ranges
+  module _ (u : Unplaced S) (bare : placed_iter u ≡ events) where
+    pub html_of_new : (old new : List ℕ) → old ≡ [] → IsRendered (unplaced_steps steps placed_iter) u old new
+        → new ≡ written_of_text Html view s
+    html_of_new old new empty r =
+        html_written steps placed_iter (added_events view s) (AreFirstAdded view s) u old new empty
+        (here (placed_iter u) bare) r
+
+    pub html_faults_of_new : (old new : List ℕ) (fault : Fault)
+        → StopsAtError (unplaced_steps steps placed_iter) u old new fault
+        ⊎ IsOwnFault (unplaced_steps steps placed_iter) u old new fault
+        → IsFaultOfWritingText Html view s fault
+    html_faults_of_new old new fault why =
+        html_faults steps placed_iter (added_events view s) (AreFirstAdded view s) u old new fault
+        (here (placed_iter u) bare) why
+
+    -- and then made safe
+    module _ (n : Safe (Unplaced S)) (safe : safe_source n ≡ u) where
+      source_is : placed_iter (safe_source n) ≡ events
+      source_is = ap (λ (x : Unplaced S). placed_iter x) safe ∙ bare
+
+      pub safe_html_of_new : (old new : List ℕ) → old ≡ []
+          → IsRendered (SafeBare steps placed_iter safe_source (added_events view s) (AreFirstAdded view s)) n old new
+          → new ≡ written_of_text SafeHtml view s
+      safe_html_of_new old new empty r =
+          safe_written steps placed_iter safe_source (added_events view s) (AreFirstAdded view s) n old new empty
+          (here (placed_iter (safe_source n)) source_is) r
+
+      pub safe_faults_of_new : (old new : List ℕ) (fault : Fault)
+          → StopsAtError (SafeBare steps placed_iter safe_source (added_events view s) (AreFirstAdded view s)) n old new
+          fault
+          ⊎ IsOwnFault (SafeBare steps placed_iter safe_source (added_events view s) (AreFirstAdded view s)) n old new
+          fault
+          → IsFaultOfWritingText SafeHtml view s fault
+      safe_faults_of_new old new fault why =
+          safe_faults steps placed_iter safe_source (added_events view s) (AreFirstAdded view s) n old new fault
+          (here (placed_iter (safe_source n)) source_is) why
+
+  -- made safe with their ranges
+  module _ (m : SafeWithOffset S) (safe : placed_source m ≡ events) where
+    pub headings_of_new : (entries : List EntryView)
+        → IsOutlineOfAll (λ m r t. GivesSafePlaced steps (placed_source m) r (placed_source t)) m entries
+        → entries ≡ headings_of_text true view s
+    headings_of_new entries o =
+        headings_read_safe steps placed_source m (added_events view s) (AreFirstAdded view s) entries
+        (here (placed_source m) safe) o
+
+    pub headings_stopped_of_new : (fault : Fault)
+        → MeetsError (λ m r t. GivesSafePlaced steps (placed_source m) r (placed_source t)) m fault → fault ≡ Memory
+    headings_stopped_of_new fault e =
+        headings_stopped_safe steps placed_source m (added_events view s) (AreFirstAdded view s) fault
+        (here (placed_source m) safe) e

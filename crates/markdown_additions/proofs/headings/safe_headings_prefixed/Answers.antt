@@ -1,0 +1,25 @@
+-- The headings are those of the events of the text, made safe.
+use Rattle.std.proofs.Common.{⊎_elim}
+use Rattle.std.proofs.lemmas.Result.{IfErr-weaker, IfOk-weaker}
+use Rattle.markdown_additions.specs.Additions.{adds_prefixed_ids}
+use Rattle.markdown_heading_ids.specs.HeadingIdsNext.{ids_steps}
+use Rattle.markdown_heading_ids.specs.HeadingIdsState.{ids_state}
+use Rattle.markdown_heading_ids.specs.PrefixedItems.{prefix_of, prefixed_steps}
+use Rattle.markdown_additions.proofs.GivenEventsLemmas.{ParserSteps, gives_new_prefixed}
+use Rattle.markdown_additions.proofs.NewEventsLemmas.{headings_of_new, headings_stopped_of_new}
+use Rattle.markdown_additions.proofs.headings.safe_headings_prefixed.Goals as goal
+
+pub returns-clause-headings : goal.returns-clause-headings
+returns-clause-headings c =
+    IfOk-weaker c.outline.result _ _ (λ entries read s new. headings_of_new (prefixed_steps (ids_steps (ParserSteps
+    _) ids_state))
+    (adds_prefixed_ids (prefix_of c.args.events)) s c.args.events (gives_new_prefixed _ s c.args.events new)
+    c.new-safe.result
+    c.new-safe.ensures _ read) c.outline.ensures.entries
+
+pub returns-clause-refused : goal.returns-clause-refused
+returns-clause-refused c =
+    IfErr-weaker c.outline.result _ _ (λ fault why s new. ⊎_elim (λ m. headings_stopped_of_new
+    (prefixed_steps (ids_steps (ParserSteps _) ids_state)) (adds_prefixed_ids (prefix_of c.args.events)) s c.args.events
+    (gives_new_prefixed _ s c.args.events new) c.new-safe.result c.new-safe.ensures fault m) (λ n. n.0) why)
+    c.outline.ensures.fault

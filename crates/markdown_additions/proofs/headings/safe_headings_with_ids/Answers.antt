@@ -1,0 +1,22 @@
+-- The headings are those of the events of the text, made safe.
+use Rattle.std.proofs.Common.{⊎_elim}
+use Rattle.std.proofs.lemmas.Result.{IfErr-weaker, IfOk-weaker}
+use Rattle.markdown_additions.specs.Additions.{adds_ids}
+use Rattle.markdown_heading_ids.specs.HeadingIdsNext.{ids_steps}
+use Rattle.markdown_heading_ids.specs.HeadingIdsState.{ids_state}
+use Rattle.markdown_additions.proofs.GivenEventsLemmas.{ParserSteps, gives_new_with_ids}
+use Rattle.markdown_additions.proofs.NewEventsLemmas.{headings_of_new, headings_stopped_of_new}
+use Rattle.markdown_additions.proofs.headings.safe_headings_with_ids.Goals as goal
+
+pub returns-clause-headings : goal.returns-clause-headings
+returns-clause-headings c =
+    IfOk-weaker c.outline.result _ _ (λ entries read s new. headings_of_new (ids_steps (ParserSteps _) ids_state)
+    adds_ids s c.args.events (gives_new_with_ids _ s c.args.events new) c.new-safe.result
+    c.new-safe.ensures _ read) c.outline.ensures.entries
+
+pub returns-clause-refused : goal.returns-clause-refused
+returns-clause-refused c =
+    IfErr-weaker c.outline.result _ _ (λ fault why s new. ⊎_elim (λ m. headings_stopped_of_new
+    (ids_steps (ParserSteps _) ids_state) adds_ids s c.args.events
+    (gives_new_with_ids _ s c.args.events new) c.new-safe.result c.new-safe.ensures fault m) (λ n. n.0) why)
+    c.outline.ensures.fault
