@@ -1,5 +1,5 @@
 //! The headings of a file: its outline, its table of contents, and what a page has of them.
-ghost use Rattle.std.specs.Prelude.{◌≡◌, IfErr, IfOk, OnOk, false, map, option_copied, string_bytes};
+ghost use Rattle.std.specs.Prelude.{◌≡◌, IfErr, IfOk, false, map, option_copied, string_bytes};
 ghost use Rattle.markdown_additions.specs.Additions.{adds_ids, adds_nothing};
 ghost use Rattle.markdown_additions.specs.Written.{headings_of_text};
 ghost use Rattle.markdown_contents.specs.Contents.{contents_in_file};

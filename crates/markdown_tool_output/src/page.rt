@@ -1,5 +1,5 @@
 //! The page that a request asks for.
-ghost use Rattle.std.specs.Prelude.{◌≡◌, IfErr, IfOk, OnOk, map, string_bytes};
+ghost use Rattle.std.specs.Prelude.{◌≡◌, IfErr, IfOk, map, string_bytes};
 ghost use Rattle.markdown_tool_command.specs.Requests.{page_view};
 ghost use Rattle.markdown_tool_output.specs.Files.{file_view};
 ghost use Rattle.markdown_tool_output.specs.Outputs.{contents_asked, contents_of_files, in_page, title_of_file};
