@@ -1,6 +1,11 @@
--- the definitions that contracts cite
+-- addresses in texts
 pub mod AddressBytes
 pub mod Addresses
--- events with the addresses in their Texts as links, which no contract cites yet
+-- runs of Texts and events with the addresses in them as links
 pub mod LinkedRuns
 pub mod LinkedEvents
+-- the adapter
+pub mod AutolinksNext
+pub mod AutolinksState
+pub mod AutolinksLaws
+pub mod RunRead

@@ -1,6 +1,6 @@
 -- Runs of Texts, and the links that are made of the addresses in them.
 use Rattle.std.specs.Prelude.{ℕ, zero, suc, ◌+◌, ◌-◌, ◌==◌, Bool, true, false, not, ◌&&◌, ◌||◌, nat_eq, nat_le, nat_lt}
-use Rattle.std.specs.Prelude.{List, [], ◌∷◌, ◌++◌, length, take, drop, codes, slice_range, if◌then◌else◌}
+use Rattle.std.specs.Prelude.{List, [], ◌∷◌, ◌++◌, length, take, drop, codes, slice_range, Option, Some, None, Ok, map, if◌then◌else◌}
 use Rattle.std.specs.List.{flat_map, starts_with}
 use Rattle.std.specs.Str.{bytes_eq}
 use Rattle.std.specs.declared.ops.Range.{Range}
@@ -11,19 +11,16 @@ use Rattle.markdown_base.specs.declared.tag.LinkType.{LinkType}
 use Rattle.markdown_base.specs.declared.tag.LinkType.TheVariants as types
 use Rattle.markdown_base.specs.declared.tag.TagEnd.{TagEnd}
 use Rattle.markdown_base.specs.declared.tag.TagEnd.TheVariants as closes
+use Rattle.markdown_out.specs.OutLaws.{RangedEvent}
 use Rattle.markdown_autolinks.specs.AddressBytes.{byte_at}
 use Rattle.markdown_autolinks.specs.Addresses.{address_destination, addresses_in}
 use Rattle.markdown_autolinks.specs.declared.address.Address.{Address}
 use Rattle.markdown_autolinks.specs.declared.address.AddressForm.{AddressForm}
 use Rattle.markdown_autolinks.specs.declared.address.AddressForm.TheVariants as forms
 
--- an event with its range
-abbrev pub PlacedView : Type 0
-PlacedView = EventView × Range ℕ
-
 -- a Text of a run: the bytes that are searched, those that are shown, where it is, and whether each byte that is
 -- searched is the one of the source there
-pub record RunText : Type 0 where
+pub record RunTextView : Type 0 where
   pub searched : List ℕ
   pub shown : List ℕ
   pub range : Range ℕ
@@ -43,14 +40,14 @@ abbrev pub is_as_in_source : List ℕ → List ℕ → Bool
 is_as_in_source shown bytes = bytes_eq bytes shown || not (byte_at bytes 0 == ampersand)
 
 -- a Text of a run, by its bytes and its range
-abbrev pub run_text : List ℕ → List ℕ × Range ℕ → RunText
+abbrev pub run_text : List ℕ → List ℕ × Range ℕ → RunTextView
 run_text source t =
     if is_of_source source t.1 && is_as_in_source t.0 (slice_range source t.1.start t.1.end)
     then record { searched = slice_range source t.1.start t.1.end; shown = t.0; range = t.1; exact = true }
     else record { searched = t.0; shown = t.0; range = t.1; exact = false }
 
 -- the first `n` bytes of a Text
-abbrev pub first_part : ℕ → RunText → RunText
+abbrev pub first_part : ℕ → RunTextView → RunTextView
 first_part n t = record {
   searched = take n t.searched;
   shown = take n t.searched;
@@ -59,7 +56,7 @@ first_part n t = record {
 }
 
 -- a Text without its first `n` bytes
-abbrev pub last_part : ℕ → RunText → RunText
+abbrev pub last_part : ℕ → RunTextView → RunTextView
 last_part n t = record {
   searched = drop n t.searched;
   shown = drop n t.searched;
@@ -68,7 +65,7 @@ last_part n t = record {
 }
 
 -- the first `n` bytes of a run
-abbrev pub take_run : ℕ → List RunText → List RunText
+abbrev pub take_run : ℕ → List RunTextView → List RunTextView
 take_run zero run = []
 take_run (suc n) [] = []
 take_run (suc n) (t ∷ run) =
@@ -76,7 +73,7 @@ take_run (suc n) (t ∷ run) =
     else first_part (suc n) t ∷ []
 
 -- a run without its first `n` bytes
-abbrev pub drop_run : ℕ → List RunText → List RunText
+abbrev pub drop_run : ℕ → List RunTextView → List RunTextView
 drop_run zero run = run
 drop_run (suc n) [] = []
 drop_run (suc n) (t ∷ run) =
@@ -84,24 +81,29 @@ drop_run (suc n) (t ∷ run) =
     else last_part (suc n) t ∷ run
 
 -- the bytes of a run that are searched, and those that are shown
-abbrev pub searched_bytes : List RunText → List ℕ
+abbrev pub searched_bytes : List RunTextView → List ℕ
 searched_bytes run = flat_map (λ t. t.searched) run
 
-abbrev pub shown_bytes : List RunText → List ℕ
+abbrev pub shown_bytes : List RunTextView → List ℕ
 shown_bytes run = flat_map (λ t. t.shown) run
 
 -- from the range of the first to that of the last
-abbrev pub run_range : RunText → List RunText → Range ℕ
+abbrev pub run_range : RunTextView → List RunTextView → Range ℕ
 run_range t [] = t.range
 run_range t (u ∷ us) = record { start = t.range.start; end = (run_range u us).end }
 
+-- the range of a run
+abbrev pub range_of : List RunTextView → Option (Range ℕ)
+range_of [] = None
+range_of (t ∷ run) = Some (run_range t run)
+
 -- one Text of these bytes, or nothing where there are none
-abbrev pub text_unless_empty : List ℕ → Range ℕ → List PlacedView
+abbrev pub text_unless_empty : List ℕ → Range ℕ → List RangedEvent
 text_unless_empty [] range = []
 text_unless_empty (b ∷ bytes) range = (text (b ∷ bytes), range) ∷ []
 
 -- a run as one Text, or nothing where it is empty
-abbrev pub text_of_run : List RunText → List PlacedView
+abbrev pub text_of_run : List RunTextView → List RangedEvent
 text_of_run [] = []
 text_of_run (t ∷ run) = text_unless_empty (shown_bytes (t ∷ run)) (run_range t run)
 
@@ -111,7 +113,7 @@ address_link_type forms.Mail = types.Email
 address_link_type other = types.Autolink
 
 -- a link over a run, with one Text
-abbrev pub link_over : LinkType → List ℕ → List RunText → List PlacedView
+abbrev pub link_over : LinkType → List ℕ → List RunTextView → List RangedEvent
 link_over kind destination [] = []
 link_over kind destination (t ∷ run) =
     (start (link (record { kind = kind; destination = destination; title = []; label = [] })), run_range t run)
@@ -120,8 +122,8 @@ link_over kind destination (t ∷ run) =
 
 -- the events of what is left of a run after `used` bytes of the searched text: before each address what is between as
 -- one Text, then the link of the address, and what is left at last
-abbrev pub linked_events : List ℕ → ℕ → List RunText → List Address → List PlacedView
-linked_events searched used run [] = text_of_run run
+abbrev pub linked_events : List ℕ → ℕ → List RunTextView → List Address → List RangedEvent
+linked_events searched used run [] = text_of_run (take_run (length searched - used) run)
 linked_events searched used run (a ∷ addresses) =
     text_of_run (take_run (a.start - used) run)
     ++ link_over (address_link_type a.form) (address_destination searched a)
@@ -129,17 +131,17 @@ linked_events searched used run (a ∷ addresses) =
     ++ linked_events searched a.end (drop_run (a.end - a.start) (drop_run (a.start - used) run)) addresses
 
 -- the events of a run in which no address is found: a single Text stays as it is, and more become one
-abbrev pub merged_run : List RunText → List PlacedView
+abbrev pub merged_run : List RunTextView → List RangedEvent
 merged_run (t ∷ []) = (text t.shown, t.range) ∷ []
 merged_run run = text_of_run run
 
 -- the events of a run with these addresses
-abbrev pub run_with : List RunText → List Address → List PlacedView
+abbrev pub run_with : List RunTextView → List Address → List RangedEvent
 run_with run [] = merged_run run
 run_with run (a ∷ addresses) = linked_events (searched_bytes run) 0 run (a ∷ addresses)
 
 -- the events of a run, with the addresses in it as links
-abbrev pub run_events : List RunText → List PlacedView
+abbrev pub run_events : List RunTextView → List RangedEvent
 run_events run = run_with run (addresses_in (searched_bytes run))
 
 -- in this no addresses are looked for: a link, an image, a code block, an HTML block or metadata

@@ -1,0 +1,361 @@
+-- Where an address that is found lies: after what is used up, in the text, and between characters.
+use Rattle.std.proofs.Common.{◌≡◌, ◌≢◌, ◌<◌, ◌≤◌, ◌+◌, ◌-◌, ◌∙◌, ◌⊎◌, inl, inr, ℕ, zero, suc, Bool, true, false, List, ◌∷◌, []}
+use Rattle.std.proofs.Common.{refl, sym, ap, arith, length, drop, Option, Some, None, get_or, IsUtf8}
+use Rattle.std.specs.Prelude.{◌==◌, ◌&&◌, ◌||◌, not, nat_eq, nat_le, nat_lt, codes, if◌then◌else◌}
+use Rattle.std.specs.Char.{is_ascii_alphabetic, is_ascii_alphanumeric, to_ascii_lowercase}
+use Rattle.std.specs.List.{starts_with}
+use Rattle.std.specs.Str.{IsCharBoundary}
+use Rattle.std.proofs.lemmas.Bool.Decides.{nat_tests}
+use Rattle.std.proofs.lemmas.List.{get_or-drop}
+use Rattle.std.proofs.lemmas.Str.{IsCharBoundary-after_ascii, IsCharBoundary-before_ascii, IsCharBoundary-end}
+use Rattle.markdown_autolinks.specs.AddressBytes.{are_white_pair, are_white_triple, byte_at, first_failing, goes_on_at}
+use Rattle.markdown_autolinks.specs.AddressBytes.{is_host, is_domain_at, is_mailbox_byte, is_white_at, is_white_byte, passing_from}
+use Rattle.markdown_autolinks.specs.Addresses.{address_after, address_end, address_found_at, address_scheme_length}
+use Rattle.markdown_autolinks.specs.Addresses.{begins_in_any_case, closes_more, domain_end, entity_left_out, first_address}
+use Rattle.markdown_autolinks.specs.Addresses.{first_address_from, is_after_letter, is_domain, is_end_mark, left_out}
+use Rattle.markdown_autolinks.specs.Addresses.{mail_address, mail_begin, mailbox_begin, may_begin_www, or_later, trimmed}
+use Rattle.markdown_autolinks.specs.Addresses.{web_address, www_address}
+use Rattle.markdown_autolinks.specs.declared.address.Address.{Address}
+use Rattle.markdown_autolinks.specs.declared.address.AddressForm.{AddressForm}
+use Rattle.markdown_autolinks.specs.declared.address.AddressForm.TheVariants as forms
+use Rattle.markdown_autolinks.proofs.TailLemmas.{IsLeftOut, is_left_out, not_after}
+
+-- where an address lies
+pub record LiesIn (text : List ℕ) (used : ℕ) (a : Address) : Type 0 where
+  pub after : used ≤ a.start
+  pub name_after : a.start ≤ a.name
+  pub some : a.name < a.end
+  pub inside : a.end ≤ length text
+  pub start : IsCharBoundary text a.start
+  pub name : IsCharBoundary text a.name
+  pub end : IsCharBoundary text a.end
+
+-- ---- places between characters
+
+ascii_at : (text : List ℕ) (at : ℕ) → at < length text → byte_at text at < 128 → IsCharBoundary text at
+ascii_at text at inside small = IsCharBoundary-before_ascii text at inside small
+
+-- a byte that begins a character stands there, or the text ends
+begins_at : (text : List ℕ) (at : ℕ) → at ≤ length text → byte_at text at < 128 ⊎ (192 ≤ byte_at text at)
+    → IsCharBoundary text at
+begins_at text at inside (inl small) = (inside, λ l a. omega (arith, small, a))
+begins_at text at inside (inr large) = (inside, λ l a. omega (arith, large, a))
+
+-- ---- where an address ends that begins with a scheme or `www.`
+
+not_white : (text : List ℕ) (at : ℕ) → goes_on_at text at ≡ false → (byte_at text at < 128) ⊎ (192 ≤ byte_at text at)
+not_white text at stops = by (is_white_at text at) refl
+  where
+    by : (t : Bool) → is_white_at text at ≡ t → (byte_at text at < 128) ⊎ (192 ≤ byte_at text at)
+    by true e = grind (arith, nat_tests)
+    by false e = inl (grind (arith, nat_tests))
+
+-- where no byte fails, the end is reached
+failing_within : (passes : ℕ → Bool) (at n : ℕ) → (at ≤ first_failing passes at n) × (first_failing passes at n ≤ at + n)
+failing_within passes at zero = (omega arith, omega arith)
+failing_within passes at (suc n) = cases (passes at) refl (failing_within passes (at + 1) n)
+  where
+    cases : (t : Bool) → passes at ≡ t
+        → (at + 1 ≤ first_failing passes (at + 1) n) × (first_failing passes (at + 1) n ≤ at + 1 + n)
+        → (at ≤ first_failing passes at (suc n)) × (first_failing passes at (suc n) ≤ at + suc n)
+    cases true e later = rw e (omega (arith, later.0), omega (arith, later.1))
+    cases false e later = rw e (omega arith, omega arith)
+
+failing_fails : (passes : ℕ → Bool) (at n : ℕ) → first_failing passes at n < at + n
+    → passes (first_failing passes at n) ≡ false
+failing_fails passes at zero before = absurd (omega (arith, before))
+failing_fails passes at (suc n) before = cases (passes at) refl (λ b. failing_fails passes (at + 1) n b)
+  where
+    cases : (t : Bool) → passes at ≡ t
+        → (first_failing passes (at + 1) n < at + 1 + n → passes (first_failing passes (at + 1) n) ≡ false)
+        → passes (first_failing passes at (suc n)) ≡ false
+    cases true e later = let there = rw e at before in rw e (later (omega (arith, there)))
+    cases false e later = rw e e
+
+-- where a word ends a character begins
+word_end_begins : (text : List ℕ) (at : ℕ) → at ≤ length text
+    → IsCharBoundary text (first_failing (goes_on_at text) at (length text - at))
+word_end_begins text at inside =
+    let within = failing_within (goes_on_at text) at (length text - at) in (
+      omega (arith, within.1, inside),
+      λ before large. lead (not_white text end (failing_fails (goes_on_at text) at (length text - at)
+      (omega (arith, before, inside)))) large,
+    )
+  where
+    end : ℕ
+    end = first_failing (goes_on_at text) at (length text - at)
+
+    lead : (byte_at text end < 128) ⊎ (192 ≤ byte_at text end) → 128 ≤ byte_at text end → 192 ≤ byte_at text end
+    lead (inl small) large = absurd (omega (arith, small, large))
+    lead (inr high) large = high
+
+-- a mark is ASCII
+mark_is_small : (b : ℕ) → is_end_mark b ≡ true → b < 128
+mark_is_small b mark = grind (arith, nat_tests)
+
+-- what ends with a `;` and is left out begins with a character
+entity_begins : (text : List ℕ) (start end : ℕ) → start < end → end ≤ length text
+    → (byte_at text (end - 1) == 59) ≡ true → IsCharBoundary text (end - entity_left_out text start end)
+entity_begins text start end some inside last =
+    cases (nat_lt letters (end - 1) && nat_lt start letters && (byte_at text (letters - 1) == 38)) refl
+  where
+    letters : ℕ
+    letters = passing_from (λ i. is_ascii_alphabetic (byte_at text i)) (end - 1) (end - 1 - start)
+
+    cases : (t : Bool)
+        → (nat_lt letters (end - 1) && nat_lt start letters && (byte_at text (letters - 1) == 38)) ≡ t
+        → IsCharBoundary text (end - entity_left_out text start end)
+    cases false e =
+        let semicolon : byte_at text (end - 1) ≡ 59 = grind (arith, nat_tests) in
+        rw e (ascii_at text (end - 1) (omega (arith, some, inside)) (omega (arith, semicolon)))
+    cases true e =
+        let low : letters < end - 1 = grind (arith, nat_tests) in
+        let high : start < letters = grind (arith, nat_tests) in
+        let and : byte_at text (letters - 1) ≡ 38 = grind (arith, nat_tests) in
+        let there : end - (end - (letters - 1)) ≡ letters - 1 = omega (arith, low, high) in
+        rw (e, there) (ascii_at text (letters - 1) (omega (arith, low, inside)) (omega (arith, and)))
+
+-- what is left out begins with a character
+left_out_begins : (text : List ℕ) (start end : ℕ) → start < end → end ≤ length text → 0 < left_out text start end
+    → IsCharBoundary text (end - left_out text start end)
+left_out_begins text start end some inside out = by (is_left_out text start end some out)
+  where
+    by : IsLeftOut text start end → IsCharBoundary text (end - left_out text start end)
+    by (inl mark) = rw mark.0
+        (ascii_at text (end - 1) (omega (arith, some, inside)) (mark_is_small (byte_at text (end - 1)) mark.1))
+    by (inr (inl close)) =
+        let parenthesis : byte_at text (end - 1) ≡ 41 = grind (arith, nat_tests, close.1) in
+        rw close.0 (ascii_at text (end - 1) (omega (arith, some, inside)) (omega (arith, parenthesis)))
+    by (inr (inr entity)) = rw entity.0 (entity_begins text start end some inside entity.1)
+
+-- nothing is left out of nothing
+none_left_out : (text : List ℕ) (start end : ℕ) → end ≤ start → left_out text start end ≡ 0
+none_left_out text start end none = let e : nat_le end start ≡ true = grind (arith, nat_tests) in rw e refl
+
+some_left_out : (text : List ℕ) (start end : ℕ) → 0 < left_out text start end → start < end
+some_left_out text start end out = cases (nat_le end start) refl
+  where
+    cases : (t : Bool) → nat_le end start ≡ t → start < end
+    cases true e = absurd (omega (arith, out, none_left_out text start end (grind (arith, nat_tests))))
+    cases false e = grind (arith, nat_tests)
+
+-- an address ends before a character
+trimmed_begins : (text : List ℕ) (start n end : ℕ) → end ≤ length text → IsCharBoundary text end
+    → (trimmed text start n end ≤ end) × IsCharBoundary text (trimmed text start n end)
+trimmed_begins text start zero end inside begins = (omega arith, begins)
+trimmed_begins text start (suc n) end inside begins =
+    cases (left_out text start end == 0) refl
+    (λ begin. trimmed_begins text start n (end - left_out text start end) (omega (arith, inside)) begin)
+  where
+    cases : (t : Bool) → (left_out text start end == 0) ≡ t
+        → (IsCharBoundary text (end - left_out text start end)
+        → (trimmed text start n (end - left_out text start end) ≤ end - left_out text start end)
+        × IsCharBoundary text (trimmed text start n (end - left_out text start end)))
+        → (trimmed text start (suc n) end ≤ end) × IsCharBoundary text (trimmed text start (suc n) end)
+    cases true e later = rw e (omega arith, begins)
+    cases false e later =
+        let out : 0 < left_out text start end = grind (arith, nat_tests) in
+        let some : start < end = some_left_out text start end out in
+        let l = later (left_out_begins text start end some inside out) in rw e (omega (arith, l.0), l.1)
+address_end_begins : (text : List ℕ) (at : ℕ) → at ≤ length text
+    → (address_end text at ≤ length text) × IsCharBoundary text (address_end text at)
+address_end_begins text at inside =
+    let within = failing_within (goes_on_at text) at (length text - at) in
+    let most : end ≤ length text = omega (arith, within.1, inside) in
+    let t = trimmed_begins text at (end - at) end most (word_end_begins text at inside) in
+    (omega (arith, t.0, most), t.1)
+  where
+    end : ℕ
+    end = first_failing (goes_on_at text) at (length text - at)
+
+-- ---- each kind of address
+
+some_same : {a b : Address} → Some a ≡ Some b → a ≡ b
+some_same {a} {b} e = cc
+
+-- what begins with a scheme begins with a letter
+scheme_begins : (text : List ℕ) (at : ℕ) → (address_scheme_length text at == 0) ≡ false → byte_at text at < 128
+scheme_begins text at some = grind (arith, nat_tests)
+
+address_after_lies : (text : List ℕ) (used at before : ℕ) (form : AddressForm) (a : Address) → used ≤ at
+    → at < length text → byte_at text at < 128 → address_after text at before form ≡ Some a → LiesIn text used a
+address_after_lies text used at before form a low inside small is =
+    cases (nat_lt (at + before) (address_end text at)) refl
+  where
+    cases : (t : Bool) → nat_lt (at + before) (address_end text at) ≡ t → LiesIn text used a
+    cases false e = let no : None ≡ Some a = rw e at is in cc
+    cases true e =
+        let found : Some (record { start = at; name = at; end = address_end text at; form = form }) ≡ Some a =
+        rw e at is in
+        let begins = address_end_begins text at (omega (arith, inside)) in
+        let some : at + before < address_end text at = grind (arith, nat_tests) in
+        rw (← some_same found) (record {
+          after = low;
+          name_after = omega arith;
+          some = omega (arith, some);
+          inside = begins.0;
+          start = ascii_at text at inside small;
+          name = ascii_at text at inside small;
+          end = begins.1;
+        })
+
+web_lies : (text : List ℕ) (used at : ℕ) (a : Address) → used ≤ at → at < length text
+    → web_address text used at ≡ Some a → LiesIn text used a
+web_lies text used at a low inside is = scheme (address_scheme_length text at == 0) refl
+  where
+    scheme : (t : Bool) → (address_scheme_length text at == 0) ≡ t → LiesIn text used a
+    scheme true e = let no : None ≡ Some a = rw e at is in cc
+    scheme false e = letter (is_after_letter text used at) refl
+      where
+        letter : (t : Bool) → is_after_letter text used at ≡ t → LiesIn text used a
+        letter true f = let no : None ≡ Some a = rw (e, f) at is in cc
+        letter false f = host (is_host text (at + address_scheme_length text at)) refl
+          where
+            host : (t : Bool) → is_host text (at + address_scheme_length text at) ≡ t → LiesIn text used a
+            host false g = let no : None ≡ Some a = rw (e, f, g) at is in cc
+            host true g = address_after_lies text used at (address_scheme_length text at) forms.Web a low inside
+                (scheme_begins text at e) (rw (e, f, g) at is)
+
+www_lies : (text : List ℕ) (used at : ℕ) (a : Address) → used ≤ at → at < length text → (byte_at text at == 119) ≡ true
+    → www_address text at ≡ Some a → LiesIn text used a
+www_lies text used at a low inside w is =
+    cases (starts_with nat_eq (drop at text) (codes "www.") && may_begin_www text at
+    && is_host text (at + 4) && is_host text at) refl
+  where
+    cases : (t : Bool) → (starts_with nat_eq (drop at text) (codes "www.") && may_begin_www text at
+        && is_host text (at + 4) && is_host text at) ≡ t → LiesIn text used a
+    cases false e = let no : None ≡ Some a = rw e at is in cc
+    cases true e =
+        let letter : byte_at text at ≡ 119 = grind (arith, nat_tests) in
+        address_after_lies text used at 4 forms.Www a low inside (omega (arith, letter)) (rw e at is)
+
+-- the bytes from a place to an `@` pass, and it is not before what is used up
+passing_passes : (passes : ℕ → Bool) (at n : ℕ) → n ≤ at
+    → (at - n ≤ passing_from passes at n) × (passing_from passes at n < at → passes (passing_from passes at n) ≡ true)
+passing_passes passes at zero few = (omega arith, λ before. absurd (omega (arith, before)))
+passing_passes passes at (suc n) few =
+    cases (passes (at - 1)) refl (passing_passes passes (at - 1) n (omega (arith, few)))
+  where
+    cases : (t : Bool) → passes (at - 1) ≡ t
+        → (at - 1 - n ≤ passing_from passes (at - 1) n)
+        × (passing_from passes (at - 1) n < at - 1 → passes (passing_from passes (at - 1) n) ≡ true)
+        → (at - suc n ≤ passing_from passes at (suc n))
+        × (passing_from passes at (suc n) < at → passes (passing_from passes at (suc n)) ≡ true)
+    cases false e before = rw e (omega (arith, few), λ less. absurd (omega (arith, less)))
+    cases true e before = rw e (omega (arith, before.0), λ less. here (nat_lt begin (at - 1)) refl)
+      where
+        begin : ℕ
+        begin = passing_from passes (at - 1) n
+
+        here : (t : Bool) → nat_lt begin (at - 1) ≡ t → passes begin ≡ true
+        here true f = before.1 (grind (arith, nat_tests))
+        here false f =
+            let low = not_after passes (at - 1) n in
+            let last : begin ≡ at - 1 = grind (arith, nat_tests, low) in rw last e
+
+mailbox_is_small : (b : ℕ) → is_mailbox_byte b ≡ true → b < 128
+mailbox_is_small b mailbox = grind (arith, nat_tests)
+
+letter_is_small : (b : ℕ) → is_ascii_alphabetic b ≡ true → b < 128
+letter_is_small b letter = grind (arith, nat_tests)
+
+mailto_is_small : (xs : List ℕ) → starts_with nat_eq xs (codes "mailto:") ≡ true → get_or xs 0 0 < 128
+mailto_is_small [] begins = cc begins
+mailto_is_small (x ∷ xs) begins = grind (arith, nat_tests)
+
+mail_begins : (text : List ℕ) (used name : ℕ) → used ≤ name → name < length text → byte_at text name < 128
+    → (used ≤ mail_begin text used name) × (mail_begin text used name ≤ name)
+    × IsCharBoundary text (mail_begin text used name)
+mail_begins text used name after inside small =
+    cases (nat_le 7 (name - used) && starts_with nat_eq (drop (name - 7) text) (codes "mailto:")) refl
+  where
+    cases : (t : Bool) → (nat_le 7 (name - used) && starts_with nat_eq (drop (name - 7) text) (codes "mailto:")) ≡ t
+        → (used ≤ mail_begin text used name) × (mail_begin text used name ≤ name)
+        × IsCharBoundary text (mail_begin text used name)
+    cases false e = rw e (after, omega arith, ascii_at text name inside small)
+    cases true e =
+        let seven : 7 ≤ name - used = grind (arith, nat_tests) in
+        let begins : starts_with nat_eq (drop (name - 7) text) (codes "mailto:") ≡ true = grind (arith, nat_tests) in
+        let nothing : name - 7 + 0 ≡ name - 7 = omega arith in
+        let m : byte_at text (name - 7) < 128 =
+        rw (get_or-drop (name - 7) text 0 0, nothing) at (mailto_is_small (drop (name - 7) text) begins) in
+        rw e (
+          omega (arith, seven),
+          omega arith,
+          ascii_at text (name - 7) (omega (arith, inside)) (omega (arith, m)),
+        )
+
+mail_lies : (text : List ℕ) (used at : ℕ) (a : Address) → IsUtf8 text → used ≤ at → at < length text
+    → mail_address text used at ≡ Some a → LiesIn text used a
+mail_lies text used at a utf8 low inside is = cases (nat_lt name at && is_domain text at end) refl
+  where
+    name : ℕ
+    name = mailbox_begin text used at
+
+    end : ℕ
+    end = domain_end text at
+
+    start : ℕ
+    start = mail_begin text used name
+
+    cases : (t : Bool) → (nat_lt name at && is_domain text at end) ≡ t → LiesIn text used a
+    cases false e = let no : None ≡ Some a = rw e at is in cc
+    cases true e =
+        let found : Some (record { start = start; name = name; end = end; form = forms.Mail }) ≡ Some a = rw e at is in
+        let before : name < at = grind (arith, nat_tests) in
+        let passes = passing_passes (λ i. is_mailbox_byte (byte_at text i)) at (at - used) (omega arith) in
+        let after : used ≤ name = omega (arith, passes.0, low) in
+        let within = failing_within (is_domain_at text) (at + 1) (length text - (at + 1)) in
+        let small : byte_at text name < 128 = mailbox_is_small (byte_at text name) (passes.1 before) in
+        let last : byte_at text (end - 1) < 128 = letter_is_small (byte_at text (end - 1)) (grind (arith, nat_tests)) in
+        let most : end ≤ length text = omega (arith, within.1, inside) in
+        let low_end : at + 1 ≤ end = within.0 in
+        let ends : IsCharBoundary text (end - 1 + 1) =
+        IsCharBoundary-after_ascii text (end - 1) utf8 (omega (arith, low_end, most)) last in
+        let same : end - 1 + 1 ≡ end = omega (arith, low_end) in
+        let begin = mail_begins text used name after (omega (arith, before, inside)) small in
+        rw (← some_same found) (record {
+          after = begin.0;
+          name_after = begin.1;
+          some = omega (arith, before, low_end);
+          inside = most;
+          start = begin.2;
+          name = ascii_at text name (omega (arith, before, inside)) small;
+          end = rw same at ends;
+        })
+
+-- ---- the first address
+
+or_later_is : (o later : Option Address) (a : Address) → or_later o later ≡ Some a → (o ≡ Some a) ⊎ (later ≡ Some a)
+or_later_is None later a is = inr is
+or_later_is (Some b) later a is = inl is
+
+found_at_lies : (text : List ℕ) (used at : ℕ) (a : Address) → IsUtf8 text → used ≤ at → at < length text
+    → address_found_at text used at ≡ Some a → LiesIn text used a
+found_at_lies text used at a utf8 low inside is = at_sign (byte_at text at == 64) refl
+  where
+    at_sign : (t : Bool) → (byte_at text at == 64) ≡ t → LiesIn text used a
+    at_sign true e = mail_lies text used at a utf8 low inside (rw e at is)
+    at_sign false e = letter (byte_at text at == 119) refl
+      where
+        letter : (t : Bool) → (byte_at text at == 119) ≡ t → LiesIn text used a
+        letter true f = www_lies text used at a low inside f (rw (e, f) at is)
+        letter false f = web_lies text used at a low inside (rw (e, f) at is)
+
+found_from_lies : (text : List ℕ) (used at n : ℕ) (a : Address) → IsUtf8 text → used ≤ at → at + n ≤ length text
+    → first_address_from text used at n ≡ Some a → LiesIn text used a
+found_from_lies text used at zero a utf8 low inside is = cc is
+found_from_lies text used at (suc n) a utf8 low inside is =
+    by (or_later_is (address_found_at text used at) (first_address_from text used (at + 1) n) a is)
+    (λ later. found_from_lies text used (at + 1) n a utf8 (omega (arith, low)) (omega (arith, inside)) later)
+  where
+    by : (address_found_at text used at ≡ Some a) ⊎ (first_address_from text used (at + 1) n ≡ Some a)
+        → (first_address_from text used (at + 1) n ≡ Some a → LiesIn text used a) → LiesIn text used a
+    by (inl here) later = found_at_lies text used at a utf8 low (omega (arith, inside)) here
+    by (inr there) later = later there
+
+-- the first address lies after what is used up, in the text, and between characters
+pub first_lies : (text : List ℕ) (used : ℕ) (a : Address) → IsUtf8 text → used ≤ length text
+    → first_address text used ≡ Some a → LiesIn text used a
+first_lies text used a utf8 inside is =
+    found_from_lies text used used (length text - used) a utf8 (omega arith) (omega (arith, inside)) is

@@ -1,0 +1,35 @@
+//! Laws of bare addresses. Each is a function without code, whose clauses state the law.
+ghost use Rattle.std.specs.Prelude.{List, ℕ};
+ghost use Rattle.std.specs.Iterator.{at_most};
+ghost use Rattle.markdown_autolinks.specs.AutolinksLaws.{IsNewLinked, ReturnsLinked};
+ghost use Rattle.markdown_autolinks.specs.AutolinksNext.{MayCallSource, count_to_come, linked_steps};
+ghost use Rattle.markdown_autolinks.specs.AutolinksState.{linked_state};
+ghost use Rattle.markdown_out.specs.MergeNext.{CanMerge};
+ghost use Rattle.markdown_out.specs.OutLaws.{StaysEnded};
+
+use crate::adapter::Autolinks;
+use markdown_base::event::Event;
+use markdown_base::fault::Fault;
+use std::ops::Range;
+
+/// States what a new adapter returns: up to its first None the events of its iterator with the bare addresses in their Texts
+/// as links; at any time the first of them, whatever follows; and before an error the events before that, unless memory is
+/// refused.
+pub fn a_new_adapter_returns_the_events_with_links<
+    'a,
+    I: Iterator<Item = Result<(Event<'a>, Range<usize>), Fault>>,
+>(links: &Autolinks<'a, I>)
+    ensures { (source : List ℕ) → IsNewLinked (linked_state links.now) source
+        → ReturnsLinked I.next_gives linked_state source links.now }
+{}
+
+/// States that the adapter stays ended, whatever its iterator does, and that it can be merged.
+pub fn an_adapter_stays_ended<'a, I: Iterator<Item = Result<(Event<'a>, Range<usize>), Fault>>>(
+    links: &Autolinks<'a, I>,
+)
+    ensures stays_ended { StaysEnded (linked_steps I.next_gives linked_state) links.now }
+    ensures merges { MayCallSource I.can_next I.remaining (linked_state links.now)
+        → CanMerge (linked_steps I.next_gives linked_state)
+        (λ a. MayCallSource I.can_next I.remaining (linked_state a))
+        (λ a. at_most (count_to_come I.remaining (linked_state a))) links.now }
+{}
