@@ -79,7 +79,7 @@ word_end_begins text at inside =
     let within = failing_within (goes_on_at text) at (length text - at) in (
       omega (arith, within.1, inside),
       λ before large. lead (not_white text end (failing_fails (goes_on_at text) at (length text - at)
-      (omega (arith, before, inside)))) large,
+          (omega (arith, before, inside)))) large,
     )
   where
     end : ℕ
@@ -157,6 +157,7 @@ trimmed_begins text start (suc n) end inside begins =
         let out : 0 < left_out text start end = grind (arith, nat_tests) in
         let some : start < end = some_left_out text start end out in
         let l = later (left_out_begins text start end some inside out) in rw e (omega (arith, l.0), l.1)
+
 address_end_begins : (text : List ℕ) (at : ℕ) → at ≤ length text
     → (address_end text at ≤ length text) × IsCharBoundary text (address_end text at)
 address_end_begins text at inside =

@@ -7,3 +7,4 @@ pub mod FoundLemmas
 pub mod CutLemmas
 pub mod RunLemmas
 pub mod ReadLemmas
+pub mod LinkedRunLemmas

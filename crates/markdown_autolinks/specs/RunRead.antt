@@ -1,11 +1,12 @@
 -- What the adapter has read of a run of Texts, and what it keeps of it. Only private clauses cite this.
-use Rattle.std.specs.Prelude.{◌≡◌, ℕ, Bool, true, false, is_none, List, [], ◌∷◌, ◌++◌, ◌+◌, length, map, Ok, Err, Option, IfSome}
+use Rattle.std.specs.Prelude.{◌≡◌, ℕ, Bool, true, false, is_none, List, [], ◌∷◌, ◌++◌, ◌+◌, length, map, Ok, Err, Option, Some, None, IfSome}
 use Rattle.std.specs.Prelude.{option_to_list}
 use Rattle.std.specs.List.{AllByRecursion}
 use Rattle.std.specs.declared.ops.Range.{Range}
 use Rattle.markdown_base.specs.Event.{EventView, event_view, text}
 use Rattle.markdown_base.specs.declared.event.Event.{Event}
 use Rattle.markdown_out.specs.Merge.{Item}
+use Rattle.markdown_out.specs.OutLaws.{RangedEvent}
 use Rattle.markdown_autolinks.specs.AutolinksLaws.{event_items}
 use Rattle.markdown_autolinks.specs.AutolinksNext.{CallsSource, LinkedState, SourceItem, item_seen, items_to_come}
 use Rattle.markdown_autolinks.specs.AutolinksNext.{unless_over}
@@ -52,6 +53,12 @@ texts_of events = map (λ e. (shown_text (event_view e.0), e.1)) events
 abbrev pub AreTexts : List (Event × Range ℕ) → Type 0
 AreTexts events = AllByRecursion (λ e. is_text (event_view e.0) ≡ true) events
 
+-- the item that was read last, and what follows it; nothing where the iterator has ended
+abbrev pub items_after : List ℕ → ℕ → Option SourceItem → List (Item (Range ℕ)) → List (Item (Range ℕ))
+items_after source inside None later = []
+items_after source inside (Some item) later =
+    item_seen item ∷ items_with_addresses source (left_alone_after_item inside item) [] later
+
 module _ {S : Type 0} (steps : S → Option SourceItem → S → Type 0) where
   -- Texts were read after these, up to an item that is none, or to the end
   pub record RunIsRead (s : S) (before run : List (Event × Range ℕ)) (after : Option SourceItem) (t : S) : Type 0 where
@@ -60,6 +67,24 @@ module _ {S : Type 0} (steps : S → Option SourceItem → S → Type 0) where
     pub texts : AreTexts run
     pub read : CallsSource steps false (is_none after) s (event_items more ++ option_to_list after) t
     pub ends : IfSome after (λ item. is_text_item item ≡ false)
+
+  -- after a Text the rest of its run was read, and this is made of the run
+  pub record TextsAreRead (source : List ℕ) (s : S) (first : RangedEvent) (made : List (Item (Range ℕ)))
+      (after : Option SourceItem) (t : S) : Type 0 where
+    pub items : List SourceItem
+    pub read : CallsSource steps false (is_none after) s items t
+    pub makes : (later : List (Item (Range ℕ)))
+        → items_with_addresses source 0 [] (Ok first ∷ (map item_seen items ++ unless_over (is_none after) later))
+        ≡ made ++ items_after source 0 after later
+
+  -- an item was read, or a run of Texts and the item after it, and this is made of the run
+  pub record NextIsRead (source : List ℕ) (inside : ℕ) (s : S) (made : List (Item (Range ℕ)))
+      (after : Option SourceItem) (t : S) : Type 0 where
+    pub items : List SourceItem
+    pub read : CallsSource steps false (is_none after) s items t
+    pub makes : (later : List (Item (Range ℕ)))
+        → items_with_addresses source inside [] (map item_seen items ++ unless_over (is_none after) later)
+        ≡ made ++ items_after source inside after later
 
   -- items were read, and are kept as what becomes of them; if nothing is kept, the iterator has ended
   pub record Fills (s t : LinkedState S) : Type 0 where

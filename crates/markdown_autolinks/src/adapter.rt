@@ -1,12 +1,14 @@
 //! An iterator that makes links of bare addresses.
-ghost use Rattle.std.specs.Prelude.{◌≡◌, ◌≤◌, ◌<◌, ◌+◌, ◌^◌, [], IfErr, IfOk, false, is_some, length, true};
+ghost use Rattle.std.specs.Prelude.{◌≡◌, ◌≤◌, ◌<◌, ◌⊎◌, [], IfErr, IfOk, false, is_none, is_some, map, true};
 ghost use Rattle.std.specs.Iterator.{IsFinite, size};
 ghost use Rattle.markdown_base.specs.Event.{event_view, tag_end, tag_view};
-ghost use Rattle.markdown_autolinks.specs.AutolinksNext.{MayCallSource, count_to_come};
+ghost use Rattle.markdown_autolinks.specs.AutolinksLaws.{ranged_view};
+ghost use Rattle.markdown_autolinks.specs.AutolinksNext.{MayCallSource, count_to_come, item_seen};
 ghost use Rattle.markdown_autolinks.specs.AutolinksState.{linked_state};
 ghost use Rattle.markdown_autolinks.specs.LinkedEvents.{left_alone_after};
 ghost use Rattle.markdown_autolinks.specs.LinkedRuns.{is_left_alone};
-ghost use Rattle.markdown_autolinks.specs.RunRead.{AreTexts, Fills, RunIsRead, is_text, left_alone_after_item};
+ghost use Rattle.markdown_autolinks.specs.RunRead.{AreTexts, Fills, NextIsRead, RunIsRead, TextsAreRead, is_text};
+ghost use Rattle.markdown_autolinks.specs.RunRead.{left_alone_after_item};
 
 use crate::runs::{Placed, push_run};
 use markdown_base::event::Event;
@@ -74,6 +76,14 @@ fn left_alone_after_item(inside: usize, item: &Placed<'_>) -> Result<usize, Faul
     }
 }
 
+/// Returns whether a run in which addresses are looked for begins with an event, inside so many places in which they are not.
+fn begins_run(inside: usize, event: &Event<'_>) -> bool
+    ensures begins { result ≡ true → (inside ≡ 0) × (is_text (event_view event.now) ≡ true) }
+    ensures stays { result ≡ false → inside ≡ 0 → is_text (event_view event.now) ≡ false }
+{
+    inside == 0 && is_text(event)
+}
+
 /// Reads the Texts after those of a run, up to an item that is no Text, which is returned, or to the end of the iterator.
 fn read_run<'a, I: Iterator<Item = Placed<'a>>>(
     iter: &mut I,
@@ -100,6 +110,69 @@ fn read_run<'a, I: Iterator<Item = Placed<'a>>>(
                 }
                 run.push((event, range))?;
             }
+        }
+    }
+}
+
+/// Reads the rest of a run of Texts of which this is the first, and the item after it, which is returned. Appends what becomes
+/// of the run.
+fn read_texts<'a, I: Iterator<Item = Placed<'a>>>(
+    alloc: Global,
+    source: &str,
+    iter: &mut I,
+    first: (Event<'a>, Range<usize>),
+    made: &mut Vec<Placed<'a>>,
+) -> Result<Option<Placed<'a>>, Fault>
+    requires can { I.can_next iter.old }
+    requires finite { IsFinite (I.remaining iter.old) }
+    requires text { is_text (event_view first.0) ≡ true }
+    requires nothing { made.old.items ≡ [] }
+    ensures read { IfOk result (λ after. TextsAreRead I.next_gives source.now iter.old
+        (ranged_view first.entry) (map item_seen made.new.items) after iter.new) }
+    ensures again { IfOk result (λ after. is_some after ≡ true → I.can_next iter.new) }
+    ensures finite { IfOk result (λ after. is_some after ≡ true → IsFinite (I.remaining iter.new)) }
+    ensures fewer { IfOk result (λ after.
+        is_some after ≡ true → size (I.remaining iter.new) ≤ size (I.remaining iter.old)) }
+    ensures refused { IfErr result (λ fault. fault ≡ Fault.Memory) }
+{
+    let mut run: Vec<(Event<'a>, Range<usize>)> = Vec::new(alloc);
+    run.push(first)?;
+    let after = read_run(iter, &mut run)?;
+    push_run(alloc, source, run, made)?;
+    Ok(after)
+}
+
+/// Reads the next item, or a run of Texts and the item after it, and returns the item. Appends what becomes of the run.
+fn read_next<'a, I: Iterator<Item = Placed<'a>>>(
+    alloc: Global,
+    source: &str,
+    inside: usize,
+    iter: &mut I,
+    made: &mut Vec<Placed<'a>>,
+) -> Result<Option<Placed<'a>>, Fault>
+    requires can { I.can_next iter.old }
+    requires finite { IsFinite (I.remaining iter.old) }
+    requires nothing { made.old.items ≡ [] }
+    ensures read { IfOk result (λ after. NextIsRead I.next_gives source.now inside iter.old
+        (map item_seen made.new.items) after iter.new) }
+    ensures again { IfOk result (λ after. is_some after ≡ true → I.can_next iter.new) }
+    ensures finite { IfOk result (λ after. is_some after ≡ true → IsFinite (I.remaining iter.new)) }
+    ensures fewer { IfOk result (λ after.
+        is_some after ≡ true → size (I.remaining iter.new) < size (I.remaining iter.old)) }
+    ensures some { IfOk result (λ after.
+        is_none after ≡ true → (made.new.items ≡ []) ⊎ (0 < size (I.remaining iter.old))) }
+    ensures refused { IfErr result (λ fault.
+        (fault ≡ Fault.Memory) × (0 < size (I.remaining iter.old))) }
+{
+    match iter.next() {
+        None => Ok(None),
+        Some(Err(fault)) => Ok(Some(Err(fault))),
+        Some(Ok((event, range))) => {
+            if !begins_run(inside, &event) {
+                return Ok(Some(Ok((event, range))));
+            }
+            let after = read_texts(alloc, source, iter, (event, range), made)?;
+            Ok(after)
         }
     }
 }
@@ -155,23 +228,20 @@ impl<'a, I: Iterator<Item = Placed<'a>>> Autolinks<'a, I> {
         ensures refused { IfErr result (λ fault. fault ≡ Fault.Memory) }
     {
         let mut made: Vec<Placed<'a>> = Vec::new(self.alloc);
-        let after = match self.iter.next() {
-            Some(Ok((event, range))) if self.inside == 0 && is_text(&event) => {
-                let mut run: Vec<(Event<'a>, Range<usize>)> = Vec::new(self.alloc);
-                run.push((event, range))?;
-                let after = read_run(&mut self.iter, &mut run)?;
-                push_run(self.alloc, self.text, run, &mut made)?;
-                after
-            }
-            other => other,
+        let Some(item) = read_next(
+            self.alloc,
+            self.text,
+            self.inside,
+            &mut self.iter,
+            &mut made,
+        )?
+        else {
+            self.over = true;
+            self.kept = VecDeque::from_vec(made);
+            return Ok(());
         };
-        match after {
-            None => self.over = true,
-            Some(item) => {
-                self.inside = left_alone_after_item(self.inside, &item)?;
-                made.push(item)?;
-            }
-        }
+        self.inside = left_alone_after_item(self.inside, &item)?;
+        made.push(item)?;
         self.kept = VecDeque::from_vec(made);
         Ok(())
     }
