@@ -1,12 +1,11 @@
 -- Places between characters, as a test and as a fact.
-use Rattle.std.proofs.Common.{◌≡◌, ◌<◌, ◌≤◌, ◌+◌, ◌-◌, ℕ, Bool, true, false, List, ◌++◌, length, refl, arith, get_or}
-use Rattle.std.specs.Prelude.{◌&&◌, not, nat_le, nat_lt, slice_range}
+use Rattle.std.proofs.Common.{◌≡◌, ◌<◌, ◌≤◌, ℕ, Bool, true, false, List, length, refl, arith}
+use Rattle.std.specs.Prelude.{nat_lt}
 use Rattle.std.specs.Str.{IsCharBoundary}
-use Rattle.std.specs.declared.ops.Range.{Range}
 use Rattle.std.proofs.lemmas.Bool.Decides.{nat_tests}
 use Rattle.std.proofs.lemmas.List.{get_or_past}
 use Rattle.markdown_autolinks.specs.AddressBytes.{byte_at}
-use Rattle.markdown_autolinks.specs.LinkedRuns.{is_cut, is_of_source}
+use Rattle.markdown_autolinks.specs.LinkedRuns.{is_cut}
 
 -- no byte stands after the text
 nothing_after : (text : List ℕ) (at : ℕ) → length text ≤ at → byte_at text at ≡ 0

@@ -1,17 +1,17 @@
 -- Where an address that is found lies: after what is used up, in the text, and between characters.
-use Rattle.std.proofs.Common.{◌≡◌, ◌≢◌, ◌<◌, ◌≤◌, ◌+◌, ◌-◌, ◌∙◌, ◌⊎◌, inl, inr, ℕ, zero, suc, Bool, true, false, List, ◌∷◌, []}
-use Rattle.std.proofs.Common.{refl, sym, ap, arith, length, drop, Option, Some, None, get_or, IsUtf8}
-use Rattle.std.specs.Prelude.{◌==◌, ◌&&◌, ◌||◌, not, nat_eq, nat_le, nat_lt, codes, if◌then◌else◌}
-use Rattle.std.specs.Char.{is_ascii_alphabetic, is_ascii_alphanumeric, to_ascii_lowercase}
+use Rattle.std.proofs.Common.{◌≡◌, ◌<◌, ◌≤◌, ◌+◌, ◌-◌, ◌⊎◌, inl, inr, ℕ, zero, suc, Bool, true, false, List, ◌∷◌, []}
+use Rattle.std.proofs.Common.{refl, arith, length, drop, Option, Some, None, get_or, IsUtf8}
+use Rattle.std.specs.Prelude.{◌==◌, ◌&&◌, nat_eq, nat_le, nat_lt, codes}
+use Rattle.std.specs.Char.{is_ascii_alphabetic}
 use Rattle.std.specs.List.{starts_with}
 use Rattle.std.specs.Str.{IsCharBoundary}
 use Rattle.std.proofs.lemmas.Bool.Decides.{nat_tests}
 use Rattle.std.proofs.lemmas.List.{get_or-drop}
-use Rattle.std.proofs.lemmas.Str.{IsCharBoundary-after_ascii, IsCharBoundary-before_ascii, IsCharBoundary-end}
-use Rattle.markdown_autolinks.specs.AddressBytes.{are_white_pair, are_white_triple, byte_at, first_failing, goes_on_at}
-use Rattle.markdown_autolinks.specs.AddressBytes.{is_host, is_domain_at, is_mailbox_byte, is_white_at, is_white_byte, passing_from}
+use Rattle.std.proofs.lemmas.Str.{IsCharBoundary-after_ascii, IsCharBoundary-before_ascii}
+use Rattle.markdown_autolinks.specs.AddressBytes.{byte_at, first_failing, goes_on_at}
+use Rattle.markdown_autolinks.specs.AddressBytes.{is_host, is_domain_at, is_mailbox_byte, is_white_at, passing_from}
 use Rattle.markdown_autolinks.specs.Addresses.{address_after, address_end, address_found_at, address_scheme_length}
-use Rattle.markdown_autolinks.specs.Addresses.{begins_in_any_case, closes_more, domain_end, entity_left_out, first_address}
+use Rattle.markdown_autolinks.specs.Addresses.{domain_end, entity_left_out, first_address}
 use Rattle.markdown_autolinks.specs.Addresses.{first_address_from, is_after_letter, is_domain, is_end_mark, left_out}
 use Rattle.markdown_autolinks.specs.Addresses.{mail_address, mail_begin, mailbox_begin, may_begin_www, or_later, trimmed}
 use Rattle.markdown_autolinks.specs.Addresses.{web_address, www_address}

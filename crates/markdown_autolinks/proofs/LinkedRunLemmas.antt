@@ -1,11 +1,10 @@
 -- What a new adapter returned of what its iterator returned.
-use Rattle.std.proofs.Common.{◌≡◌, ◌⊎◌, ◌≤◌, ◌+◌, ℕ, zero, suc, Bool, true, false, List, [], ◌∷◌, ◌++◌, map, Ok, Err, Option}
-use Rattle.std.proofs.Common.{Some, None, refl, sym, ap, subst, ◌∙◌, append_assoc, append-nil, inl, inr, arith, drop, length}
-use Rattle.std.proofs.Common.{option_to_list, Result}
+use Rattle.std.proofs.Common.{◌≡◌, ◌⊎◌, ◌≤◌, ℕ, zero, suc, Bool, true, false, List, [], ◌∷◌, ◌++◌, map, Ok, Err, Option}
+use Rattle.std.proofs.Common.{Some, None, refl, sym, ap, subst, ◌∙◌, append_assoc, append-nil, inl, inr, arith}
 use Rattle.std.specs.Iterator.{Count, Drains, Yields, at_most}
 use Rattle.std.specs.declared.ops.Range.{Range}
 use Rattle.std.proofs.lemmas.List.{map-append}
-use Rattle.markdown_base.specs.Event.{EventView, text}
+use Rattle.markdown_base.specs.Event.{text}
 use Rattle.markdown_base.specs.declared.event.Event.{Event}
 use Rattle.markdown_base.specs.declared.fault.Fault.{Fault}
 use Rattle.markdown_base.specs.declared.fault.Fault.TheVariants.{Memory}
@@ -19,7 +18,6 @@ use Rattle.markdown_autolinks.specs.AutolinksNext.{MayCallSource, PassesItem, So
 use Rattle.markdown_autolinks.specs.AutolinksNext.{items_to_come, linked_steps, unless_over}
 use Rattle.markdown_autolinks.specs.LinkedEvents.{Texts, items_with_addresses, left_alone_after, texts_events, with_addresses}
 use Rattle.markdown_autolinks.specs.LinkedEvents.{with_addresses_after}
-use Rattle.markdown_autolinks.specs.RunRead.{Fills}
 
 abbrev Placed : Type 0
 Placed = Event × Range ℕ

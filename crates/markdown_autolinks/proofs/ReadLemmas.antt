@@ -1,12 +1,11 @@
 -- What is read of a run of Texts, and what becomes of it among the items to come.
-use Rattle.std.proofs.Common.{◌≡◌, ◌⊎◌, ◌<◌, ◌≤◌, ◌+◌, ◌*◌, ◌∙◌, ℕ, zero, suc, Bool, true, false, List, [], ◌∷◌, ◌++◌}
+use Rattle.std.proofs.Common.{◌≡◌, ◌∙◌, ℕ, zero, suc, Bool, true, false, List, [], ◌∷◌, ◌++◌}
 use Rattle.std.proofs.Common.{refl, sym, ap, subst, arith, length, map, Ok, Err, Option, Some, None, append_assoc, append-nil}
 use Rattle.std.specs.Iterator.{Yields, YieldsThen}
-use Rattle.std.specs.List.{AllByRecursion}
 use Rattle.std.specs.declared.ops.Range.{Range}
 use Rattle.std.proofs.lemmas.List.{map-append}
 use Rattle.std.specs.Prelude.{◌&&◌, slice_range}
-use Rattle.std.proofs.Common.{◌≢◌, drop, inl, inr, length-append}
+use Rattle.std.proofs.Common.{◌≢◌, drop, inl, length-append}
 use Rattle.std.proofs.lemmas.List.{length-map}
 use Rattle.markdown_base.specs.Event.{EventView, event_view, text}
 use Rattle.markdown_autolinks.specs.LinkedEvents.{Texts, items_with_addresses, left_alone_after, texts_events}
@@ -20,7 +19,7 @@ use Rattle.markdown_base.specs.declared.fault.Fault.{Fault}
 use Rattle.markdown_out.specs.Merge.{Item}
 use Rattle.markdown_autolinks.specs.AutolinksLaws.{event_items, ranged_view}
 use Rattle.markdown_autolinks.specs.AutolinksNext.{CallsSource, GivesLinked, LinkedState, PassesItem, SourceItem, item_seen}
-use Rattle.markdown_autolinks.specs.AutolinksNext.{items_to_come, unless_over}
+use Rattle.markdown_autolinks.specs.AutolinksNext.{unless_over}
 use Rattle.markdown_autolinks.specs.RunRead.{AreTexts, Fills, NextIsRead, RunIsRead, TextsAreRead, is_text, is_text_item}
 use Rattle.markdown_autolinks.specs.RunRead.{items_after, left_alone_after_item, shown_text, texts_of}
 

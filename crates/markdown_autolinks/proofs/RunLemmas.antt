@@ -1,9 +1,8 @@
 -- Runs of Texts: their bytes and ranges, and the first bytes of them.
 use Rattle.std.proofs.Common.{◌≡◌, ◌≢◌, ◌<◌, ◌≤◌, ◌+◌, ◌-◌, ◌∙◌, ℕ, zero, suc, Bool, true, false, List, [], ◌∷◌, ◌++◌}
-use Rattle.std.proofs.Common.{refl, sym, ap, subst, arith, length, map, take, drop, Option, Some, None, get_or, append_assoc, append-nil}
-use Rattle.std.proofs.Common.{slice_get, flat_map, IsUtf8, length-append, length-drop}
-use Rattle.std.specs.Prelude.{◌==◌, ◌&&◌, not, nat_le, nat_lt, if◌then◌else◌}
-use Rattle.std.specs.List.{AllByRecursion}
+use Rattle.std.proofs.Common.{refl, sym, ap, subst, arith, length, map, drop, Option, Some, None, append_assoc, append-nil}
+use Rattle.std.proofs.Common.{slice_get, IsUtf8, length-append, length-drop}
+use Rattle.std.specs.Prelude.{nat_le}
 use Rattle.std.specs.Str.{IsCharBoundary}
 use Rattle.std.specs.declared.ops.Range.{Range}
 use Rattle.std.proofs.Common.{Ok, drop-drop}
@@ -21,7 +20,7 @@ use Rattle.markdown_autolinks.specs.declared.address.Address.{Address}
 use Rattle.markdown_autolinks.proofs.CutLemmas.{boundary_cut}
 use Rattle.markdown_autolinks.proofs.FoundLemmas.{LiesIn, first_lies}
 use Rattle.markdown_autolinks.specs.LinkedRuns.{RunTextView, drop_run, first_part, is_cut, last_part, range_of, run_range}
-use Rattle.markdown_autolinks.specs.LinkedRuns.{address_link_type, link_over, merged_run, run_events, run_with, linked_events, run_text, searched_bytes, shown_bytes, take_run, text_of_run}
+use Rattle.markdown_autolinks.specs.LinkedRuns.{address_link_type, link_over, merged_run, run_events, run_with, linked_events, searched_bytes, take_run, text_of_run}
 use Rattle.markdown_autolinks.specs.RunRead.{FitRanges, FitsRange, run_text_view}
 use Rattle.markdown_autolinks.specs.declared.runs.RunText.{RunText}
 

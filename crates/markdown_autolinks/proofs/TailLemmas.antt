@@ -7,7 +7,6 @@ use Rattle.std.specs.Char.{is_ascii_alphabetic}
 use Rattle.std.proofs.lemmas.Bool.Decides.{nat_tests}
 use Rattle.markdown_autolinks.specs.AddressBytes.{byte_at, count_of, passing_from}
 use Rattle.markdown_autolinks.specs.Addresses.{closes_more, entity_left_out, is_end_mark, left_out, trimmed}
-use Rattle.markdown_autolinks.proofs.PlaceLemmas.{counts_next}
 
 -- a byte that passes is not one that does not
 is_other : (passes : ℕ → Bool) (x b : ℕ) → passes x ≡ true → passes b ≡ false → (x == b) ≡ false

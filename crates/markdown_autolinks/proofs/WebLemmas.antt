@@ -1,11 +1,10 @@
 -- The cases of an address at a place.
-use Rattle.std.proofs.Common.{◌≡◌, ◌≢◌, ◌+◌, ℕ, Bool, true, false, List, refl, arith, Option, None}
+use Rattle.std.proofs.Common.{◌≡◌, ◌≢◌, ◌+◌, ℕ, true, false, List, refl, arith, None}
 use Rattle.std.specs.Prelude.{◌==◌}
 use Rattle.std.proofs.lemmas.Bool.Decides.{nat_tests}
 use Rattle.markdown_autolinks.specs.AddressBytes.{byte_at, is_host}
 use Rattle.markdown_autolinks.specs.Addresses.{address_after, address_found_at, is_after_letter}
 use Rattle.markdown_autolinks.specs.Addresses.{address_scheme_length, web_address}
-use Rattle.markdown_autolinks.specs.declared.address.Address.{Address}
 use Rattle.markdown_autolinks.specs.declared.address.AddressForm.TheVariants as forms
 
 is_more : (x y : ℕ) → x ≡ y → x ≢ 0 → (y == 0) ≡ false

@@ -1,7 +1,7 @@
 -- The bytes of bare addresses: white space, hosts, and where they end. Places are byte offsets in a text.
 use Rattle.std.specs.Prelude.{ℕ, zero, suc, ◌+◌, ◌-◌, ◌==◌, Bool, true, false, not, ◌&&◌, ◌||◌, nat_le, nat_lt, List}
 use Rattle.std.specs.Prelude.{length, get_or, if◌then◌else◌}
-use Rattle.std.specs.Char.{is_ascii_alphabetic, is_ascii_alphanumeric}
+use Rattle.std.specs.Char.{is_ascii_alphanumeric}
 use Rattle.markdown_base.specs.Bytes.{full_stop, hyphen, less_than, underscore, plus_sign}
 
 -- the byte at a place; 0 after the text

@@ -1,10 +1,9 @@
 -- Bare addresses in a text: web addresses, addresses that begin with `www.`, and addresses of mail.
-use Rattle.std.specs.Prelude.{ℕ, zero, suc, ◌+◌, ◌-◌, ◌==◌, Bool, true, false, not, ◌&&◌, ◌||◌, nat_eq, nat_le, nat_lt}
+use Rattle.std.specs.Prelude.{ℕ, zero, suc, ◌+◌, ◌-◌, ◌==◌, Bool, true, not, ◌&&◌, ◌||◌, nat_eq, nat_le, nat_lt}
 use Rattle.std.specs.Prelude.{List, [], ◌∷◌, ◌++◌, length, drop, codes, slice_range, Option, Some, None, if◌then◌else◌}
 use Rattle.std.specs.Char.{is_ascii_alphabetic, is_ascii_alphanumeric, to_ascii_lowercase}
 use Rattle.std.specs.List.{list_any, starts_with}
-use Rattle.markdown_base.specs.Bytes.{ampersand, asterisk, close_parenthesis, full_stop, open_parenthesis, semicolon}
-use Rattle.markdown_base.specs.Bytes.{tilde, underscore}
+use Rattle.markdown_base.specs.Bytes.{ampersand, close_parenthesis, full_stop, open_parenthesis, semicolon}
 use Rattle.markdown_autolinks.specs.AddressBytes.{byte_at, count_of, first_failing, goes_on_at, is_domain_at, is_host}
 use Rattle.markdown_autolinks.specs.AddressBytes.{is_mailbox_byte, is_white_before, passing_from}
 use Rattle.markdown_autolinks.specs.declared.address.Address.{Address}

@@ -1,5 +1,5 @@
 -- What a new `Autolinks` returns in a whole run, and in the first part of one.
-use Rattle.std.specs.Prelude.{◌≡◌, ◌⊎◌, ℕ, false, List, [], ◌∷◌, ◌++◌, map, Ok, Err, Option, Some, None, Result}
+use Rattle.std.specs.Prelude.{◌≡◌, ◌⊎◌, ℕ, false, List, [], ◌∷◌, ◌++◌, map, Ok, Err, Option, Some, None}
 use Rattle.std.specs.Iterator.{Drains, Yields}
 use Rattle.std.specs.declared.ops.Range.{Range}
 use Rattle.markdown_base.specs.Event.{event_view}

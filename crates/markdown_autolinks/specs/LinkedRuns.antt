@@ -1,12 +1,11 @@
 -- Runs of Texts, and the links that are made of the addresses in them.
-use Rattle.std.specs.Prelude.{ℕ, zero, suc, ◌+◌, ◌-◌, ◌==◌, Bool, true, false, not, ◌&&◌, ◌||◌, nat_eq, nat_le, nat_lt}
-use Rattle.std.specs.Prelude.{List, [], ◌∷◌, ◌++◌, length, take, drop, codes, slice_range, Option, Some, None, Ok, map, if◌then◌else◌}
-use Rattle.std.specs.List.{flat_map, starts_with}
+use Rattle.std.specs.Prelude.{ℕ, zero, suc, ◌+◌, ◌-◌, ◌==◌, Bool, true, false, not, ◌&&◌, ◌||◌, nat_le, nat_lt}
+use Rattle.std.specs.Prelude.{List, [], ◌∷◌, ◌++◌, length, take, drop, slice_range, Option, Some, None, if◌then◌else◌}
+use Rattle.std.specs.List.{flat_map}
 use Rattle.std.specs.Str.{bytes_eq}
 use Rattle.std.specs.declared.ops.Range.{Range}
 use Rattle.markdown_base.specs.Bytes.{ampersand}
-use Rattle.markdown_base.specs.Event.{EventView, TagView, start, end, text, link, image, fenced_code, indented_code}
-use Rattle.markdown_base.specs.Event.{html_block, metadata_block}
+use Rattle.markdown_base.specs.Event.{start, end, text, link}
 use Rattle.markdown_base.specs.declared.tag.LinkType.{LinkType}
 use Rattle.markdown_base.specs.declared.tag.LinkType.TheVariants as types
 use Rattle.markdown_base.specs.declared.tag.TagEnd.{TagEnd}

@@ -1,5 +1,5 @@
 -- An item is read, or a run and the item after it.
-use Rattle.std.proofs.Common.{◌≡◌, ap, sym, map, ◌∙◌}
+use Rattle.std.proofs.Common.{ap, map}
 use Rattle.markdown_autolinks.specs.AutolinksNext.{item_seen}
 use Rattle.markdown_autolinks.proofs.ReadLemmas.{by_item, next_is_error, next_is_event, next_is_run}
 use Rattle.markdown_autolinks.proofs.adapter.read_next.Goals as goal

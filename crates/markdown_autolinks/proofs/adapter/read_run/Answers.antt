@@ -1,5 +1,5 @@
 -- A Text goes on with the run, and another item ends it.
-use Rattle.std.proofs.Common.{◌≡◌, refl, sym, ◌∙◌, arith}
+use Rattle.std.proofs.Common.{refl, sym, ◌∙◌, arith}
 use Rattle.markdown_autolinks.proofs.ReadLemmas.{by_item, ends_run, reads_text}
 use Rattle.markdown_autolinks.proofs.adapter.read_run.Goals as goal
 

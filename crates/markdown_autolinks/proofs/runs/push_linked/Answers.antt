@@ -1,12 +1,12 @@
 -- An address that is found becomes a link, and the rest a Text.
-use Rattle.std.proofs.Common.{◌≡◌, ◌-◌, ap, sym, ◌∙◌, arith, List, length, map, ◌++◌, Ok, ℕ}
+use Rattle.std.proofs.Common.{ap, sym, ◌∙◌, arith, List, map, ◌++◌, Ok, ℕ}
 use Rattle.markdown_out.specs.OutLaws.{RangedEvent}
 use Rattle.markdown_autolinks.specs.Addresses.{first_address}
 use Rattle.markdown_autolinks.specs.AutolinksNext.{item_seen}
 use Rattle.markdown_autolinks.specs.LinkedRuns.{RunTextView, text_of_run}
 use Rattle.markdown_autolinks.specs.RunRead.{run_text_view}
 use Rattle.markdown_autolinks.proofs.FoundLemmas.{first_lies}
-use Rattle.markdown_autolinks.proofs.RunLemmas.{between_cut, last_cut, events_linked, linked_cut, links_end, links_next, links_nothing}
+use Rattle.markdown_autolinks.proofs.RunLemmas.{between_cut, events_linked, linked_cut, links_end, links_next}
 use Rattle.markdown_autolinks.proofs.runs.push_linked.Goals as goal
 
 pub overflow_sub-address : goal.overflow_sub-address

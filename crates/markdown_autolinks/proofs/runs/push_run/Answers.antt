@@ -1,13 +1,12 @@
 -- A run without addresses: a single Text stays, and others become one.
-use Rattle.std.proofs.Common.{◌≡◌, ◌≢◌, ◌++◌, ◌∷◌, [], ap, sym, ◌∙◌, List, map, Ok, ℕ, length}
+use Rattle.std.proofs.Common.{◌≢◌, ◌++◌, ◌∷◌, [], ap, sym, ◌∙◌, List, map, Ok, ℕ, length}
 use Rattle.std.specs.declared.ops.Range.{Range}
 use Rattle.std.proofs.lemmas.List.{map-append}
-use Rattle.markdown_base.specs.Event.{event_view}
 use Rattle.markdown_base.specs.declared.event.Event.{Event}
 use Rattle.markdown_out.specs.OutLaws.{RangedEvent}
-use Rattle.markdown_autolinks.specs.AutolinksNext.{SourceItem, item_seen}
-use Rattle.markdown_autolinks.specs.LinkedRuns.{RunTextView, run_events, run_text, searched_bytes, text_of_run}
-use Rattle.markdown_autolinks.specs.RunRead.{AreTexts, run_text_view, texts_of}
+use Rattle.markdown_autolinks.specs.AutolinksNext.{item_seen}
+use Rattle.markdown_autolinks.specs.LinkedRuns.{run_text, searched_bytes, text_of_run}
+use Rattle.markdown_autolinks.specs.RunRead.{run_text_view, texts_of}
 use Rattle.markdown_autolinks.proofs.ReadLemmas.{texts_many, texts_one, texts_size}
 use Rattle.markdown_autolinks.specs.declared.runs.RunText.{RunText}
 use Rattle.markdown_autolinks.proofs.runs.push_run.Goals as goal

@@ -1,7 +1,7 @@
 -- A Text is taken whole, or cut.
-use Rattle.std.proofs.Common.{◌≡◌, ◌∷◌, ◌++◌, [], ap, sym, ◌∙◌, arith, map, List}
+use Rattle.std.proofs.Common.{◌≡◌, ◌∷◌, ◌++◌, [], ap, ◌∙◌, map, List}
 use Rattle.std.proofs.lemmas.List.{map-append}
-use Rattle.markdown_autolinks.specs.LinkedRuns.{RunTextView, first_part, last_part}
+use Rattle.markdown_autolinks.specs.LinkedRuns.{RunTextView}
 use Rattle.markdown_autolinks.specs.RunRead.{run_text_view}
 use Rattle.markdown_autolinks.specs.declared.runs.RunText.{RunText}
 use Rattle.markdown_autolinks.proofs.RunLemmas.{same_left, takes_cut, takes_whole}

@@ -1,5 +1,5 @@
 -- What becomes of the items that were read is kept.
-use Rattle.std.proofs.Common.{◌≡◌, ◌∷◌, [], ◌∙◌, ap, map}
+use Rattle.std.proofs.Common.{◌∷◌, [], ◌∙◌, ap, map}
 use Rattle.std.proofs.lemmas.List.{map-append}
 use Rattle.markdown_autolinks.specs.AutolinksNext.{item_seen}
 use Rattle.markdown_autolinks.specs.AutolinksState.{linked_state}

@@ -1,5 +1,5 @@
 -- What was kept is returned, and else what is read.
-use Rattle.std.proofs.Common.{◌≡◌, ◌∙◌, [], List, ap, inl, map, option_to_list}
+use Rattle.std.proofs.Common.{◌∙◌, List, ap, inl, map, option_to_list}
 use Rattle.std.proofs.lemmas.List.{map-append}
 use Rattle.markdown_autolinks.specs.AutolinksNext.{SourceItem, item_seen}
 use Rattle.markdown_autolinks.specs.AutolinksState.{linked_state}
