@@ -28,7 +28,7 @@ pub record LiesIn (text : List ℕ) (used : ℕ) (a : Address) : Type 0 where
   pub inside : a.end ≤ length text
   pub start : IsCharBoundary text a.start
   pub name : IsCharBoundary text a.name
-  pub end : IsCharBoundary text a.end
+  pub end : IsUtf8 text → IsCharBoundary text a.end
 
 -- ---- places between characters
 
@@ -197,7 +197,7 @@ address_after_lies text used at before form a low inside small is =
           inside = begins.0;
           start = ascii_at text at inside small;
           name = ascii_at text at inside small;
-          end = begins.1;
+          end = λ utf8. begins.1;
         })
 
 web_lies : (text : List ℕ) (used at : ℕ) (a : Address) → used ≤ at → at < length text
@@ -286,9 +286,9 @@ mail_begins text used name after inside small =
           ascii_at text (name - 7) (omega (arith, inside)) (omega (arith, m)),
         )
 
-mail_lies : (text : List ℕ) (used at : ℕ) (a : Address) → IsUtf8 text → used ≤ at → at < length text
+mail_lies : (text : List ℕ) (used at : ℕ) (a : Address) → used ≤ at → at < length text
     → mail_address text used at ≡ Some a → LiesIn text used a
-mail_lies text used at a utf8 low inside is = cases (nat_lt name at && is_domain text at end) refl
+mail_lies text used at a low inside is = cases (nat_lt name at && is_domain text at end) refl
   where
     name : ℕ
     name = mailbox_begin text used at
@@ -311,8 +311,6 @@ mail_lies text used at a utf8 low inside is = cases (nat_lt name at && is_domain
         let last : byte_at text (end - 1) < 128 = letter_is_small (byte_at text (end - 1)) (grind (arith, nat_tests)) in
         let most : end ≤ length text = omega (arith, within.1, inside) in
         let low_end : at + 1 ≤ end = within.0 in
-        let ends : IsCharBoundary text (end - 1 + 1) =
-        IsCharBoundary-after_ascii text (end - 1) utf8 (omega (arith, low_end, most)) last in
         let same : end - 1 + 1 ≡ end = omega (arith, low_end) in
         let begin = mail_begins text used name after (omega (arith, before, inside)) small in
         rw (← some_same found) (record {
@@ -322,7 +320,7 @@ mail_lies text used at a utf8 low inside is = cases (nat_lt name at && is_domain
           inside = most;
           start = begin.2;
           name = ascii_at text name (omega (arith, before, inside)) small;
-          end = rw same at ends;
+          end = λ utf8. rw same at (IsCharBoundary-after_ascii text (end - 1) utf8 (omega (arith, low_end, most)) last);
         })
 
 -- ---- the first address
@@ -331,32 +329,32 @@ or_later_is : (o later : Option Address) (a : Address) → or_later o later ≡ 
 or_later_is None later a is = inr is
 or_later_is (Some b) later a is = inl is
 
-found_at_lies : (text : List ℕ) (used at : ℕ) (a : Address) → IsUtf8 text → used ≤ at → at < length text
+found_at_lies : (text : List ℕ) (used at : ℕ) (a : Address) → used ≤ at → at < length text
     → address_found_at text used at ≡ Some a → LiesIn text used a
-found_at_lies text used at a utf8 low inside is = at_sign (byte_at text at == 64) refl
+found_at_lies text used at a low inside is = at_sign (byte_at text at == 64) refl
   where
     at_sign : (t : Bool) → (byte_at text at == 64) ≡ t → LiesIn text used a
-    at_sign true e = mail_lies text used at a utf8 low inside (rw e at is)
+    at_sign true e = mail_lies text used at a low inside (rw e at is)
     at_sign false e = letter (byte_at text at == 119) refl
       where
         letter : (t : Bool) → (byte_at text at == 119) ≡ t → LiesIn text used a
         letter true f = www_lies text used at a low inside f (rw (e, f) at is)
         letter false f = web_lies text used at a low inside (rw (e, f) at is)
 
-found_from_lies : (text : List ℕ) (used at n : ℕ) (a : Address) → IsUtf8 text → used ≤ at → at + n ≤ length text
+found_from_lies : (text : List ℕ) (used at n : ℕ) (a : Address) → used ≤ at → at + n ≤ length text
     → first_address_from text used at n ≡ Some a → LiesIn text used a
-found_from_lies text used at zero a utf8 low inside is = cc is
-found_from_lies text used at (suc n) a utf8 low inside is =
+found_from_lies text used at zero a low inside is = cc is
+found_from_lies text used at (suc n) a low inside is =
     by (or_later_is (address_found_at text used at) (first_address_from text used (at + 1) n) a is)
-    (λ later. found_from_lies text used (at + 1) n a utf8 (omega (arith, low)) (omega (arith, inside)) later)
+    (λ later. found_from_lies text used (at + 1) n a (omega (arith, low)) (omega (arith, inside)) later)
   where
     by : (address_found_at text used at ≡ Some a) ⊎ (first_address_from text used (at + 1) n ≡ Some a)
         → (first_address_from text used (at + 1) n ≡ Some a → LiesIn text used a) → LiesIn text used a
-    by (inl here) later = found_at_lies text used at a utf8 low (omega (arith, inside)) here
+    by (inl here) later = found_at_lies text used at a low (omega (arith, inside)) here
     by (inr there) later = later there
 
 -- the first address lies after what is used up, in the text, and between characters
-pub first_lies : (text : List ℕ) (used : ℕ) (a : Address) → IsUtf8 text → used ≤ length text
+pub first_lies : (text : List ℕ) (used : ℕ) (a : Address) → used ≤ length text
     → first_address text used ≡ Some a → LiesIn text used a
-first_lies text used a utf8 inside is =
-    found_from_lies text used used (length text - used) a utf8 (omega arith) (omega (arith, inside)) is
+first_lies text used a inside is =
+    found_from_lies text used used (length text - used) a (omega arith) (omega (arith, inside)) is

@@ -8,3 +8,4 @@ pub mod CutLemmas
 pub mod RunLemmas
 pub mod ReadLemmas
 pub mod LinkedRunLemmas
+pub mod LawLemmas

@@ -212,23 +212,23 @@ found_none text used zero none = refl
 found_none text used (suc n) none = rw none refl
 
 -- more turns than there are bytes change nothing
-enough : (text : List ℕ) (n m used : ℕ) → IsUtf8 text → used ≤ length text → length text - used ≤ n
+enough : (text : List ℕ) (n m used : ℕ) → used ≤ length text → length text - used ≤ n
     → length text - used ≤ m → addresses_after text used n ≡ addresses_after text used m
-enough text zero zero used utf8 inside low high = refl
-enough text zero (suc m) used utf8 inside low high = by (first_address text used) refl
+enough text zero zero used inside low high = refl
+enough text zero (suc m) used inside low high = by (first_address text used) refl
   where
     by : (o : Option Address) → first_address text used ≡ o → [] ≡ addresses_after text used (suc m)
     by None e = sym (found_none text used (suc m) e)
-    by (Some a) e = let l = first_lies text used a utf8 inside e in
+    by (Some a) e = let l = first_lies text used a inside e in
         absurd (omega (arith, low, l.after, l.name_after, l.some, l.inside))
-enough text (suc n) zero used utf8 inside low high = by (first_address text used) refl
+enough text (suc n) zero used inside low high = by (first_address text used) refl
   where
     by : (o : Option Address) → first_address text used ≡ o → addresses_after text used (suc n) ≡ []
     by None e = found_none text used (suc n) e
-    by (Some a) e = let l = first_lies text used a utf8 inside e in
+    by (Some a) e = let l = first_lies text used a inside e in
         absurd (omega (arith, high, l.after, l.name_after, l.some, l.inside))
-enough text (suc n) (suc m) used utf8 inside low high =
-    by (first_address text used) refl (λ end within less more. enough text n m end utf8 within less more)
+enough text (suc n) (suc m) used inside low high =
+    by (first_address text used) refl (λ end within less more. enough text n m end within less more)
   where
     by : (o : Option Address) → first_address text used ≡ o
         → ((end : ℕ) → end ≤ length text → length text - end ≤ n → length text - end ≤ m
@@ -236,7 +236,7 @@ enough text (suc n) (suc m) used utf8 inside low high =
         → addresses_after text used (suc n) ≡ addresses_after text used (suc m)
     by None e later = found_none text used (suc n) e ∙ sym (found_none text used (suc m) e)
     by (Some a) e later =
-        let l = first_lies text used a utf8 inside e in
+        let l = first_lies text used a inside e in
         let same = later a.end l.inside (omega (arith, low, l.after, l.name_after, l.some, l.inside))
         (omega (arith, high, l.after, l.name_after, l.some, l.inside)) in
         found_first text used n a e ∙ ap (λ (more : List Address). a ∷ more) same
@@ -247,16 +247,16 @@ abbrev pub addresses_left : List ℕ → ℕ → List Address
 addresses_left text used = addresses_after text used (length text - used)
 
 -- an address that is found is the first that is left
-pub left_begins : (text : List ℕ) (used : ℕ) (a : Address) → IsUtf8 text → used ≤ length text
+pub left_begins : (text : List ℕ) (used : ℕ) (a : Address) → used ≤ length text
     → first_address text used ≡ Some a → addresses_left text used ≡ a ∷ addresses_left text a.end
-left_begins text used a utf8 inside found =
-    let l = first_lies text used a utf8 inside found in
+left_begins text used a inside found =
+    let l = first_lies text used a inside found in
     let more : length text - used ≡ suc (length text - used - 1) =
     omega (arith, l.after, l.name_after, l.some, l.inside) in
     ap (λ (n : ℕ). addresses_after text used n) more
     ∙ found_first text used (length text - used - 1) a found
     ∙ ap (λ (more : List Address). a ∷ more)
-    (enough text (length text - used - 1) (length text - a.end) a.end utf8 l.inside
+    (enough text (length text - used - 1) (length text - a.end) a.end l.inside
     (omega (arith, l.after, l.name_after, l.some, l.inside)) (omega arith))
 
 pub left_ends : (text : List ℕ) (used : ℕ) → first_address text used ≡ None → addresses_left text used ≡ []
@@ -301,12 +301,12 @@ module _ {text : List ℕ} {run rest : List RunTextView} {before made : List (It
     pub between_cut : is_cut (searched_bytes rest) (a.start - used) ≡ true
     between_cut = cut_left a.start l.after l.start
 
-    pub linked_cut : is_cut (searched_bytes (drop_run (a.start - used) rest)) (a.end - a.start) ≡ true
-    linked_cut =
+    pub linked_cut : IsUtf8 text → is_cut (searched_bytes (drop_run (a.start - used) rest)) (a.end - a.start) ≡ true
+    linked_cut utf8 =
         let start : a.start ≤ length text = omega (arith, l.name_after, l.some, l.inside) in
         let there : a.start + (a.end - a.start) ≡ a.end = omega (arith, l.name_after, l.some) in
         ap (λ (bytes : List ℕ). is_cut bytes (a.end - a.start)) (drops_left a.start l.after start)
-        ∙ cut_drop text a.start (a.end - a.start) start ∙ ap (is_cut text) there ∙ boundary_cut text a.end l.end
+        ∙ cut_drop text a.start (a.end - a.start) start ∙ ap (is_cut text) there ∙ boundary_cut text a.end (l.end utf8)
 
     drops_linked : searched_bytes (drop_run (a.end - a.start) (drop_run (a.start - used) rest)) ≡ drop a.end text
     drops_linked =
@@ -320,19 +320,19 @@ module _ {text : List ℕ} {run rest : List RunTextView} {before made : List (It
         ∙ ap (λ (n : ℕ). drop n text) there
 
     -- the link of the first address is made
-    pub links_on : IsUtf8 text → first_address text used ≡ Some a
+    pub links_on : first_address text used ≡ Some a
         → FitRanges (drop_run (a.end - a.start) (drop_run (a.start - used) rest))
         → IsLinking text run before (drop_run (a.end - a.start) (drop_run (a.start - used) rest)) a.end
         ((made ++ as_items (text_of_run (take_run (a.start - used) rest)))
         ++ as_items (link_over (address_link_type a.form) (address_destination text a)
         (take_run (a.end - a.start) (drop_run (a.start - used) rest))))
-    links_on utf8 found fit = record {
+    links_on found fit = record {
       fit = fit;
       inside = l.inside;
       left = drops_linked;
       makes = k.makes
           ∙ ap (λ (more : List Address). made ++ as_items (linked_events text used rest more))
-          (left_begins text used a utf8 k.inside found)
+          (left_begins text used a k.inside found)
           ∙ ap (λ (xs : List (Item (Range ℕ))). made ++ xs)
           (map-append (λ e. Ok e) (between ++ link) later
           ∙ ap (λ (xs : List (Item (Range ℕ))). xs ++ as_items later) (map-append (λ e. Ok e) between link))
@@ -353,18 +353,18 @@ module _ {text : List ℕ} {run rest : List RunTextView} {before made : List (It
             (addresses_left text a.end)
 
     -- the same of what the calls return
-    pub links_next : IsUtf8 text → first_address text used ≡ Some a
+    pub links_next : first_address text used ≡ Some a
         → {between linked rest1 rest2 : List RunTextView} {made1 made2 : List (Item (Range ℕ))} {kind : LinkType}
         {destination : List ℕ} → between ≡ take_run (a.start - used) rest → rest1 ≡ drop_run (a.start - used) rest
         → linked ≡ take_run (a.end - a.start) rest1 → rest2 ≡ drop_run (a.end - a.start) rest1 → FitRanges rest2
         → made1 ≡ made ++ as_items (text_of_run between) → kind ≡ address_link_type a.form
         → destination ≡ address_destination text a → made2 ≡ made1 ++ as_items (link_over kind destination linked)
         → IsLinking text run before rest2 a.end made2
-    links_next utf8 found {between} {linked} {rest1} {rest2} {made1} {made2} {kind} {destination} is_between is_rest1
+    links_next found {between} {linked} {rest1} {rest2} {made1} {made2} {kind} {destination} is_between is_rest1
         is_linked is_rest2 fit is_made1 is_kind is_destination is_made2 =
         let fits = rw (is_rest2, is_rest1) at fit in
         rw (is_made2, is_kind, is_destination, is_linked, is_made1, is_between, is_rest2, is_rest1)
-        (links_on utf8 found fits)
+        (links_on found fits)
 
   -- what is left is made
   pub last_cut : is_cut (searched_bytes rest) (length text - used) ≡ true
@@ -388,10 +388,10 @@ links_nothing text run before fit is = record {
 }
 
 -- the links of a run are its events
-pub events_linked : (text : List ℕ) (run : List RunTextView) (a : Address) → IsUtf8 text → text ≡ searched_bytes run
+pub events_linked : (text : List ℕ) (run : List RunTextView) (a : Address) → text ≡ searched_bytes run
     → first_address text 0 ≡ Some a → linked_events text 0 run (addresses_left text 0) ≡ run_events run
-events_linked text run a utf8 is found =
-    let first : addresses_left text 0 ≡ a ∷ addresses_left text a.end = left_begins text 0 a utf8 (omega arith) found in
+events_linked text run a is found =
+    let first : addresses_left text 0 ≡ a ∷ addresses_left text a.end = left_begins text 0 a (omega arith) found in
     ap (linked_events text 0 run) first
     ∙ ap (λ (bytes : List ℕ). linked_events bytes 0 run (a ∷ addresses_left text a.end)) is
     ∙ sym (ap (run_with run) (ap addresses_in (sym is) ∙ all_left text ∙ first))

@@ -9,3 +9,4 @@ pub mod AutolinksNext
 pub mod AutolinksState
 pub mod AutolinksLaws
 pub mod RunRead
+pub mod LinkedLaws

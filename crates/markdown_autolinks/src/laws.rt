@@ -4,6 +4,7 @@ ghost use Rattle.std.specs.Iterator.{at_most};
 ghost use Rattle.markdown_autolinks.specs.AutolinksLaws.{IsNewLinked, ReturnsLinked};
 ghost use Rattle.markdown_autolinks.specs.AutolinksNext.{MayCallSource, count_to_come, linked_steps};
 ghost use Rattle.markdown_autolinks.specs.AutolinksState.{linked_state};
+ghost use Rattle.markdown_autolinks.specs.LinkedLaws.{NestingStays, OnlyLinksAreAdded};
 ghost use Rattle.markdown_out.specs.MergeNext.{CanMerge};
 ghost use Rattle.markdown_out.specs.OutLaws.{StaysEnded};
 
@@ -32,4 +33,11 @@ pub fn an_adapter_stays_ended<'a, I: Iterator<Item = Result<(Event<'a>, Range<us
         → CanMerge (linked_steps I.next_gives linked_state)
         (λ a. MayCallSource I.can_next I.remaining (linked_state a))
         (λ a. at_most (count_to_come I.remaining (linked_state a))) links.now }
+{}
+
+/// States what the links of addresses leave: without the tags that were added all other events are the ones before, and the
+/// Texts together have their bytes, unless smart punctuation made any; and Starts and Ends nest if they did.
+pub fn events_gain_links_alone()
+    ensures only { OnlyLinksAreAdded }
+    ensures nest { NestingStays }
 {}

@@ -12,56 +12,56 @@ use Rattle.markdown_autolinks.proofs.runs.push_linked.Goals as goal
 pub overflow_sub-address : goal.overflow_sub-address
 overflow_sub-address c =
     let k = c.addresses.invariant.linking in
-    let l = first_lies c.args.searched.now c.addresses.used c.in-Some.address c.utf8.searched k.inside
+    let l = first_lies c.args.searched.now c.addresses.used c.in-Some.address k.inside
     (sym c.addresses.invariant.found ∙ c.in-Some.is) in
     l.after
 
 pub take_part-requires-clause-cut : goal.take_part-requires-clause-cut
 take_part-requires-clause-cut c =
     let k = c.addresses.invariant.linking in
-    let l = first_lies c.args.searched.now c.addresses.used c.in-Some.address c.utf8.searched k.inside
+    let l = first_lies c.args.searched.now c.addresses.used c.in-Some.address k.inside
     (sym c.addresses.invariant.found ∙ c.in-Some.is) in
     between_cut k l
 
 pub overflow_sub-address-in-Some : goal.overflow_sub-address-in-Some
 overflow_sub-address-in-Some c =
     let k = c.addresses.invariant.linking in
-    let l = first_lies c.args.searched.now c.addresses.used c.in-Some.address c.utf8.searched k.inside
+    let l = first_lies c.args.searched.now c.addresses.used c.in-Some.address k.inside
     (sym c.addresses.invariant.found ∙ c.in-Some.is) in
     omega (arith, l.name_after, l.some)
 
 pub take_part-requires-in-Some-clause-cut : goal.take_part-requires-in-Some-clause-cut
 take_part-requires-in-Some-clause-cut c =
     let k = c.addresses.invariant.linking in
-    let l = first_lies c.args.searched.now c.addresses.used c.in-Some.address c.utf8.searched k.inside
+    let l = first_lies c.args.searched.now c.addresses.used c.in-Some.address k.inside
     (sym c.addresses.invariant.found ∙ c.in-Some.is) in
-    rw c.in_ok-between.ensures.left (linked_cut k l)
+    rw c.in_ok-between.ensures.left (linked_cut k l c.utf8.searched)
 
 pub destination_of-requires-clause-name : goal.destination_of-requires-clause-name
 destination_of-requires-clause-name c =
     let k = c.addresses.invariant.linking in
-    let l = first_lies c.args.searched.now c.addresses.used c.in-Some.address c.utf8.searched k.inside
+    let l = first_lies c.args.searched.now c.addresses.used c.in-Some.address k.inside
     (sym c.addresses.invariant.found ∙ c.in-Some.is) in
     l.name
 
 pub destination_of-requires-clause-end : goal.destination_of-requires-clause-end
 destination_of-requires-clause-end c =
     let k = c.addresses.invariant.linking in
-    let l = first_lies c.args.searched.now c.addresses.used c.in-Some.address c.utf8.searched k.inside
+    let l = first_lies c.args.searched.now c.addresses.used c.in-Some.address k.inside
     (sym c.addresses.invariant.found ∙ c.in-Some.is) in
-    l.end
+    l.end c.utf8.searched
 
 pub destination_of-requires-clause-order : goal.destination_of-requires-clause-order
 destination_of-requires-clause-order c =
     let k = c.addresses.invariant.linking in
-    let l = first_lies c.args.searched.now c.addresses.used c.in-Some.address c.utf8.searched k.inside
+    let l = first_lies c.args.searched.now c.addresses.used c.in-Some.address k.inside
     (sym c.addresses.invariant.found ∙ c.in-Some.is) in
     omega (arith, l.some)
 
 pub addresses-smaller : goal.addresses-smaller
 addresses-smaller c =
     let k = c.addresses.invariant.linking in
-    let l = first_lies c.args.searched.now c.addresses.used c.in-Some.address c.utf8.searched k.inside
+    let l = first_lies c.args.searched.now c.addresses.used c.in-Some.address k.inside
     (sym c.addresses.invariant.found ∙ c.in-Some.is) in
     omega (arith, l.after, l.name_after, l.some, l.inside)
 
@@ -69,9 +69,9 @@ pub addresses-preserved : goal.addresses-preserved
 addresses-preserved c =
     let k = c.addresses.invariant.linking in
     let found = sym c.addresses.invariant.found ∙ c.in-Some.is in
-    let l = first_lies c.args.searched.now c.addresses.used c.in-Some.address c.utf8.searched k.inside found in
+    let l = first_lies c.args.searched.now c.addresses.used c.in-Some.address k.inside found in
     record {
-      linking = links_next k l c.utf8.searched found
+      linking = links_next k l found
           (ap (map run_text_view) c.as_slice.ensures.value ∙ c.in_ok-between.ensures.part)
           c.in_ok-between.ensures.left
           (ap (map run_text_view) c.as_slice-in-Some.ensures.value ∙ c.in_ok-linked.ensures.part)
@@ -90,5 +90,5 @@ returns c =
     (ap (map run_text_view) c.as_slice-2.ensures.value ∙ c.in_ok-last.ensures.part)
     ∙ links_end k none
     ∙ ap (λ (events : List RangedEvent). map item_seen c.args.made.now.items ++ map (λ e. Ok e) events)
-    (events_linked c.args.searched.now (map run_text_view c.args.texts.items) c.args.first c.utf8.searched
+    (events_linked c.args.searched.now (map run_text_view c.args.texts.items) c.args.first
     c.requires.searched c.requires.first)
