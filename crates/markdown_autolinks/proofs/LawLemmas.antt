@@ -11,16 +11,18 @@ use Rattle.std.proofs.lemmas.List.{map-append, take-append-drop}
 use Rattle.markdown_autolinks.specs.Addresses.{addresses_after, first_address}
 use Rattle.markdown_autolinks.proofs.FoundLemmas.{first_lies}
 use Rattle.markdown_autolinks.proofs.RunLemmas.{addresses_left, events_linked, events_merged, left_begins, left_ends}
-use Rattle.markdown_base.specs.Event.{EventView, end, link, start, tag_end, text}
+use Rattle.markdown_base.specs.Event.{EventView, TagView, end, link, start, tag_end, text}
 use Rattle.markdown_base.specs.declared.tag.LinkType.{LinkType}
 use Rattle.markdown_base.specs.declared.tag.TagEnd.{TagEnd}
+use Rattle.markdown_base.specs.declared.tag.TagEnd.TheVariants as closes
 use Rattle.markdown_out.specs.OutLaws.{RangedEvent}
 use Rattle.markdown_autolinks.specs.Addresses.{address_destination, addresses_in}
 use Rattle.markdown_autolinks.specs.LinkedEvents.{Texts, left_alone_after, texts_events, with_addresses, with_addresses_after}
-use Rattle.markdown_autolinks.specs.LinkedLaws.{AddsLinksAlone, IsLinkTag, IsShownAsSearched, Nests, NestingStays}
+use Rattle.markdown_autolinks.specs.LinkedLaws.{AddsLinksAlone, IsLinkTag, IsShownAsSearched, LinksAreApart, Nests, NestingStays}
+use Rattle.markdown_autolinks.specs.LinkedLaws.{NoLinkGetsIntoALink, NoLinkIn}
 use Rattle.markdown_autolinks.specs.LinkedLaws.{OnlyLinksAreAdded, Sign, Without, other_of, others, shows, signs, signs_of}
 use Rattle.markdown_autolinks.specs.LinkedRuns.{RunTextView, address_link_type, drop_run, first_part, is_as_in_source, is_of_source}
-use Rattle.markdown_autolinks.specs.LinkedRuns.{last_part, link_over}
+use Rattle.markdown_autolinks.specs.LinkedRuns.{is_left_alone, last_part, link_over}
 use Rattle.markdown_autolinks.specs.LinkedRuns.{linked_events, merged_run, run_events, run_range, run_text, run_with}
 use Rattle.markdown_autolinks.specs.LinkedRuns.{searched_bytes, shown_bytes, take_run, text_of_run, text_unless_empty}
 use Rattle.markdown_autolinks.specs.declared.address.Address.{Address}
@@ -443,3 +445,156 @@ after_nests source a c (suc n) texts ((v, range) ∷ events) nests =
 
 pub nesting_stays : NestingStays
 nesting_stays source events nests = after_nests source [] [] 0 [] events nests
+
+-- ---- no link in a link
+
+apart_append : (a b : List TagEnd) (xs ys : List RangedEvent) → Nests a xs b → LinksAreApart a xs → LinksAreApart b ys
+    → LinksAreApart a (xs ++ ys)
+apart_append a b [] ys nests p q = subst (λ (o : List TagEnd). LinksAreApart o ys) (sym nests) q
+apart_append a b ((start (link l), range) ∷ xs) ys nests p q =
+    (p.0, apart_append (closes.Link ∷ a) b xs ys nests p.1 q)
+apart_append a b ((start tag, range) ∷ xs) ys nests p q = apart_append (tag_end tag ∷ a) b xs ys nests p q
+apart_append [] b ((end tag, range) ∷ xs) ys nests p q = absurd nests
+apart_append (t ∷ a) b ((end tag, range) ∷ xs) ys nests p q = apart_append a b xs ys nests.1 p q
+apart_append a b ((v, range) ∷ xs) ys nests p q = apart_append a b xs ys nests p q
+
+unless_apart : (a : List TagEnd) (bytes : List ℕ) (range : Range ℕ) → LinksAreApart a (text_unless_empty bytes range)
+unless_apart a [] range = tt
+unless_apart a (b ∷ bytes) range = tt
+
+text_apart : (a : List TagEnd) (run : List RunTextView) → LinksAreApart a (text_of_run run)
+text_apart a [] = tt
+text_apart a (t ∷ run) = unless_apart a (shown_bytes (t ∷ run)) (run_range t run)
+
+link_apart : (a : List TagEnd) (kind : LinkType) (destination : List ℕ) (run : List RunTextView) → NoLinkIn a
+    → LinksAreApart a (link_over kind destination run)
+link_apart a kind destination [] none = tt
+link_apart a kind destination (t ∷ run) none = (none, tt)
+
+linked_apart : (a : List TagEnd) (searched : List ℕ) (used : ℕ) (run : List RunTextView) (addresses : List Address)
+    → NoLinkIn a → LinksAreApart a (linked_events searched used run addresses)
+linked_apart a searched used run [] none = text_apart a (take_run (length searched - used) run)
+linked_apart a searched used run (x ∷ addresses) none =
+    let one = drop_run (x.start - used) run in
+    let between = text_of_run (take_run (x.start - used) run) in
+    let link = link_over (address_link_type x.form) (address_destination searched x) (take_run (x.end - x.start) one) in
+    let first = text_nests a (take_run (x.start - used) run) in
+    let second = link_nests a (address_link_type x.form) (address_destination searched x)
+    (take_run (x.end - x.start) one) in
+    apart_append a a (between ++ link) (linked_events searched x.end (drop_run (x.end - x.start) one) addresses)
+    (nests_append a a a between link first second)
+    (apart_append a a between link first (text_apart a (take_run (x.start - used) run))
+    (link_apart a (address_link_type x.form) (address_destination searched x) (take_run (x.end - x.start) one) none))
+    (linked_apart a searched x.end (drop_run (x.end - x.start) one) addresses none)
+
+run_apart : (a : List TagEnd) (run : List RunTextView) → NoLinkIn a → LinksAreApart a (run_events run)
+run_apart a run none = by (addresses_in (searched_bytes run))
+  where
+    by : (addresses : List Address) → LinksAreApart a (run_with run addresses)
+    by [] = merged run
+      where
+        merged : (r : List RunTextView) → LinksAreApart a (merged_run r)
+        merged [] = tt
+        merged (t ∷ []) = tt
+        merged (t ∷ u ∷ us) = text_apart a (t ∷ u ∷ us)
+    by (x ∷ addresses) = linked_apart a (searched_bytes run) 0 run (x ∷ addresses) none
+
+-- how many of the open places are left alone
+abbrev count_alone : List TagEnd → ℕ
+count_alone [] = 0
+count_alone (t ∷ opened) = (if is_left_alone t then 1 else 0) + count_alone opened
+
+none_alone : (a : List TagEnd) → count_alone a ≡ 0 → NoLinkIn a
+none_alone [] none = tt
+none_alone (t ∷ a) none = (λ is. no_link t none is, none_alone a (omega (arith, none)))
+  where
+    no_link : (u : TagEnd) → (if is_left_alone u then 1 else 0) + count_alone a ≡ 0 → u ≡ closes.Link → ⊥
+    no_link closes.Link some is = absurd (omega (arith, some))
+    no_link u some is = cc is
+
+count_opens : (inside : ℕ) (a : List TagEnd) (tag : TagView) → inside ≡ count_alone a
+    → left_alone_after inside (start tag) ≡ count_alone (tag_end tag ∷ a)
+count_opens inside a tag is = cases (is_left_alone (tag_end tag)) refl
+  where
+    cases : (b : Bool) → is_left_alone (tag_end tag) ≡ b
+        → left_alone_after inside (start tag) ≡ count_alone (tag_end tag ∷ a)
+    cases true e = rw e (omega (arith, is))
+    cases false e = rw e (omega (arith, is))
+
+count_closes : (inside : ℕ) (a : List TagEnd) (t tag : TagEnd) → inside ≡ count_alone (t ∷ a) → t ≡ tag
+    → left_alone_after inside (end tag) ≡ count_alone a
+count_closes inside a t tag is same = cases (is_left_alone tag) refl
+  where
+    cases : (b : Bool) → is_left_alone tag ≡ b → left_alone_after inside (end tag) ≡ count_alone a
+    cases true e = let now = rw (same, e) at is in rw e (omega (arith, now))
+    cases false e = let now = rw (same, e) at is in rw e (omega (arith, now))
+
+-- where addresses are not looked for no run has begun
+abbrev IsQuiet : ℕ → Texts → Type 0
+IsQuiet zero texts = Unit {0}
+IsQuiet (suc n) texts = texts ≡ []
+
+quiet_none : (inside : ℕ) → IsQuiet inside []
+quiet_none zero = tt
+quiet_none (suc n) = refl
+
+runs_apart : (source : List ℕ) (a : List TagEnd) (inside : ℕ) (texts : Texts) → inside ≡ count_alone a
+    → IsQuiet inside texts → LinksAreApart a (texts_events source texts)
+runs_apart source a zero texts is quiet = run_apart a (map (run_text source) texts) (none_alone a (sym is))
+runs_apart source a (suc n) texts is quiet = rw quiet tt
+
+-- the events of a run, and what follows them
+rest_apart : (source : List ℕ) (a : List TagEnd) (inside : ℕ) (texts : Texts) → inside ≡ count_alone a
+    → IsQuiet inside texts → (e : RangedEvent) (after : List RangedEvent) → LinksAreApart a (e ∷ after)
+    → LinksAreApart a (texts_events source texts ++ e ∷ after)
+rest_apart source a inside texts is quiet e after apart =
+    apart_append a a (texts_events source texts) (e ∷ after) (run_nests a (map (run_text source) texts))
+    (runs_apart source a inside texts is quiet) apart
+
+opens_apart : (a : List TagEnd) (tag : TagView) (range : Range ℕ) (events after : List RangedEvent)
+    → LinksAreApart a ((start tag, range) ∷ events)
+    → (LinksAreApart (tag_end tag ∷ a) events → LinksAreApart (tag_end tag ∷ a) after)
+    → LinksAreApart a ((start tag, range) ∷ after)
+opens_apart a (link l) range events after apart inner = (apart.0, inner apart.1)
+opens_apart a tag range events after apart inner = inner apart
+
+after_apart : (source : List ℕ) (a c : List TagEnd) (inside : ℕ) (texts : Texts) (events : List RangedEvent)
+    → Nests a events c → LinksAreApart a events → inside ≡ count_alone a → IsQuiet inside texts
+    → LinksAreApart a (with_addresses_after source inside texts events)
+after_apart source a c inside texts [] nests apart is quiet = runs_apart source a inside texts is quiet
+after_apart source a c zero texts ((text t, range) ∷ events) nests apart is quiet =
+    after_apart source a c zero (texts ++ (t, range) ∷ []) events nests apart is tt
+after_apart source a c zero texts ((start tag, range) ∷ events) nests apart is quiet =
+    rest_apart source a zero texts is quiet (start tag, range)
+    (with_addresses_after source (left_alone_after zero (start tag)) [] events)
+    (opens_apart a tag range events (with_addresses_after source (left_alone_after zero (start tag)) [] events) apart
+    (λ inner. after_apart source (tag_end tag ∷ a) c (left_alone_after zero (start tag)) [] events nests inner
+    (count_opens zero a tag is) (quiet_none (left_alone_after zero (start tag)))))
+after_apart source [] c zero texts ((end tag, range) ∷ events) nests apart is quiet = absurd nests
+after_apart source (t ∷ a) c zero texts ((end tag, range) ∷ events) nests apart is quiet =
+    rest_apart source (t ∷ a) zero texts is quiet (end tag, range)
+    (with_addresses_after source (left_alone_after zero (end tag)) [] events)
+    (after_apart source a c (left_alone_after zero (end tag)) [] events nests.1 apart
+    (count_closes zero a t tag is nests.0) (quiet_none (left_alone_after zero (end tag))))
+after_apart source a c zero texts ((v, range) ∷ events) nests apart is quiet =
+    rest_apart source a zero texts is quiet (v, range) (with_addresses_after source (left_alone_after zero v) [] events)
+    (after_apart source a c (left_alone_after zero v) [] events nests apart is tt)
+after_apart source a c (suc n) texts ((start tag, range) ∷ events) nests apart is quiet =
+    rest_apart source a (suc n) texts is quiet (start tag, range)
+    (with_addresses_after source (left_alone_after (suc n) (start tag)) [] events)
+    (opens_apart a tag range events (with_addresses_after source (left_alone_after (suc n) (start tag)) [] events) apart
+    (λ inner. after_apart source (tag_end tag ∷ a) c (left_alone_after (suc n) (start tag)) [] events nests inner
+    (count_opens (suc n) a tag is) (quiet_none (left_alone_after (suc n) (start tag)))))
+after_apart source [] c (suc n) texts ((end tag, range) ∷ events) nests apart is quiet = absurd nests
+after_apart source (t ∷ a) c (suc n) texts ((end tag, range) ∷ events) nests apart is quiet =
+    rest_apart source (t ∷ a) (suc n) texts is quiet (end tag, range)
+    (with_addresses_after source (left_alone_after (suc n) (end tag)) [] events)
+    (after_apart source a c (left_alone_after (suc n) (end tag)) [] events nests.1 apart
+    (count_closes (suc n) a t tag is nests.0) (quiet_none (left_alone_after (suc n) (end tag))))
+after_apart source a c (suc n) texts ((v, range) ∷ events) nests apart is quiet =
+    rest_apart source a (suc n) texts is quiet (v, range)
+    (with_addresses_after source (left_alone_after (suc n) v) [] events)
+    (after_apart source a c (left_alone_after (suc n) v) [] events nests apart is refl)
+
+pub links_stay_apart : NoLinkGetsIntoALink
+links_stay_apart source events nests apart = after_apart source [] [] 0 [] events nests apart refl tt

@@ -69,3 +69,22 @@ Nests opened (e ∷ events) now = Nests opened events now
 -- where Starts and Ends nest, they nest with the links that are added
 abbrev pub NestingStays : Type 0
 NestingStays = (source : List ℕ) (events : List RangedEvent) → Nests [] events [] → Nests [] (with_addresses source events) []
+
+-- no link is open
+abbrev pub NoLinkIn : List TagEnd → Type 0
+NoLinkIn opened = AllByRecursion (λ t. t ≡ closes.Link → ⊥) opened
+
+-- no link is in a link, where these are open before the events
+abbrev pub LinksAreApart : (opened : List TagEnd) → List RangedEvent → Type 0
+LinksAreApart opened [] = Unit {0}
+LinksAreApart opened ((start (link l), range) ∷ events) =
+    NoLinkIn opened × LinksAreApart (closes.Link ∷ opened) events
+LinksAreApart opened ((start tag, range) ∷ events) = LinksAreApart (tag_end tag ∷ opened) events
+LinksAreApart [] ((end tag, range) ∷ events) = Unit {0}
+LinksAreApart (t ∷ opened) ((end tag, range) ∷ events) = LinksAreApart opened events
+LinksAreApart opened (e ∷ events) = LinksAreApart opened events
+
+-- where Starts and Ends nest, no link that is added is in a link, and no link gets into one
+abbrev pub NoLinkGetsIntoALink : Type 0
+NoLinkGetsIntoALink = (source : List ℕ) (events : List RangedEvent) → Nests [] events [] → LinksAreApart [] events
+    → LinksAreApart [] (with_addresses source events)

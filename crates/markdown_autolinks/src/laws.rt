@@ -4,7 +4,7 @@ ghost use Rattle.std.specs.Iterator.{at_most};
 ghost use Rattle.markdown_autolinks.specs.AutolinksLaws.{IsNewLinked, ReturnsLinked};
 ghost use Rattle.markdown_autolinks.specs.AutolinksNext.{MayCallSource, count_to_come, linked_steps};
 ghost use Rattle.markdown_autolinks.specs.AutolinksState.{linked_state};
-ghost use Rattle.markdown_autolinks.specs.LinkedLaws.{NestingStays, OnlyLinksAreAdded};
+ghost use Rattle.markdown_autolinks.specs.LinkedLaws.{NestingStays, NoLinkGetsIntoALink, OnlyLinksAreAdded};
 ghost use Rattle.markdown_out.specs.MergeNext.{CanMerge};
 ghost use Rattle.markdown_out.specs.OutLaws.{StaysEnded};
 
@@ -36,8 +36,10 @@ pub fn an_adapter_stays_ended<'a, I: Iterator<Item = Result<(Event<'a>, Range<us
 {}
 
 /// States what the links of addresses leave: without the tags that were added all other events are the ones before, and the
-/// Texts together have their bytes, unless smart punctuation made any; and Starts and Ends nest if they did.
+/// Texts together have their bytes, unless smart punctuation made any; Starts and Ends nest if they did; and then no link is in
+/// a link if none was.
 pub fn events_gain_links_alone()
     ensures only { OnlyLinksAreAdded }
     ensures nest { NestingStays }
+    ensures apart { NoLinkGetsIntoALink }
 {}
