@@ -13,7 +13,8 @@ use Rattle.markdown_autolinks.specs.AddressBytes.{is_host, is_domain_at, is_mail
 use Rattle.markdown_autolinks.specs.Addresses.{address_after, address_end, address_found_at, address_scheme_length}
 use Rattle.markdown_autolinks.specs.Addresses.{domain_end, entity_left_out, first_address}
 use Rattle.markdown_autolinks.specs.Addresses.{first_address_from, is_after_letter, is_domain, is_end_mark, left_out}
-use Rattle.markdown_autolinks.specs.Addresses.{mail_address, mail_begin, mailbox_begin, may_begin_www, or_later, trimmed}
+use Rattle.markdown_autolinks.specs.Addresses.{mail_address, mail_begin, mailbox_begin, may_begin_www, or_later}
+use Rattle.markdown_autolinks.specs.Addresses.{trimmed}
 use Rattle.markdown_autolinks.specs.Addresses.{web_address, www_address}
 use Rattle.markdown_autolinks.specs.declared.address.Address.{Address}
 use Rattle.markdown_autolinks.specs.declared.address.AddressForm.{AddressForm}
@@ -51,7 +52,8 @@ not_white text at stops = by (is_white_at text at) refl
     by false e = inl (grind (arith, nat_tests))
 
 -- where no byte fails, the end is reached
-failing_within : (passes : ℕ → Bool) (at n : ℕ) → (at ≤ first_failing passes at n) × (first_failing passes at n ≤ at + n)
+failing_within : (passes : ℕ → Bool) (at n : ℕ)
+    → (at ≤ first_failing passes at n) × (first_failing passes at n ≤ at + n)
 failing_within passes at zero = (omega arith, omega arith)
 failing_within passes at (suc n) = cases (passes at) refl (failing_within passes (at + 1) n)
   where

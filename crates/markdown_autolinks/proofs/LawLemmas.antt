@@ -1,5 +1,6 @@
 -- What the links that are added leave of events.
-use Rattle.std.proofs.Common.{◌≡◌, ◌⊎◌, ◌≤◌, ◌+◌, ◌-◌, ◌∙◌, inl, inr, ℕ, zero, suc, Bool, true, false, List, [], ◌∷◌, ◌++◌}
+use Rattle.std.proofs.Common.{◌≡◌, ◌⊎◌, ◌≤◌, ◌+◌, ◌-◌, ◌∙◌, inl, inr, ℕ, zero, suc, Bool, true, false, List, [], ◌∷◌}
+use Rattle.std.proofs.Common.{◌++◌}
 use Rattle.std.proofs.Common.{refl, sym, ap, subst, map, length, take, drop, append_assoc, append-nil, flat_map}
 use Rattle.std.specs.Prelude.{◌&&◌, nat_le, slice_range, if◌then◌else◌}
 use Rattle.std.specs.List.{AllByRecursion}
@@ -17,11 +18,15 @@ use Rattle.markdown_base.specs.declared.tag.TagEnd.{TagEnd}
 use Rattle.markdown_base.specs.declared.tag.TagEnd.TheVariants as closes
 use Rattle.markdown_out.specs.OutLaws.{RangedEvent}
 use Rattle.markdown_autolinks.specs.Addresses.{address_destination, addresses_in}
-use Rattle.markdown_autolinks.specs.LinkedEvents.{Texts, left_alone_after, texts_events, with_addresses, with_addresses_after}
-use Rattle.markdown_autolinks.specs.LinkedLaws.{AddsLinksAlone, IsLinkTag, IsShownAsSearched, LinksAreApart, Nests, NestingStays}
+use Rattle.markdown_autolinks.specs.LinkedEvents.{Texts, left_alone_after, texts_events, with_addresses}
+use Rattle.markdown_autolinks.specs.LinkedEvents.{with_addresses_after}
+use Rattle.markdown_autolinks.specs.LinkedLaws.{AddsLinksAlone, IsLinkTag, IsShownAsSearched, LinksAreApart, Nests}
+use Rattle.markdown_autolinks.specs.LinkedLaws.{NestingStays}
 use Rattle.markdown_autolinks.specs.LinkedLaws.{NoLinkGetsIntoALink, NoLinkIn}
-use Rattle.markdown_autolinks.specs.LinkedLaws.{OnlyLinksAreAdded, Sign, Without, other_of, others, shows, signs, signs_of}
-use Rattle.markdown_autolinks.specs.LinkedRuns.{RunTextView, address_link_type, drop_run, first_part, is_as_in_source, is_of_source}
+use Rattle.markdown_autolinks.specs.LinkedLaws.{OnlyLinksAreAdded, Sign, Without, other_of, others, shows, signs}
+use Rattle.markdown_autolinks.specs.LinkedLaws.{signs_of}
+use Rattle.markdown_autolinks.specs.LinkedRuns.{RunTextView, address_link_type, run_left, first_part, is_as_in_source}
+use Rattle.markdown_autolinks.specs.LinkedRuns.{is_of_source}
 use Rattle.markdown_autolinks.specs.LinkedRuns.{is_left_alone, last_part, link_over}
 use Rattle.markdown_autolinks.specs.LinkedRuns.{linked_events, merged_run, run_events, run_range, run_text, run_with}
 use Rattle.markdown_autolinks.specs.LinkedRuns.{searched_bytes, shown_bytes, take_run, text_of_run, text_unless_empty}
@@ -61,20 +66,20 @@ take_same (suc n) (t ∷ run) same = cases (nat_le (length t.searched) (suc n)) 
     cases true e later = rw e (same.0, later)
     cases false e later = rw e (refl, tt)
 
-drop_same : (n : ℕ) (run : List RunTextView) → AllSame run → AllSame (drop_run n run)
+drop_same : (n : ℕ) (run : List RunTextView) → AllSame run → AllSame (run_left n run)
 drop_same zero run same = same
 drop_same (suc n) [] same = tt
 drop_same (suc n) (t ∷ run) same = cases (nat_le (length t.searched) (suc n)) refl
     (drop_same (suc n - length t.searched) run same.1)
   where
-    cases : (b : Bool) → nat_le (length t.searched) (suc n) ≡ b → AllSame (drop_run (suc n - length t.searched) run)
-        → AllSame (drop_run (suc n) (t ∷ run))
+    cases : (b : Bool) → nat_le (length t.searched) (suc n) ≡ b → AllSame (run_left (suc n - length t.searched) run)
+        → AllSame (run_left (suc n) (t ∷ run))
     cases true e later = rw e later
     cases false e later = rw e (refl, same.1)
 
 -- what is taken and what is left are all bytes
 bytes_split : (n : ℕ) (run : List RunTextView)
-    → searched_bytes (take_run n run) ++ searched_bytes (drop_run n run) ≡ searched_bytes run
+    → searched_bytes (take_run n run) ++ searched_bytes (run_left n run) ≡ searched_bytes run
 bytes_split zero run = refl
 bytes_split (suc n) [] = refl
 bytes_split (suc n) (t ∷ run) = cases (nat_le (length t.searched) (suc n)) refl
@@ -82,12 +87,12 @@ bytes_split (suc n) (t ∷ run) = cases (nat_le (length t.searched) (suc n)) ref
   where
     cases : (b : Bool) → nat_le (length t.searched) (suc n) ≡ b
         → searched_bytes (take_run (suc n - length t.searched) run)
-        ++ searched_bytes (drop_run (suc n - length t.searched) run) ≡ searched_bytes run
-        → searched_bytes (take_run (suc n) (t ∷ run)) ++ searched_bytes (drop_run (suc n) (t ∷ run))
+        ++ searched_bytes (run_left (suc n - length t.searched) run) ≡ searched_bytes run
+        → searched_bytes (take_run (suc n) (t ∷ run)) ++ searched_bytes (run_left (suc n) (t ∷ run))
         ≡ t.searched ++ searched_bytes run
     cases true e later = rw e
         (append_assoc t.searched (searched_bytes (take_run (suc n - length t.searched) run))
-        (searched_bytes (drop_run (suc n - length t.searched) run))
+        (searched_bytes (run_left (suc n - length t.searched) run))
         ∙ ap (λ (bytes : List ℕ). t.searched ++ bytes) later)
     cases false e later = rw e
         (ap (λ (bytes : List ℕ). bytes ++ (drop (suc n) t.searched ++ searched_bytes run))
@@ -97,7 +102,7 @@ bytes_split (suc n) (t ∷ run) = cases (nat_le (length t.searched) (suc n)) ref
 
 -- as many bytes fewer are left
 drop_few : (n : ℕ) (run : List RunTextView)
-    → length (searched_bytes (drop_run n run)) ≤ length (searched_bytes run) - n
+    → length (searched_bytes (run_left n run)) ≤ length (searched_bytes run) - n
 drop_few zero run = omega arith
 drop_few (suc n) [] = omega arith
 drop_few (suc n) (t ∷ run) = cases (nat_le (length t.searched) (suc n)) refl
@@ -107,15 +112,20 @@ drop_few (suc n) (t ∷ run) = cases (nat_le (length t.searched) (suc n)) refl
     all = length-append t.searched (searched_bytes run)
 
     cases : (b : Bool) → nat_le (length t.searched) (suc n) ≡ b
-        → length (searched_bytes (drop_run (suc n - length t.searched) run))
+        → length (searched_bytes (run_left (suc n - length t.searched) run))
         ≤ length (searched_bytes run) - (suc n - length t.searched)
-        → length (searched_bytes (drop_run (suc n) (t ∷ run))) ≤ length (t.searched ++ searched_bytes run) - suc n
+        → length (searched_bytes (run_left (suc n) (t ∷ run))) ≤ length (t.searched ++ searched_bytes run) - suc n
     cases true e later =
         let fits : length t.searched ≤ suc n = grind (arith, nat_tests) in rw e (omega (arith, later, all, fits))
     cases false e later =
         let cuts : suc n < length t.searched = grind (arith, nat_tests) in
-        rw e (omega (arith, all, cuts, length-append (drop (suc n) t.searched) (searched_bytes run),
-        length-drop (suc n) t.searched))
+        rw e (omega (
+          arith,
+          all,
+          cuts,
+          length-append (drop (suc n) t.searched) (searched_bytes run),
+          length-drop (suc n) t.searched,
+        ))
 
 none_left : (bytes : List ℕ) → length bytes ≤ 0 → bytes ≡ []
 none_left [] few = refl
@@ -190,13 +200,18 @@ last_leaves : (searched : List ℕ) (used : ℕ) (run : List RunTextView)
     → LeavesTexts (AllSame run) (searched_bytes run) (text_of_run (take_run (length searched - used) run))
 last_leaves searched used run few =
     let n = length searched - used in
-    let none : searched_bytes (drop_run n run) ≡ [] =
-    none_left (searched_bytes (drop_run n run)) (omega (arith, drop_few n run, few)) in
+    let none : searched_bytes (run_left n run) ≡ [] =
+    none_left (searched_bytes (run_left n run)) (omega (arith, drop_few n run, few)) in
     let all : searched_bytes (take_run n run) ≡ searched_bytes run =
     sym (append-nil (searched_bytes (take_run n run)))
     ∙ ap (λ (bytes : List ℕ). searched_bytes (take_run n run) ++ bytes) (sym none) ∙ bytes_split n run in
     let v = text_leaves (take_run n run) in
-    same_bytes all (record { rest = v.rest; without = v.without; other = v.other; shown = λ s. v.shown (take_same n run s) })
+    same_bytes all (record {
+      rest = v.rest;
+      without = v.without;
+      other = v.other;
+      shown = λ s. v.shown (take_same n run s);
+    })
 
 linked_leaves : (n : ℕ) (searched : List ℕ) (used : ℕ) (run : List RunTextView) → used ≤ length searched
     → length searched - used ≤ n → length (searched_bytes run) ≤ length searched - used
@@ -222,13 +237,21 @@ linked_leaves (suc n) searched used run inside turns few =
         (last_leaves searched used run few)
     by (Some a) e later =
         let l = first_lies searched used a inside e in
-        let one = drop_run (a.start - used) run in
-        let two = drop_run (a.end - a.start) one in
+        let one = run_left (a.start - used) run in
+        let two = run_left (a.end - a.start) one in
         let between = take_run (a.start - used) run in
         let link = take_run (a.end - a.start) one in
         let fewer : length (searched_bytes two) ≤ length searched - a.end =
-        omega (arith, drop_few (a.start - used) run, drop_few (a.end - a.start) one, few, l.after, l.name_after, l.some,
-        l.inside) in
+        omega (
+          arith,
+          drop_few (a.start - used) run,
+          drop_few (a.end - a.start) one,
+          few,
+          l.after,
+          l.name_after,
+          l.some,
+          l.inside,
+        ) in
         let v = later a.end two l.inside (omega (arith, turns, l.after, l.name_after, l.some, l.inside)) fewer in
         let bytes : (searched_bytes between ++ searched_bytes link) ++ searched_bytes two ≡ searched_bytes run =
         append_assoc (searched_bytes between) (searched_bytes link) (searched_bytes two)
@@ -261,7 +284,8 @@ run_leaves run = by (first_address (searched_bytes run) 0) refl
         merged_leaves (t ∷ u ∷ us) = text_leaves (t ∷ u ∷ us)
     by (Some a) e =
         same_events (events_linked (searched_bytes run) run a refl e)
-        (linked_leaves (length (searched_bytes run)) (searched_bytes run) 0 run (omega arith) (omega arith) (omega arith))
+        (linked_leaves (length (searched_bytes run)) (searched_bytes run) 0 run (omega arith) (omega arith)
+        (omega arith))
 
 -- ---- all events
 
@@ -384,13 +408,13 @@ linked_nest : (a : List TagEnd) (searched : List ℕ) (used : ℕ) (run : List R
     → Nests a (linked_events searched used run addresses) a
 linked_nest a searched used run [] = text_nests a (take_run (length searched - used) run)
 linked_nest a searched used run (x ∷ addresses) =
-    let one = drop_run (x.start - used) run in
+    let one = run_left (x.start - used) run in
     let between = text_of_run (take_run (x.start - used) run) in
     let link = link_over (address_link_type x.form) (address_destination searched x) (take_run (x.end - x.start) one) in
-    nests_append a a a (between ++ link) (linked_events searched x.end (drop_run (x.end - x.start) one) addresses)
+    nests_append a a a (between ++ link) (linked_events searched x.end (run_left (x.end - x.start) one) addresses)
     (nests_append a a a between link (text_nests a (take_run (x.start - used) run))
     (link_nests a (address_link_type x.form) (address_destination searched x) (take_run (x.end - x.start) one)))
-    (linked_nest a searched x.end (drop_run (x.end - x.start) one) addresses)
+    (linked_nest a searched x.end (run_left (x.end - x.start) one) addresses)
 
 run_nests : (a : List TagEnd) (run : List RunTextView) → Nests a (run_events run) a
 run_nests a run = by (addresses_in (searched_bytes run))
@@ -475,17 +499,17 @@ linked_apart : (a : List TagEnd) (searched : List ℕ) (used : ℕ) (run : List 
     → NoLinkIn a → LinksAreApart a (linked_events searched used run addresses)
 linked_apart a searched used run [] none = text_apart a (take_run (length searched - used) run)
 linked_apart a searched used run (x ∷ addresses) none =
-    let one = drop_run (x.start - used) run in
+    let one = run_left (x.start - used) run in
     let between = text_of_run (take_run (x.start - used) run) in
     let link = link_over (address_link_type x.form) (address_destination searched x) (take_run (x.end - x.start) one) in
     let first = text_nests a (take_run (x.start - used) run) in
     let second = link_nests a (address_link_type x.form) (address_destination searched x)
     (take_run (x.end - x.start) one) in
-    apart_append a a (between ++ link) (linked_events searched x.end (drop_run (x.end - x.start) one) addresses)
+    apart_append a a (between ++ link) (linked_events searched x.end (run_left (x.end - x.start) one) addresses)
     (nests_append a a a between link first second)
     (apart_append a a between link first (text_apart a (take_run (x.start - used) run))
     (link_apart a (address_link_type x.form) (address_destination searched x) (take_run (x.end - x.start) one) none))
-    (linked_apart a searched x.end (drop_run (x.end - x.start) one) addresses none)
+    (linked_apart a searched x.end (run_left (x.end - x.start) one) addresses none)
 
 run_apart : (a : List TagEnd) (run : List RunTextView) → NoLinkIn a → LinksAreApart a (run_events run)
 run_apart a run none = by (addresses_in (searched_bytes run))

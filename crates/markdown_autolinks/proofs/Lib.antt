@@ -1,4 +1,5 @@
--- Lemmas: of places in a text, of where addresses end and lie, of web addresses, of places between characters, of runs, and of
+-- Lemmas: of places in a text, of where addresses end and lie, of web addresses, of places between characters, of runs,
+-- and of
 -- what is read.
 pub mod PlaceLemmas
 pub mod TailLemmas

@@ -11,12 +11,14 @@ use Rattle.markdown_base.specs.declared.fault.Fault.TheVariants.{Memory}
 use Rattle.markdown_out.specs.Merge.{Item}
 use Rattle.markdown_out.specs.MergeNext.{CanMerge}
 use Rattle.markdown_out.specs.OutLaws.{RangedEvent, StaysEnded}
-use Rattle.markdown_autolinks.specs.AutolinksLaws.{AreAllLinked, AreFirstLinked, AreLinkedUntil, BeginsWith, IsNewLinked}
-use Rattle.markdown_autolinks.specs.AutolinksLaws.{ReturnsLinked, event_items, ranged_view}
+use Rattle.markdown_autolinks.specs.AutolinksLaws.{AreAllLinked, AreFirstLinked, AreLinkedUntil, AreFirstEvents}
+use Rattle.markdown_autolinks.specs.AutolinksLaws.{IsNewLinked}
+use Rattle.markdown_autolinks.specs.AutolinksLaws.{ReturnsLinked, events_read, event_read}
 use Rattle.markdown_autolinks.specs.AutolinksNext.{CallsSource, GivesLinked, HasReturnedAll, IsRefused, LinkedState}
-use Rattle.markdown_autolinks.specs.AutolinksNext.{MayCallSource, PassesItem, SourceItem, count_to_come, item_seen}
-use Rattle.markdown_autolinks.specs.AutolinksNext.{items_to_come, linked_steps, unless_over}
-use Rattle.markdown_autolinks.specs.LinkedEvents.{Texts, items_with_addresses, left_alone_after, texts_events, with_addresses}
+use Rattle.markdown_autolinks.specs.AutolinksNext.{MayReadOn, PassesItem, SourceItem, most_to_come, item_read}
+use Rattle.markdown_autolinks.specs.AutolinksNext.{links_to_come, linked_steps, unless_ended}
+use Rattle.markdown_autolinks.specs.LinkedEvents.{Texts, items_with_addresses, left_alone_after, texts_events}
+use Rattle.markdown_autolinks.specs.LinkedEvents.{with_addresses}
 use Rattle.markdown_autolinks.specs.LinkedEvents.{with_addresses_after}
 
 abbrev Placed : Type 0
@@ -34,9 +36,9 @@ oks events = map (λ e. Ok e) events
 oks_append : (xs ys : List RangedEvent) → oks (xs ++ ys) ≡ oks xs ++ oks ys
 oks_append xs ys = map-append (λ (e : RangedEvent). Ok e) xs ys
 
-seen_events : (events : List Placed) → map item_seen (event_items events) ≡ oks (map ranged_view events)
+seen_events : (events : List Placed) → map item_read (events_read events) ≡ oks (map event_read events)
 seen_events [] = refl
-seen_events (e ∷ events) = ap (λ (xs : List RangedItem). Ok (ranged_view e) ∷ xs) (seen_events events)
+seen_events (e ∷ events) = ap (λ (xs : List RangedItem). Ok (event_read e) ∷ xs) (seen_events events)
 
 ok_same : {x y : RangedEvent} {xs ys : List RangedItem} → Ok x ∷ xs ≡ Ok y ∷ ys → x ≡ y
 ok_same {x} {y} {xs} {ys} e = cc
@@ -78,7 +80,7 @@ same_until (x ∷ xs) (y ∷ ys) fault other more rest e =
     record { events = cc; faults = s.faults }
 
 -- events that a list of events, or of events and an error, begins with
-first_of : (xs ys : List RangedEvent) (rest : List RangedItem) → oks xs ≡ oks ys ++ rest → BeginsWith ys xs
+first_of : (xs ys : List RangedEvent) (rest : List RangedItem) → oks xs ≡ oks ys ++ rest → AreFirstEvents ys xs
 first_of xs [] rest e = record { missing = xs; is = refl }
 first_of [] (y ∷ ys) rest e = cc e
 first_of (x ∷ xs) (y ∷ ys) rest e =
@@ -88,7 +90,7 @@ first_of (x ∷ xs) (y ∷ ys) rest e =
     record { missing = f.missing; is = cc }
 
 first_until : (xs ys : List RangedEvent) (fault : Fault) (more rest : List RangedItem)
-    → oks xs ++ Err fault ∷ more ≡ oks ys ++ rest → BeginsWith ys xs
+    → oks xs ++ Err fault ∷ more ≡ oks ys ++ rest → AreFirstEvents ys xs
 first_until xs [] fault more rest e = record { missing = xs; is = refl }
 first_until [] (y ∷ ys) fault more rest e = cc e
 first_until (x ∷ xs) (y ∷ ys) fault more rest e =
@@ -102,7 +104,8 @@ first_until (x ∷ xs) (y ∷ ys) fault more rest e =
 joined : (xs : List RangedEvent) (e : RangedEvent) (ys : List RangedEvent) (rest : List RangedItem)
     → oks xs ++ Ok e ∷ (oks ys ++ rest) ≡ oks (xs ++ e ∷ ys) ++ rest
 joined xs e ys rest =
-    sym (append_assoc (oks xs) (Ok e ∷ oks ys) rest) ∙ ap (λ (zs : List RangedItem). zs ++ rest) (sym (oks_append xs (e ∷ ys)))
+    sym (append_assoc (oks xs) (Ok e ∷ oks ys) rest)
+    ∙ ap (λ (zs : List RangedItem). zs ++ rest) (sym (oks_append xs (e ∷ ys)))
 
 module _ (source : List ℕ) where
   events_all : (inside : ℕ) (texts : Texts) (events : List RangedEvent)
@@ -154,17 +157,17 @@ module _ (source : List ℕ) where
 record IsCutAt (items : List SourceItem) (read : List Placed) : Type 0 where
   pub fault : Fault
   pub more : List SourceItem
-  pub is : items ≡ event_items read ++ Err fault ∷ more
+  pub is : items ≡ events_read read ++ Err fault ∷ more
 
 record IsCutUp (items : List SourceItem) : Type 0 where
   pub read : List Placed
-  pub is : (items ≡ event_items read) ⊎ IsCutAt items read
+  pub is : (items ≡ events_read read) ⊎ IsCutAt items read
 
 cut_more : (e : Placed) (items : List SourceItem) → IsCutUp items → IsCutUp (Ok e ∷ items)
 cut_more e items c = record { read = e ∷ c.read; is = by c.is }
   where
-    by : (items ≡ event_items c.read) ⊎ IsCutAt items c.read
-        → (Ok e ∷ items ≡ event_items (e ∷ c.read)) ⊎ IsCutAt (Ok e ∷ items) (e ∷ c.read)
+    by : (items ≡ events_read c.read) ⊎ IsCutAt items c.read
+        → (Ok e ∷ items ≡ events_read (e ∷ c.read)) ⊎ IsCutAt (Ok e ∷ items) (e ∷ c.read)
     by (inl is) = inl (ap (λ (xs : List SourceItem). Ok e ∷ xs) is)
     by (inr a) = inr (record {
       fault = a.fault;
@@ -178,11 +181,11 @@ cut_up (Err fault ∷ items) = record { read = []; is = inr (record { fault = fa
 cut_up (Ok e ∷ items) = cut_more e items (cut_up items)
 
 seen_cut : (read : List Placed) (fault : Fault) (more : List SourceItem)
-    → map item_seen (event_items read ++ Err fault ∷ more)
-    ≡ oks (map ranged_view read) ++ Err fault ∷ map item_seen more
+    → map item_read (events_read read ++ Err fault ∷ more)
+    ≡ oks (map event_read read) ++ Err fault ∷ map item_read more
 seen_cut read fault more =
-    map-append item_seen (event_items read) (Err fault ∷ more)
-    ∙ ap (λ (xs : List RangedItem). xs ++ Err fault ∷ map item_seen more) (seen_events read)
+    map-append item_read (events_read read) (Err fault ∷ more)
+    ∙ ap (λ (xs : List RangedItem). xs ++ Err fault ∷ map item_read more) (seen_events read)
 
 -- ---- calls of the iterator
 
@@ -239,7 +242,8 @@ module _ {S : Type 0} (steps : S → Option SourceItem → S → Type 0) where
   -- once the iterator has ended no items follow
   none_over : (over now : Bool) (s t : S) (items : List SourceItem) (later : List RangedItem)
       → CallsSource steps over now s items t
-      → unless_over over (map item_seen items ++ unless_over now later) ≡ map item_seen items ++ unless_over now later
+      → unless_ended over (map item_read items ++ unless_ended now later)
+      ≡ map item_read items ++ unless_ended now later
   none_over true now s t items later c = rw (c.0, c.1) refl
   none_over false now s t items later c = refl
 
@@ -255,20 +259,20 @@ module _ (source : List ℕ) where
   linked_all events = events_all source 0 [] events
 
   -- what was read, where all that was read are events
-  linked_read : {items : List SourceItem} (read : List Placed) → items ≡ event_items read
-      → linked (map item_seen items) ≡ oks (with_addresses source (map ranged_view read))
+  linked_read : {items : List SourceItem} (read : List Placed) → items ≡ events_read read
+      → linked (map item_read items) ≡ oks (with_addresses source (map event_read read))
   linked_read {items} read is =
-      ap (λ (xs : List SourceItem). linked (map item_seen xs)) is
-      ∙ ap linked (seen_events read) ∙ linked_all (map ranged_view read)
+      ap (λ (xs : List SourceItem). linked (map item_read xs)) is
+      ∙ ap linked (seen_events read) ∙ linked_all (map event_read read)
 
 -- ---- a run
 
-over_twice : (over : Bool) (later : List RangedItem) → unless_over over (unless_over over later)
-    ≡ unless_over over later
+over_twice : (over : Bool) (later : List RangedItem) → unless_ended over (unless_ended over later)
+    ≡ unless_ended over later
 over_twice true later = refl
 over_twice false later = refl
 
-over_nothing : (over : Bool) → unless_over over [] ≡ []
+over_nothing : (over : Bool) → unless_ended over [] ≡ []
 over_nothing true = refl
 over_nothing false = refl
 
@@ -278,8 +282,8 @@ module _ {S : Type 0} (steps : S → Option SourceItem → S → Type 0) where
     pub source : t.source ≡ s.source
     pub items : List SourceItem
     pub read : CallsSource steps s.over t.over s.iter items t.iter
-    pub gives : (later : List RangedItem) → items_to_come s (map item_seen items ++ unless_over t.over later)
-        ≡ map item_seen given ++ items_to_come t later
+    pub gives : (later : List RangedItem) → links_to_come s (map item_read items ++ unless_ended t.over later)
+        ≡ map item_read given ++ links_to_come t later
 
   run_none : (s : LinkedState S) → IsRun s [] s
   run_none s = record {
@@ -297,116 +301,120 @@ module _ {S : Type 0} (steps : S → Option SourceItem → S → Type 0) where
     items = p.items ++ run.items;
     read = calls_append steps s.over t.over u.over s.iter t.iter u.iter p.items run.items p.read run.read;
     gives = λ later.
-        let rest : List RangedItem = map item_seen run.items ++ unless_over u.over later in
-        ap (items_to_come s)
-        (ap (λ (xs : List RangedItem). xs ++ unless_over u.over later) (map-append item_seen p.items run.items)
-        ∙ append_assoc (map item_seen p.items) (map item_seen run.items) (unless_over u.over later)
-        ∙ ap (λ (xs : List RangedItem). map item_seen p.items ++ xs)
+        let rest : List RangedItem = map item_read run.items ++ unless_ended u.over later in
+        ap (links_to_come s)
+        (ap (λ (xs : List RangedItem). xs ++ unless_ended u.over later) (map-append item_read p.items run.items)
+        ∙ append_assoc (map item_read p.items) (map item_read run.items) (unless_ended u.over later)
+        ∙ ap (λ (xs : List RangedItem). map item_read p.items ++ xs)
         (sym (none_over steps t.over u.over t.iter u.iter run.items later run.read)))
         ∙ p.gives rest
-        ∙ ap (λ (xs : List RangedItem). item_seen item ∷ xs) (run.gives later);
+        ∙ ap (λ (xs : List RangedItem). item_read item ∷ xs) (run.gives later);
   }
 
   module _ {s t : LinkedState S} {source : List ℕ} (new : IsNewLinked s source) where
     -- what a new adapter returned, of what was read
     new_gives : {given : List SourceItem} (run : IsRun s given t) (later : List RangedItem)
-        → linked source (map item_seen run.items ++ unless_over t.over later) ≡ map item_seen given ++ items_to_come t later
+        → linked source (map item_read run.items ++ unless_ended t.over later)
+        ≡ map item_read given ++ links_to_come t later
     new_gives {given} run later = made (run.gives later)
       where
-        made : items_to_come s (map item_seen run.items ++ unless_over t.over later)
-            ≡ map item_seen given ++ items_to_come t later
-            → linked source (map item_seen run.items ++ unless_over t.over later)
-            ≡ map item_seen given ++ items_to_come t later
+        made : links_to_come s (map item_read run.items ++ unless_ended t.over later)
+            ≡ map item_read given ++ links_to_come t later
+            → linked source (map item_read run.items ++ unless_ended t.over later)
+            ≡ map item_read given ++ links_to_come t later
         made e = let is = rw (new.nothing, new.outside, new.goes_on, new.of) at e in is
 
-    new_calls : {given : List SourceItem} (run : IsRun s given t) → CallsSource steps false t.over s.iter run.items t.iter
+    new_calls : {given : List SourceItem} (run : IsRun s given t)
+        → CallsSource steps false t.over s.iter run.items t.iter
     new_calls run = subst (λ (b : Bool). CallsSource steps b t.over s.iter run.items t.iter) new.goes_on run.read
 
     -- without more items
     new_gave : {given : List SourceItem} (run : IsRun s given t)
-        → linked source (map item_seen run.items) ≡ map item_seen given ++ items_to_come t []
+        → linked source (map item_read run.items) ≡ map item_read given ++ links_to_come t []
     new_gave run =
         ap (linked source)
-        (sym (append-nil (map item_seen run.items))
-        ∙ ap (λ (xs : List RangedItem). map item_seen run.items ++ xs) (sym (over_nothing t.over)))
+        (sym (append-nil (map item_read run.items))
+        ∙ ap (λ (xs : List RangedItem). map item_read run.items ++ xs) (sym (over_nothing t.over)))
         ∙ new_gives run []
 
     -- the run up to None
-    all_of : (given : List Placed) {u : LinkedState S} (run : IsRun s (event_items given) t) → HasReturnedAll steps t u
+    all_of : (given : List Placed) {u : LinkedState S} (run : IsRun s (events_read given) t) → HasReturnedAll steps t u
         → AreAllLinked steps s.iter source given
     all_of given {u} run ended = by (cut_up (run.items ++ ended.items))
       where
         whole : CallsSource steps false true s.iter (run.items ++ ended.items) u.iter
-        whole = calls_append steps false t.over true s.iter t.iter u.iter run.items ended.items (new_calls run) ended.read
+        whole = calls_append steps false t.over true s.iter t.iter u.iter run.items ended.items (new_calls run)
+            ended.read
 
         later : List RangedItem
-        later = map item_seen ended.items
+        later = map item_read ended.items
 
-        over_later : unless_over t.over later ≡ later
+        over_later : unless_ended t.over later ≡ later
         over_later = none_read t.over ended.read
           where
-            none_read : (over : Bool) → CallsSource steps over true t.iter ended.items u.iter → unless_over over later ≡ later
+            none_read : (over : Bool) → CallsSource steps over true t.iter ended.items u.iter
+                → unless_ended over later ≡ later
             none_read true calls = let none = calls.1 in rw none refl
             none_read false calls = refl
 
-        made : linked source (map item_seen (run.items ++ ended.items)) ≡ oks (map ranged_view given)
+        made : linked source (map item_read (run.items ++ ended.items)) ≡ oks (map event_read given)
         made =
-            ap (linked source) (map-append item_seen run.items ended.items
-            ∙ ap (λ (xs : List RangedItem). map item_seen run.items ++ xs) (sym over_later))
+            ap (linked source) (map-append item_read run.items ended.items
+            ∙ ap (λ (xs : List RangedItem). map item_read run.items ++ xs) (sym over_later))
             ∙ new_gives run later
-            ∙ ap (λ (xs : List RangedItem). map item_seen (event_items given) ++ xs) ended.none
-            ∙ append-nil (map item_seen (event_items given))
+            ∙ ap (λ (xs : List RangedItem). map item_read (events_read given) ++ xs) ended.none
+            ∙ append-nil (map item_read (events_read given))
             ∙ seen_events given
 
         by : IsCutUp (run.items ++ ended.items) → AreAllLinked steps s.iter source given
         by c = by_kind c.is
           where
-            by_kind : (run.items ++ ended.items ≡ event_items c.read) ⊎ IsCutAt (run.items ++ ended.items) c.read
+            by_kind : (run.items ++ ended.items ≡ events_read c.read) ⊎ IsCutAt (run.items ++ ended.items) c.read
                 → AreAllLinked steps s.iter source given
             by_kind (inl is) = record {
               events = c.read;
               read = subst (λ (xs : List SourceItem). Drains steps s.iter xs) is (u.iter, whole);
-              are = oks_same (map ranged_view given) (with_addresses source (map ranged_view c.read))
+              are = oks_same (map event_read given) (with_addresses source (map event_read c.read))
                   (sym made ∙ linked_read source c.read is);
             }
             by_kind (inr a) =
-                let h = events_until source 0 [] (map ranged_view c.read) a.fault (map item_seen a.more) in
-                absurd (no_error (map ranged_view given) (with_addresses source (map ranged_view c.read)) a.fault h.rest
-                (sym made ∙ ap (λ (xs : List SourceItem). linked source (map item_seen xs)) a.is
+                let h = events_until source 0 [] (map event_read c.read) a.fault (map item_read a.more) in
+                absurd (no_error (map event_read given) (with_addresses source (map event_read c.read)) a.fault h.rest
+                (sym made ∙ ap (λ (xs : List SourceItem). linked source (map item_read xs)) a.is
                 ∙ ap (linked source) (seen_cut c.read a.fault a.more) ∙ h.is))
 
     -- the first part of a run
-    first_part : (given : List Placed) → IsRun s (event_items given) t → AreFirstLinked steps s.iter source given
+    first_part : (given : List Placed) → IsRun s (events_read given) t → AreFirstLinked steps s.iter source given
     first_part given run = by (cut_up run.items)
       where
-        views : map item_seen (event_items given) ≡ oks (map ranged_view given)
+        views : map item_read (events_read given) ≡ oks (map event_read given)
         views = seen_events given
 
         by : IsCutUp run.items → AreFirstLinked steps s.iter source given
         by c = by_kind c.is
           where
-            all_read : run.items ≡ event_items c.read
-                → BeginsWith (map ranged_view given) (with_addresses source (map ranged_view c.read))
-            all_read is = first_of (with_addresses source (map ranged_view c.read)) (map ranged_view given)
-                (items_to_come t [])
+            all_read : run.items ≡ events_read c.read
+                → AreFirstEvents (map event_read given) (with_addresses source (map event_read c.read))
+            all_read is = first_of (with_addresses source (map event_read c.read)) (map event_read given)
+                (links_to_come t [])
                 (sym (linked_read source c.read is) ∙ new_gave run
-                ∙ ap (λ (xs : List RangedItem). xs ++ items_to_come t []) views)
+                ∙ ap (λ (xs : List RangedItem). xs ++ links_to_come t []) views)
 
-            whatever : run.items ≡ event_items c.read → t.over ≡ false → (later : List RangedEvent)
-                → BeginsWith (map ranged_view given) (with_addresses source (map ranged_view c.read ++ later))
+            whatever : run.items ≡ events_read c.read → t.over ≡ false → (later : List RangedEvent)
+                → AreFirstEvents (map event_read given) (with_addresses source (map event_read c.read ++ later))
             whatever is on later =
-                first_of (with_addresses source (map ranged_view c.read ++ later)) (map ranged_view given)
-                (items_to_come t (oks later))
-                (sym (linked_all source (map ranged_view c.read ++ later))
+                first_of (with_addresses source (map event_read c.read ++ later)) (map event_read given)
+                (links_to_come t (oks later))
+                (sym (linked_all source (map event_read c.read ++ later))
                 ∙ ap (linked source)
-                (oks_append (map ranged_view c.read) later
+                (oks_append (map event_read c.read) later
                 ∙ ap (λ (xs : List RangedItem). xs ++ oks later) (sym (seen_events c.read))
-                ∙ ap (λ (xs : List SourceItem). map item_seen xs ++ oks later) (sym is)
-                ∙ ap (λ (b : Bool). map item_seen run.items ++ unless_over b (oks later)) (sym on))
+                ∙ ap (λ (xs : List SourceItem). map item_read xs ++ oks later) (sym is)
+                ∙ ap (λ (b : Bool). map item_read run.items ++ unless_ended b (oks later)) (sym on))
                 ∙ new_gives run (oks later)
-                ∙ ap (λ (xs : List RangedItem). xs ++ items_to_come t (oks later)) views)
+                ∙ ap (λ (xs : List RangedItem). xs ++ links_to_come t (oks later)) views)
 
-            by_over : run.items ≡ event_items c.read → (over : Bool) → t.over ≡ over
+            by_over : run.items ≡ events_read c.read → (over : Bool) → t.over ≡ over
                 → CallsSource steps false over s.iter run.items t.iter → AreFirstLinked steps s.iter source given
             by_over is true o calls = record {
               events = c.read;
@@ -423,59 +431,59 @@ module _ {S : Type 0} (steps : S → Option SourceItem → S → Type 0) where
               stays = inr (whatever is o);
             }
 
-            by_kind : (run.items ≡ event_items c.read) ⊎ IsCutAt run.items c.read
+            by_kind : (run.items ≡ events_read c.read) ⊎ IsCutAt run.items c.read
                 → AreFirstLinked steps s.iter source given
             by_kind (inl is) = by_over is t.over refl (new_calls run)
             by_kind (inr a) =
                 let y = calls_yield steps t.over s.iter t.iter run.items (new_calls run) in
-                let cut = cut_call steps s.iter y.0 (event_items c.read) (Err a.fault) a.more
+                let cut = cut_call steps s.iter y.0 (events_read c.read) (Err a.fault) a.more
                 (subst (λ (xs : List SourceItem). Yields steps s.iter xs y.0) a.is y.1) in
-                let h = events_until source 0 [] (map ranged_view c.read) a.fault (map item_seen a.more) in
+                let h = events_until source 0 [] (map event_read c.read) a.fault (map item_read a.more) in
                 record {
                   events = c.read;
                   left = cut.before;
                   read = cut.yields;
-                  first = first_until (with_addresses source (map ranged_view c.read)) (map ranged_view given) a.fault
-                      h.rest (items_to_come t [])
+                  first = first_until (with_addresses source (map event_read c.read)) (map event_read given) a.fault
+                      h.rest (links_to_come t [])
                       (sym h.is ∙ ap (linked source) (sym (seen_cut c.read a.fault a.more))
-                      ∙ ap (λ (xs : List SourceItem). linked source (map item_seen xs)) (sym a.is)
+                      ∙ ap (λ (xs : List SourceItem). linked source (map item_read xs)) (sym a.is)
                       ∙ new_gave run
-                      ∙ ap (λ (xs : List RangedItem). xs ++ items_to_come t []) views);
+                      ∙ ap (λ (xs : List RangedItem). xs ++ links_to_come t []) views);
                   stays = inl (cut.after, inr (a.fault, cut.step));
                 }
 
     -- a run up to an error of the iterator
-    until : (given : List Placed) (fault : Fault) → IsRun s (event_items given ++ Err fault ∷ []) t
+    until : (given : List Placed) (fault : Fault) → IsRun s (events_read given ++ Err fault ∷ []) t
         → AreLinkedUntil steps s.iter source given fault
     until given fault run = by (cut_up run.items)
       where
-        made : linked source (map item_seen run.items) ≡ oks (map ranged_view given) ++ Err fault ∷ items_to_come t []
+        made : linked source (map item_read run.items) ≡ oks (map event_read given) ++ Err fault ∷ links_to_come t []
         made =
             new_gave run
-            ∙ ap (λ (xs : List RangedItem). xs ++ items_to_come t []) (seen_cut given fault [])
-            ∙ append_assoc (oks (map ranged_view given)) (Err fault ∷ []) (items_to_come t [])
+            ∙ ap (λ (xs : List RangedItem). xs ++ links_to_come t []) (seen_cut given fault [])
+            ∙ append_assoc (oks (map event_read given)) (Err fault ∷ []) (links_to_come t [])
 
         by : IsCutUp run.items → AreLinkedUntil steps s.iter source given fault
         by c = by_kind c.is
           where
-            by_kind : (run.items ≡ event_items c.read) ⊎ IsCutAt run.items c.read
+            by_kind : (run.items ≡ events_read c.read) ⊎ IsCutAt run.items c.read
                 → AreLinkedUntil steps s.iter source given fault
             by_kind (inl is) =
-                absurd (no_error (with_addresses source (map ranged_view c.read)) (map ranged_view given) fault
-                (items_to_come t []) (sym (linked_read source c.read is) ∙ made))
+                absurd (no_error (with_addresses source (map event_read c.read)) (map event_read given) fault
+                (links_to_come t []) (sym (linked_read source c.read is) ∙ made))
             by_kind (inr a) =
                 let y = calls_yield steps t.over s.iter t.iter run.items (new_calls run) in
-                let cut = cut_call steps s.iter y.0 (event_items c.read) (Err a.fault) a.more
+                let cut = cut_call steps s.iter y.0 (events_read c.read) (Err a.fault) a.more
                 (subst (λ (xs : List SourceItem). Yields steps s.iter xs y.0) a.is y.1) in
-                let h = events_until source 0 [] (map ranged_view c.read) a.fault (map item_seen a.more) in
-                let same = same_until (with_addresses source (map ranged_view c.read)) (map ranged_view given) a.fault
-                fault h.rest (items_to_come t [])
+                let h = events_until source 0 [] (map event_read c.read) a.fault (map item_read a.more) in
+                let same = same_until (with_addresses source (map event_read c.read)) (map event_read given) a.fault
+                fault h.rest (links_to_come t [])
                 (sym h.is ∙ ap (linked source) (sym (seen_cut c.read a.fault a.more))
-                ∙ ap (λ (xs : List SourceItem). linked source (map item_seen xs)) (sym a.is) ∙ made) in
+                ∙ ap (λ (xs : List SourceItem). linked source (map item_read xs)) (sym a.is) ∙ made) in
                 record {
                   events = c.read;
                   left = cut.after;
-                  read = one_error steps s.iter cut.before cut.after (event_items c.read) (Err fault) cut.yields
+                  read = one_error steps s.iter cut.before cut.after (events_read c.read) (Err fault) cut.yields
                       (subst (λ (f : Fault). steps cut.before (Some (Err f)) cut.after) same.faults cut.step);
                   are = sym same.events;
                 }
@@ -495,17 +503,17 @@ module _ {S M : Type 0} (steps : S → Option SourceItem → S → Type 0) (stat
   passed e (inl p) = p
   passed e (inr q) = absurd (no_fault e q.is)
 
-  ran : (m t : M) (given : List Placed) → Yields calls m (event_items given) t
-      → IsRun steps (state m) (event_items given) (state t)
+  ran : (m t : M) (given : List Placed) → Yields calls m (events_read given) t
+      → IsRun steps (state m) (events_read given) (state t)
   ran m t [] y = subst (λ (k : M). IsRun steps (state m) [] (state k)) y (run_none steps (state m))
   ran m t (e ∷ given) y =
-      run_more steps (state m) (state y.0) (state t) (Ok e) (event_items given) (passed e y.1) (ran y.0 t given y.2)
+      run_more steps (state m) (state y.0) (state t) (Ok e) (events_read given) (passed e y.1) (ran y.0 t given y.2)
 
   fault_is : {fault : Fault} {x : SourceItem} → x ≡ Err fault → x ≡ Err Memory → fault ≡ Memory
   fault_is {fault} {x} a b = cc
 
-  ran_until : (m t : M) (given : List Placed) (fault : Fault) → Yields calls m (event_items given ++ Err fault ∷ []) t
-      → IsRun steps (state m) (event_items given ++ Err fault ∷ []) (state t) ⊎ (fault ≡ Memory)
+  ran_until : (m t : M) (given : List Placed) (fault : Fault) → Yields calls m (events_read given ++ Err fault ∷ []) t
+      → IsRun steps (state m) (events_read given ++ Err fault ∷ []) (state t) ⊎ (fault ≡ Memory)
   ran_until m t [] fault y = by y.1
     where
       by : PassesItem steps (state m) (Err fault) (state y.0) ⊎ IsRefused steps (state m) (Err fault) (state y.0)
@@ -515,9 +523,9 @@ module _ {S M : Type 0} (steps : S → Option SourceItem → S → Type 0) (stat
       by (inr q) = inr (fault_is refl q.is)
   ran_until m t (e ∷ given) fault y = by (ran_until y.0 t given fault y.2)
     where
-      by : IsRun steps (state y.0) (event_items given ++ Err fault ∷ []) (state t) ⊎ (fault ≡ Memory)
-          → IsRun steps (state m) (Ok e ∷ (event_items given ++ Err fault ∷ [])) (state t) ⊎ (fault ≡ Memory)
-      by (inl run) = inl (run_more steps (state m) (state y.0) (state t) (Ok e) (event_items given ++ Err fault ∷ [])
+      by : IsRun steps (state y.0) (events_read given ++ Err fault ∷ []) (state t) ⊎ (fault ≡ Memory)
+          → IsRun steps (state m) (Ok e ∷ (events_read given ++ Err fault ∷ [])) (state t) ⊎ (fault ≡ Memory)
+      by (inl run) = inl (run_more steps (state m) (state y.0) (state t) (Ok e) (events_read given ++ Err fault ∷ [])
           (passed e y.1) run)
       by (inr memory) = inr memory
 
@@ -530,7 +538,7 @@ module _ {S M : Type 0} (steps : S → Option SourceItem → S → Type 0) (stat
   }
     where
       by : (given : List Placed) (fault : Fault) {t : M}
-          → IsRun steps (state m) (event_items given ++ Err fault ∷ []) (state t) ⊎ (fault ≡ Memory)
+          → IsRun steps (state m) (events_read given ++ Err fault ∷ []) (state t) ⊎ (fault ≡ Memory)
           → AreLinkedUntil steps (state m).iter source given fault ⊎ (fault ≡ Memory)
       by given fault (inl run) = inl (until steps new given fault run)
       by given fault (inr memory) = inr memory
@@ -550,7 +558,7 @@ module _ {S M : Type 0} (steps : S → Option SourceItem → S → Type 0) (stat
       none_read false is calls = cc is
 
       ended : (b : Bool) → b ≡ true → CallsSource steps s.over t.over s.iter p.items t.iter
-          → items_to_come s (map item_seen p.items ++ unless_over t.over []) ≡ item_seen item ∷ items_to_come t [] → ⊥
+          → links_to_come s (map item_read p.items ++ unless_ended t.over []) ≡ item_read item ∷ links_to_come t [] → ⊥
       ended b is calls e = let made = rw (nothing, over) at e in no made
   over_stays s t (Some item) over nothing (inr q) = absurd (no over q.goes_on)
     where
@@ -560,11 +568,12 @@ module _ {S M : Type 0} (steps : S → Option SourceItem → S → Type 0) (stat
   pub links_stay_ended : (m : M) → StaysEnded calls m
   links_stay_ended m answers s t u r gave none next = over_stays (state t) (state u) r none.over none.nothing next
 
-  fewer : (rest : S → Count) {t u : LinkedState S} → HasReturnedAll steps t u → count_to_come rest u ≤ count_to_come rest t
+  fewer : (rest : S → Count) {t u : LinkedState S} → HasReturnedAll steps t u
+      → most_to_come rest u ≤ most_to_come rest t
   fewer rest h = rw (h.nothing, h.over) (omega arith)
 
-  pub links_can_merge : (can : S → Type 0) (rest : S → Count) (m : M) → MayCallSource can rest (state m)
-      → CanMerge calls (λ k. MayCallSource can rest (state k)) (λ k. at_most (count_to_come rest (state k))) m
+  pub links_can_merge : (can : S → Type 0) (rest : S → Count) (m : M) → MayReadOn can rest (state m)
+      → CanMerge calls (λ k. MayReadOn can rest (state k)) (λ k. at_most (most_to_come rest (state k))) m
   links_can_merge can rest m may = record {
     callable = may;
     ends = tt;

@@ -1,6 +1,7 @@
 -- What is read of a run of Texts, and what becomes of it among the items to come.
 use Rattle.std.proofs.Common.{◌≡◌, ◌∙◌, ℕ, zero, suc, Bool, true, false, List, [], ◌∷◌, ◌++◌}
-use Rattle.std.proofs.Common.{refl, sym, ap, subst, arith, length, map, Ok, Err, Option, Some, None, append_assoc, append-nil}
+use Rattle.std.proofs.Common.{refl, sym, ap, subst, arith, length, map, Ok, Err, Option, Some, None, append_assoc}
+use Rattle.std.proofs.Common.{append-nil}
 use Rattle.std.specs.Iterator.{Yields, YieldsThen}
 use Rattle.std.specs.declared.ops.Range.{Range}
 use Rattle.std.proofs.lemmas.List.{map-append}
@@ -9,7 +10,8 @@ use Rattle.std.proofs.Common.{◌≢◌, drop, inl, length-append}
 use Rattle.std.proofs.lemmas.List.{length-map}
 use Rattle.markdown_base.specs.Event.{EventView, event_view, text}
 use Rattle.markdown_autolinks.specs.LinkedEvents.{Texts, items_with_addresses, left_alone_after, texts_events}
-use Rattle.markdown_autolinks.specs.LinkedRuns.{RunTextView, is_as_in_source, is_of_source, merged_run, run_events, run_text}
+use Rattle.markdown_autolinks.specs.LinkedRuns.{RunTextView, is_as_in_source, is_of_source, merged_run, run_events}
+use Rattle.markdown_autolinks.specs.LinkedRuns.{run_text}
 use Rattle.markdown_autolinks.specs.LinkedRuns.{searched_bytes, text_of_run}
 use Rattle.markdown_autolinks.specs.Addresses.{first_address}
 use Rattle.markdown_autolinks.proofs.RunLemmas.{events_merged, merged_many}
@@ -17,16 +19,18 @@ use Rattle.markdown_base.specs.declared.event.Event.{Event}
 use Rattle.std.specs.Prelude.{IfSome, is_none, option_to_list}
 use Rattle.markdown_base.specs.declared.fault.Fault.{Fault}
 use Rattle.markdown_out.specs.Merge.{Item}
-use Rattle.markdown_autolinks.specs.AutolinksLaws.{event_items, ranged_view}
-use Rattle.markdown_autolinks.specs.AutolinksNext.{CallsSource, GivesLinked, LinkedState, PassesItem, SourceItem, item_seen}
-use Rattle.markdown_autolinks.specs.AutolinksNext.{unless_over}
-use Rattle.markdown_autolinks.specs.RunRead.{AreTexts, Fills, NextIsRead, RunIsRead, TextsAreRead, is_text, is_text_item}
+use Rattle.markdown_autolinks.specs.AutolinksLaws.{events_read, event_read}
+use Rattle.markdown_autolinks.specs.AutolinksNext.{CallsSource, GivesLinked, LinkedState, PassesItem, SourceItem}
+use Rattle.markdown_autolinks.specs.AutolinksNext.{item_read}
+use Rattle.markdown_autolinks.specs.AutolinksNext.{unless_ended}
+use Rattle.markdown_autolinks.specs.RunRead.{AreTexts, Fills, NextIsRead, RunIsRead, TextsAreRead, is_text}
+use Rattle.markdown_autolinks.specs.RunRead.{is_text_item}
 use Rattle.markdown_autolinks.specs.RunRead.{items_after, left_alone_after_item, shown_text, texts_of}
 
 abbrev Placed : Type 0
 Placed = Event × Range ℕ
 
-pub items_append : (xs ys : List Placed) → event_items (xs ++ ys) ≡ event_items xs ++ event_items ys
+pub items_append : (xs ys : List Placed) → events_read (xs ++ ys) ≡ events_read xs ++ events_read ys
 items_append xs ys = map-append (λ (x : Placed). Ok x) xs ys
 
 module _ {S : Type 0} (steps : S → Option SourceItem → S → Type 0) where
@@ -39,7 +43,7 @@ module _ {S : Type 0} (steps : S → Option SourceItem → S → Type 0) where
     pub more : List Placed
     pub is : run ≡ before ++ more
     pub texts : AreTexts run
-    pub read : Yields steps s (event_items more) t
+    pub read : Yields steps s (events_read more) t
 
   yields_one : (s t u : S) (xs : List SourceItem) (x : SourceItem) → Yields steps s xs t → steps t (Some x) u
       → Yields steps s (xs ++ x ∷ []) u
@@ -61,7 +65,7 @@ module _ {S : Type 0} (steps : S → Option SourceItem → S → Type 0) where
     is = is ∙ ap (λ (xs : List Placed). xs ++ e ∷ []) k.is ∙ append_assoc before k.more (e ∷ []);
     texts = rw is (all_on run e k.texts shown);
     read = subst (λ (xs : List SourceItem). Yields steps s xs u) (sym (items_append k.more (e ∷ [])))
-        (yields_one s t u (event_items k.more) (Ok e) k.read step);
+        (yields_one s t u (events_read k.more) (Ok e) k.read step);
   }
 
   -- an item that is no Text ends the run
@@ -71,7 +75,7 @@ module _ {S : Type 0} (steps : S → Option SourceItem → S → Type 0) where
     more = k.more;
     is = k.is;
     texts = k.texts;
-    read = yields_one s t u (event_items k.more) item k.read step;
+    read = yields_one s t u (events_read k.more) item k.read step;
     ends = other;
   }
 
@@ -85,7 +89,7 @@ module _ {S : Type 0} (steps : S → Option SourceItem → S → Type 0) where
     more = k.more;
     is = k.is;
     texts = k.texts;
-    read = rw (append-nil (event_items k.more)) (then_none s t u (event_items k.more) k.read step);
+    read = rw (append-nil (events_read k.more)) (then_none s t u (events_read k.more) k.read step);
     ends = tt;
   }
 
@@ -110,7 +114,8 @@ text_stays v is = cc is
 pub merged_one : (source : List ℕ) (e : Event × Range ℕ) → is_text (event_view e.0) ≡ true
     → merged_run (map (run_text source) (texts_of (e ∷ []))) ≡ (event_view e.0, e.1) ∷ []
 merged_one source e is =
-    cases (is_of_source source e.1 && is_as_in_source (shown_text (event_view e.0)) (slice_range source e.1.start e.1.end)) refl
+    cases (is_of_source source e.1
+    && is_as_in_source (shown_text (event_view e.0)) (slice_range source e.1.start e.1.end)) refl
   where
     stays : text (shown_text (event_view e.0)) ≡ event_view e.0
     stays = text_stays (event_view e.0) is
@@ -141,7 +146,7 @@ texts_one source views run now e searched is bytes none all popped one =
 
 module _ (source : List ℕ) where
   texts_join : (before : Texts) (run : List Placed) (rest : List (Item (Range ℕ))) → AreTexts run
-      → items_with_addresses source 0 before (map item_seen (event_items run) ++ rest)
+      → items_with_addresses source 0 before (map item_read (events_read run) ++ rest)
       ≡ items_with_addresses source 0 (before ++ texts_of run) rest
   texts_join before [] rest all = ap (λ (ts : Texts). items_with_addresses source 0 ts rest) (sym (append-nil before))
   texts_join before (e ∷ run) rest all =
@@ -151,8 +156,8 @@ module _ (source : List ℕ) where
       (append_assoc before ((shown_text (event_view e.0), e.1) ∷ []) (texts_of run))
     where
       joins : (v : EventView) → is_text v ≡ true
-          → items_with_addresses source 0 before (Ok (v, e.1) ∷ (map item_seen (event_items run) ++ rest))
-          ≡ items_with_addresses source 0 (before ++ (shown_text v, e.1) ∷ []) (map item_seen (event_items run) ++ rest)
+          → items_with_addresses source 0 before (Ok (v, e.1) ∷ (map item_read (events_read run) ++ rest))
+          ≡ items_with_addresses source 0 (before ++ (shown_text v, e.1) ∷ []) (map item_read (events_read run) ++ rest)
       joins (text t) is = refl
       joins v is = cc is
 
@@ -166,7 +171,7 @@ module _ (source : List ℕ) where
   -- what follows a run
   run_ends : (texts : Texts) (after : Option SourceItem) (later : List (Item (Range ℕ)))
       → IfSome after (λ item. is_text_item item ≡ false)
-      → items_with_addresses source 0 texts (map item_seen (option_to_list after) ++ unless_over (is_none after) later)
+      → items_with_addresses source 0 texts (map item_read (option_to_list after) ++ unless_ended (is_none after) later)
       ≡ map (λ e. Ok e) (texts_events source texts) ++ items_after source 0 after later
   run_ends texts None later ends = sym (append-nil (map (λ e. Ok e) (texts_events source texts)))
   run_ends texts (Some (Err fault)) later ends = refl
@@ -175,20 +180,21 @@ module _ (source : List ℕ) where
   -- what becomes of a Text and the run that it begins
   pub texts_read : {S : Type 0} (steps : S → Option SourceItem → S → Type 0) {s t : S} {first : Placed}
       {before run : List Placed} {made : List (Item (Range ℕ))} {after : Option SourceItem}
-      → RunIsRead steps s before run after t → before ≡ first ∷ [] → made ≡ map (λ e. Ok e) (texts_events source (texts_of run))
-      → TextsAreRead steps source s (ranged_view first) made after t
+      → RunIsRead steps s before run after t → before ≡ first ∷ []
+      → made ≡ map (λ e. Ok e) (texts_events source (texts_of run))
+      → TextsAreRead steps source s (event_read first) made after t
   texts_read steps {s} {t} {first} {before} {run} {made} {after} k begins is = record {
-    items = event_items k.more ++ option_to_list after;
+    items = events_read k.more ++ option_to_list after;
     read = k.read;
     makes = λ later.
-        let rest : List (Item (Range ℕ)) = map item_seen (option_to_list after) ++ unless_over (is_none after) later in
+        let rest : List (Item (Range ℕ)) = map item_read (option_to_list after) ++ unless_ended (is_none after) later in
         let run_is : run ≡ first ∷ k.more = k.is ∙ ap (λ (r : List Placed). r ++ k.more) begins in
         let all = rw run_is at k.texts in
-        ap (λ (xs : List (Item (Range ℕ))). items_with_addresses source 0 [] (Ok (ranged_view first) ∷ xs))
-        (ap (λ (xs : List (Item (Range ℕ))). xs ++ unless_over (is_none after) later)
-        (map-append item_seen (event_items k.more) (option_to_list after))
-        ∙ append_assoc (map item_seen (event_items k.more)) (map item_seen (option_to_list after))
-        (unless_over (is_none after) later))
+        ap (λ (xs : List (Item (Range ℕ))). items_with_addresses source 0 [] (Ok (event_read first) ∷ xs))
+        (ap (λ (xs : List (Item (Range ℕ))). xs ++ unless_ended (is_none after) later)
+        (map-append item_read (events_read k.more) (option_to_list after))
+        ∙ append_assoc (map item_read (events_read k.more)) (map item_read (option_to_list after))
+        (unless_ended (is_none after) later))
         ∙ texts_join [] (first ∷ k.more) rest all
         ∙ run_ends (texts_of (first ∷ k.more)) after later k.ends
         ∙ ap (λ (xs : List (Item (Range ℕ))). xs ++ items_after source 0 after later)
@@ -226,7 +232,7 @@ module _ (source : List ℕ) where
     calls_after false u item items step calls = (t, step, calls)
 
     pub next_is_run : {u : S} {e : Placed} {made : List (Item (Range ℕ))} {after : Option SourceItem} → inside ≡ 0
-        → steps s (Some (Ok e)) t → TextsAreRead steps source t (ranged_view e) made after u
+        → steps s (Some (Ok e)) t → TextsAreRead steps source t (event_read e) made after u
         → NextIsRead steps source inside s made after u
     next_is_run {u} {e} {made} {after} outside step k = record {
       items = Ok e ∷ k.items;
@@ -248,24 +254,25 @@ module _ {S : Type 0} (steps : S → Option SourceItem → S → Type 0) where
     ends = λ empty. refl;
   }
     where
-      ended_read : CallsSource steps false (is_none after) s.iter k.items t → CallsSource steps false true s.iter k.items t
+      ended_read : CallsSource steps false (is_none after) s.iter k.items t
+          → CallsSource steps false true s.iter k.items t
       ended_read calls = rw ended at calls
 
       ended_makes : NextIsRead steps s.source s.inside s.iter made after t → (later : List (Item (Range ℕ)))
-          → items_with_addresses s.source s.inside [] (map item_seen k.items ++ unless_over true later)
+          → items_with_addresses s.source s.inside [] (map item_read k.items ++ unless_ended true later)
           ≡ made ++ []
       ended_makes n later = let made_is = rw ended at (k.makes later) in made_is
 
   pub fills_some : (s : LinkedState S) {t : S} {made kept : List (Item (Range ℕ))} {after : Option SourceItem}
       {item : SourceItem} {inside : ℕ} → NextIsRead steps s.source s.inside s.iter made after t → after ≡ Some item
-      → s.over ≡ false → kept ≡ made ++ item_seen item ∷ [] → inside ≡ left_alone_after_item s.inside item
+      → s.over ≡ false → kept ≡ made ++ item_read item ∷ [] → inside ≡ left_alone_after_item s.inside item
       → Fills steps s (record s { iter = t; kept = kept; inside = inside })
   fills_some s {t} {made} {kept} {after} {item} {inside} k goes on is now = record {
     source = refl;
     items = k.items;
     read = rw (on) (some_read k.read);
     keeps = λ later. rw (on, is, now) (some_makes later
-        ∙ sym (append_assoc made (item_seen item ∷ [])
+        ∙ sym (append_assoc made (item_read item ∷ [])
         (items_with_addresses s.source (left_alone_after_item s.inside item) [] later)));
     ends = λ empty. absurd (some_kept made (sym is ∙ empty));
   }
@@ -275,11 +282,11 @@ module _ {S : Type 0} (steps : S → Option SourceItem → S → Type 0) where
       some_read calls = rw goes at calls
 
       some_makes : (later : List (Item (Range ℕ)))
-          → items_with_addresses s.source s.inside [] (map item_seen k.items ++ later)
+          → items_with_addresses s.source s.inside [] (map item_read k.items ++ later)
           ≡ made ++ items_after s.source s.inside (Some item) later
       some_makes later = let made_is = rw goes at (k.makes later) in made_is
 
-      some_kept : (xs : List (Item (Range ℕ))) → xs ++ item_seen item ∷ [] ≡ [] → ⊥
+      some_kept : (xs : List (Item (Range ℕ))) → xs ++ item_read item ∷ [] ≡ [] → ⊥
       some_kept [] e = cc e
       some_kept (x ∷ xs) e = cc e
 
@@ -287,8 +294,8 @@ module _ {S : Type 0} (steps : S → Option SourceItem → S → Type 0) where
   not_called true s = (refl, refl, refl)
   not_called false s = refl
 
-  over_twice : (over : Bool) (later : List (Item (Range ℕ))) → unless_over over (unless_over over later)
-      ≡ unless_over over later
+  over_twice : (over : Bool) (later : List (Item (Range ℕ))) → unless_ended over (unless_ended over later)
+      ≡ unless_ended over later
   over_twice true later = refl
   over_twice false later = refl
 
@@ -296,7 +303,7 @@ module _ {S : Type 0} (steps : S → Option SourceItem → S → Type 0) where
 
   -- an item that was kept is returned
   pub gives_kept : (s : LinkedState S) (item : SourceItem) (rest : List (Item (Range ℕ)))
-      → s.kept ≡ item_seen item ∷ rest → PassesItem steps s item (record s { kept = rest })
+      → s.kept ≡ item_read item ∷ rest → PassesItem steps s item (record s { kept = rest })
   gives_kept s item rest kept = record {
     source = refl;
     items = [];
@@ -307,7 +314,7 @@ module _ {S : Type 0} (steps : S → Option SourceItem → S → Type 0) where
   -- after items were read and kept, the first is returned, or nothing
   pub gives_filled : (s t : LinkedState S) (now : List (Item (Range ℕ))) (r : Option SourceItem)
       (rest : List (Item (Range ℕ))) → s.kept ≡ [] → s.over ≡ false → Fills steps (record s { kept = now }) t
-      → t.kept ≡ map item_seen (option_to_list r) ++ rest → (r ≡ None → rest ≡ [])
+      → t.kept ≡ map item_read (option_to_list r) ++ rest → (r ≡ None → rest ≡ [])
       → GivesLinked steps s r (record t { kept = rest })
   gives_filled s t now None rest nothing goes_on f kept empty =
       let none : t.kept ≡ [] = kept ∙ empty refl in
@@ -321,17 +328,17 @@ module _ {S : Type 0} (steps : S → Option SourceItem → S → Type 0) where
       }
     where
       none_left : t.over ≡ true → t.kept ≡ []
-          → items_with_addresses s.source s.inside [] (map item_seen f.items) ≡ []
+          → items_with_addresses s.source s.inside [] (map item_read f.items) ≡ []
       none_left ended none =
           let left = rw (ended, none) at (f.keeps []) in
-          ap (items_with_addresses s.source s.inside []) (sym (append-nil (map item_seen f.items))) ∙ left
+          ap (items_with_addresses s.source s.inside []) (sym (append-nil (map item_read f.items))) ∙ left
   gives_filled s t now (Some item) rest nothing goes_on f kept empty = inl (record {
     source = f.source;
     items = f.items;
     read = rw goes_on f.read;
     gives = λ later. rw (nothing, goes_on)
         (f.keeps later ∙ ap (λ (xs : List (Item (Range ℕ))).
-        xs ++ items_with_addresses t.source t.inside [] (unless_over t.over later)) kept);
+        xs ++ items_with_addresses t.source t.inside [] (unless_ended t.over later)) kept);
   })
 
 -- a queue from which nothing was popped is empty

@@ -1,6 +1,7 @@
 -- Runs of Texts: their bytes and ranges, and the first bytes of them.
 use Rattle.std.proofs.Common.{◌≡◌, ◌≢◌, ◌<◌, ◌≤◌, ◌+◌, ◌-◌, ◌∙◌, ℕ, zero, suc, Bool, true, false, List, [], ◌∷◌, ◌++◌}
-use Rattle.std.proofs.Common.{refl, sym, ap, subst, arith, length, map, drop, Option, Some, None, append_assoc, append-nil}
+use Rattle.std.proofs.Common.{refl, sym, ap, subst, arith, length, map, drop, Option, Some, None, append_assoc}
+use Rattle.std.proofs.Common.{append-nil}
 use Rattle.std.proofs.Common.{slice_get, IsUtf8, length-append, length-drop}
 use Rattle.std.specs.Prelude.{nat_le}
 use Rattle.std.specs.Str.{IsCharBoundary}
@@ -19,8 +20,11 @@ use Rattle.markdown_autolinks.specs.Addresses.{address_destination, addresses_af
 use Rattle.markdown_autolinks.specs.declared.address.Address.{Address}
 use Rattle.markdown_autolinks.proofs.CutLemmas.{boundary_cut}
 use Rattle.markdown_autolinks.proofs.FoundLemmas.{LiesIn, first_lies}
-use Rattle.markdown_autolinks.specs.LinkedRuns.{RunTextView, drop_run, first_part, is_cut, last_part, range_of, run_range}
-use Rattle.markdown_autolinks.specs.LinkedRuns.{address_link_type, link_over, merged_run, run_events, run_with, linked_events, searched_bytes, take_run, text_of_run}
+use Rattle.markdown_autolinks.specs.LinkedRuns.{RunTextView, run_left, first_part, is_cut_at, last_part}
+use Rattle.markdown_autolinks.specs.LinkedRuns.{run_span}
+use Rattle.markdown_autolinks.specs.LinkedRuns.{run_range}
+use Rattle.markdown_autolinks.specs.LinkedRuns.{address_link_type, link_over, merged_run, run_events, run_with}
+use Rattle.markdown_autolinks.specs.LinkedRuns.{linked_events, searched_bytes, take_run, text_of_run}
 use Rattle.markdown_autolinks.specs.RunRead.{FitRanges, FitsRange, run_text_view}
 use Rattle.markdown_autolinks.specs.declared.runs.RunText.{RunText}
 
@@ -35,11 +39,11 @@ range_ends t [] last is = let same : t ≡ last = some_same is in rw (← same) 
 range_ends t (u ∷ us) last is = rw (range_ends u us last is) refl
 
 -- the range goes from where the first begins to where the last ends
-pub range_of_ends : (run : List RunText) (first last : RunText) → slice_get run 0 ≡ Some first
+pub span_of_ends : (run : List RunText) (first last : RunText) → slice_get run 0 ≡ Some first
     → slice_get run (length run - 1) ≡ Some last
-    → Some (record { start = first.range.start; end = last.range.end }) ≡ range_of (map run_text_view run)
-range_of_ends [] first last is ends = cc is
-range_of_ends (t ∷ run) first last is ends =
+    → Some (record { start = first.range.start; end = last.range.end }) ≡ run_span (map run_text_view run)
+span_of_ends [] first last is ends = cc is
+span_of_ends (t ∷ run) first last is ends =
     let at : suc (length run) - 1 ≡ length run = omega arith in
     rw (range_ends t run last (rw at at ends)) (rw (some_same is) refl)
   where
@@ -66,16 +70,17 @@ same_le x y m n on back = cases (nat_le x y) refl
             let clash : true ≡ false = sym g ∙ e in cc
 
 -- a place after a text is one of what follows it
-pub cut_after : (xs ys : List ℕ) (n : ℕ) → length xs ≤ n → is_cut (xs ++ ys) n ≡ is_cut ys (n - length xs)
+pub cut_after : (xs ys : List ℕ) (n : ℕ) → length xs ≤ n → is_cut_at (xs ++ ys) n ≡ is_cut_at ys (n - length xs)
 cut_after xs ys n after =
-    let byte : byte_at (xs ++ ys) n ≡ byte_at ys (n - length xs) = get_or-append_right xs ys (length xs) n 0 refl after in
+    let byte : byte_at (xs ++ ys) n ≡ byte_at ys (n - length xs) =
+    get_or-append_right xs ys (length xs) n 0 refl after in
     let within : nat_le n (length (xs ++ ys)) ≡ nat_le (n - length xs) (length ys) =
     same_le n (length (xs ++ ys)) (n - length xs) (length ys)
     (λ h. omega (arith, h, after, length-append xs ys)) (λ h. omega (arith, h, after, length-append xs ys)) in
     rw (byte, within) refl
 
 -- a place in a text is one of it, whatever follows
-pub cut_before : (xs ys : List ℕ) (n : ℕ) → n < length xs → is_cut (xs ++ ys) n ≡ is_cut xs n
+pub cut_before : (xs ys : List ℕ) (n : ℕ) → n < length xs → is_cut_at (xs ++ ys) n ≡ is_cut_at xs n
 cut_before xs ys n before =
     let byte : byte_at (xs ++ ys) n ≡ byte_at xs n = get_or_append_left xs ys 0 n before in
     let within : nat_le n (length (xs ++ ys)) ≡ nat_le n (length xs) =
@@ -84,7 +89,7 @@ cut_before xs ys n before =
     rw (byte, within) refl
 
 -- a place of what is left of a text
-pub cut_drop : (text : List ℕ) (k n : ℕ) → k ≤ length text → is_cut (drop k text) n ≡ is_cut text (k + n)
+pub cut_drop : (text : List ℕ) (k n : ℕ) → k ≤ length text → is_cut_at (drop k text) n ≡ is_cut_at text (k + n)
 cut_drop text k n inside =
     let byte : byte_at (drop k text) n ≡ byte_at text (k + n) = get_or-drop k text n 0 in
     let within : nat_le n (length (drop k text)) ≡ nat_le (k + n) (length text) =
@@ -98,36 +103,40 @@ take_nothing : (n : ℕ) → take_run n [] ≡ []
 take_nothing zero = refl
 take_nothing (suc n) = refl
 
-drop_nothing : (n : ℕ) → drop_run n [] ≡ []
+drop_nothing : (n : ℕ) → run_left n [] ≡ []
 drop_nothing zero = refl
 drop_nothing (suc n) = refl
 
 take_whole : (n : ℕ) (t : RunTextView) (run : List RunTextView) → 0 < n → length t.searched ≤ n
     → take_run n (t ∷ run) ≡ t ∷ take_run (n - length t.searched) run
 take_whole zero t run some fits = absurd (omega (arith, some))
-take_whole (suc n) t run some fits = let e : nat_le (length t.searched) (suc n) ≡ true = grind (arith, nat_tests) in rw e refl
+take_whole (suc n) t run some fits =
+    let e : nat_le (length t.searched) (suc n) ≡ true = grind (arith, nat_tests) in rw e refl
 
 drop_whole : (n : ℕ) (t : RunTextView) (run : List RunTextView) → 0 < n → length t.searched ≤ n
-    → drop_run n (t ∷ run) ≡ drop_run (n - length t.searched) run
+    → run_left n (t ∷ run) ≡ run_left (n - length t.searched) run
 drop_whole zero t run some fits = absurd (omega (arith, some))
-drop_whole (suc n) t run some fits = let e : nat_le (length t.searched) (suc n) ≡ true = grind (arith, nat_tests) in rw e refl
+drop_whole (suc n) t run some fits =
+    let e : nat_le (length t.searched) (suc n) ≡ true = grind (arith, nat_tests) in rw e refl
 
 take_cut : (n : ℕ) (t : RunTextView) (run : List RunTextView) → 0 < n → n < length t.searched
     → take_run n (t ∷ run) ≡ first_part n t ∷ []
 take_cut zero t run some fits = absurd (omega (arith, some))
-take_cut (suc n) t run some fits = let e : nat_le (length t.searched) (suc n) ≡ false = grind (arith, nat_tests) in rw e refl
+take_cut (suc n) t run some fits =
+    let e : nat_le (length t.searched) (suc n) ≡ false = grind (arith, nat_tests) in rw e refl
 
 drop_cut : (n : ℕ) (t : RunTextView) (run : List RunTextView) → 0 < n → n < length t.searched
-    → drop_run n (t ∷ run) ≡ last_part n t ∷ run
+    → run_left n (t ∷ run) ≡ last_part n t ∷ run
 drop_cut zero t run some fits = absurd (omega (arith, some))
-drop_cut (suc n) t run some fits = let e : nat_le (length t.searched) (suc n) ≡ false = grind (arith, nat_tests) in rw e refl
+drop_cut (suc n) t run some fits =
+    let e : nat_le (length t.searched) (suc n) ≡ false = grind (arith, nat_tests) in rw e refl
 
 -- so much of a run has been taken, and so much is left to be taken of what is left
 pub record IsTaking (count : ℕ) (run part rest : List RunTextView) (left : ℕ) : Type 0 where
   pub fit : FitRanges rest
-  pub cut : is_cut (searched_bytes rest) left ≡ true
+  pub cut : is_cut_at (searched_bytes rest) left ≡ true
   pub takes : take_run count run ≡ part ++ take_run left rest
-  pub leaves : drop_run count run ≡ drop_run left rest
+  pub leaves : run_left count run ≡ run_left left rest
 
 pub same_left : {count : ℕ} {run part rest now : List RunTextView} {left : ℕ} → IsTaking count run part rest left
     → rest ≡ now → IsTaking count run part now left
@@ -148,7 +157,7 @@ takes_whole {count} {run} {part} {rest} {left} {t} k some fits = record {
 
 -- what is left ends all
 pub takes_all : {count : ℕ} {run part : List RunTextView} {left : ℕ} → IsTaking count run part [] left
-    → (part ≡ take_run count run) × ([] ≡ drop_run count run)
+    → (part ≡ take_run count run) × ([] ≡ run_left count run)
 takes_all {count} {run} {part} {left} k = (
   sym (k.takes ∙ ap (λ (xs : List RunTextView). part ++ xs) (take_nothing left) ∙ append-nil part),
   sym (k.leaves ∙ drop_nothing left),
@@ -157,8 +166,8 @@ takes_all {count} {run} {part} {left} k = (
 -- a Text is cut
 pub takes_cut : {count : ℕ} {run part rest : List RunTextView} {left : ℕ} {t : RunTextView}
     → IsTaking count run part (t ∷ rest) left → 0 < left → left < length t.searched
-    → (part ++ first_part left t ∷ [] ≡ take_run count run) × (last_part left t ∷ rest ≡ drop_run count run)
-    × (is_cut t.searched left ≡ true)
+    → (part ++ first_part left t ∷ [] ≡ take_run count run) × (last_part left t ∷ rest ≡ run_left count run)
+    × (is_cut_at t.searched left ≡ true)
 takes_cut {count} {run} {part} {rest} {left} {t} k some cuts = (
   sym (k.takes ∙ ap (λ (xs : List RunTextView). part ++ xs) (take_cut left t rest some cuts)),
   sym (k.leaves ∙ drop_cut left t rest some cuts),
@@ -173,7 +182,7 @@ last_fits n t cuts fits exact =
 
 -- what is left is searched after what is taken
 pub searched_drop : (n : ℕ) (run : List RunTextView) → n ≤ length (searched_bytes run)
-    → searched_bytes (drop_run n run) ≡ drop n (searched_bytes run)
+    → searched_bytes (run_left n run) ≡ drop n (searched_bytes run)
 searched_drop zero run inside = refl
 searched_drop (suc n) [] inside = absurd (omega (arith, inside))
 searched_drop (suc n) (t ∷ run) inside =
@@ -188,8 +197,8 @@ searched_drop (suc n) (t ∷ run) inside =
 
     cases : (b : Bool) → nat_le (length t.searched) (suc n) ≡ b
         → (suc n - length t.searched ≤ length more
-        → searched_bytes (drop_run (suc n - length t.searched) run) ≡ drop (suc n - length t.searched) more)
-        → searched_bytes (drop_run (suc n) (t ∷ run)) ≡ drop (suc n) (t.searched ++ more)
+        → searched_bytes (run_left (suc n - length t.searched) run) ≡ drop (suc n - length t.searched) more)
+        → searched_bytes (run_left (suc n) (t ∷ run)) ≡ drop (suc n) (t.searched ++ more)
     cases true e later =
         let fits : length t.searched ≤ suc n = grind (arith, nat_tests) in
         let at : length t.searched + (suc n - length t.searched) ≡ suc n = omega (arith, fits) in
@@ -282,14 +291,14 @@ pub record IsLinking (text : List ℕ) (run : List RunTextView) (before : List (
 module _ {text : List ℕ} {run rest : List RunTextView} {before made : List (Item (Range ℕ))} {used : ℕ}
     (k : IsLinking text run before rest used made) where
   -- a place of the text after what is used is one of what is left
-  cut_left : (at : ℕ) → used ≤ at → IsCharBoundary text at → is_cut (searched_bytes rest) (at - used) ≡ true
+  cut_left : (at : ℕ) → used ≤ at → IsCharBoundary text at → is_cut_at (searched_bytes rest) (at - used) ≡ true
   cut_left at after b =
       let there : used + (at - used) ≡ at = omega (arith, after) in
-      ap (λ (bytes : List ℕ). is_cut bytes (at - used)) k.left
-      ∙ cut_drop text used (at - used) k.inside ∙ ap (is_cut text) there ∙ boundary_cut text at b
+      ap (λ (bytes : List ℕ). is_cut_at bytes (at - used)) k.left
+      ∙ cut_drop text used (at - used) k.inside ∙ ap (is_cut_at text) there ∙ boundary_cut text at b
 
   drops_left : (at : ℕ) → used ≤ at → at ≤ length text
-      → searched_bytes (drop_run (at - used) rest) ≡ drop at text
+      → searched_bytes (run_left (at - used) rest) ≡ drop at text
   drops_left at after inside =
       let size : length (searched_bytes rest) ≡ length text - used = ap length k.left ∙ length-drop used text in
       let there : used + (at - used) ≡ at = omega (arith, after) in
@@ -298,34 +307,35 @@ module _ {text : List ℕ} {run rest : List RunTextView} {before made : List (It
       ∙ ap (λ (n : ℕ). drop n text) there
 
   module _ {a : Address} (l : LiesIn text used a) where
-    pub between_cut : is_cut (searched_bytes rest) (a.start - used) ≡ true
+    pub between_cut : is_cut_at (searched_bytes rest) (a.start - used) ≡ true
     between_cut = cut_left a.start l.after l.start
 
-    pub linked_cut : IsUtf8 text → is_cut (searched_bytes (drop_run (a.start - used) rest)) (a.end - a.start) ≡ true
+    pub linked_cut : IsUtf8 text → is_cut_at (searched_bytes (run_left (a.start - used) rest)) (a.end - a.start) ≡ true
     linked_cut utf8 =
         let start : a.start ≤ length text = omega (arith, l.name_after, l.some, l.inside) in
         let there : a.start + (a.end - a.start) ≡ a.end = omega (arith, l.name_after, l.some) in
-        ap (λ (bytes : List ℕ). is_cut bytes (a.end - a.start)) (drops_left a.start l.after start)
-        ∙ cut_drop text a.start (a.end - a.start) start ∙ ap (is_cut text) there ∙ boundary_cut text a.end (l.end utf8)
+        ap (λ (bytes : List ℕ). is_cut_at bytes (a.end - a.start)) (drops_left a.start l.after start)
+        ∙ cut_drop text a.start (a.end - a.start) start ∙ ap (is_cut_at text) there
+        ∙ boundary_cut text a.end (l.end utf8)
 
-    drops_linked : searched_bytes (drop_run (a.end - a.start) (drop_run (a.start - used) rest)) ≡ drop a.end text
+    drops_linked : searched_bytes (run_left (a.end - a.start) (run_left (a.start - used) rest)) ≡ drop a.end text
     drops_linked =
         let start : a.start ≤ length text = omega (arith, l.name_after, l.some, l.inside) in
         let there : a.start + (a.end - a.start) ≡ a.end = omega (arith, l.name_after, l.some) in
         let first = drops_left a.start l.after start in
-        let size : length (searched_bytes (drop_run (a.start - used) rest)) ≡ length text - a.start =
+        let size : length (searched_bytes (run_left (a.start - used) rest)) ≡ length text - a.start =
         ap length first ∙ length-drop a.start text in
-        searched_drop (a.end - a.start) (drop_run (a.start - used) rest) (omega (arith, size, l.inside))
+        searched_drop (a.end - a.start) (run_left (a.start - used) rest) (omega (arith, size, l.inside))
         ∙ ap (drop (a.end - a.start)) first ∙ drop-drop (a.end - a.start) a.start text
         ∙ ap (λ (n : ℕ). drop n text) there
 
     -- the link of the first address is made
     pub links_on : first_address text used ≡ Some a
-        → FitRanges (drop_run (a.end - a.start) (drop_run (a.start - used) rest))
-        → IsLinking text run before (drop_run (a.end - a.start) (drop_run (a.start - used) rest)) a.end
+        → FitRanges (run_left (a.end - a.start) (run_left (a.start - used) rest))
+        → IsLinking text run before (run_left (a.end - a.start) (run_left (a.start - used) rest)) a.end
         ((made ++ as_items (text_of_run (take_run (a.start - used) rest)))
         ++ as_items (link_over (address_link_type a.form) (address_destination text a)
-        (take_run (a.end - a.start) (drop_run (a.start - used) rest))))
+        (take_run (a.end - a.start) (run_left (a.start - used) rest))))
     links_on found fit = record {
       fit = fit;
       inside = l.inside;
@@ -346,17 +356,17 @@ module _ {text : List ℕ} {run rest : List RunTextView} {before made : List (It
 
         link : List RangedEvent
         link = link_over (address_link_type a.form) (address_destination text a)
-            (take_run (a.end - a.start) (drop_run (a.start - used) rest))
+            (take_run (a.end - a.start) (run_left (a.start - used) rest))
 
         later : List RangedEvent
-        later = linked_events text a.end (drop_run (a.end - a.start) (drop_run (a.start - used) rest))
+        later = linked_events text a.end (run_left (a.end - a.start) (run_left (a.start - used) rest))
             (addresses_left text a.end)
 
     -- the same of what the calls return
     pub links_next : first_address text used ≡ Some a
         → {between linked rest1 rest2 : List RunTextView} {made1 made2 : List (Item (Range ℕ))} {kind : LinkType}
-        {destination : List ℕ} → between ≡ take_run (a.start - used) rest → rest1 ≡ drop_run (a.start - used) rest
-        → linked ≡ take_run (a.end - a.start) rest1 → rest2 ≡ drop_run (a.end - a.start) rest1 → FitRanges rest2
+        {destination : List ℕ} → between ≡ take_run (a.start - used) rest → rest1 ≡ run_left (a.start - used) rest
+        → linked ≡ take_run (a.end - a.start) rest1 → rest2 ≡ run_left (a.end - a.start) rest1 → FitRanges rest2
         → made1 ≡ made ++ as_items (text_of_run between) → kind ≡ address_link_type a.form
         → destination ≡ address_destination text a → made2 ≡ made1 ++ as_items (link_over kind destination linked)
         → IsLinking text run before rest2 a.end made2
@@ -367,14 +377,15 @@ module _ {text : List ℕ} {run rest : List RunTextView} {before made : List (It
         (links_on found fits)
 
   -- what is left is made
-  pub last_cut : is_cut (searched_bytes rest) (length text - used) ≡ true
+  pub last_cut : is_cut_at (searched_bytes rest) (length text - used) ≡ true
   last_cut = cut_left (length text) k.inside (IsCharBoundary-end text)
 
   pub links_end : first_address text used ≡ None
       → made ++ as_items (text_of_run (take_run (length text - used) rest))
       ≡ before ++ as_items (linked_events text 0 run (addresses_left text 0))
   links_end none =
-      ap (λ (more : List Address). made ++ as_items (linked_events text used rest more)) (sym (left_ends text used none))
+      ap (λ (more : List Address). made ++ as_items (linked_events text used rest more))
+      (sym (left_ends text used none))
       ∙ sym k.makes
 
 -- nothing is used of a run

@@ -97,7 +97,8 @@ IsLeftOut text start left =
     ⊎ ((left_out text start left ≡ 1) × ((byte_at text (left - 1) == 41) ≡ true))
     ⊎ ((left_out text start left ≡ entity_left_out text start left) × ((byte_at text (left - 1) == 59) ≡ true))
 
-pub is_left_out : (text : List ℕ) (start left : ℕ) → start < left → 0 < left_out text start left → IsLeftOut text start left
+pub is_left_out : (text : List ℕ) (start left : ℕ) → start < left → 0 < left_out text start left
+    → IsLeftOut text start left
 is_left_out text start left inside some = marks (is_end_mark (byte_at text (left - 1))) refl
   where
     opened : nat_le left start ≡ false

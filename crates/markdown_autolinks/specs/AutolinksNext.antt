@@ -17,8 +17,8 @@ abbrev pub SourceItem : Type 0
 SourceItem = Result (Event × Range ℕ) Fault
 
 -- the same in the form in which links are defined
-abbrev pub item_seen : SourceItem → Item (Range ℕ)
-item_seen item = item_view with_range item
+abbrev pub item_read : SourceItem → Item (Range ℕ)
+item_read item = item_view with_range item
 
 -- an adapter between calls: the source of its events, its iterator, the items that have been read and not returned yet,
 -- the number of open places in which no addresses are looked for, and whether the iterator has ended, or memory was
@@ -31,21 +31,21 @@ pub record LinkedState (S : Type 0) : Type 0 where
   pub over : Bool
 
 -- what follows, where the iterator has not ended
-abbrev pub unless_over : Bool → List (Item (Range ℕ)) → List (Item (Range ℕ))
-unless_over true later = []
-unless_over false later = later
+abbrev pub unless_ended : Bool → List (Item (Range ℕ)) → List (Item (Range ℕ))
+unless_ended true later = []
+unless_ended false later = later
 
 -- the items that an adapter still has to return, where these items of the iterator follow
-abbrev pub items_to_come : {S : Type 0} → LinkedState S → (later : List (Item (Range ℕ))) → List (Item (Range ℕ))
-items_to_come s later = s.kept ++ items_with_addresses s.source s.inside [] (unless_over s.over later)
+abbrev pub links_to_come : {S : Type 0} → LinkedState S → (later : List (Item (Range ℕ))) → List (Item (Range ℕ))
+links_to_come s later = s.kept ++ items_with_addresses s.source s.inside [] (unless_ended s.over later)
 
 -- the most items that an adapter has left, from the count of those that its iterator has left: an item becomes as many
 -- as fit in memory at most
-abbrev pub count_to_come : {S : Type 0} → (S → Count) → LinkedState S → ℕ
-count_to_come rest s = length s.kept + cond s.over 0 (2 ^ 64 * size (rest s.iter))
+abbrev pub most_to_come : {S : Type 0} → (S → Count) → LinkedState S → ℕ
+most_to_come rest s = length s.kept + cond s.over 0 (2 ^ 64 * size (rest s.iter))
 
 -- where the iterator has not ended, it may be called, and ends
-pub record MayCallSource {S : Type 0} (can : S → Type 0) (rest : S → Count) (s : LinkedState S) : Type 0 where
+pub record MayReadOn {S : Type 0} (can : S → Type 0) (rest : S → Count) (s : LinkedState S) : Type 0 where
   pub callable : s.over ≡ false → can s.iter
   pub ends : s.over ≡ false → IsFinite (rest s.iter)
 
@@ -57,14 +57,14 @@ module _ {S : Type 0} (steps : S → Option SourceItem → S → Type 0) where
   CallsSource false true s items t = YieldsThen steps s items None t
   CallsSource false false s items t = Yields steps s items t
 
-  -- items of the iterator were read, and an item is returned: whatever follows, what was to come is the item and what is
-  -- to come now
+  -- items of the iterator were read, and an item is returned: whatever follows, what was to come is the item and what
+  -- is to come now
   pub record PassesItem (s : LinkedState S) (item : SourceItem) (t : LinkedState S) : Type 0 where
     pub source : t.source ≡ s.source
     pub items : List SourceItem
     pub read : CallsSource s.over t.over s.iter items t.iter
-    pub gives : (later : List (Item (Range ℕ))) → items_to_come s (map item_seen items ++ unless_over t.over later)
-        ≡ item_seen item ∷ items_to_come t later
+    pub gives : (later : List (Item (Range ℕ))) → links_to_come s (map item_read items ++ unless_ended t.over later)
+        ≡ item_read item ∷ links_to_come t later
 
   -- memory is refused: an error is returned, and nothing is to come
   pub record IsRefused (s : LinkedState S) (item : SourceItem) (t : LinkedState S) : Type 0 where
@@ -77,7 +77,7 @@ module _ {S : Type 0} (steps : S → Option SourceItem → S → Type 0) where
   pub record HasReturnedAll (s t : LinkedState S) : Type 0 where
     pub items : List SourceItem
     pub read : CallsSource s.over true s.iter items t.iter
-    pub none : items_to_come s (map item_seen items) ≡ []
+    pub none : links_to_come s (map item_read items) ≡ []
     pub nothing : t.kept ≡ []
     pub over : t.over ≡ true
 

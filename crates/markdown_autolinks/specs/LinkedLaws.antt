@@ -68,7 +68,8 @@ Nests opened (e ∷ events) now = Nests opened events now
 
 -- where Starts and Ends nest, they nest with the links that are added
 abbrev pub NestingStays : Type 0
-NestingStays = (source : List ℕ) (events : List RangedEvent) → Nests [] events [] → Nests [] (with_addresses source events) []
+NestingStays = (source : List ℕ) (events : List RangedEvent) → Nests [] events []
+    → Nests [] (with_addresses source events) []
 
 -- no link is open
 abbrev pub NoLinkIn : List TagEnd → Type 0

@@ -26,12 +26,13 @@ pub record RunTextView : Type 0 where
   pub exact : Bool
 
 -- a character begins at a place, or the text ends there
-abbrev pub is_cut : List ℕ → ℕ → Bool
-is_cut source at = nat_le at (length source) && not (nat_le 128 (byte_at source at) && nat_lt (byte_at source at) 192)
+abbrev pub is_cut_at : List ℕ → ℕ → Bool
+is_cut_at source at =
+    nat_le at (length source) && not (nat_le 128 (byte_at source at) && nat_lt (byte_at source at) 192)
 
 -- a range is one of the source, between characters, and not empty
 abbrev pub is_of_source : List ℕ → Range ℕ → Bool
-is_of_source source range = nat_lt range.start range.end && is_cut source range.start && is_cut source range.end
+is_of_source source range = nat_lt range.start range.end && is_cut_at source range.start && is_cut_at source range.end
 
 -- a Text of which the source's bytes are searched: they are its own, or smart punctuation was made of them; what begins
 -- with `&` was made of an entity
@@ -72,11 +73,11 @@ take_run (suc n) (t ∷ run) =
     else first_part (suc n) t ∷ []
 
 -- a run without its first `n` bytes
-abbrev pub drop_run : ℕ → List RunTextView → List RunTextView
-drop_run zero run = run
-drop_run (suc n) [] = []
-drop_run (suc n) (t ∷ run) =
-    if nat_le (length t.searched) (suc n) then drop_run (suc n - length t.searched) run
+abbrev pub run_left : ℕ → List RunTextView → List RunTextView
+run_left zero run = run
+run_left (suc n) [] = []
+run_left (suc n) (t ∷ run) =
+    if nat_le (length t.searched) (suc n) then run_left (suc n - length t.searched) run
     else last_part (suc n) t ∷ run
 
 -- the bytes of a run that are searched, and those that are shown
@@ -92,9 +93,9 @@ run_range t [] = t.range
 run_range t (u ∷ us) = record { start = t.range.start; end = (run_range u us).end }
 
 -- the range of a run
-abbrev pub range_of : List RunTextView → Option (Range ℕ)
-range_of [] = None
-range_of (t ∷ run) = Some (run_range t run)
+abbrev pub run_span : List RunTextView → Option (Range ℕ)
+run_span [] = None
+run_span (t ∷ run) = Some (run_range t run)
 
 -- one Text of these bytes, or nothing where there are none
 abbrev pub text_unless_empty : List ℕ → Range ℕ → List RangedEvent
@@ -126,8 +127,8 @@ linked_events searched used run [] = text_of_run (take_run (length searched - us
 linked_events searched used run (a ∷ addresses) =
     text_of_run (take_run (a.start - used) run)
     ++ link_over (address_link_type a.form) (address_destination searched a)
-    (take_run (a.end - a.start) (drop_run (a.start - used) run))
-    ++ linked_events searched a.end (drop_run (a.end - a.start) (drop_run (a.start - used) run)) addresses
+    (take_run (a.end - a.start) (run_left (a.start - used) run))
+    ++ linked_events searched a.end (run_left (a.end - a.start) (run_left (a.start - used) run)) addresses
 
 -- the events of a run in which no address is found: a single Text stays as it is, and more become one
 abbrev pub merged_run : List RunTextView → List RangedEvent

@@ -1,5 +1,6 @@
 -- What the adapter has read of a run of Texts, and what it keeps of it. Only private clauses cite this.
-use Rattle.std.specs.Prelude.{◌≡◌, ℕ, Bool, true, false, is_none, List, [], ◌∷◌, ◌++◌, ◌+◌, length, map, Ok, Err, Option, Some, None, IfSome}
+use Rattle.std.specs.Prelude.{◌≡◌, ℕ, Bool, true, false, is_none, List, [], ◌∷◌, ◌++◌, ◌+◌, length, map, Ok, Err}
+use Rattle.std.specs.Prelude.{Option, Some, None, IfSome}
 use Rattle.std.specs.Prelude.{option_to_list}
 use Rattle.std.specs.List.{AllByRecursion}
 use Rattle.std.specs.declared.ops.Range.{Range}
@@ -7,9 +8,9 @@ use Rattle.markdown_base.specs.Event.{EventView, event_view, text}
 use Rattle.markdown_base.specs.declared.event.Event.{Event}
 use Rattle.markdown_out.specs.Merge.{Item}
 use Rattle.markdown_out.specs.OutLaws.{RangedEvent}
-use Rattle.markdown_autolinks.specs.AutolinksLaws.{event_items}
-use Rattle.markdown_autolinks.specs.AutolinksNext.{CallsSource, LinkedState, SourceItem, item_seen, items_to_come}
-use Rattle.markdown_autolinks.specs.AutolinksNext.{unless_over}
+use Rattle.markdown_autolinks.specs.AutolinksLaws.{events_read}
+use Rattle.markdown_autolinks.specs.AutolinksNext.{CallsSource, LinkedState, SourceItem, item_read, links_to_come}
+use Rattle.markdown_autolinks.specs.AutolinksNext.{unless_ended}
 use Rattle.markdown_autolinks.specs.LinkedEvents.{Texts, items_with_addresses, left_alone_after}
 use Rattle.markdown_autolinks.specs.LinkedRuns.{RunTextView}
 use Rattle.markdown_autolinks.specs.declared.runs.RunText.{RunText}
@@ -57,7 +58,7 @@ AreTexts events = AllByRecursion (λ e. is_text (event_view e.0) ≡ true) event
 abbrev pub items_after : List ℕ → ℕ → Option SourceItem → List (Item (Range ℕ)) → List (Item (Range ℕ))
 items_after source inside None later = []
 items_after source inside (Some item) later =
-    item_seen item ∷ items_with_addresses source (left_alone_after_item inside item) [] later
+    item_read item ∷ items_with_addresses source (left_alone_after_item inside item) [] later
 
 module _ {S : Type 0} (steps : S → Option SourceItem → S → Type 0) where
   -- Texts were read after these, up to an item that is none, or to the end
@@ -65,7 +66,7 @@ module _ {S : Type 0} (steps : S → Option SourceItem → S → Type 0) where
     pub more : List (Event × Range ℕ)
     pub is : run ≡ before ++ more
     pub texts : AreTexts run
-    pub read : CallsSource steps false (is_none after) s (event_items more ++ option_to_list after) t
+    pub read : CallsSource steps false (is_none after) s (events_read more ++ option_to_list after) t
     pub ends : IfSome after (λ item. is_text_item item ≡ false)
 
   -- after a Text the rest of its run was read, and this is made of the run
@@ -74,7 +75,7 @@ module _ {S : Type 0} (steps : S → Option SourceItem → S → Type 0) where
     pub items : List SourceItem
     pub read : CallsSource steps false (is_none after) s items t
     pub makes : (later : List (Item (Range ℕ)))
-        → items_with_addresses source 0 [] (Ok first ∷ (map item_seen items ++ unless_over (is_none after) later))
+        → items_with_addresses source 0 [] (Ok first ∷ (map item_read items ++ unless_ended (is_none after) later))
         ≡ made ++ items_after source 0 after later
 
   -- an item was read, or a run of Texts and the item after it, and this is made of the run
@@ -83,7 +84,7 @@ module _ {S : Type 0} (steps : S → Option SourceItem → S → Type 0) where
     pub items : List SourceItem
     pub read : CallsSource steps false (is_none after) s items t
     pub makes : (later : List (Item (Range ℕ)))
-        → items_with_addresses source inside [] (map item_seen items ++ unless_over (is_none after) later)
+        → items_with_addresses source inside [] (map item_read items ++ unless_ended (is_none after) later)
         ≡ made ++ items_after source inside after later
 
   -- items were read, and are kept as what becomes of them; if nothing is kept, the iterator has ended
@@ -92,6 +93,6 @@ module _ {S : Type 0} (steps : S → Option SourceItem → S → Type 0) where
     pub items : List SourceItem
     pub read : CallsSource steps false t.over s.iter items t.iter
     pub keeps : (later : List (Item (Range ℕ)))
-        → items_with_addresses s.source s.inside [] (map item_seen items ++ unless_over t.over later)
-        ≡ items_to_come t later
+        → items_with_addresses s.source s.inside [] (map item_read items ++ unless_ended t.over later)
+        ≡ links_to_come t later
     pub ends : t.kept ≡ [] → t.over ≡ true

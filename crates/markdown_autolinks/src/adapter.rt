@@ -1,13 +1,15 @@
 //! An iterator that makes links of bare addresses.
-ghost use Rattle.std.specs.Prelude.{◌≡◌, ◌≤◌, ◌<◌, ◌⊎◌, [], IfErr, IfOk, false, is_none, is_some, map, true};
+ghost use Rattle.std.specs.Prelude.{◌≡◌, ◌≤◌, ◌<◌, ◌⊎◌, [], IfErr, IfOk, false, is_none, is_some};
+ghost use Rattle.std.specs.Prelude.{map, true};
 ghost use Rattle.std.specs.Iterator.{IsFinite, size};
 ghost use Rattle.markdown_base.specs.Event.{event_view, tag_end, tag_view};
-ghost use Rattle.markdown_autolinks.specs.AutolinksLaws.{ranged_view};
-ghost use Rattle.markdown_autolinks.specs.AutolinksNext.{MayCallSource, count_to_come, item_seen};
+ghost use Rattle.markdown_autolinks.specs.AutolinksLaws.{event_read};
+ghost use Rattle.markdown_autolinks.specs.AutolinksNext.{MayReadOn, most_to_come, item_read};
 ghost use Rattle.markdown_autolinks.specs.AutolinksState.{linked_state};
 ghost use Rattle.markdown_autolinks.specs.LinkedEvents.{left_alone_after};
 ghost use Rattle.markdown_autolinks.specs.LinkedRuns.{is_left_alone};
-ghost use Rattle.markdown_autolinks.specs.RunRead.{AreTexts, Fills, NextIsRead, RunIsRead, TextsAreRead, is_text};
+ghost use Rattle.markdown_autolinks.specs.RunRead.{AreTexts, Fills, NextIsRead, RunIsRead};
+ghost use Rattle.markdown_autolinks.specs.RunRead.{TextsAreRead, is_text};
 ghost use Rattle.markdown_autolinks.specs.RunRead.{left_alone_after_item};
 
 use crate::runs::{Placed, push_run};
@@ -128,7 +130,7 @@ fn read_texts<'a, I: Iterator<Item = Placed<'a>>>(
     requires text { is_text (event_view first.0) ≡ true }
     requires nothing { made.old.items ≡ [] }
     ensures read { IfOk result (λ after. TextsAreRead I.next_gives source.now iter.old
-        (ranged_view first.entry) (map item_seen made.new.items) after iter.new) }
+        (event_read first.entry) (map item_read made.new.items) after iter.new) }
     ensures again { IfOk result (λ after. is_some after ≡ true → I.can_next iter.new) }
     ensures finite { IfOk result (λ after. is_some after ≡ true → IsFinite (I.remaining iter.new)) }
     ensures fewer { IfOk result (λ after.
@@ -154,7 +156,7 @@ fn read_next<'a, I: Iterator<Item = Placed<'a>>>(
     requires finite { IsFinite (I.remaining iter.old) }
     requires nothing { made.old.items ≡ [] }
     ensures read { IfOk result (λ after. NextIsRead I.next_gives source.now inside iter.old
-        (map item_seen made.new.items) after iter.new) }
+        (map item_read made.new.items) after iter.new) }
     ensures again { IfOk result (λ after. is_some after ≡ true → I.can_next iter.new) }
     ensures finite { IfOk result (λ after. is_some after ≡ true → IsFinite (I.remaining iter.new)) }
     ensures fewer { IfOk result (λ after.
@@ -215,16 +217,17 @@ impl<'a, I> Autolinks<'a, I> {
 impl<'a, I: Iterator<Item = Placed<'a>>> Autolinks<'a, I> {
     /// Reads the next item, or a run of Texts and the item after it, and keeps what becomes of them.
     fn fill(&mut self) -> Result<(), Fault>
-        requires may { MayCallSource I.can_next I.remaining (linked_state self.old) }
+        requires may { MayReadOn I.can_next I.remaining (linked_state self.old) }
         requires empty { self.old.kept.items ≡ [] }
         requires reads { self.old.over ≡ false }
         ensures fills { IfOk result (λ _.
             Fills I.next_gives (linked_state self.old) (linked_state self.new)) }
         ensures again { IfOk result (λ _.
-            MayCallSource I.can_next I.remaining (linked_state self.new)) }
-        ensures fewer { IfOk result (λ _. count_to_come I.remaining (linked_state self.new)
-            ≤ count_to_come I.remaining (linked_state self.old)) }
-        ensures some { IfErr result (λ fault. 0 < count_to_come I.remaining (linked_state self.old)) }
+            MayReadOn I.can_next I.remaining (linked_state self.new)) }
+        ensures fewer { IfOk result (λ _. most_to_come I.remaining (linked_state self.new)
+            ≤ most_to_come I.remaining (linked_state self.old)) }
+        ensures some { IfErr result (λ fault.
+            0 < most_to_come I.remaining (linked_state self.old)) }
         ensures refused { IfErr result (λ fault. fault ≡ Fault.Memory) }
     {
         let mut made: Vec<Placed<'a>> = Vec::new(self.alloc);
@@ -251,14 +254,15 @@ impl<'a, I: Iterator<Item = Placed<'a>>> Iterator for Autolinks<'a, I> {
     type Item = Placed<'a>;
 
     ghost use Rattle.std.specs.Iterator.{at_most};
-    ghost use Rattle.markdown_autolinks.specs.AutolinksNext.{MayCallSource, count_to_come, linked_steps};
+    ghost use Rattle.markdown_autolinks.specs.AutolinksNext.{MayReadOn, most_to_come};
+    ghost use Rattle.markdown_autolinks.specs.AutolinksNext.{linked_steps};
     ghost use Rattle.markdown_autolinks.specs.AutolinksState.{linked_state};
 
-    ghost can_next = { λ a. MayCallSource I.can_next I.remaining (linked_state a) };
+    ghost can_next = { λ a. MayReadOn I.can_next I.remaining (linked_state a) };
 
     ghost next_gives = { λ a r t. linked_steps I.next_gives linked_state a r t };
 
-    ghost remaining = { λ a. at_most (count_to_come I.remaining (linked_state a)) };
+    ghost remaining = { λ a. at_most (most_to_come I.remaining (linked_state a)) };
 
     /// Returns the next event, with its range: an added link has the range of its address.
     ///

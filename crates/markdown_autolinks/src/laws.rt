@@ -2,9 +2,11 @@
 ghost use Rattle.std.specs.Prelude.{List, ℕ};
 ghost use Rattle.std.specs.Iterator.{at_most};
 ghost use Rattle.markdown_autolinks.specs.AutolinksLaws.{IsNewLinked, ReturnsLinked};
-ghost use Rattle.markdown_autolinks.specs.AutolinksNext.{MayCallSource, count_to_come, linked_steps};
+ghost use Rattle.markdown_autolinks.specs.AutolinksNext.{MayReadOn, most_to_come};
+ghost use Rattle.markdown_autolinks.specs.AutolinksNext.{linked_steps};
 ghost use Rattle.markdown_autolinks.specs.AutolinksState.{linked_state};
-ghost use Rattle.markdown_autolinks.specs.LinkedLaws.{NestingStays, NoLinkGetsIntoALink, OnlyLinksAreAdded};
+ghost use Rattle.markdown_autolinks.specs.LinkedLaws.{NestingStays, NoLinkGetsIntoALink};
+ghost use Rattle.markdown_autolinks.specs.LinkedLaws.{OnlyLinksAreAdded};
 ghost use Rattle.markdown_out.specs.MergeNext.{CanMerge};
 ghost use Rattle.markdown_out.specs.OutLaws.{StaysEnded};
 
@@ -29,10 +31,10 @@ pub fn an_adapter_stays_ended<'a, I: Iterator<Item = Result<(Event<'a>, Range<us
     links: &Autolinks<'a, I>,
 )
     ensures stays_ended { StaysEnded (linked_steps I.next_gives linked_state) links.now }
-    ensures merges { MayCallSource I.can_next I.remaining (linked_state links.now)
+    ensures merges { MayReadOn I.can_next I.remaining (linked_state links.now)
         → CanMerge (linked_steps I.next_gives linked_state)
-        (λ a. MayCallSource I.can_next I.remaining (linked_state a))
-        (λ a. at_most (count_to_come I.remaining (linked_state a))) links.now }
+        (λ a. MayReadOn I.can_next I.remaining (linked_state a))
+        (λ a. at_most (most_to_come I.remaining (linked_state a))) links.now }
 {}
 
 /// States what the links of addresses leave: without the tags that were added all other events are the ones before, and the

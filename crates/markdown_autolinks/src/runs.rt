@@ -1,15 +1,20 @@
 //! Runs of Texts, and what becomes of them.
-ghost use Rattle.std.specs.Prelude.{◌≡◌, ◌++◌, ◌∷◌, [], ◌+◌, ◌-◌, ◌≤◌, ◌<◌, IfOk, Ok, length, map, string_bytes, true, Some};
+ghost use Rattle.std.specs.Prelude.{◌≡◌, ◌++◌, ◌∷◌, [], ◌+◌, ◌-◌, ◌≤◌, ◌<◌, IfOk, Ok, length, map};
+ghost use Rattle.std.specs.Prelude.{string_bytes, true, Some};
 ghost use Rattle.std.specs.Option.{option_copied};
 ghost use Rattle.markdown_base.specs.Event.{event_view};
 ghost use Rattle.markdown_autolinks.specs.Addresses.{address_destination, first_address};
-ghost use Rattle.markdown_autolinks.specs.AutolinksNext.{item_seen};
+ghost use Rattle.markdown_autolinks.specs.AutolinksNext.{item_read};
 ghost use Rattle.markdown_autolinks.specs.LinkedEvents.{texts_events};
 ghost use Rattle.std.specs.Str.{IsCharBoundary};
-ghost use Rattle.markdown_autolinks.specs.LinkedRuns.{address_link_type, drop_run, first_part, is_as_in_source, is_cut, is_of_source};
-ghost use Rattle.markdown_autolinks.specs.LinkedRuns.{last_part, link_over, range_of, run_events, run_text, searched_bytes};
+ghost use Rattle.markdown_autolinks.specs.LinkedRuns.{address_link_type, run_left, first_part};
+ghost use Rattle.markdown_autolinks.specs.LinkedRuns.{is_as_in_source, is_cut_at};
+ghost use Rattle.markdown_autolinks.specs.LinkedRuns.{is_of_source};
+ghost use Rattle.markdown_autolinks.specs.LinkedRuns.{last_part, link_over, run_span, run_events};
+ghost use Rattle.markdown_autolinks.specs.LinkedRuns.{run_text, searched_bytes};
 ghost use Rattle.markdown_autolinks.specs.LinkedRuns.{shown_bytes, take_run, text_of_run};
-ghost use Rattle.markdown_autolinks.specs.RunRead.{AreTexts, FitRanges, FitsRange, run_text_view, shown_text, texts_of};
+ghost use Rattle.markdown_autolinks.specs.RunRead.{AreTexts, FitRanges, FitsRange, run_text_view};
+ghost use Rattle.markdown_autolinks.specs.RunRead.{shown_text, texts_of};
 
 use crate::address::{Address, AddressForm, first_address};
 use markdown_base::cow_str::CowStr;
@@ -126,8 +131,8 @@ fn shown_text_of(alloc: Global, run: &[RunText<'_>]) -> Result<String, AllocErro
 }
 
 /// Returns the range of a run: from where the first begins to where the last ends.
-fn range_of(run: &[RunText<'_>]) -> Option<Range<usize>>
-    ensures { result ≡ range_of (map run_text_view run.now) }
+fn run_span(run: &[RunText<'_>]) -> Option<Range<usize>>
+    ensures { result ≡ run_span (map run_text_view run.now) }
 {
     let first = run.first()?;
     let last = run.last()?;
@@ -137,7 +142,7 @@ fn range_of(run: &[RunText<'_>]) -> Option<Range<usize>>
 /// Cuts a Text of a run in two.
 fn cut_text<'t>(text: RunText<'t>, at: usize) -> (RunText<'t>, RunText<'t>)
     requires fits { FitsRange (run_text_view text) }
-    requires cut { is_cut text.searched.now at ≡ true }
+    requires cut { is_cut_at text.searched.now at ≡ true }
     ensures first { run_text_view result.0 ≡ first_part at (run_text_view text.entry) }
     ensures last { run_text_view result.1 ≡ last_part at (run_text_view text.entry) }
 {
@@ -172,11 +177,11 @@ fn take_part<'t>(
     count: usize,
 ) -> Result<Vec<RunText<'t>>, AllocError>
     requires fit { FitRanges (map run_text_view rest.old.items) }
-    requires cut { is_cut (searched_bytes (map run_text_view rest.old.items)) count ≡ true }
+    requires cut { is_cut_at (searched_bytes (map run_text_view rest.old.items)) count ≡ true }
     ensures part { IfOk result (λ part. map run_text_view part.items
         ≡ take_run count (map run_text_view rest.old.items)) }
     ensures left { IfOk result (λ part. map run_text_view rest.new.items
-        ≡ drop_run count (map run_text_view rest.old.items)) }
+        ≡ run_left count (map run_text_view rest.old.items)) }
     ensures fit { IfOk result (λ part. FitRanges (map run_text_view rest.new.items)) }
 {
     let mut part = Vec::new(alloc);
@@ -207,10 +212,10 @@ fn push_text<'a>(
     run: &[RunText<'_>],
     made: &mut Vec<Placed<'a>>,
 ) -> Result<(), AllocError>
-    ensures { IfOk result (λ done. map item_seen made.new.items
-        ≡ map item_seen made.old.items ++ map (λ e. Ok e) (text_of_run (map run_text_view run.now))) }
+    ensures { IfOk result (λ done. map item_read made.new.items ≡ map item_read made.old.items
+        ++ map (λ e. Ok e) (text_of_run (map run_text_view run.now))) }
 {
-    let Some(range) = range_of(run) else {
+    let Some(range) = run_span(run) else {
         return Ok(());
     };
     let shown = shown_text_of(alloc, run)?;
@@ -254,11 +259,11 @@ fn push_link<'a>(
     run: &[RunText<'_>],
     made: &mut Vec<Placed<'a>>,
 ) -> Result<(), AllocError>
-    ensures { IfOk result (λ done. map item_seen made.new.items ≡ map item_seen made.old.items
+    ensures { IfOk result (λ done. map item_read made.new.items ≡ map item_read made.old.items
         ++ map (λ e. Ok e) (link_over link_type (string_bytes destination)
         (map run_text_view run.now))) }
 {
-    let Some(range) = range_of(run) else {
+    let Some(range) = run_span(run) else {
         return Ok(());
     };
     let text = searched_text(alloc, run)?;
@@ -286,7 +291,7 @@ fn push_linked<'a>(
     requires fit { FitRanges (map run_text_view texts.items) }
     requires searched { searched.now ≡ searched_bytes (map run_text_view texts.items) }
     requires first { first_address searched.now 0 ≡ Some first }
-    ensures { IfOk result (λ done. map item_seen made.new.items ≡ map item_seen made.old.items
+    ensures { IfOk result (λ done. map item_read made.new.items ≡ map item_read made.old.items
         ++ map (λ e. Ok e) (run_events (map run_text_view texts.entry.items))) }
 {
     let mut rest = VecDeque::from_vec(texts);
@@ -320,7 +325,7 @@ pub(crate) fn push_run<'a>(
     made: &mut Vec<Placed<'a>>,
 ) -> Result<(), AllocError>
     requires texts { AreTexts run.items }
-    ensures { IfOk result (λ done. map item_seen made.new.items ≡ map item_seen made.old.items
+    ensures { IfOk result (λ done. map item_read made.new.items ≡ map item_read made.old.items
         ++ map (λ e. Ok e) (texts_events source.now (texts_of run.entry.items))) }
 {
     let texts = run_texts(alloc, source, run.as_slice())?;

@@ -7,4 +7,5 @@ returns-clause-stays_ended g c = links_stay_ended g.I.Iterator.next_gives linked
 
 pub returns-clause-merges : goal.returns-clause-merges
 returns-clause-merges g c may =
-    links_can_merge g.I.Iterator.next_gives linked_state g.I.Iterator.can_next g.I.Iterator.remaining c.args.links.now may
+    links_can_merge g.I.Iterator.next_gives linked_state g.I.Iterator.can_next g.I.Iterator.remaining c.args.links.now
+    may

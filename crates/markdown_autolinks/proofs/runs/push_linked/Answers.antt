@@ -2,7 +2,7 @@
 use Rattle.std.proofs.Common.{ap, sym, ◌∙◌, arith, List, map, ◌++◌, Ok, ℕ}
 use Rattle.markdown_out.specs.OutLaws.{RangedEvent}
 use Rattle.markdown_autolinks.specs.Addresses.{first_address}
-use Rattle.markdown_autolinks.specs.AutolinksNext.{item_seen}
+use Rattle.markdown_autolinks.specs.AutolinksNext.{item_read}
 use Rattle.markdown_autolinks.specs.LinkedRuns.{RunTextView, text_of_run}
 use Rattle.markdown_autolinks.specs.RunRead.{run_text_view}
 use Rattle.markdown_autolinks.proofs.FoundLemmas.{first_lies}
@@ -86,9 +86,9 @@ returns c =
     let k = c.addresses.invariant.linking in
     let none = sym c.addresses.invariant.found ∙ c.in_default.is in
     c.in_ok-push_text-2.ensures
-    ∙ ap (λ (run : List RunTextView). map item_seen c.addresses.made.items ++ map (λ e. Ok e) (text_of_run run))
+    ∙ ap (λ (run : List RunTextView). map item_read c.addresses.made.items ++ map (λ e. Ok e) (text_of_run run))
     (ap (map run_text_view) c.as_slice-2.ensures.value ∙ c.in_ok-last.ensures.part)
     ∙ links_end k none
-    ∙ ap (λ (events : List RangedEvent). map item_seen c.args.made.now.items ++ map (λ e. Ok e) events)
+    ∙ ap (λ (events : List RangedEvent). map item_read c.args.made.now.items ++ map (λ e. Ok e) events)
     (events_linked c.args.searched.now (map run_text_view c.args.texts.items) c.args.first
     c.requires.searched c.requires.first)

@@ -4,7 +4,7 @@ use Rattle.std.specs.declared.ops.Range.{Range}
 use Rattle.std.proofs.lemmas.List.{map-append}
 use Rattle.markdown_base.specs.declared.event.Event.{Event}
 use Rattle.markdown_out.specs.OutLaws.{RangedEvent}
-use Rattle.markdown_autolinks.specs.AutolinksNext.{item_seen}
+use Rattle.markdown_autolinks.specs.AutolinksNext.{item_read}
 use Rattle.markdown_autolinks.specs.LinkedRuns.{run_text, searched_bytes, text_of_run}
 use Rattle.markdown_autolinks.specs.RunRead.{run_text_view, texts_of}
 use Rattle.markdown_autolinks.proofs.ReadLemmas.{texts_many, texts_one, texts_size}
@@ -22,9 +22,9 @@ returns-then-len-ne1 c =
     let many : length (texts_of c.args.run.items) ≢ 1 = λ one. c.if-len-ne1.true (c.len.ensures
     ∙ c.args.run.ok.0 ∙ sym (texts_size c.args.run.items) ∙ one) in
     c.in_ok-push_text.ensures
-    ∙ ap (λ (ts : List RunText). map item_seen c.args.made.now.items
+    ∙ ap (λ (ts : List RunText). map item_read c.args.made.now.items
     ++ map (λ e. Ok e) (text_of_run (map run_text_view ts))) c.as_slice-then-len-ne1.ensures.value
-    ∙ ap (λ (events : List RangedEvent). map item_seen c.args.made.now.items ++ map (λ e. Ok e) events)
+    ∙ ap (λ (events : List RangedEvent). map item_read c.args.made.now.items ++ map (λ e. Ok e) events)
     (sym (texts_many source (map run_text_view c.in_ok-texts.texts.items) (texts_of c.args.run.items)
     c.as_bytes.result.now is bytes none many))
 
@@ -37,8 +37,8 @@ returns c =
     let bytes = c.as_bytes.ensures.value ∙ c.in_ok-searched.ensures
     ∙ ap (λ (ts : List RunText). searched_bytes (map run_text_view ts)) c.as_slice-2.ensures.value in
     let none = sym c.first_address.ensures ∙ c.in_default.is in
-    ap (map item_seen) c.in_ok-push.ensures.items ∙ map-append item_seen c.args.made.now.items (Ok event ∷ [])
-    ∙ ap (λ (events : List RangedEvent). map item_seen c.args.made.now.items ++ map (λ e. Ok e) events)
+    ap (map item_read) c.in_ok-push.ensures.items ∙ map-append item_read c.args.made.now.items (Ok event ∷ [])
+    ∙ ap (λ (events : List RangedEvent). map item_read c.args.made.now.items ++ map (λ e. Ok e) events)
     (sym (texts_one source (map run_text_view c.in_ok-texts.texts.items) c.args.run.items c.pop.new.self.items event
     c.as_bytes.result.now is bytes none c.requires.texts c.in-Some-pop.ensures.items
     (sym c.args.run.ok.0 ∙ sym c.len.ensures ∙ c.if-len-ne1.false)))
