@@ -1,5 +1,6 @@
 """Random documents of tables, task lists and footnotes by the full reading, `cmark-gfm` and `pulldown-cmark` 0.9.2:
-`extended.py (--program COMMAND [--each FORM] | --library FILE) [--extensions NAME..] [--peers NAME..] [--count N] [--seed SEED]`.
+`extended.py (--program COMMAND [--each FORM] | --library FILE) [--extensions NAME..] [--peers NAME..] [--count N] [--seed SEED]
+[--files FILE..]`. With files, their texts take the place of random documents.
 
 Ours is a command, to which the word of each extension is added in the form of `--each` (`{}` by default, `-e {}` for the
 tool), or the C library as a shared object, which is called for the full reading. The peers are Debian's packages. The
@@ -7,7 +8,7 @@ extensions are of `tables tasklists footnotes strikethrough`, all but the last b
 are those of the old style, which it has.
 
 What the programs write otherwise everywhere is made the same: line endings beside tags, spaces at the end of lines, a task's
-box, an empty body of a table, and of `cmark-gfm` where footnotes stand. A document on which two programs still differ is made small by deletion,
+box, which `cmark-gfm` has before the paragraph of a loose item, an empty body of a table, and of `cmark-gfm` where footnotes stand. A document on which two programs still differ is made small by deletion,
 and then it is one of the differences below (`KNOWN`, each a pattern with what it shows), or it is printed. The last lines
 say how many of each were found, and the exit status is 1 where a difference is not listed.
 """
@@ -18,6 +19,7 @@ import random
 import re
 import shlex
 import sys
+from pathlib import Path
 from urllib.parse import unquote
 
 sys.dont_write_bytecode = True
@@ -123,6 +125,7 @@ def same_form(html):
     """HTML in which boxes and tables are written alike, and what `same_written` makes the same."""
     html = re.sub(r"[ \t]+\n", "\n", BOX.sub(lambda box: "[x] " if "checked" in box[1] else "[ ] ", html))
     html = same_written(re.sub(r"<tbody>\s*</tbody>", "", html))
+    html = re.sub(r"<li>(\[[ x]\] )\s*<p>", r"<li><p>\1", html)
     return re.sub(r"[ \t]+(?=\n|</|$)", "", html)
 
 
@@ -187,11 +190,17 @@ KNOWN = {
         "a delimiter row that begins like a list item": fewer_tables(r"\n[ \t>]*-[ \t]"),
         "definitions before a head": lambda text, ours, theirs: re.search(r"<p>[^<]*\[[^\]]+\]:.*?</p>\s*<table>", theirs, re.S),
         "a line with a tag after a row": lambda text, ours, theirs: ours.count("<tr>") > theirs.count("<tr>") and re.search(r"\n[ \t>]*</?[A-Za-z]", text),
-        "a lazy line that is a tag": shows(r">[^\n]*\n[ \t]*</?[A-Za-z]"),
+        "an indented row": lambda text, ours, theirs: ours.count("<tr>") > theirs.count("<tr>") and re.search(r"\n[ \t>]*(\t| {4})", text),
+        "a lazy line that is a tag": shows(r"([->+*]|\d[.)])[^\n]*\n[ \t]*</?[A-Za-z]"),
         "a task marker with nothing after it": TASKS_ALONE,
-        "a task marker in a container in another": shows(r"([-+*>]|\d[.)])[ \t]*([-+*>]|\d+[.)])[ \t]*\[[ xX]\]"),
+        "a definition after a task marker": shows(r"\[[ xX]\][ \t]+\[[^\]\n]+\]:"),
+        "a task marker in a container in another": shows(r"([-+*>]|\d[.)]|\]:)[ \t]*([-+*>]|\d+[.)])[ \t]*\[[ xX]\]"),
         "a footnote name with a space": SPACE_IN_NAME,
         "`[^` at the end of a line": shows(r"\[\^\n"),
+        "a bracket or a backslash in the name of a footnote": shows(r"\[\^[^\]\n]*[\[\\]"),
+        "a backslash before the `^` of a footnote": shows(r"\[\\\^"),
+        "runs of tildes of other lengths": shows(r"~[^~]+~~|~~[^~]+~(?!~)|~~~"),
+        "a tilde beside another delimiter": shows(r"[*_]~|~[*_]"),
         "a pipe after a backslash in a code span": PIPE_IN_CODE,
         "spaces after a hard line break": SPACES_AFTER_BREAK,
         "a code span that continues after leading spaces": shows(r"`[^`]*\n[ \t>]+[^`]*`"),
@@ -286,11 +295,17 @@ class Pair:
         return next((row for row, shows in KNOWN[self.peer].items() if shows(text, ours, theirs)), None)
 
 
-def compared(pair, count, seed):
-    """Compares random documents, and prints what is not listed. Returns how many of each difference there are."""
+def documents(options):
+    """The texts of the files that are named, or random documents."""
+    if options.files:
+        return [Path(file).read_bytes().decode(errors="replace") for file in options.files]
+    return (document(random.Random(f"{options.seed}.{number}")) for number in range(options.count))
+
+
+def compared(pair, texts):
+    """Compares texts, and prints what is not listed. Returns how many of each difference there are."""
     found = collections.Counter()
-    for number in range(count):
-        text = document(random.Random(f"{seed}.{number}"))
+    for text in texts:
         if not pair.differ(text):
             continue
         text = small(text, pair.differ)
@@ -311,15 +326,16 @@ def main():
     parser.add_argument("--peers", nargs="+", choices=sorted(KNOWN), default=sorted(KNOWN))
     parser.add_argument("--count", type=int, default=2000)
     parser.add_argument("--seed", default="1")
+    parser.add_argument("--files", metavar="FILE", nargs="+")
     options = parser.parse_args()
     program = Library(options.library) if options.library else Command(options.program, options.each)
     faults = 0
     for peer in options.peers:
-        found = compared(Pair(program, peer, options.extensions), options.count, options.seed)
+        found = compared(Pair(program, peer, options.extensions), documents(options))
         for row, number in found.items():
             print(f"{peer}, {number}: {row or 'not listed'}")
         faults += found[None]
-    print(f"{options.count} documents beside {' and '.join(options.peers)}, {faults} faults")
+    print(f"{len(options.files or range(options.count))} documents beside {' and '.join(options.peers)}, {faults} faults")
     return 1 if faults else 0
 
 

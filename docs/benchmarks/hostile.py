@@ -1,7 +1,8 @@
 """Hostile texts for benchmarks, the same on each run: `hostile.py KIND BYTES` prints one of about so many bytes.
 
 `hostile.py --check PROGRAM [KIND ..]` tells whether a program takes at most 2.2 times the instructions at twice the size:
-for each kind, or these, at 10,000, 20,000 and 40,000 bytes, without an extension, with those that the kind needs, and with all.
+for each kind, or these, at 10,000, 20,000 and 40,000 bytes, without an extension, with those that the kind needs, and with all;
+and of some kinds what else `markdown` writes.
 PROGRAM is `markdown_html`, which takes extensions as words, or `markdown`, which has the full reading; `--check` may
 be given for each. It prints a table of the instructions in millions, without those of a text of one letter, how often one size
 takes those of the one before, and how many a byte takes. A line where one size takes more than 2.2 times as many says so
@@ -26,6 +27,10 @@ def repeated(part, size):
     return part * (size // len(part))
 
 
+def text_of(family, size):
+    return repeated(family, size) if isinstance(family, str) else family(size)
+
+
 def of(*parts):
     """These parts, one after the other: those in a list are repeated, each as often as the others, and the rest stand once."""
     once = sum(len(part) for part in parts if isinstance(part, str))
@@ -46,6 +51,11 @@ def before(first, part):
 def first_half(part, between, then):
     """A part that is repeated for half the size, and another for the other half."""
     return lambda size: repeated(part, size // 2) + between + repeated(then, size // 2)
+
+
+def halves(first, then):
+    """The text of one family for half the size, and that of another for the other half."""
+    return lambda size: text_of(first, size // 2) + text_of(then, size // 2)
 
 
 def below(container, content, line, first=""):
@@ -405,8 +415,90 @@ EXTENDED_BLOCKS = {
     "attributes-of-underlined": "a {#b}\n===\n",
 }
 
+# headings, whose ids must differ: how often numbers are tried, what is compared, what is kept until the end of a heading
+HEADINGS = {
+    "equal-headings": "# a\n",
+    "headings-without-anchors": "# !\n",
+    "numbered-headings": grown(lambda number: f"# a {number}\n"),
+    "numbered-headings-and-equal-ones": halves(grown(lambda number: f"# a {number + 1}\n"), "# a\n"),
+    "equal-headings-and-numbered-ones": halves("# a\n", grown(lambda number: f"# a {number + 1}\n")),
+    "equal-headings-among-numbered-ones": grown(lambda number: f"# a {number + 1}\n# a\n"),
+    "headings-of-rising-numbers": grown(lambda number: f"# a{' 1' * number}\n"),
+    "rising-numbers-and-equal-headings": halves(grown(lambda number: f"# a{' 1' * number}\n"), "# a\n# a 1\n# a 1 1\n"),
+    "ids-of-authors-and-equal-headings": halves(grown(lambda number: f"# a {{#a-{number + 1}}}\n"), "# a\n"),
+    "footnotes-and-equal-headings": halves(grown(lambda number: f"[^a-{number + 1}]: b\n\n"), "# a\n"),
+    "long-equal-headings": f"# {'a' * 400}\n",
+    "long-headings-of-one-beginning": grown(lambda number: f"# {'a' * 400} {number}\n"),
+    "rising-headings": grown(lambda number: f"# {'a' * (number + 1)}\n"),
+    "headings-of-growing-letters": "# İİİİ ẞẞẞẞ\n",
+    "one-heading": before("# ", "a "),
+    "one-heading-of-parts": before("# ", "*a* `b` "),
+    "one-heading-of-lines": lambda size: repeated("*a*\n", size) + "===\n",
+    "headings-of-images": "# ![a ![b](c) d](e)\n",
+    "headings-below-items": of(["- "], "# a\n", ["# a\n"]),
+    "headings-in-deep-items": deep("- ", "# a", [("  ", "# a\n")]),
+    "headings-in-growing-lists": grown(lambda number: "  " * number + "- # a\n"),
+    "headings-in-deep-quotes": deep("> ", "# a", [("> ", "# a\n")]),
+    "falling-and-rising-levels": "###### a\n# a\n",
+    "links-to-headings": before("# a\n\n", "[a](#a) "),
+    "long-links-to-headings": lambda size: f"[a]: #{'b' * (size // 2)}\n\n" + "[a] " * (size // 8),
+}
+
+# bare addresses: what is read again, before an `@`, in a host that is none, and at the end of an address
+ADDRESSES = {
+    "bare-addresses": "http://a.b ",
+    "bare-schemes": "http://",
+    "bare-schemes-and-letters": "http://a",
+    "bare-schemes-of-one-letter": "h",
+    "bare-hosts": "www.",
+    "bare-hosts-that-are-none": "http://_ www._ ",
+    "underscores-in-bare-hosts": "www.a_",
+    "underscores-in-labels": "www.a_.",
+    "ten-labels-with-underscores": "www.a_" * 10 + " ",
+    "twelve-labels-with-underscores": "www.a_" * 12 + " ",
+    "long-labels-with-underscores": "_".join("www." + "a" * 40 for _ in range(10)) + "_ ",
+    "one-bare-host": before("http://", "a."),
+    "one-bare-host-with-underscores": before("http://", "a_."),
+    "one-label": lambda size: "www." + "a" * (size - 5) + "_",
+    "at-signs": "@",
+    "letters-and-at-signs": "a@",
+    "one-name": lambda size: "a" * (size - 4) + "@b.c",
+    "one-name-and-at-signs": lambda size: "a" * (size // 2) + "@" * (size // 2),
+    "names-of-one-beginning": lambda size: "a" * (size // 2) + "@b " * (size // 6),
+    "bare-mail": "a@b.c ",
+    "hosts-of-mail": "a@b.",
+    "one-host-of-mail": before("a@", "b."),
+    "one-host-of-hyphens": before("a@", "b-"),
+    "hosts-of-mail-that-are-none": "a@b.1 a@b.c- a@b.c_ ",
+    "mail-before-at-signs": "a@b.c@",
+    "mail-schemes": "mailto:",
+    "mail-schemes-and-mail": "mailto:mailto:a@b.c ",
+    "closing-parentheses": before("http://a.b/", ")"),
+    "opening-parentheses": before("http://a.b/", "("),
+    "parentheses-of-one-address": of("http://a.b/", ["("], [")"]),
+    "more-closing-parentheses": of("http://a.b/", ["("], ["))"]),
+    "addresses-in-parentheses": "(http://a.b)",
+    "addresses-and-parentheses": ")http://a.b(",
+    "punctuation-of-one-address": before("http://a.b/", "?!.,:"),
+    "semicolons-of-one-address": of("http://a.b/", ["&a"], [";"]),
+    "references-of-one-address": before("http://a.b/", "&a&a;;;"),
+    "names-and-semicolons-of-one-address": of("http://a.b/&", ["a"], [";"]),
+    "escapes-in-one-address": before("http://a.b/", "\\*"),
+    "references-in-one-address": before("http://a.b/", "&amp;"),
+    "underscores-in-one-address": before("http://a.b/", "c_d_ "),
+    "addresses-in-brackets": "[http://a.b ",
+    "addresses-in-links": "[http://a.b](c)",
+    "addresses-in-images": of(["![http://a.b "], ["](c)"]),
+    "addresses-in-emphasis": of(["*http://a.b "], ["www.a.b* "]),
+    "addresses-in-headings": "# http://a.b\n",
+    "addresses-in-cells": before("|a|\n|-|\n", "|http://a.b|\n"),
+    "addresses-and-dashes": "http://a.b/c--d...'e' ",
+    "addresses-of-many-bytes": "http://ü.de/字 ",
+}
+
 GROUPS = [
-    BEGINNINGS, BELOW, LINES, CHAINS, TABLES, DEFINITIONS, BRACKETS, DELIMITERS, SPANS, ANGLES, CHARACTERS, EXTENDED_BLOCKS,
+    BEGINNINGS, BELOW, LINES, CHAINS, TABLES, DEFINITIONS, BRACKETS, DELIMITERS, SPANS, ANGLES, CHARACTERS, EXTENDED_BLOCKS, HEADINGS,
+    ADDRESSES,
 ]
 FAMILIES = {kind: family for group in GROUPS for kind, family in group.items()}
 
@@ -425,6 +517,18 @@ NEEDS = {
     **{kind: ["tasklists"] for kind in EXTENDED_BLOCKS if "task" in kind},
     **{kind: ["gfm"] for kind in EXTENDED_BLOCKS if "alert" in kind},
     **{kind: ["heading-attributes"] for kind in EXTENDED_BLOCKS if "attributes" in kind or "braces" in kind},
+    **{kind: ["heading-ids"] for kind in HEADINGS},
+    "ids-of-authors-and-equal-headings": ["heading-ids", "heading-attributes"],
+    "footnotes-and-equal-headings": ["heading-ids", "footnotes"],
+    "addresses-in-cells": ["tables"],
+    "addresses-and-dashes": ["smart"],
+}
+# what else `markdown` writes for these kinds, and is checked
+WRITTEN = {
+    **{kind: {"outline": ["-t", "outline", "-e", "heading-ids"], "contents": ["-t", "toc"]} for kind in HEADINGS},
+    **{kind: {"safe HTML": ["--safe", "-e", "heading-ids"]} for kind in HEADINGS if "links" in kind},
+    # (not where images nest: the line of each has the text of all that are in it)
+    **{kind: {"links": ["-t", "links"]} for kind in BRACKETS if "image" not in kind},
 }
 # those that the port's profile has; it takes the others' words, and reads nothing more for them
 PRESENT = ["footnotes", "math", "old-footnotes", "smart", "strikethrough", "subscript", "superscript", "wikilinks"]
@@ -432,8 +536,7 @@ OF_PULLDOWN = {"tables": "-T", "footnotes": "-F", "old-footnotes": "-F"}
 
 
 def text(kind, size):
-    family = FAMILIES[kind]
-    return repeated(family, size) if isinstance(family, str) else family(size)
+    return text_of(FAMILIES[kind], size)
 
 
 def instructions(command, text):
@@ -458,7 +561,7 @@ def word_lists(kind, flags):
     # (old footnotes would take the place of the others)
     everything = ["-a"] if flags else [word for word in PRESENT if word != "old-footnotes"]
     as_given = [given for word in needed for given in (["-e", word] if flags else [word])]
-    lists = {"none": [], ", ".join(needed): as_given, "all": [*everything, *as_given]}
+    lists = {"none": [], ", ".join(needed): as_given, "all": [*everything, *as_given], **(WRITTEN.get(kind, {}) if flags else {})}
     return {name: tuple(words) for name, words in lists.items() if name}
 
 

@@ -33,6 +33,8 @@ mod runs;
 #[cfg(test)]
 mod safe;
 #[cfg(test)]
+mod safe_ids;
+#[cfg(test)]
 mod signs;
 #[cfg(test)]
 mod whole_runs;
