@@ -1,10 +1,12 @@
 //! The title in the metadata before a text.
-ghost use Rattle.std.specs.Prelude.{◌≡◌, [], IfErr, IfOk, None, option_map, string_bytes};
+ghost use Rattle.std.specs.Prelude.{◌≡◌, ◌++◌, ℕ, List, [], IfErr, IfOk, None, if◌then◌else◌, option_map};
+ghost use Rattle.std.specs.Prelude.{string_bytes};
 ghost use Rattle.markdown_base.specs.Event.{event_view};
 ghost use Rattle.markdown_base.specs.Source.{source_as};
 ghost use Rattle.markdown_inline.specs.Elements.{events_of};
 ghost use Rattle.markdown_inline.specs.ParserLeft.{elements, parser_callback};
-ghost use Rattle.markdown_tool_output.specs.Metadata.{leading_text, leading_title, opened_metadata, title_in_metadata};
+ghost use Rattle.markdown_tool_output.specs.Metadata.{leading_text, leading_title, opened_metadata, text_then};
+ghost use Rattle.markdown_tool_output.specs.Metadata.{title_in_metadata};
 
 use markdown_base::event::Event;
 use markdown_base::fault::Fault;
@@ -13,7 +15,7 @@ use markdown_base::tag::{MetadataBlockKind, Tag};
 use markdown_defs::DefaultBrokenLinkCallback;
 use markdown_inline::walk::Parser;
 use markdown_page::metadata_title;
-use std::alloc::Global;
+use std::alloc::{AllocError, Global};
 
 /// Returns the kind of the metadata that begin with an event, if some do.
 fn opened_metadata(event: &Event<'_>) -> Option<MetadataBlockKind>
@@ -22,6 +24,21 @@ fn opened_metadata(event: &Event<'_>) -> Option<MetadataBlockKind>
     match event {
         Event::Start(Tag::MetadataBlock(kind)) => Some(*kind),
         _ => None,
+    }
+}
+
+/// Appends the text of an event if it is a Text, and returns whether it is one.
+fn add_text(text: &mut String, event: &Event<'_>) -> Result<bool, AllocError>
+    ensures { IfOk result (λ is_text. (later : List ℕ)
+        → string_bytes text.new ++ (if is_text then later else [])
+        ≡ string_bytes text.old ++ text_then (event_view event.now) later) }
+{
+    match event {
+        Event::Text(more) => {
+            text.push_str(more.as_str())?;
+            Ok(true)
+        }
+        _ => Ok(false),
     }
 }
 
@@ -35,9 +52,11 @@ fn leading_text(alloc: Global, events: Parser<'_>) -> Result<String, Fault>
     let mut events = events;
     let mut text = String::new(alloc);
     'events: while let Some(item) = events.next() {
-        match item? {
-            Event::Text(more) => text.push_str(more.as_str())?,
-            _ => return Ok(text),
+        let event = item?;
+        let is_text = add_text(&mut text, &event)?;
+        drop(event);
+        if !is_text {
+            return Ok(text);
         }
     }
     Ok(text)
@@ -55,7 +74,9 @@ fn leading_title(alloc: Global, events: Parser<'_>) -> Result<Option<String>, Fa
         return Ok(None);
     };
     let first = item?;
-    let Some(kind) = opened_metadata(&first) else {
+    let opened = opened_metadata(&first);
+    drop(first);
+    let Some(kind) = opened else {
         return Ok(None);
     };
     let text = leading_text(alloc, events)?;
