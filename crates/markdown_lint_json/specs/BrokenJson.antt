@@ -27,12 +27,12 @@ broken_members text q = joined (codes "{\"link_type\":" ∷ link_type_json q.lin
     ∷ codes ",\"end\":" ∷ decimal q.span.end ∷ codes "}" ∷ [])
 
 -- the line of a reference, with the place of its range or without it
-abbrev pub broken_line : (text : List ℕ) → Question → Option Place → List ℕ
-broken_line text q place = broken_members text q ++ object_end place
+abbrev pub broken_link_line : (text : List ℕ) → Question → Option Place → List ℕ
+broken_link_line text q place = broken_members text q ++ object_end place
 
 -- the line without the place
 abbrev pub bare_broken_line : (text : List ℕ) → Question → List ℕ
-bare_broken_line text q = broken_line text q None
+bare_broken_line text q = broken_link_line text q None
 
 -- the lines of references, one after another
 abbrev pub broken_lines : (text : List ℕ) → List Question → List ℕ
@@ -40,7 +40,7 @@ broken_lines text questions = flat_map (bare_broken_line text) questions
 
 -- the line with the place
 abbrev pub placed_broken_line : (text : List ℕ) → Question → List ℕ
-placed_broken_line text q = broken_line text q (Some (place_in text q.span))
+placed_broken_line text q = broken_link_line text q (Some (place_in text q.span))
 
 -- these lines, one after another
 abbrev pub placed_broken_lines : (text : List ℕ) → List Question → List ℕ

@@ -1,5 +1,6 @@
--- Events in JSON with the places of their ranges: the lines that there are without places, with one more element at their
--- ends. And what has been read and written: at the end, at an error among the items, and where an allocation was refused.
+-- Events in JSON with the places of their ranges: the lines that there are without places, with one more element at
+-- their ends. And what has been read and written: at the end, at an error among the items, and where an allocation was
+-- refused.
 use Rattle.std.specs.Prelude.{◌≡◌, ℕ, List, [], ◌∷◌, ◌++◌, codes, map, Err, Result, Option}
 use Rattle.std.specs.Iterator.{Yields, Drains}
 use Rattle.std.specs.List.{flat_map}
@@ -36,8 +37,8 @@ module _ {S : Type 0} (steps : S → Option (Result (Event × Range ℕ) Fault) 
     pub read : Yields steps it (event_items events ++ Err fault ∷ []) left
     pub stands : new ≡ old ++ placed_event_lines text (map ranged_view events)
 
-  -- an allocation was refused at the last event read: the old text is followed by the lines of the events before it, and
-  -- then by a prefix of its own line
+  -- an allocation was refused at the last event read: the old text is followed by the lines of the events before it,
+  -- and then by a prefix of its own line
   pub record IsCutShortWithPlaces : Type 0 where
     pub events : List (Event × Range ℕ)
     pub last : Event × Range ℕ

@@ -3,7 +3,7 @@ ghost use Rattle.std.specs.Prelude.{◌≡◌, IfOk, IfErr, OnOk, OnErr, map};
 ghost use Rattle.markdown_base.specs.Source.{source_as};
 ghost use Rattle.markdown_defs.specs.CallbackViews.{question_of};
 ghost use Rattle.markdown_json.specs.Json.{boolean};
-ghost use Rattle.markdown_lint_json.specs.BrokenJson.{broken_line, broken_lines, broken_members, broken_of_text};
+ghost use Rattle.markdown_lint_json.specs.BrokenJson.{broken_link_line, broken_lines, broken_members, broken_of_text};
 ghost use Rattle.markdown_lint_json.specs.BrokenJson.{is_image_in, placed_broken_lines};
 ghost use Rattle.markdown_lint_json.specs.ShownMembers.{shown_broken_members};
 ghost use Rattle.markdown_out.specs.StringAppends.{Appends, AppendsPart};
@@ -98,9 +98,9 @@ fn push_line(
     place: Option<Place>,
 ) -> Result<(), AllocError>
     ensures ok { OnOk result
-        (Appends s.old s.new (broken_line text.now (question_of link.now) place)) }
+        (Appends s.old s.new (broken_link_line text.now (question_of link.now) place)) }
     ensures err { OnErr result
-        (AppendsPart s.old s.new (broken_line text.now (question_of link.now) place)) }
+        (AppendsPart s.old s.new (broken_link_line text.now (question_of link.now) place)) }
 {
     push_members(s, text, link)?;
     push_object_end(s, place)

@@ -1,5 +1,6 @@
 -- What an event that a parser without a callback returns says of the metadata in what was left of it.
-use Rattle.std.proofs.Common.{◌≡◌, ◌∙◌, ℕ, List, [], ◌∷◌, Ok, Option, Some, None, Result, ap, option_and_then, refl, sym}
+use Rattle.std.proofs.Common.{◌≡◌, ◌∙◌, ℕ, List, [], ◌∷◌, Ok, Option, Some, None}
+use Rattle.std.proofs.Common.{Result, ap, option_and_then, refl, sym}
 use Rattle.markdown_base.specs.Event.{EventView, event_view}
 use Rattle.markdown_base.specs.Questions.{Answer, Answers, Question}
 use Rattle.markdown_base.specs.declared.event.Event.{Event}

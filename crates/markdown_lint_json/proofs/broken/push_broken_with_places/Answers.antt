@@ -17,7 +17,9 @@ returns-in_err-push_line-clause-err c =
     let p = err_from_is_err_and c.from_residual.result c.from_residual.ensures.1 in
     let f : AppendsPrefix (string_bytes c.loop-link.s) (string_bytes c.push_line.new.s)
     (line (get_or c.args.links.now c.loop-link.link-index c.link-item.result)) =
-    rw (← c.link-item.is) (rw (c.of_range-place.ensures ∙ ap (λ (t : List ℕ). place_in t c.link-item.result.span) c.requires.of_text) at c.in_err-push_line.ensures.err) in
+    rw (← c.link-item.is)
+    (rw (c.of_range-place.ensures ∙ ap (λ (t : List ℕ). place_in t c.link-item.result.span) c.requires.of_text)
+    at c.in_err-push_line.ensures.err) in
     rw (p.1, ← lines_of_broken_in c.args.text.now c.args.links.now)
     (StandsTo-prefix line _ _ _ _ _ c.link-item.result c.loop-link-test.true f c.loop-link.invariant)
 
@@ -26,7 +28,9 @@ loop-link-preserved c =
     let line = line_of_broken_in c.args.text.now in
     let e : string_bytes c.push_line.new.s ≡ string_bytes c.loop-link.s
     ++ line (get_or c.args.links.now c.loop-link.link-index c.link-item.result) =
-    rw (← c.link-item.is) (rw (c.of_range-place.ensures ∙ ap (λ (t : List ℕ). place_in t c.link-item.result.span) c.requires.of_text) at c.in_ok-push_line.ensures.ok) in
+    rw (← c.link-item.is)
+    (rw (c.of_range-place.ensures ∙ ap (λ (t : List ℕ). place_in t c.link-item.result.span) c.requires.of_text)
+    at c.in_ok-push_line.ensures.ok) in
     StandsTo-more line _ _ _ _ _ c.link-item.result c.loop-link-test.true e c.loop-link.invariant
 
 pub returns-clause-ok : goal.returns-clause-ok
