@@ -3,4 +3,5 @@ pub mod ConversionLemmas
 pub mod FileTextLemmas
 pub mod MetadataLemmas
 pub mod OutputsLemmas
+pub mod PlacedEventsLemmas
 pub mod StepsLemmas
