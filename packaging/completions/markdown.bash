@@ -2,7 +2,7 @@
 _markdown_inline() {
     local word=${COMP_WORDS[COMP_CWORD]} before=${COMP_WORDS[COMP_CWORD - 1]} words= files= kept=
     case $before in
-    -t | --to) words='html events outline toc links' ;;
+    -t | --to) words='html events outline toc links broken' ;;
     -e | --extension)
         # (of a list the part after the last comma is completed, and in it the name after no-)
         words='@EXTENSIONS@' kept=${word%"${word##*,}"}
@@ -15,7 +15,7 @@ _markdown_inline() {
     --title | --css | --lang) ;;
     *)
         case $word in
-        -*) words='-t --to -e --extension -a --all-extensions --gfm --safe -f --full-page --title --css --lang --toc --lossy -o --output -h --help -V --version' ;;
+        -*) words='-t --to -e --extension -a --all-extensions --gfm --safe -f --full-page --title --css --lang --toc --positions --lossy -o --output -h --help -V --version' ;;
         *) files=yes ;;
         esac
         ;;

@@ -13,7 +13,7 @@ use Rattle.markdown_base.specs.declared.tag.CodeBlockKind.TheVariants as code_bl
 use Rattle.markdown_out.specs.ByteLists.{AppendsPrefix}
 use Rattle.markdown_out.proofs.ByteListsLemmas.{append-more, prefix-after, prefix-first, joined-flat_map}
 use Rattle.markdown_json.specs.Json.{string, optional_value, array, after_comma, attribute_json, heading_json}
-use Rattle.markdown_json.specs.Json.{level_json, tag_json, variant, event_json, line_json}
+use Rattle.markdown_json.specs.Json.{level_json, tag_json, variant, event_json, line_start}
 use Rattle.markdown_json.specs.JsonParts.{text_json, pair_json, heading_of, code_block_json, range_json}
 use Rattle.markdown_json.specs.JsonPieces.{piece_json, spelled}
 use Rattle.markdown_json.specs.declared.heading.HeadingFields.{HeadingFields}
@@ -95,8 +95,8 @@ pub code_block_same : (kind : CodeBlockKind) → tag_json (code_block_view kind)
 code_block_same code_block.Indented = refl
 code_block_same (code_block.Fenced info) = refl
 
--- a line whose event and range were appended one after the other
+-- the beginning of a line whose event and range were appended one after the other
 pub line_appended : (old mid new : List ℕ) (e : EventView) (start end : ℕ) → mid ≡ old ++ (codes "[" ++ event_json e)
-    → new ≡ mid ++ range_json (decimal start) (decimal end) → new ≡ old ++ line_json e start end
+    → new ≡ mid ++ range_json (decimal start) (decimal end) → new ≡ old ++ line_start e start end
 line_appended old mid new e start end event range =
     append-more old mid new (codes "[" ++ event_json e) (range_json (decimal start) (decimal end)) event range

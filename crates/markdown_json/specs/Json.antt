@@ -194,7 +194,11 @@ event_json event.hard_break = codes "\"HardBreak\""
 event_json event.rule = codes "\"Rule\""
 event_json (event.task_list_marker done) = variant (codes "TaskListMarker") (boolean done)
 
--- the line of an event whose range is from one byte offset of the source to another
+-- the line of an event whose range is from one byte offset of the source to another, but for its end
+abbrev pub line_start : EventView → ℕ → ℕ → List ℕ
+line_start e start end = joined (codes "[" ∷ event_json e
+    ∷ codes ",{\"start\":" ∷ decimal start ∷ codes ",\"end\":" ∷ decimal end ∷ codes "}" ∷ [])
+
+-- the whole line
 abbrev pub line_json : EventView → ℕ → ℕ → List ℕ
-line_json e start end = joined (codes "[" ∷ event_json e
-    ∷ codes ",{\"start\":" ∷ decimal start ∷ codes ",\"end\":" ∷ decimal end ∷ codes "}]\n" ∷ [])
+line_json e start end = line_start e start end ++ codes "]\n"

@@ -13,10 +13,9 @@ use Rattle.markdown_json.specs.Json.{string, variant, attribute_json}
 use Rattle.markdown_json.specs.declared.heading.HeadingFields.{HeadingFields}
 use Rattle.markdown_json.specs.declared.link.LinkFields.{LinkFields}
 
--- a range, from the digits of its ends, and the end of the line
+-- a range, from the digits of its ends
 abbrev pub range_json : List ℕ → List ℕ → List ℕ
-range_json start end =
-    joined (codes ",{\"start\":" ∷ start ∷ codes ",\"end\":" ∷ end ∷ codes "}]\n" ∷ [])
+range_json start end = joined (codes ",{\"start\":" ∷ start ∷ codes ",\"end\":" ∷ end ∷ codes "}" ∷ [])
 
 -- a text in any of its forms
 abbrev pub text_json : CowStr → List ℕ

@@ -15,5 +15,5 @@ mod value;
 mod words;
 
 pub use pieces::{Piece, push_pieces};
-pub use push::push_json;
+pub use push::{push_json, push_line_start};
 pub use words::link_type_text;

@@ -5,11 +5,11 @@ ghost use Rattle.std.specs.String.{string_bytes};
 ghost use Rattle.markdown_base.specs.Event.{event_view};
 ghost use Rattle.markdown_base.specs.declared.fault.Fault.TheVariants.{Memory};
 ghost use Rattle.markdown_out.specs.StringAppends.{Appends, AppendsPart};
-ghost use Rattle.markdown_json.specs.Json.{line_json};
+ghost use Rattle.markdown_json.specs.Json.{line_json, line_start};
 ghost use Rattle.markdown_json.specs.JsonParts.{range_json};
 ghost use Rattle.markdown_json.specs.JsonLines.{IsWritten, StopsAtError, IsCutShort, json_line};
 
-use crate::pieces::{Piece, push_pieces};
+use crate::pieces::{Piece, push_pieces, push_raw};
 use crate::value::push_field;
 use itoa::Buffer;
 use markdown_base::event::Event;
@@ -17,7 +17,7 @@ use markdown_base::fault::Fault;
 use std::alloc::{AllocError, Global};
 use std::ops::Range;
 
-/// Appends a range, from the digits of its ends, and the end of the line.
+/// Appends a range, from the digits of its ends.
 fn push_range<'x>(s: &mut String, start: &'x str, end: &'x str) -> Result<(), AllocError>
     ensures ok { OnOk result (Appends s.old s.new (range_json start.now end.now)) }
     ensures err { OnErr result (AppendsPart s.old s.new (range_json start.now end.now)) }
@@ -29,9 +29,27 @@ fn push_range<'x>(s: &mut String, start: &'x str, end: &'x str) -> Result<(), Al
             Piece::Raw(start),
             Piece::Raw(",\"end\":"),
             Piece::Raw(end),
-            Piece::Raw("}]\n"),
+            Piece::Raw("}"),
         ],
     )
+}
+
+/// Appends the line of an event whose range is from `start` to `end`, but for its end, `]` and a line feed, before which more
+/// elements may be appended. If an allocation fails, a prefix of this has been appended.
+pub fn push_line_start(
+    s: &mut String,
+    event: &Event<'_>,
+    start: usize,
+    end: usize,
+) -> Result<(), AllocError>
+    ensures ok { OnOk result (Appends s.old s.new (line_start (event_view event.now) start end)) }
+    ensures err { OnErr result
+        (AppendsPart s.old s.new (line_start (event_view event.now) start end)) }
+{
+    push_field(s, "[", event)?;
+    let mut first = Buffer::new();
+    let mut last = Buffer::new();
+    push_range(s, first.format(start), last.format(end))
 }
 
 /// Appends the line of an event whose range is from `start` to `end`.
@@ -40,10 +58,8 @@ fn push_line(s: &mut String, event: &Event<'_>, start: usize, end: usize) -> Res
     ensures err { OnErr result
         (AppendsPart s.old s.new (line_json (event_view event.now) start end)) }
 {
-    push_field(s, "[", event)?;
-    let mut first = Buffer::new();
-    let mut last = Buffer::new();
-    push_range(s, first.format(start), last.format(end))
+    push_line_start(s, event, start, end)?;
+    push_raw(s, "]\n")
 }
 
 /// Appends the line of an event with its range, and drops the event.

@@ -2,5 +2,8 @@
 pub mod PlaceJson
 pub mod LinkJson
 pub mod PlacedOutline
+pub mod PlacedEvents
+pub mod BrokenJson
 -- the terms of private clauses
 pub mod ShownMembers
+pub mod AskedLinks

@@ -2,6 +2,7 @@
 use Rattle.std.specs.Prelude.{ℕ, List, [], ◌∷◌, codes}
 use Rattle.std.specs.Option.{option_copied}
 use Rattle.markdown_json.specs.Json.{string}
+use Rattle.markdown_lint_json.specs.declared.broken.ShownBroken.{ShownBroken}
 use Rattle.markdown_lint_json.specs.declared.links.ShownLink.{ShownLink}
 use Rattle.markdown_lint_json.specs.declared.outline.ShownEntry.{ShownEntry}
 use Rattle.markdown_lint_json.specs.declared.place.Digits.{Digits}
@@ -18,6 +19,14 @@ shown_link_members l = joined (codes "{\"kind\":" ∷ l.kind.now
     ∷ codes ",\"text\":" ∷ string l.text.now
     ∷ codes ",\"range\":{\"start\":" ∷ l.start.now
     ∷ codes ",\"end\":" ∷ l.end.now ∷ codes "}" ∷ [])
+
+-- those of a reference whose label no definition has
+abbrev pub shown_broken_members : ShownBroken → List ℕ
+shown_broken_members b = joined (codes "{\"link_type\":" ∷ b.link_type.now
+    ∷ codes ",\"image\":" ∷ b.image.now
+    ∷ codes ",\"reference\":" ∷ string b.reference.now
+    ∷ codes ",\"range\":{\"start\":" ∷ b.start.now
+    ∷ codes ",\"end\":" ∷ b.end.now ∷ codes "}" ∷ [])
 
 -- those of an entry of an outline
 abbrev pub shown_entry_members : ShownEntry → List ℕ

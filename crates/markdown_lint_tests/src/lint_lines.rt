@@ -1,8 +1,13 @@
-//! The lines of JSON of links, and those of links and headings with lines and columns.
+//! The lines of JSON of links and of references without a definition, and those with lines and columns.
 use markdown_base::options::Options;
 use markdown_base::syntax::Syntax;
+use markdown_defs::DefaultBrokenLinkCallback;
+use markdown_inline::walk::Parser;
 use markdown_links::links_source;
-use markdown_lint_json::{links_json_source, push_links_with_places, push_outline_with_places};
+use markdown_lint_json::{
+    broken_source, links_json_source, push_broken, push_broken_with_places, push_json_with_places,
+    push_links_with_places, push_outline_with_places,
+};
 use markdown_outline::outline_source;
 use markdown_positions::Positions;
 use markdown_test_helpers::rows::gives;
@@ -87,5 +92,75 @@ fn places_of_headings(rt: HostRuntime) -> Result<(), Fail> {
         \"line\":1,\"column\":1,\"end_line\":2,\"end_column\":1}\n\
         {\"level\":2,\"text\":\"B\",\"range\":{\"start\":10,\"end\":15},\
         \"line\":3,\"column\":1,\"end_line\":4,\"end_column\":1}\n",
+    )
+}
+
+/// References of each form without a definition, and brackets that are none.
+const BROKEN: &str = "[a][b] [c] [d][] ![e][f] ![g]\n[^h] [ ] \\[i] [j\\] [k][l](m) [n](o\n";
+
+/// References after each kind of line ending, a tab, and characters of two and of four bytes.
+const BROKEN_LINES: &str = "ä\tb [c]\r\n[d]\r[e]\n\n𝒳 [f]";
+
+#[test]
+fn broken_references(rt: HostRuntime) -> Result<(), Fail> {
+    let syntax = Syntax::full(Options::ENABLE_FOOTNOTES);
+    let links = or_fail(broken_source(rt.alloc(), BROKEN, syntax))?;
+    let mut json = String::new(rt.alloc());
+    push_broken(&mut json, BROKEN, links.as_slice())?;
+    gives(
+        "broken references",
+        json.as_str(),
+        "{\"link_type\":\"Reference\",\"image\":false,\"reference\":\"b\",\"range\":{\"start\":0,\"end\":6}}\n\
+        {\"link_type\":\"Shortcut\",\"image\":false,\"reference\":\"c\",\"range\":{\"start\":7,\"end\":10}}\n\
+        {\"link_type\":\"Collapsed\",\"image\":false,\"reference\":\"d\",\"range\":{\"start\":11,\"end\":14}}\n\
+        {\"link_type\":\"Reference\",\"image\":true,\"reference\":\"f\",\"range\":{\"start\":17,\"end\":24}}\n\
+        {\"link_type\":\"Shortcut\",\"image\":true,\"reference\":\"g\",\"range\":{\"start\":25,\"end\":29}}\n\
+        {\"link_type\":\"Reference\",\"image\":false,\"reference\":\"l\",\"range\":{\"start\":49,\"end\":55}}\n\
+        {\"link_type\":\"Shortcut\",\"image\":false,\"reference\":\"n\",\"range\":{\"start\":59,\"end\":62}}\n",
+    )
+}
+
+#[test]
+fn places_of_broken_references(rt: HostRuntime) -> Result<(), Fail> {
+    let syntax = Syntax::full(Options::empty());
+    let links = or_fail(broken_source(rt.alloc(), BROKEN_LINES, syntax))?;
+    let positions = Positions::new(rt.alloc(), BROKEN_LINES)?;
+    let mut json = String::new(rt.alloc());
+    push_broken_with_places(&mut json, BROKEN_LINES, links.as_slice(), &positions)?;
+    gives(
+        "places of broken references",
+        json.as_str(),
+        "{\"link_type\":\"Shortcut\",\"image\":false,\"reference\":\"c\",\"range\":{\"start\":5,\"end\":8},\
+        \"line\":1,\"column\":5,\"end_line\":1,\"end_column\":8}\n\
+        {\"link_type\":\"Shortcut\",\"image\":false,\"reference\":\"d\",\"range\":{\"start\":10,\"end\":13},\
+        \"line\":2,\"column\":1,\"end_line\":2,\"end_column\":4}\n\
+        {\"link_type\":\"Shortcut\",\"image\":false,\"reference\":\"e\",\"range\":{\"start\":14,\"end\":17},\
+        \"line\":3,\"column\":1,\"end_line\":3,\"end_column\":4}\n\
+        {\"link_type\":\"Shortcut\",\"image\":false,\"reference\":\"f\",\"range\":{\"start\":24,\"end\":27},\
+        \"line\":5,\"column\":3,\"end_line\":5,\"end_column\":6}\n",
+    )
+}
+
+#[test]
+fn places_of_events(rt: HostRuntime) -> Result<(), Fail> {
+    let text = "ä\n\nb *a*";
+    let none: Option<DefaultBrokenLinkCallback> = None;
+    let syntax = Syntax::full(Options::empty());
+    let parser = or_fail(Parser::of_source(rt.alloc(), text, syntax, none))?;
+    let positions = Positions::new(rt.alloc(), text)?;
+    let mut json = String::new(rt.alloc());
+    or_fail(push_json_with_places(&mut json, parser.into_offset_iter(), &positions))?;
+    gives(
+        "places of events",
+        json.as_str(),
+        "[{\"Start\":\"Paragraph\"},{\"start\":0,\"end\":3},{\"line\":1,\"column\":1,\"end_line\":2,\"end_column\":1}]\n\
+        [{\"Text\":\"ä\"},{\"start\":0,\"end\":2},{\"line\":1,\"column\":1,\"end_line\":1,\"end_column\":2}]\n\
+        [{\"End\":\"Paragraph\"},{\"start\":0,\"end\":3},{\"line\":1,\"column\":1,\"end_line\":2,\"end_column\":1}]\n\
+        [{\"Start\":\"Paragraph\"},{\"start\":4,\"end\":9},{\"line\":3,\"column\":1,\"end_line\":3,\"end_column\":6}]\n\
+        [{\"Text\":\"b \"},{\"start\":4,\"end\":6},{\"line\":3,\"column\":1,\"end_line\":3,\"end_column\":3}]\n\
+        [{\"Start\":\"Emphasis\"},{\"start\":6,\"end\":9},{\"line\":3,\"column\":3,\"end_line\":3,\"end_column\":6}]\n\
+        [{\"Text\":\"a\"},{\"start\":7,\"end\":8},{\"line\":3,\"column\":4,\"end_line\":3,\"end_column\":5}]\n\
+        [{\"End\":\"Emphasis\"},{\"start\":6,\"end\":9},{\"line\":3,\"column\":3,\"end_line\":3,\"end_column\":6}]\n\
+        [{\"End\":\"Paragraph\"},{\"start\":4,\"end\":9},{\"line\":3,\"column\":1,\"end_line\":3,\"end_column\":6}]\n",
     )
 }

@@ -62,8 +62,9 @@ with_file_rules app = with_rule (with_rule (with_rule app (flag (codes "lossy"))
 
 -- the command, with all arguments
 abbrev pub tool : (formats : ValueParser) → App
-tool formats = with_file_rules (with_contents_rules (with_page_rules (with_extension_rules
+tool formats = with_file_rules (with_rule (with_contents_rules (with_page_rules (with_extension_rules
     (with_rule (with_rule (versioned (new_app (codes "markdown"))) (to_rule formats)) (flag (codes "safe"))))))
+    (flag (codes "positions")))
 
 module _ (formats : ValueParser) (words : List (List ℕ)) where
   -- this is the request of the words, where these formats are offered

@@ -64,6 +64,7 @@ choices_asked rows = record {
   safe = is_given (codes "safe") rows;
   page = is_given (codes "full-page") rows;
   part = asks_part rows;
+  positions = is_given (codes "positions") rows;
 }
 
 -- the format that is named; None where it is not offered
@@ -114,6 +115,7 @@ pub record IsRequestOf (rows : List Row) (request : Request) : Type 0 where
   pub format : format_asked rows ≡ Ok request.format
   pub enabled : AreEnabledBy rows request.enabled
   pub page : option_map page_view request.page ≡ page_asked rows
+  pub positions : request.positions ≡ is_given (codes "positions") rows
   pub lossy : request.lossy ≡ is_given (codes "lossy") rows
   pub output : string_bytes request.output ≡ unwrap_or (first_of (codes "output") rows) standard
   pub inputs : map string_bytes request.inputs.items ≡ or_standard (values_given (codes "file") rows)

@@ -1,6 +1,7 @@
 //! What a command line chooses among, and which choices do not go together.
 ghost use Rattle.std.specs.Prelude.{◌≡◌};
-ghost use Rattle.markdown_tool_command.specs.Choices.{checked_format, format_named, other_format};
+ghost use Rattle.markdown_tool_command.specs.Choices.{checked_format, format_named, has_places, made_format};
+ghost use Rattle.markdown_tool_command.specs.Choices.{other_format};
 
 /// What is made of a text.
 #[derive(Clone, Copy, Debug, PartialEq, Eq, Drop)]
@@ -17,6 +18,8 @@ pub enum Format {
     Contents,
     /// A line of JSON for each link and each image, with its range.
     Links,
+    /// A line of JSON for each link label that no reference definition has, with its range.
+    Broken,
 }
 
 /// What is wrong with a command line whose words are known.
@@ -30,6 +33,8 @@ pub enum Misuse {
     PageWithoutHtml,
     /// `--title`, `--css`, `--lang` or `--toc` without `--full-page`.
     PartWithoutPage,
+    /// `--positions` with a format that is not lines of JSON.
+    PositionsWithoutLines,
 }
 
 /// What is chosen beside a format.
@@ -41,6 +46,8 @@ pub struct Choices {
     pub page: bool,
     /// A part of the page is asked for: its title, its style sheet, its language or its contents.
     pub part: bool,
+    /// `--positions` is given.
+    pub positions: bool,
 }
 
 impl Misuse {
@@ -51,12 +58,15 @@ impl Misuse {
             Misuse::SafeWithoutHtml => "--safe is for --to html alone",
             Misuse::PageWithoutHtml => "--full-page is for --to html alone",
             Misuse::PartWithoutPage => "--title, --css, --lang and --toc need --full-page",
+            Misuse::PositionsWithoutLines => {
+                "--positions is for --to events, outline, links and broken"
+            }
         }
     }
 }
 
 /// The names of the formats. HTML is safe or not by a flag of its own.
-pub static FORMATS: [&str; 5] = ["html", "events", "outline", "toc", "links"];
+pub static FORMATS: [&str; 6] = ["html", "events", "outline", "toc", "links", "broken"];
 
 /// Returns the format of this name, or `None` where none is offered.
 pub fn format_named(name: &str) -> Option<Format>
@@ -68,6 +78,7 @@ pub fn format_named(name: &str) -> Option<Format>
         "outline" => Format::Outline,
         "toc" => Format::Contents,
         "links" => Format::Links,
+        "broken" => Format::Broken,
         _ => return None,
     })
 }
@@ -85,14 +96,11 @@ fn other_format(named: Format, choices: Choices) -> Result<Format, Misuse>
     Ok(named)
 }
 
-/// Returns the format that is made where one is named, with these choices: safe HTML for HTML if `safe` is set. Of several
-/// mistakes it is the first in the order of `PartWithoutPage`, `SafeWithoutHtml`, `PageWithoutHtml`.
-pub fn checked_format(named: Format, choices: Choices) -> Result<Format, Misuse>
-    ensures { result ≡ checked_format named choices }
+/// Returns the format that is made where one is named and no part of a page is asked for without the page: safe HTML for
+/// HTML if `safe` is set.
+fn made_format(named: Format, choices: Choices) -> Result<Format, Misuse>
+    ensures { result ≡ made_format named choices }
 {
-    if choices.part && !choices.page {
-        return Err(Misuse::PartWithoutPage);
-    }
     match named {
         Format::Html => Ok(if choices.safe {
             Format::SafeHtml
@@ -101,4 +109,29 @@ pub fn checked_format(named: Format, choices: Choices) -> Result<Format, Misuse>
         }),
         _ => other_format(named, choices),
     }
+}
+
+/// Returns whether a format is lines of JSON with ranges, which may have the lines and columns of their ranges.
+fn has_places(format: Format) -> bool
+    ensures { result ≡ has_places format }
+{
+    match format {
+        Format::Events | Format::Outline | Format::Links | Format::Broken => true,
+        Format::Html | Format::SafeHtml | Format::Contents => false,
+    }
+}
+
+/// Returns the format that is made where one is named, with these choices: safe HTML for HTML if `safe` is set. Of several
+/// mistakes it is the first in the order of `PartWithoutPage`, `SafeWithoutHtml`, `PageWithoutHtml`, `PositionsWithoutLines`.
+pub fn checked_format(named: Format, choices: Choices) -> Result<Format, Misuse>
+    ensures { result ≡ checked_format named choices }
+{
+    if choices.part && !choices.page {
+        return Err(Misuse::PartWithoutPage);
+    }
+    let made = made_format(named, choices)?;
+    if choices.positions && !has_places(made) {
+        return Err(Misuse::PositionsWithoutLines);
+    }
+    Ok(made)
 }

@@ -132,8 +132,8 @@ fn with_files<'a>(alloc: Global, command: Command<'a>) -> Result<Command<'a>, Al
 /// The end of the help: the extensions, in the order of their table, and the exit statuses. A star marks those that `--gfm`
 /// enables.
 const AFTER_HELP: &str =
-    "Extensions: alerts*, footnotes*, heading-attributes, heading-ids*, math, old-footnotes, pluses, smart, \
-    strikethrough*,\nsubscript, superscript, tables*, tasklists*, wikilinks, yaml.\n\n\
+    "Extensions: alerts*, autolinks*, footnotes*, heading-attributes, heading-ids*, math, old-footnotes, pluses, \
+    smart,\nstrikethrough*, subscript, superscript, tables*, tasklists*, wikilinks, yaml.\n\n\
     Exit status: 0 if all was written, 1 if something failed, 2 if the command line is wrong.";
 
 /// Returns the command without its arguments.
@@ -143,7 +143,7 @@ fn bare<'a>(alloc: Global) -> Result<Command<'a>, AllocError>
     Command::new(alloc, "markdown")
         .version(VERSION)
         .about(
-            "Turn Markdown into HTML, events, an outline, a table of contents or a list of links.",
+            "Turn Markdown into HTML, events, an outline, a table of contents or lists of links.",
         )
         .after_help(AFTER_HELP)
         .bin_name("markdown")
@@ -154,13 +154,15 @@ fn command<'a>(alloc: Global, formats: &'a [&'a str]) -> Result<Command<'a>, All
     ensures { IfOk result (λ made. app_of made ≡ tool (Names formats.entry)) }
 {
     let safe = flag(alloc, "safe").help("Write safe HTML, for texts of strangers");
+    let positions = flag(alloc, "positions").help("Add lines and columns to lines of JSON");
     let bare = bare(alloc)?;
     let with_formats = bare.arg(to(alloc, formats))?;
     let with_safe = with_formats.arg(safe)?;
     let extended = with_extensions(alloc, with_safe)?;
     let paged = with_page(alloc, extended)?;
     let with_contents = with_contents(alloc, paged)?;
-    with_files(alloc, with_contents)
+    let with_positions = with_contents.arg(positions)?;
+    with_files(alloc, with_positions)
 }
 
 /// Returns the message about a part of a list of extensions that names none.

@@ -33,6 +33,8 @@ pub struct Request {
     pub enabled: Enabled,
     /// The page that is asked for, where one is; then the format is HTML, safe or not.
     pub page: Option<Page>,
+    /// Whether lines of JSON have the lines and columns of their ranges; then the format is one of lines.
+    pub positions: bool,
     /// Whether files that are not UTF-8 are read too, with U+FFFD for what is none.
     pub lossy: bool,
     /// The file that is written. `-` is standard output.
@@ -172,6 +174,7 @@ fn choices_asked(matches: &ArgMatches<'_>) -> Choices
         safe: is_given(matches, "safe"),
         page: is_given(matches, "full-page"),
         part: asks_part(matches),
+        positions: is_given(matches, "positions"),
     }
 }
 
@@ -240,6 +243,7 @@ pub(crate) fn request_asked<'a>(
         format,
         enabled,
         page,
+        positions: is_given(matches, "positions"),
         lossy: is_given(matches, "lossy"),
         output,
         inputs,

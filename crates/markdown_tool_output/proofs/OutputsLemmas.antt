@@ -1,5 +1,5 @@
 -- A refused allocation is one of the faults of what is written; and what is written so far.
-use Rattle.std.proofs.Common.{◌≡◌, ℕ, List, [], ◌∷◌, ◌++◌, drop, inr, map, IfErr, Result}
+use Rattle.std.proofs.Common.{◌≡◌, ℕ, Bool, List, [], ◌∷◌, ◌++◌, drop, inr, map, IfErr, Result}
 use Rattle.std.proofs.lemmas.Result.{IfErr-weaker}
 use Rattle.markdown_base.specs.declared.fault.Fault.{Fault}
 use Rattle.markdown_base.specs.declared.fault.Fault.TheVariants.{Memory}
@@ -25,8 +25,9 @@ memory_of_output r texts result refused =
 
 -- what is written so far, with what is written for the files from this one on, is what is written for all; and a fault
 -- of those is one of all
-pub record WritesSoFar (format : Format) (e : Enabled) (files : List File) (at : ℕ) (so_far : List ℕ) : Type 0 where
-  pub written : so_far ++ outputs_of format e (map file_view (drop at files))
-      ≡ outputs_of format e (map file_view files)
+pub record WritesSoFar (format : Format) (positions : Bool) (e : Enabled) (files : List File) (at : ℕ)
+    (so_far : List ℕ) : Type 0 where
+  pub written : so_far ++ outputs_of format positions e (map file_view (drop at files))
+      ≡ outputs_of format positions e (map file_view files)
   pub faults : (fault : Fault) → IsFaultOfFiles format e (map file_view (drop at files)) fault
       → IsFaultOfFiles format e (map file_view files) fault

@@ -3,7 +3,7 @@ use Rattle.std.specs.Prelude.{◌≡◌, ℕ, suc, Bool, false, not, ◌&&◌, i
 use Rattle.std.specs.Prelude.{◌⊎◌, ◌==◌, Option, Some, None, bytes_eq, is_some, true}
 use Rattle.std.specs.Prelude.{option_map, codes, decimal, map, nat_lt, slice_get, string_bytes, unwrap_or}
 use denote.Ref.{Bor}
-use Rattle.markdown_additions.specs.Additions.{AdditionsView, adds_ids, adds_nothing, adds_prefixed_ids}
+use Rattle.markdown_additions.specs.Additions.{AdditionsView, added_events, adds_ids, adds_nothing, adds_prefixed_ids}
 use Rattle.markdown_additions.specs.Written.{IsFaultOfWritingText, headings_of_text, written_of_text}
 use Rattle.markdown_additions.specs.declared.written.Form.TheVariants as form
 use Rattle.markdown_base.specs.Source.{Source, source_as}
@@ -13,7 +13,11 @@ use Rattle.markdown_base.specs.declared.fault.Fault.TheVariants as fault_kind
 use Rattle.markdown_contents.specs.Contents.{contents_in_file}
 use Rattle.markdown_json.specs.Json.{string}
 use Rattle.markdown_contents.specs.HtmlList.{html_list_of}
-use Rattle.markdown_lint_json.specs.LinkJson.{links_json_of_text}
+use Rattle.markdown_links.specs.LinksOfText.{links_of_text}
+use Rattle.markdown_lint_json.specs.BrokenJson.{broken_lines, broken_of_text, placed_broken_lines}
+use Rattle.markdown_lint_json.specs.LinkJson.{links_json_of_text, placed_link_lines}
+use Rattle.markdown_lint_json.specs.PlacedEvents.{placed_event_lines}
+use Rattle.markdown_lint_json.specs.PlacedOutline.{placed_outline_lines}
 use Rattle.markdown_outline.specs.Outline.{EntryView}
 use Rattle.markdown_page.specs.FileTitle.{file_title}
 use Rattle.markdown_page.specs.MetadataTitle.{shown_title}
@@ -25,6 +29,7 @@ use Rattle.markdown_tool_command.specs.declared.choices.Format.TheVariants as fo
 use Rattle.markdown_tool_command.specs.declared.extensions.Enabled.{Enabled}
 use Rattle.markdown_tool_command.specs.declared.request.Request.{Request}
 use Rattle.markdown_tool_output.specs.FileText.{without_mark}
+use Rattle.markdown_tool_output.specs.Metadata.{title_in_metadata}
 
 -- one of the files that are read: its name, its number from 1, whether there are several, and its text
 pub record FileView : Type 0 where
@@ -50,25 +55,54 @@ line_additions e = if e.heading_ids then adds_ids else adds_nothing
 abbrev pub file_source : Enabled → FileView → Source
 file_source e f = source_as (full_syntax e.options) (without_mark f.text)
 
--- the lines of the headings of a file, with their ids where those are enabled
-abbrev pub outline_of_file : Enabled → FileView → List ℕ
-outline_of_file e f =
-    if e.heading_ids then outline_lines_with_ids (headings_of_text false adds_ids (file_source e f))
-    else outline_lines (headings_of_text false adds_nothing (file_source e f))
+-- the lines of the events of a file, with the places of their ranges where positions are asked for
+abbrev pub events_of_file : (positions : Bool) → Enabled → FileView → List ℕ
+events_of_file positions e f =
+    if positions
+    then placed_event_lines (without_mark f.text) (added_events (line_additions e) (file_source e f))
+    else written_of_text form.Lines (line_additions e) (file_source e f)
+
+-- the headings of a file, with their ids where those are enabled
+abbrev pub line_headings : Enabled → FileView → List EntryView
+line_headings e f = headings_of_text false (line_additions e) (file_source e f)
+
+-- the lines of the headings of a file without places, with their ids where those are enabled
+abbrev pub bare_outline : Enabled → FileView → List ℕ
+bare_outline e f =
+    if e.heading_ids then outline_lines_with_ids (line_headings e f) else outline_lines (line_headings e f)
+
+-- the same, with the places of their ranges where positions are asked for
+abbrev pub outline_of_file : (positions : Bool) → Enabled → FileView → List ℕ
+outline_of_file positions e f =
+    if positions then placed_outline_lines (without_mark f.text) e.heading_ids (line_headings e f)
+    else bare_outline e f
+
+-- the lines of the links and images of a file
+abbrev pub links_of_file : (positions : Bool) → Enabled → FileView → List ℕ
+links_of_file positions e f =
+    if positions then placed_link_lines (without_mark f.text) (links_of_text (file_source e f))
+    else links_json_of_text (file_source e f)
+
+-- the lines of the references of a file whose link label no definition has
+abbrev pub broken_of_file : (positions : Bool) → Enabled → FileView → List ℕ
+broken_of_file positions e f =
+    if positions then placed_broken_lines (without_mark f.text) (broken_of_text (file_source e f))
+    else broken_lines (without_mark f.text) (broken_of_text (file_source e f))
 
 -- the name by which links lead to a file: none if it is the only one, or standard input
 abbrev pub link_name : FileView → List ℕ
 link_name f = if f.several && not (bytes_eq f.name standard) then f.name else []
 
--- what is written for a file
-abbrev pub output_of_file : Format → Enabled → FileView → List ℕ
-output_of_file format.Html e f = written_of_text form.Html (html_additions e f) (file_source e f)
-output_of_file format.SafeHtml e f = written_of_text form.SafeHtml (html_additions e f) (file_source e f)
-output_of_file format.Events e f = written_of_text form.Lines (line_additions e) (file_source e f)
-output_of_file format.Outline e f = outline_of_file e f
-output_of_file format.Links e f = links_json_of_text (file_source e f)
-output_of_file format.Contents e f = contents_in_file (link_name f) (headings_of_text false adds_ids (file_source
-    e f))
+-- what is written for a file, with places in its lines where positions are asked for
+abbrev pub output_of_file : Format → (positions : Bool) → Enabled → FileView → List ℕ
+output_of_file format.Html positions e f = written_of_text form.Html (html_additions e f) (file_source e f)
+output_of_file format.SafeHtml positions e f = written_of_text form.SafeHtml (html_additions e f) (file_source e f)
+output_of_file format.Events positions e f = events_of_file positions e f
+output_of_file format.Outline positions e f = outline_of_file positions e f
+output_of_file format.Links positions e f = links_of_file positions e f
+output_of_file format.Broken positions e f = broken_of_file positions e f
+output_of_file format.Contents positions e f =
+    contents_in_file (link_name f) (headings_of_text false adds_ids (file_source e f))
 
 -- this is why nothing is written for a file: an allocation was refused, or its text is too deep for HTML
 abbrev pub IsFaultOfFile : Format → Enabled → FileView → Fault → Type 0
@@ -78,6 +112,7 @@ IsFaultOfFile format.SafeHtml e f fault =
 IsFaultOfFile format.Events e f fault = IsFaultOfWritingText form.Lines (line_additions e) (file_source e f) fault
 IsFaultOfFile format.Outline e f fault = fault ≡ fault_kind.Memory
 IsFaultOfFile format.Links e f fault = fault ≡ fault_kind.Memory
+IsFaultOfFile format.Broken e f fault = fault ≡ fault_kind.Memory
 IsFaultOfFile format.Contents e f fault = fault ≡ fault_kind.Memory
 
 -- the line that names one of several files before its lines of JSON
@@ -90,6 +125,7 @@ file_line format.SafeHtml f = []
 file_line format.Events f = named_line f
 file_line format.Outline f = named_line f
 file_line format.Links f = named_line f
+file_line format.Broken f = named_line f
 file_line format.Contents f = []
 
 -- the files of a request with these texts, of which the first is after this number of others
@@ -107,9 +143,10 @@ abbrev pub files_of : Request → (texts : List (List ℕ)) → List FileView
 files_of r texts = files_from r (nat_lt 1 (length texts)) 0 texts
 
 -- what is written for files, one after another
-abbrev pub outputs_of : Format → Enabled → List FileView → List ℕ
-outputs_of format e [] = []
-outputs_of format e (f ∷ files) = (file_line format f ++ output_of_file format e f) ++ outputs_of format e files
+abbrev pub outputs_of : Format → (positions : Bool) → Enabled → List FileView → List ℕ
+outputs_of format positions e [] = []
+outputs_of format positions e (f ∷ files) =
+    (file_line format f ++ output_of_file format positions e f) ++ outputs_of format positions e files
 
 -- this is why nothing is written for files: for one of them nothing is
 abbrev pub IsFaultOfFiles : Format → Enabled → List FileView → Fault → Type 0
@@ -131,9 +168,13 @@ is_safe other = false
 abbrev pub headings_of_file : Format → Enabled → FileView → List EntryView
 headings_of_file format e f = headings_of_text (is_safe format) (html_additions e f) (file_source e f)
 
--- the title of a page without one of its own: that of the first file's first heading of level 1, or of its name
+-- the title that a file's first heading of level 1 with a text gives a page, or otherwise its name
+abbrev pub title_of_headings : Format → Enabled → FileView → List ℕ
+title_of_headings format e f = unwrap_or (first_title (headings_of_file format e f)) (file_title f.name)
+
+-- the title of a page without one of its own: that in the metadata of the first file, or of its headings
 abbrev pub title_of_file : Format → Enabled → FileView → List ℕ
-title_of_file format e f = unwrap_or (first_title (headings_of_file format e f)) (file_title f.name)
+title_of_file format e f = unwrap_or (title_in_metadata (file_source e f)) (title_of_headings format e f)
 
 abbrev pub title_of_files : Format → Enabled → List FileView → List ℕ
 title_of_files format e [] = []
@@ -175,7 +216,7 @@ in_page (Some page) format e files outputs =
 -- what is written for a request whose files hold these texts
 abbrev pub output_of : Request → (texts : List (List ℕ)) → List ℕ
 output_of r texts = in_page (option_map page_view r.page) r.format r.enabled (files_of r texts)
-    (outputs_of r.format r.enabled (files_of r texts))
+    (outputs_of r.format r.positions r.enabled (files_of r texts))
 
 -- this is why nothing is written for a request
 abbrev pub IsFaultOfOutput : Request → (texts : List (List ℕ)) → Fault → Type 0

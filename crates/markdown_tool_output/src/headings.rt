@@ -1,13 +1,14 @@
 //! The headings of a file: its outline, its table of contents, and what a page has of them.
 ghost use Rattle.std.specs.Prelude.{◌≡◌, IfErr, IfOk, false, map, option_copied, string_bytes};
-ghost use Rattle.markdown_additions.specs.Additions.{adds_ids, adds_nothing};
+ghost use Rattle.markdown_additions.specs.Additions.{adds_ids};
 ghost use Rattle.markdown_additions.specs.Written.{headings_of_text};
 ghost use Rattle.markdown_contents.specs.Contents.{contents_in_file};
+ghost use Rattle.markdown_lint_json.specs.PlacedOutline.{placed_outline_lines};
 ghost use Rattle.markdown_outline.specs.Outline.{entry_view};
-ghost use Rattle.markdown_text_json.specs.OutlineJson.{outline_lines, outline_lines_with_ids};
+ghost use Rattle.markdown_tool_output.specs.FileText.{without_mark};
 ghost use Rattle.markdown_tool_output.specs.Files.{file_view};
 ghost use Rattle.markdown_tool_output.specs.Outputs.{file_source, first_title, headings_of_file, is_safe, link_name};
-ghost use Rattle.markdown_tool_output.specs.Outputs.{outline_of_file};
+ghost use Rattle.markdown_tool_output.specs.Outputs.{bare_outline, line_headings, outline_of_file};
 
 use crate::file::{File, file_prefix, link_name};
 use crate::text::without_mark;
@@ -15,8 +16,10 @@ use markdown_additions::{Additions, headings_source};
 use markdown_base::fault::Fault;
 use markdown_base::syntax::Syntax;
 use markdown_contents::list_in;
+use markdown_lint_json::push_outline_with_places;
 use markdown_outline::Entry;
 use markdown_page::heading_title;
+use markdown_positions::Positions;
 use markdown_text_json::{push_outline, push_outline_with_ids};
 use markdown_tool_command::Format;
 use markdown_tool_command::extensions::Enabled;
@@ -38,46 +41,72 @@ fn headings_with_ids(alloc: Global, enabled: Enabled, file: File<'_>) -> Result<
     )
 }
 
-/// Returns the lines of the headings of a file, with their ids.
-fn outline_with_ids(alloc: Global, enabled: Enabled, file: File<'_>) -> Result<String, Fault>
-    ensures lines { IfOk result (λ lines. string_bytes lines ≡ outline_lines_with_ids
-        (headings_of_text false adds_ids (file_source enabled (file_view file.entry)))) }
-    ensures refused { IfErr result (λ fault. fault ≡ Fault.Memory) }
-{
-    let headings = headings_with_ids(alloc, enabled, file)?;
-    let mut lines = String::new(alloc);
-    push_outline_with_ids(&mut lines, headings.as_slice())?;
-    Ok(lines)
-}
-
-/// Returns the lines of the headings of a file, without ids.
-fn outline_alone(alloc: Global, enabled: Enabled, file: File<'_>) -> Result<String, Fault>
-    ensures lines { IfOk result (λ lines. string_bytes lines ≡ outline_lines
-        (headings_of_text false adds_nothing (file_source enabled (file_view file.entry)))) }
+/// Returns the headings of a file, with ids where those are enabled.
+fn line_headings(alloc: Global, enabled: Enabled, file: File<'_>) -> Result<Vec<Entry>, Fault>
+    ensures headings { IfOk result (λ headings.
+        map entry_view headings.items ≡ line_headings enabled (file_view file.entry)) }
     ensures refused { IfErr result (λ fault. fault ≡ Fault.Memory) }
 {
     let syntax = Syntax::full(enabled.options);
     let text = without_mark(file.text);
-    let headings = headings_source(alloc, text, syntax, Additions::Nothing, false)?;
+    if enabled.heading_ids {
+        headings_source(alloc, text, syntax, Additions::HeadingIds, false)
+    } else {
+        headings_source(alloc, text, syntax, Additions::Nothing, false)
+    }
+}
+
+/// Returns the lines of the headings of a file without places, with their ids where those are enabled.
+fn bare_outline(alloc: Global, enabled: Enabled, file: File<'_>) -> Result<String, Fault>
+    ensures lines { IfOk result (λ lines.
+        string_bytes lines ≡ bare_outline enabled (file_view file.entry)) }
+    ensures refused { IfErr result (λ fault. fault ≡ Fault.Memory) }
+{
+    let headings = line_headings(alloc, enabled, file)?;
     let mut lines = String::new(alloc);
-    push_outline(&mut lines, headings.as_slice())?;
+    if enabled.heading_ids {
+        push_outline_with_ids(&mut lines, headings.as_slice())?;
+    } else {
+        push_outline(&mut lines, headings.as_slice())?;
+    }
     Ok(lines)
 }
 
-/// Returns the lines of the headings of a file, with their ids where those are enabled.
+/// Returns the lines of the headings of a file with the places of their ranges, and with their ids where those are enabled.
+fn placed_outline(alloc: Global, enabled: Enabled, file: File<'_>) -> Result<String, Fault>
+    ensures lines { let f = file_view file.entry in IfOk result (λ lines. string_bytes lines
+        ≡ placed_outline_lines (without_mark f.text) enabled.heading_ids
+        (line_headings enabled f)) }
+    ensures refused { IfErr result (λ fault. fault ≡ Fault.Memory) }
+{
+    let headings = line_headings(alloc, enabled, file)?;
+    let positions = Positions::new(alloc, without_mark(file.text))?;
+    let mut lines = String::new(alloc);
+    push_outline_with_places(
+        &mut lines,
+        headings.as_slice(),
+        enabled.heading_ids,
+        &positions,
+    )?;
+    Ok(lines)
+}
+
+/// Returns the lines of the headings of a file, with the places of their ranges if `positions` is set, and with their ids
+/// where those are enabled.
 pub(crate) fn outline_of_file(
     alloc: Global,
+    positions: bool,
     enabled: Enabled,
     file: File<'_>,
 ) -> Result<String, Fault>
     ensures lines { IfOk result (λ lines.
-        string_bytes lines ≡ outline_of_file enabled (file_view file.entry)) }
+        string_bytes lines ≡ outline_of_file positions enabled (file_view file.entry)) }
     ensures refused { IfErr result (λ fault. fault ≡ Fault.Memory) }
 {
-    if enabled.heading_ids {
-        outline_with_ids(alloc, enabled, file)
+    if positions {
+        placed_outline(alloc, enabled, file)
     } else {
-        outline_alone(alloc, enabled, file)
+        bare_outline(alloc, enabled, file)
     }
 }
 

@@ -1,10 +1,13 @@
 //! What the program `markdown` writes for a request, and the program over any files.
 #![tactic(auto)]
 
+mod events;
 pub mod failure;
 mod file;
 pub mod files;
 mod headings;
+mod lint;
+mod metadata;
 pub mod output;
 mod page;
 pub mod run;

@@ -1,21 +1,21 @@
 //! What is written for a request: a function of the request and of the texts alone.
 ghost use Rattle.std.specs.Prelude.{◌≡◌, ◌++◌, IfErr, IfOk, OnOk, map, string_bytes};
 ghost use Rattle.markdown_additions.specs.Written.{IsFaultOfWritingText, written_of_text};
-ghost use Rattle.markdown_lint_json.specs.LinkJson.{links_json_of_text};
 ghost use Rattle.markdown_tool_output.specs.Files.{file_view};
 ghost use Rattle.markdown_tool_output.specs.Outputs.{IsFaultOfFile, IsFaultOfFiles, IsFaultOfOutput, file_line};
-ghost use Rattle.markdown_tool_output.specs.Outputs.{file_source, html_additions, line_additions, named_line};
+ghost use Rattle.markdown_tool_output.specs.Outputs.{events_of_file, file_source, html_additions, line_additions, named_line};
 ghost use Rattle.markdown_tool_output.specs.Outputs.{output_of, output_of_file, outputs_of};
 
+use crate::events::placed_events;
 use crate::file::{File, file_prefix, files_of};
 use crate::headings::{contents_of_file, outline_of_file};
+use crate::lint::{broken_of_file, links_of_file};
 use crate::page::{Inside, page_of};
 use crate::text::without_mark;
 use markdown_additions::{Additions, Form, written_source};
 use markdown_base::fault::Fault;
 use markdown_base::syntax::Syntax;
 use markdown_json::{Piece, push_pieces};
-use markdown_lint_json::links_json_source;
 use markdown_tool_command::extensions::Enabled;
 use markdown_tool_command::{Format, Request};
 use std::alloc::{AllocError, Global};
@@ -66,33 +66,44 @@ fn lines_of_file(alloc: Global, enabled: Enabled, file: File<'_>) -> Result<Stri
     }
 }
 
-/// Returns the lines of the links and images of a file.
-fn links_of_file(alloc: Global, enabled: Enabled, file: File<'_>) -> Result<String, Fault>
+/// Returns the lines of the events of a file, with the places of their ranges if `positions` is set.
+fn events_of_file(
+    alloc: Global,
+    positions: bool,
+    enabled: Enabled,
+    file: File<'_>,
+) -> Result<String, Fault>
     ensures lines { IfOk result (λ lines.
-        string_bytes lines ≡ links_json_of_text (file_source enabled (file_view file.entry))) }
-    ensures refused { IfErr result (λ fault. fault ≡ Fault.Memory) }
+        string_bytes lines ≡ events_of_file positions enabled (file_view file.entry)) }
+    ensures faults { let f = file_view file.entry in IfErr result
+        (IsFaultOfWritingText Form.Lines (line_additions enabled) (file_source enabled f)) }
 {
-    let syntax = Syntax::full(enabled.options);
-    links_json_source(alloc, without_mark(file.text), syntax)
+    if positions {
+        Ok(placed_events(alloc, enabled, file)?)
+    } else {
+        lines_of_file(alloc, enabled, file)
+    }
 }
 
-/// Returns what is written in a format for a file.
+/// Returns what is written in a format for a file, with places in its lines if `positions` is set.
 fn output_of_file(
     alloc: Global,
     format: Format,
+    positions: bool,
     enabled: Enabled,
     file: File<'_>,
 ) -> Result<String, Fault>
     ensures output { IfOk result (λ output.
-        string_bytes output ≡ output_of_file format enabled (file_view file.entry)) }
+        string_bytes output ≡ output_of_file format positions enabled (file_view file.entry)) }
     ensures faults { IfErr result (IsFaultOfFile format enabled (file_view file.entry)) }
 {
     match format {
         Format::Html => html_of_file(alloc, Form::Html, enabled, file),
         Format::SafeHtml => html_of_file(alloc, Form::SafeHtml, enabled, file),
-        Format::Events => lines_of_file(alloc, enabled, file),
-        Format::Outline => outline_of_file(alloc, enabled, file),
-        Format::Links => links_of_file(alloc, enabled, file),
+        Format::Events => events_of_file(alloc, positions, enabled, file),
+        Format::Outline => outline_of_file(alloc, positions, enabled, file),
+        Format::Links => links_of_file(alloc, positions, enabled, file),
+        Format::Broken => broken_of_file(alloc, positions, enabled, file),
         Format::Contents => contents_of_file(alloc, enabled, file),
     }
 }
@@ -122,7 +133,9 @@ fn push_file_line(outputs: &mut String, format: Format, file: File<'_>) -> Resul
 {
     match format {
         Format::Html | Format::SafeHtml | Format::Contents => Ok(()),
-        Format::Events | Format::Outline | Format::Links => push_named_line(outputs, file),
+        Format::Events | Format::Outline | Format::Links | Format::Broken => {
+            push_named_line(outputs, file)
+        }
     }
 }
 
@@ -130,17 +143,18 @@ fn push_file_line(outputs: &mut String, format: Format, file: File<'_>) -> Resul
 fn outputs_of(
     alloc: Global,
     format: Format,
+    positions: bool,
     enabled: Enabled,
     files: &[File<'_>],
 ) -> Result<String, Fault>
     ensures outputs { IfOk result (λ outputs.
-        string_bytes outputs ≡ outputs_of format enabled (map file_view files.now)) }
+        string_bytes outputs ≡ outputs_of format positions enabled (map file_view files.now)) }
     ensures faults { IfErr result (IsFaultOfFiles format enabled (map file_view files.now)) }
 {
     let mut outputs = String::new(alloc);
     'files: for file in files {
         push_file_line(&mut outputs, format, *file)?;
-        let output = output_of_file(alloc, format, enabled, *file)?;
+        let output = output_of_file(alloc, format, positions, enabled, *file)?;
         outputs.push_str(output.as_str())?;
     }
     Ok(outputs)
@@ -158,7 +172,13 @@ pub fn output_of(alloc: Global, request: &Request, texts: &[String]) -> Result<S
     ensures faults { IfErr result (IsFaultOfOutput request.now (map string_bytes texts.now)) }
 {
     let files = files_of(alloc, request, texts)?;
-    let outputs = outputs_of(alloc, request.format, request.enabled, files.as_slice())?;
+    let outputs = outputs_of(
+        alloc,
+        request.format,
+        request.positions,
+        request.enabled,
+        files.as_slice(),
+    )?;
     match &request.page {
         Some(page) => {
             let inside = Inside {

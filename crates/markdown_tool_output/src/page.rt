@@ -3,19 +3,40 @@ ghost use Rattle.std.specs.Prelude.{◌≡◌, IfErr, IfOk, map, string_bytes};
 ghost use Rattle.markdown_tool_command.specs.Requests.{page_view};
 ghost use Rattle.markdown_tool_output.specs.Files.{file_view};
 ghost use Rattle.markdown_tool_output.specs.Outputs.{contents_asked, contents_of_files, in_page, title_of_file};
-ghost use Rattle.markdown_tool_output.specs.Outputs.{title_of_files, title_shown};
+ghost use Rattle.markdown_tool_output.specs.Outputs.{title_of_files, title_of_headings, title_shown};
 ghost use Rattle.std.specs.Prelude.{Some};
 
 use crate::file::File;
 use crate::headings::{first_title, headings_of_file};
+use crate::metadata::title_in_metadata;
+use crate::text::without_mark;
 use markdown_base::fault::Fault;
+use markdown_base::syntax::Syntax;
 use markdown_contents::html_list_of;
 use markdown_page::{Style, file_title, page_html};
 use markdown_tool_command::extensions::Enabled;
 use markdown_tool_command::{Format, Page};
 use std::alloc::Global;
 
-/// Returns the title that a file gives a page.
+/// Returns the title that the headings of a file give a page, or otherwise its name.
+fn title_of_headings(
+    alloc: Global,
+    format: Format,
+    enabled: Enabled,
+    file: File<'_>,
+) -> Result<String, Fault>
+    ensures title { IfOk result (λ title.
+        string_bytes title ≡ title_of_headings format enabled (file_view file.entry)) }
+    ensures refused { IfErr result (λ fault. fault ≡ Fault.Memory) }
+{
+    let headings = headings_of_file(alloc, format, enabled, file)?;
+    match first_title(headings.as_slice()) {
+        Some(title) => Ok(String::from_str(alloc, title)?),
+        None => Ok(String::from_str(alloc, file_title(file.name))?),
+    }
+}
+
+/// Returns the title that a file gives a page: that in its metadata, or of its headings.
 fn title_of_file(
     alloc: Global,
     format: Format,
@@ -26,10 +47,10 @@ fn title_of_file(
         string_bytes title ≡ title_of_file format enabled (file_view file.entry)) }
     ensures refused { IfErr result (λ fault. fault ≡ Fault.Memory) }
 {
-    let headings = headings_of_file(alloc, format, enabled, file)?;
-    match first_title(headings.as_slice()) {
-        Some(title) => Ok(String::from_str(alloc, title)?),
-        None => Ok(String::from_str(alloc, file_title(file.name))?),
+    let syntax = Syntax::full(enabled.options);
+    match title_in_metadata(alloc, without_mark(file.text), syntax)? {
+        Some(title) => Ok(title),
+        None => title_of_headings(alloc, format, enabled, file),
     }
 }
 

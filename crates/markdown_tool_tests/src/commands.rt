@@ -10,7 +10,7 @@ const WRONG: &[(&[&str], &str)] = &[
     (&["--none"], "error: unexpected argument '--none' found\n"),
     (
         &["-t", "pdf"],
-        "error: invalid value 'pdf' for '--to <FORMAT>'\n  [possible values: html, events, outline, toc, links]\n",
+        "error: invalid value 'pdf' for '--to <FORMAT>'\n  [possible values: html, events, outline, toc, links, broken]\n",
     ),
     (&["-o"], "error: a value is required for '--output <FILE>'"),
     (
@@ -52,6 +52,18 @@ const MISUSES: &[(&[&str], &str)] = &[
     ),
     (
         &["-f", "-t", "links", "a.md"],
+        "--full-page is for --to html alone",
+    ),
+    (
+        &["--positions", "a.md"],
+        "--positions is for --to events, outline, links and broken",
+    ),
+    (
+        &["--positions", "-t", "toc", "-e", "b", "a.md"],
+        "--positions is for --to events, outline, links and broken",
+    ),
+    (
+        &["--positions", "-f", "-t", "toc", "a.md"],
         "--full-page is for --to html alone",
     ),
     (
@@ -137,7 +149,7 @@ fn misuses(rt: HostRuntime) -> Result<(), Fail> {
 
 /// What help shows, after the name of standard output.
 const HELP: &str = "-: \
-Turn Markdown into HTML, events, an outline, a table of contents or a list of links.
+Turn Markdown into HTML, events, an outline, a table of contents or lists of links.
 
 Usage: markdown [OPTIONS] [FILE]...
 
@@ -145,7 +157,7 @@ Arguments:
   [FILE]...  The files to read; - or none is standard input
 
 Options:
-  -t, --to <FORMAT>       What to write [default: html] [possible values: html, events, outline, toc, links]
+  -t, --to <FORMAT>       What to write [default: html] [possible values: html, events, outline, toc, links, broken]
       --safe              Write safe HTML, for texts of strangers
   -e, --extension <LIST>  Enable extensions, with commas between; no-NAME disables one; may be repeated
   -a, --all-extensions    Enable all extensions but old-footnotes
@@ -155,13 +167,14 @@ Options:
       --css <URL>         The style sheet of the page, in place of the default style; '' for none
       --lang <TAG>        The language of the page
       --toc               Begin the page with a table of contents
+      --positions         Add lines and columns to lines of JSON
       --lossy             Read bytes that are not UTF-8 as U+FFFD
   -o, --output <FILE>     The file to write; - is standard output [default: -]
   -h, --help              Print help
   -V, --version           Print version
 
-Extensions: alerts*, footnotes*, heading-attributes, heading-ids*, math, old-footnotes, pluses, smart, strikethrough*,
-subscript, superscript, tables*, tasklists*, wikilinks, yaml.
+Extensions: alerts*, autolinks*, footnotes*, heading-attributes, heading-ids*, math, old-footnotes, pluses, smart,
+strikethrough*, subscript, superscript, tables*, tasklists*, wikilinks, yaml.
 
 Exit status: 0 if all was written, 1 if something failed, 2 if the command line is wrong.
 ";

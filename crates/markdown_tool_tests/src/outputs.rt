@@ -154,7 +154,73 @@ const IDS: &[Row] = &[
     ),
 ];
 
+/// The lines of linters, with lines and columns and without.
+const LINES: &[Row] = &[
+    (
+        &["-t", "broken", "-e", "footnotes", "broken.md"],
+        "-: {\"link_type\":\"Reference\",\"image\":false,\"reference\":\"b\",\"range\":{\"start\":0,\"end\":6}}\n\
+        {\"link_type\":\"Shortcut\",\"image\":false,\"reference\":\"c\",\"range\":{\"start\":7,\"end\":10}}\n\
+        {\"link_type\":\"Collapsed\",\"image\":false,\"reference\":\"d\",\"range\":{\"start\":11,\"end\":14}}\n\
+        {\"link_type\":\"Reference\",\"image\":true,\"reference\":\"f\",\"range\":{\"start\":17,\"end\":24}}\n\
+        {\"link_type\":\"Shortcut\",\"image\":true,\"reference\":\"g\",\"range\":{\"start\":25,\"end\":29}}\n\
+        {\"link_type\":\"Reference\",\"image\":false,\"reference\":\"l\",\"range\":{\"start\":49,\"end\":55}}\n\
+        {\"link_type\":\"Shortcut\",\"image\":false,\"reference\":\"n\",\"range\":{\"start\":59,\"end\":62}}\n",
+    ),
+    (
+        &["-t", "broken", "a.md", "b.md"],
+        "-: {\"file\":\"a.md\"}\n{\"file\":\"b.md\"}\n",
+    ),
+    (
+        &[
+            "-t",
+            "outline",
+            "--positions",
+            "-e",
+            "heading-ids",
+            "mark.md",
+        ],
+        "-: {\"level\":1,\"text\":\"A\",\"range\":{\"start\":0,\"end\":3},\"id\":\"a\",\
+        \"line\":1,\"column\":1,\"end_line\":1,\"end_column\":4}\n",
+    ),
+    (
+        &["-t", "events", "--positions", "a.md"],
+        "-: [{\"Start\":\"Paragraph\"},{\"start\":0,\"end\":1},\
+        {\"line\":1,\"column\":1,\"end_line\":1,\"end_column\":2}]\n\
+        [{\"Text\":\"a\"},{\"start\":0,\"end\":1},{\"line\":1,\"column\":1,\"end_line\":1,\"end_column\":2}]\n\
+        [{\"End\":\"Paragraph\"},{\"start\":0,\"end\":1},{\"line\":1,\"column\":1,\"end_line\":1,\"end_column\":2}]\n",
+    ),
+    (
+        &["-t", "links", "--positions", "link.md"],
+        "-: {\"kind\":\"link\",\"link_type\":\"Inline\",\"dest_url\":\"c\",\"title\":\"\",\"id\":\"\",\"text\":\"b\",\
+        \"range\":{\"start\":2,\"end\":8},\"line\":2,\"column\":1,\"end_line\":2,\"end_column\":7}\n",
+    ),
+    (
+        &["-t", "broken", "--positions", "lines.md"],
+        "-: {\"link_type\":\"Shortcut\",\"image\":false,\"reference\":\"c\",\"range\":{\"start\":5,\"end\":8},\
+        \"line\":1,\"column\":5,\"end_line\":1,\"end_column\":8}\n\
+        {\"link_type\":\"Shortcut\",\"image\":false,\"reference\":\"d\",\"range\":{\"start\":10,\"end\":13},\
+        \"line\":2,\"column\":1,\"end_line\":2,\"end_column\":4}\n\
+        {\"link_type\":\"Shortcut\",\"image\":false,\"reference\":\"e\",\"range\":{\"start\":14,\"end\":17},\
+        \"line\":3,\"column\":1,\"end_line\":3,\"end_column\":4}\n\
+        {\"link_type\":\"Shortcut\",\"image\":false,\"reference\":\"f\",\"range\":{\"start\":24,\"end\":27},\
+        \"line\":5,\"column\":3,\"end_line\":5,\"end_column\":6}\n",
+    ),
+];
+
 const PAGES: &[Row] = &[
+    (
+        &["-f", "--css", "", "-e", "yaml", "--toc", "meta.md"],
+        "-: <!DOCTYPE html>\n<html>\n<head>\n<meta charset=\"utf-8\">\n\
+        <meta name=\"viewport\" content=\"width=device-width, initial-scale=1\">\n<title>A &amp; B</title>\n</head>\n<body>\n\
+        <nav>\n<ul>\n<li><a href=\"#c\">C</a></li>\n</ul>\n</nav>\n\
+        <main>\n<h1 id=\"c\">C</h1>\n</main>\n</body>\n</html>\n",
+    ),
+    (
+        &["-f", "--css", "", "-e", "yaml", "--title", "", "meta.md"],
+        "-: <!DOCTYPE html>\n<html>\n<head>\n<meta charset=\"utf-8\">\n\
+        <meta name=\"viewport\" content=\"width=device-width, initial-scale=1\">\n<title></title>\n</head>\n<body>\n\
+        <main>\n<h1 id=\"c\">C</h1>\n</main>\n</body>\n</html>\n",
+    ),
     (
         &["-f", "--css", "", "a.md", "mark.md"],
         "-: <!DOCTYPE html>\n<html>\n<head>\n<meta charset=\"utf-8\">\n\
@@ -207,6 +273,7 @@ fn files(rt: HostRuntime) -> Result<(), Fail> {
     writes(rt.alloc(), &mut rows, LISTS)?;
     writes(rt.alloc(), &mut rows, LOSSY)?;
     writes(rt.alloc(), &mut rows, IDS)?;
+    writes(rt.alloc(), &mut rows, LINES)?;
     writes(rt.alloc(), &mut rows, PAGES)?;
     rows.end()
 }

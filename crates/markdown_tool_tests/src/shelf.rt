@@ -5,14 +5,24 @@ use std::io::{self, ErrorKind};
 use std::test::Fail;
 
 /// Files with what they hold. The name `-` is that of standard input.
-static HELD: [(&str, &[u8]); 11] = [
+static HELD: [(&str, &[u8]); 15] = [
     ("-", b"*in*"),
     ("a.md", b"a"),
     ("alert.md", b"> [!NOTE]\n> a"),
     ("b.md", b"# B *c*\n\n## D"),
     ("bad.md", b"a\nb\xff"),
+    (
+        "broken.md",
+        b"[a][b] [c] [d][] ![e][f] ![g]\n[^h] [ ] \\[i] [j\\] [k][l](m) [n](o\n",
+    ),
     ("cut.md", b"\xef\xbb\xbfa\r\n\r\n\xe2\x82"),
     ("html.md", b"a<b>c</b>&copy;"),
+    (
+        "lines.md",
+        b"\xc3\xa4\tb [c]\r\n[d]\r[e]\n\n\xf0\x9d\x92\xb3 [f]",
+    ),
+    ("link.md", b"a\n[b](c)"),
+    ("meta.md", b"---\ntitle: A & B\n---\n\n# C\n"),
     ("mark.md", b"\xef\xbb\xbf# A"),
     ("head.md", b"# \xff"),
     (

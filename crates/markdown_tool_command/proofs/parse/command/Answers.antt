@@ -10,12 +10,15 @@ use Rattle.markdown_tool_command.proofs.parse.command.Goals as goal
 pub returns : goal.returns
 returns c =
     let safe : rule_of c.help-safe.result ≡ flag (codes "safe") = search rules in
+    let positions : rule_of c.help-positions.result ≡ flag (codes "positions") = search rules in
     let with_formats = c.in_ok-with_formats.ensures.shape c.to.ensures.local
     ∙ ap₂ with_rule c.in_ok-bare.ensures c.to.ensures.rule in
     let with_safe = c.in_ok-with_safe.ensures.shape (search rules) ∙ ap₂ with_rule with_formats safe in
     let extended = c.in_ok-extended.ensures ∙ ap with_extension_rules with_safe in
     let paged = c.in_ok-paged.ensures ∙ ap with_page_rules extended in
     let contents = c.in_ok-with_contents.ensures ∙ ap with_contents_rules paged in
-    IfOk-weaker c.with_files.result (λ made. app_of made ≡ with_file_rules (app_of c.in_ok-with_contents.with_contents))
+    let placed = c.in_ok-with_positions.ensures.shape (search rules) ∙ ap₂ with_rule contents positions in
+    IfOk-weaker c.with_files.result
+    (λ made. app_of made ≡ with_file_rules (app_of c.in_ok-with_positions.with_positions))
     (λ made. app_of made ≡ tool (Names c.args.formats))
-    (λ made is. is ∙ ap with_file_rules contents) c.with_files.ensures
+    (λ made is. is ∙ ap with_file_rules placed) c.with_files.ensures

@@ -4,4 +4,4 @@ use Rattle.markdown_tool_output.proofs.OutputsLemmas.{WritesSoFar}
 use Rattle.markdown_tool_output.proofs.output.outputs_of.Given as goal
 
 abbrev pub invariant-files : goal.invariant-files
-invariant-files l = WritesSoFar l.format l.enabled l.files l.file-index (string_bytes l.outputs)
+invariant-files l = WritesSoFar l.format l.positions l.enabled l.files l.file-index (string_bytes l.outputs)
