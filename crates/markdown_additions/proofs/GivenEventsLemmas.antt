@@ -276,11 +276,11 @@ module _ {F : Type 0} (step : F → Question → Option Answer → F → Type 0)
       (λ given d. all_prefixed steps p given d) (λ given t y. first_prefixed steps p t given y)
 
   -- so new events of a text with what is added are these
-  abbrev pub TextSteps : TextEvents {F} → Option Item → TextEvents {F} → Type 0
+  abbrev pub TextSteps : TextEvents F → Option Item → TextEvents F → Type 0
   TextSteps =
       added_steps ParserSteps (ids_steps ParserSteps ids_state) (prefixed_steps (ids_steps ParserSteps ids_state))
 
-  pub gives_new_added : (view : AdditionsView) (s : Source) (events : TextEvents {F}) → IsNewAdded view s events
+  pub gives_new_added : (view : AdditionsView) (s : Source) (events : TextEvents F) → IsNewAdded view s events
       → GivesEvents TextSteps events (added_events view s) (AreFirstAdded view s)
   gives_new_added adds_nothing s (added.Alone o) new = gives_alone ParserSteps _ _ o (gives_new s o new)
   gives_new_added adds_ids s (added.WithIds h) new = gives_with_ids ParserSteps _ _ h (gives_new_with_ids s h new)

@@ -153,14 +153,14 @@ bare_ranged : (placed : List Placed) → bare_events (ranged placed) ≡ map (λ
 bare_ranged [] = refl
 bare_ranged (e ∷ placed) = ap (λ (es : List EventView). e.0 ∷ es) (bare_ranged placed)
 
-blocks_of_new : {F : Type 0} (view : AdditionsView) (s : Source) (events : TextEvents {F})
+blocks_of_new : {F : Type 0} (view : AdditionsView) (s : Source) (events : TextEvents F)
     → IsNewAdded view s events → (blocks : Blocks) × IsBlocksOf s blocks
 blocks_of_new adds_nothing s (added.Alone o) new = (new.blocks, new.of_text)
 blocks_of_new adds_ids s (added.WithIds h) new = (new.parser.blocks, new.parser.of_text)
 blocks_of_new (adds_prefixed_ids prefix) s (added.Prefixed p) new = (new.0.parser.blocks, new.0.parser.of_text)
 blocks_of_new view s other new = absurd new
 
-pub tree_of_new : {F : Type 0} (view : AdditionsView) (s : Source) (events : TextEvents {F})
+pub tree_of_new : {F : Type 0} (view : AdditionsView) (s : Source) (events : TextEvents F)
     → IsNewAdded view s events → tables_are_whole (map (λ e. e.0) (events_of_text s)) ≡ true
     → IsSafeTree (written_of_text SafeHtml view s)
 tree_of_new view s events new whole =

@@ -15,6 +15,10 @@ use Rattle.markdown_heading_ids.specs.declared.prefixed.Prefixed.{Prefixed}
 use Rattle.markdown_inline.specs.ParserLeft.{ReadsBlocks, offset_parser, parser_callback}
 use Rattle.markdown_inline.specs.declared.walk.OffsetIter.{OffsetIter}
 
+-- events with what is added, over those of a parser
+abbrev pub TextEvents : (F : Type 0) → Type 0
+TextEvents F = AddedEvents (OffsetIter F) (HeadingIds (OffsetIter F)) (Prefixed (HeadingIds (OffsetIter F)))
+
 module _ {F : Type 0} where
   -- nothing has been read of a parser of a block result of a text, and it has no callback
   pub record IsNewParser (s : Source) (o : OffsetIter F) : Type 0 where
@@ -29,12 +33,8 @@ module _ {F : Type 0} where
     pub parser : IsNewParser s (ids_state h).iter
     pub ids : IsNewIds (ids_state h) (taken_in_text s)
 
-  -- events with what is added, over those of a parser
-  abbrev pub TextEvents : Type 0
-  TextEvents = AddedEvents (OffsetIter F) (HeadingIds (OffsetIter F)) (Prefixed (HeadingIds (OffsetIter F)))
-
   -- nothing has been read of the events of a text with what is added
-  abbrev pub IsNewAdded : AdditionsView → Source → TextEvents → Type 0
+  abbrev pub IsNewAdded : AdditionsView → Source → TextEvents F → Type 0
   IsNewAdded adds_nothing s (added.Alone o) = IsNewParser s o
   IsNewAdded adds_ids s (added.WithIds h) = IsNewWithIds s h
   IsNewAdded (adds_prefixed_ids prefix) s (added.Prefixed p) =
