@@ -16,7 +16,7 @@ use Rattle.markdown_blocks.specs.declared.blocks.Blocks.{Blocks}
 use Rattle.markdown_heading_ids.specs.HeadingIds.{Id, with_given, with_ids, with_ids_from}
 use Rattle.markdown_heading_ids.specs.IdsOfText.{events_with_ids, taken_in_text}
 use Rattle.markdown_heading_ids.specs.Prefixes.{prefixed_event, prefixed_events, prefixed_tag}
-use Rattle.markdown_heading_ids.proofs.IdsOfEventsLemmas.{Gets, gets, gets_id, gets_none, made}
+use Rattle.markdown_heading_ids.proofs.IdsOfEventsLemmas.{Gets, gets, gets_id, gets_none}
 use Rattle.markdown_inline.specs.Balanced.{AreBalancedFrom, Awaited, EndsInTurn, ranged}
 use Rattle.markdown_inline.specs.Elements.{Element, Placed, events_of}
 use Rattle.markdown_inline.specs.ReadingOfText.{events_of_text}
@@ -93,18 +93,14 @@ whole_alike awaited first es fs k = absurd k
 -- an id
 alike_given : (e : Ranged) {ids : List Id} → Gets e ids → IsAlike e.0 (with_given ids e).0
 alike_given e {ids} (gets_none none has) = rw none (same e.0)
-alike_given e {ids} (gets_id h id is lacks given) = rw (given, made e h id is) (rw is (record {
-  after = λ a. refl;
-  ends = λ a awaited. awaited;
-  table = refl;
-  whole = λ a first. refl;
-}))
+alike_given e {ids} (gets_id h id is lacks given) =
+    rw (given, is) (record { after = λ a. refl; ends = λ a h. h; table = refl; whole = λ a first. refl })
 
-alike_ids : (inside : Bool) (taken : List Id) (events : List Ranged)
+alike_ids : (events : List Ranged) (inside : Bool) (taken : List Id)
     → AreAlike (bare_events events) (bare_events (with_ids_from inside taken events))
-alike_ids inside taken [] = tt
-alike_ids true taken (e ∷ events) = (same e.0, alike_ids _ taken events)
-alike_ids false taken (e ∷ events) = (alike_given e (gets e taken events), alike_ids _ _ events)
+alike_ids [] inside taken = tt
+alike_ids (e ∷ events) true taken = (same e.0, alike_ids events _ taken)
+alike_ids (e ∷ events) false taken = (alike_given e (gets e taken events), alike_ids events _ _)
 
 -- a prefix
 alike_tag : (prefix : List ℕ) (tag : TagView) → IsAlike (start tag) (start (prefixed_tag prefix tag))
@@ -140,7 +136,7 @@ trees_alike events others k t = record {
 }
 
 trees_with_ids : (s : Source) → AreTrees (ranged (events_of_text s)) → AreTrees (events_with_ids s)
-trees_with_ids s t = trees_alike _ _ (alike_ids false (taken_in_text s) (ranged (events_of_text s))) t
+trees_with_ids s t = trees_alike _ _ (alike_ids (ranged (events_of_text s)) false (taken_in_text s)) t
 
 trees_added : (view : AdditionsView) (s : Source) → AreTrees (ranged (events_of_text s))
     → AreTrees (added_events view s)
