@@ -140,6 +140,17 @@ extern "C" {
 /** `[[page]]` and `[[page|text]]`. */
 #define MARKDOWN_WIKILINKS (1 << 15)
 
+/** An id for each heading without one, as on GitHub, which links `[a](#some-heading)` lead to: its text in lower case with
+ * hyphens for spaces, and a number after it where that is taken; not in the port's profile. Safe HTML has it after
+ * `user-content-`, and the lines of `markdown_to_outline` have it as `id`. Libraries up to 0.9.0 ignore the bit.
+ */
+#define MARKDOWN_HEADING_IDS (1 << 28)
+
+/** What GitHub reads, as `markdown --gfm` does. */
+#define MARKDOWN_GITHUB \
+    (MARKDOWN_EXTENDED | MARKDOWN_ALERTS | MARKDOWN_FOOTNOTES | MARKDOWN_HEADING_IDS | MARKDOWN_STRIKETHROUGH | \
+     MARKDOWN_TABLES | MARKDOWN_TASKLISTS)
+
 /** The port's profile in place of the full reading: HTML that is fixed to the byte. E-mail addresses in angle brackets,
  * and named entities other than `&amp;`, `&lt;`, `&gt;` and `&quot;`, are text. Libraries up to 0.9.0 ignore the bit, and
  * read by the profile without it.
@@ -185,7 +196,8 @@ int64_t markdown_to_json(const uint8_t *text, size_t text_length, uint32_t optio
 
 /** Writes the headings of `text` as JSON: a line for each, as `{"level":1,"text":"A b","range":{"start":0,"end":7}}`
  * for `# A *b*`. The level is 1 to 6. The text is without markup, with a space for each line break. The ranges are
- * byte offsets in `text`. Each line ends with a line feed.
+ * byte offsets in `text`. With `MARKDOWN_HEADING_IDS` each line has one more member, the id, as `"id":"a-b"`. Each
+ * line ends with a line feed.
  *
  * Results and errors are those of `markdown_to_json`.
  */

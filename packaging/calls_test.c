@@ -8,7 +8,7 @@
 #include "markdown.h"
 
 /* All extensions. */
-#define ALL_OPTIONS ((uint32_t)0xeffe)
+#define ALL_OPTIONS ((uint32_t)0xeffe | MARKDOWN_HEADING_IDS)
 
 /* The stack that is enough, as the header says. */
 #define SMALL_STACK (64 * 1024)
@@ -63,6 +63,35 @@ static void test_status(const struct calls *calls) {
     check(calls->allocating("a\xff", 2, MARKDOWN_DEFAULT, NULL) == NULL, "taken as UTF-8");
 }
 
+/* A call that allocates gives this. */
+static void test_result(const struct calls *calls, const char *text, uint32_t options, const char *wanted) {
+    char *result = calls->allocating(text, strlen(text), options, NULL);
+    check(result != NULL && strcmp(result, wanted) == 0, wanted);
+    markdown_free(result);
+}
+
+/* The bit of ids is honoured by all calls, and by none in the port's profile; a bit that means nothing is an error. */
+static void test_heading_ids(void) {
+    const struct calls html = all_calls[0], safe = all_calls[1], json = all_calls[2], outline = all_calls[3];
+    const char *text = "# A 1\n\n# A\n\n# A\n";
+    test_result(&html, text, MARKDOWN_HEADING_IDS,
+                "<h1 id=\"a-1\">A 1</h1>\n<h1 id=\"a\">A</h1>\n<h1 id=\"a-2\">A</h1>\n");
+    test_result(&html, text, MARKDOWN_DEFAULT, "<h1>A 1</h1>\n<h1>A</h1>\n<h1>A</h1>\n");
+    test_result(&html, text, MARKDOWN_PROFILE | MARKDOWN_HEADING_IDS, "<h1>A 1</h1>\n<h1>A</h1>\n<h1>A</h1>\n");
+    test_result(&safe, "# a\n\n[b](#a)\n", MARKDOWN_GITHUB,
+                "<h1 id=\"user-content-a\">a</h1>\n<p><a href=\"#user-content-a\">b</a></p>\n");
+    test_result(&outline, "# A *b*\n", MARKDOWN_HEADING_IDS,
+                "{\"level\":1,\"text\":\"A b\",\"range\":{\"start\":0,\"end\":8},\"id\":\"a-b\"}\n");
+    test_result(&outline, "# A *b*\n", MARKDOWN_DEFAULT,
+                "{\"level\":1,\"text\":\"A b\",\"range\":{\"start\":0,\"end\":8}}\n");
+    char *lines = json.allocating("# A\n", 4, MARKDOWN_HEADING_IDS, NULL);
+    check(lines != NULL && strstr(lines, "\"id\":\"a\"") != NULL, "the events have no id");
+    markdown_free(lines);
+    int64_t length = 0;
+    check(html.allocating(text, strlen(text), (uint32_t)1 << 26, &length) == NULL && length == MARKDOWN_UNKNOWN_OPTION,
+          "a bit that means nothing is taken");
+}
+
 static void test_call(const struct calls *calls) {
     test_same_length(calls, "", 0);
     test_same_length(calls, "# *a*\0b", 7);
@@ -109,12 +138,13 @@ int main(void) {
     for (size_t i = 0; i < CALL_COUNT; i++) {
         test_call(&all_calls[i]);
     }
+    test_heading_ids();
     static const char *const parts[] = {"> ", "- ", "> 1. ", "*a ", "**a *b ", "![", "[a](", "# a\n", "<a href=\"",
                                         "$`", "&copy;", "[^a]", "~a^b", "\"a' ", "<!-- ", "a\n\n- b\n\n    c\n",
                                         "[a]: <b> 'c'\n\n"};
     for (size_t i = 0; i < sizeof parts / sizeof parts[0]; i++) {
         test_small_stack(parts[i]);
     }
-    puts("C: the calls that allocate, NULL, the version, a small stack");
+    puts("C: the calls that allocate, NULL, the version, ids of headings, a small stack");
     return 0;
 }

@@ -3,10 +3,14 @@ use Rattle.std.proofs.Common.{◌≡◌, ⊎_elim, ℕ, false, List, [], ◌∷�
 use Rattle.std.proofs.Common.{ap, refl, subst, sym, ◌∙◌, is_some}
 use Rattle.std.specs.Iterator.{Drains, Yields}
 use Rattle.std.specs.declared.ops.Range.{Range}
-use Rattle.markdown_additions.specs.Additions.{AreFirstAdded, AreFirstOfText, AreFirstWithPrefix, AreFirstWithTheirIds}
-use Rattle.markdown_additions.specs.Additions.{added_events, adds_ids, adds_nothing, adds_prefixed_ids}
+use Rattle.markdown_additions.specs.AddedItems.{added_steps}
+use Rattle.markdown_additions.specs.Additions.{AdditionsView, AreFirstAdded, AreFirstOfText, AreFirstWithPrefix}
+use Rattle.markdown_additions.specs.Additions.{AreFirstWithTheirIds, added_events, adds_ids, adds_nothing}
+use Rattle.markdown_additions.specs.Additions.{adds_prefixed_ids}
 use Rattle.markdown_additions.specs.GivenEvents.{GivesEvents}
-use Rattle.markdown_additions.specs.TextEvents.{IsNewParser, IsNewWithIds}
+use Rattle.markdown_additions.specs.TextEvents.{IsNewAdded, IsNewParser, IsNewWithIds, TextEvents}
+use Rattle.markdown_additions.specs.declared.added_events.AddedEvents.{AddedEvents}
+use Rattle.markdown_additions.specs.declared.added_events.AddedEvents.TheVariants as added
 use Rattle.markdown_base.specs.Questions.{Question, Answer, Answers}
 use Rattle.markdown_base.specs.Source.{Source}
 use Rattle.markdown_base.specs.declared.event.Event.{Event}
@@ -108,7 +112,7 @@ module _ {F : Type 0} (step : F → Question → Option Answer → F → Type 0)
       }
 
   -- so a new parser of a block result of a text, without a callback, gives the events of the text
-  pub gives_text : (s : Source) (blocks : Blocks) (o : OffsetIter F) → IsBlocksOf s blocks
+  gives_text : (s : Source) (blocks : Blocks) (o : OffsetIter F) → IsBlocksOf s blocks
       → ReadsBlocks blocks (offset_parser o) → parser_callback (offset_parser o) ≡ None
       → GivesEvents Steps o (ranged (events_of_text s)) (AreFirstOfText s)
   gives_text s blocks o of reads none =
@@ -123,7 +127,7 @@ module _ {F : Type 0} (step : F → Question → Option Answer → F → Type 0)
 
 -- a new adapter of ids gives the events with the ids of their headings
 module _ {S M : Type 0} (steps : S → Option Item → S → Type 0) (state : M → IdsState S) where
-  pub gives_ids : (taken : List Id) (m : M) (events : List Ranged) (begins : List Ranged → Type 0)
+  gives_ids : (taken : List Id) (m : M) (events : List Ranged) (begins : List Ranged → Type 0)
       → ReturnsWithIds steps state taken m → GivesEvents steps (state m).iter events begins
       → GivesEvents (ids_steps steps state) m (with_ids taken events) (AreFirstWithTheirIds taken begins)
   gives_ids taken m events begins returns gives = record {
@@ -165,7 +169,7 @@ module _ {I : Type 0} (steps : I → Option Item → I → Type 0) where
           rest (λ events l f z. memory (got ∷ events) l f (unprefixed_source j, read, z))
       by_item (Err other) read made rest = cc made
 
-  pub gives_prefixed : (prefix : List ℕ) (p : Prefixed I) (events : List Ranged) (begins : List Ranged → Type 0)
+  gives_prefixed : (prefix : List ℕ) (p : Prefixed I) (events : List Ranged) (begins : List Ranged → Type 0)
       → prefix_of p ≡ prefix → GivesEvents steps (unprefixed_source p) events begins
       → ((given : List Placed) → Drains (prefixed_steps steps) p (event_items given) → AreAllPrefixed steps p given)
       → ((given : List Placed) (t : Prefixed I) → Yields (prefixed_steps steps) p (event_items given) t
@@ -184,38 +188,105 @@ module _ {I : Type 0} (steps : I → Option Item → I → Type 0) where
     memory = λ given t fault y. memory_prefixed p t given fault gives.memory y;
   }
 
--- ---- new parsers, under the adapters
+-- an iterator in another one, each call of which is one of it
+module _ {S E : Type 0} (inner : S → Option Item → S → Type 0) (outer : E → Option Item → E → Type 0) (into : S → E)
+    (one : (s : S) (r : Option Item) (t : E) → outer (into s) r t → (u : S) × inner s r u × (t ≡ into u)) where
+  -- runs are runs of it
+  yields_inside : (s : S) (read : List Item) (t : E) → Yields outer (into s) read t
+      → (u : S) × Yields inner s read u × (t ≡ into u)
+  yields_inside s [] t y = (s, refl, sym y)
+  yields_inside s (item ∷ read) t (j, step, y) =
+      let call = one s (Some item) j step in
+      let rest = yields_inside call.0 read t (rw call.2 at y) in
+      (rest.0, (call.0, call.1, rest.1), rest.2)
 
--- what an iterator gives, another name of it gives too
-pub at_source : {S : Type 0} {steps : S → Option Item → S → Type 0} {x y : S} {events : List Ranged}
-    {begins : List Ranged → Type 0} → x ≡ y → GivesEvents steps y events begins → GivesEvents steps x events begins
-at_source {S} {steps} {x} {y} {events} {begins} is gives =
-    subst (λ (z : S). GivesEvents steps z events begins) (sym is) gives
+  drains_inside : (s : S) (read : List Item) → Drains outer (into s) read → Drains inner s read
+  drains_inside s read (end, (t, y, z)) =
+      let run = yields_inside s read t y in
+      let call = one run.0 None end (rw run.2 at z) in
+      (call.0, (run.0, run.1, call.1))
+
+  -- so it gives the same events
+  gives_inside : {events : List Ranged} {begins : List Ranged → Type 0} (s : S) → GivesEvents inner s events begins
+      → GivesEvents outer (into s) events begins
+  gives_inside s gives = record {
+    whole = λ given d. gives.whole given (drains_inside s (event_items given) d);
+    first = λ given t y. let run = yields_inside s (event_items given) t y in gives.first given run.0 run.1;
+    memory = λ given t fault y.
+        let run = yields_inside s (event_items given ++ Err fault ∷ []) t y in
+        gives.memory given run.0 fault run.1;
+  }
+
+-- an `AddedEvents` gives what the iterator in it gives
+module _ {A I P : Type 0} (alone : A → Option Item → A → Type 0) (ids : I → Option Item → I → Type 0)
+    (prefixed : P → Option Item → P → Type 0) where
+  abbrev Added : AddedEvents A I P → Option Item → AddedEvents A I P → Type 0
+  Added = added_steps alone ids prefixed
+
+  one_alone : (s : A) (r : Option Item) (t : AddedEvents A I P) → Added (added.Alone s) r t
+      → (u : A) × alone s r u × (t ≡ added.Alone u)
+  one_alone s r (added.Alone t) step = (t, step, refl)
+  one_alone s r t step = absurd step
+
+  one_with_ids : (s : I) (r : Option Item) (t : AddedEvents A I P) → Added (added.WithIds s) r t
+      → (u : I) × ids s r u × (t ≡ added.WithIds u)
+  one_with_ids s r (added.WithIds t) step = (t, step, refl)
+  one_with_ids s r t step = absurd step
+
+  one_prefixed : (s : P) (r : Option Item) (t : AddedEvents A I P) → Added (added.Prefixed s) r t
+      → (u : P) × prefixed s r u × (t ≡ added.Prefixed u)
+  one_prefixed s r (added.Prefixed t) step = (t, step, refl)
+  one_prefixed s r t step = absurd step
+
+  module _ {events : List Ranged} {begins : List Ranged → Type 0} where
+    gives_alone : (s : A) → GivesEvents alone s events begins → GivesEvents Added (added.Alone s) events begins
+    gives_alone s gives = gives_inside alone Added (λ x. added.Alone x) one_alone s gives
+
+    gives_with_ids : (s : I) → GivesEvents ids s events begins → GivesEvents Added (added.WithIds s) events begins
+    gives_with_ids s gives = gives_inside ids Added (λ x. added.WithIds x) one_with_ids s gives
+
+    gives_with_prefix : (s : P) → GivesEvents prefixed s events begins
+        → GivesEvents Added (added.Prefixed s) events begins
+    gives_with_prefix s gives = gives_inside prefixed Added (λ x. added.Prefixed x) one_prefixed s gives
+
+-- ---- new events of a text
 
 module _ {F : Type 0} (step : F → Question → Option Answer → F → Type 0) where
   abbrev pub ParserSteps : OffsetIter F → Option Item → OffsetIter F → Type 0
   ParserSteps o item t = NextGives step IsPlacedOf (offset_parser o) item (offset_parser t)
 
-  pub gives_new : (s : Source) (o : OffsetIter F) → IsNewParser s o
+  gives_new : (s : Source) (o : OffsetIter F) → IsNewParser s o
       → GivesEvents ParserSteps o (added_events adds_nothing s) (AreFirstAdded adds_nothing s)
   gives_new s o new = gives_text step s new.blocks o new.of_text new.reads new.alone
 
-  pub gives_new_with_ids : (s : Source) (h : HeadingIds (OffsetIter F)) → IsNewWithIds s h
+  gives_new_with_ids : (s : Source) (h : HeadingIds (OffsetIter F)) → IsNewWithIds s h
       → GivesEvents (ids_steps ParserSteps ids_state) h (added_events adds_ids s) (AreFirstAdded adds_ids s)
   gives_new_with_ids s h new =
       gives_ids ParserSteps ids_state (taken_in_text s) h (added_events adds_nothing s) (AreFirstAdded adds_nothing s)
       (returns_with_ids ParserSteps ids_state h (taken_in_text s) new.ids) (gives_new s (ids_state h).iter new.parser)
 
-  pub gives_new_prefixed : (s : Source) (p : Prefixed (HeadingIds (OffsetIter F)))
-      → IsNewWithIds s (unprefixed_source p)
-      → GivesEvents (prefixed_steps (ids_steps ParserSteps ids_state)) p (added_events (adds_prefixed_ids (prefix_of
-      p)) s)
-      (AreFirstAdded (adds_prefixed_ids (prefix_of p)) s)
-  gives_new_prefixed s p new =
+  gives_new_prefixed : (s : Source) (prefix : List ℕ) (p : Prefixed (HeadingIds (OffsetIter F)))
+      → IsNewWithIds s (unprefixed_source p) → prefix_of p ≡ prefix
+      → GivesEvents (prefixed_steps (ids_steps ParserSteps ids_state)) p (added_events (adds_prefixed_ids prefix) s)
+      (AreFirstAdded (adds_prefixed_ids prefix) s)
+  gives_new_prefixed s prefix p new is =
       let steps = ids_steps ParserSteps ids_state in
-      gives_prefixed steps (prefix_of p) p (added_events adds_ids s) (AreFirstAdded adds_ids s) refl
+      gives_prefixed steps prefix p (added_events adds_ids s) (AreFirstAdded adds_ids s) is
       (gives_new_with_ids s (unprefixed_source p) new)
       (λ given d. all_prefixed steps p given d) (λ given t y. first_prefixed steps p t given y)
+
+  -- so new events of a text with what is added are these
+  abbrev pub TextSteps : TextEvents F → Option Item → TextEvents F → Type 0
+  TextSteps =
+      added_steps ParserSteps (ids_steps ParserSteps ids_state) (prefixed_steps (ids_steps ParserSteps ids_state))
+
+  pub gives_new_added : (view : AdditionsView) (s : Source) (events : TextEvents F) → IsNewAdded view s events
+      → GivesEvents TextSteps events (added_events view s) (AreFirstAdded view s)
+  gives_new_added adds_nothing s (added.Alone o) new = gives_alone ParserSteps _ _ o (gives_new s o new)
+  gives_new_added adds_ids s (added.WithIds h) new = gives_with_ids ParserSteps _ _ h (gives_new_with_ids s h new)
+  gives_new_added (adds_prefixed_ids prefix) s (added.Prefixed p) new =
+      gives_with_prefix ParserSteps _ _ p (gives_new_prefixed s prefix p new.0 new.1)
+  gives_new_added view s other new = absurd new
 
 -- a new adapter of ids over a new parser
 pub new_with_ids : {F : Type 0} (s : Source) (h : HeadingIds (OffsetIter F)) (o : OffsetIter F) (t : Taken)

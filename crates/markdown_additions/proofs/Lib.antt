@@ -2,3 +2,4 @@
 pub mod GivenEventsLemmas
 pub mod WrittenLemmas
 pub mod NewEventsLemmas
+pub mod TreeLemmas

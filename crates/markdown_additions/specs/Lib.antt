@@ -4,5 +4,6 @@ pub mod Written
 -- what an iterator gives
 pub mod GivenEvents
 pub mod UnplacedItems
+pub mod AddedItems
 -- the terms of private clauses
 pub mod TextEvents

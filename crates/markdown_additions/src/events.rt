@@ -1,29 +1,35 @@
-//! The events of a text, with the ids of their headings or without.
+//! The events of a text, with what is added to them.
 ghost use Rattle.std.specs.Prelude.{◌≡◌, IfErr, IfOk};
-ghost use Rattle.markdown_additions.specs.TextEvents.{IsNewParser, IsNewWithIds};
+ghost use Rattle.markdown_additions.specs.Additions.{additions_view};
+ghost use Rattle.markdown_additions.specs.TextEvents.{IsNewAdded, IsNewParser, IsNewWithIds};
 ghost use Rattle.markdown_base.specs.Source.{source_as};
 
+use crate::added_events::AddedEvents;
+use crate::additions::Additions;
 use markdown_base::fault::Fault;
 use markdown_base::options::Options;
 use markdown_base::syntax::Syntax;
 use markdown_blocks::Blocks;
 use markdown_defs::DefaultBrokenLinkCallback;
-use markdown_heading_ids::{HeadingIds, Taken};
+use markdown_heading_ids::{HeadingIds, Prefixed, Taken};
 use markdown_inline::walk::{OffsetIter, Parser};
 use std::alloc::Global;
 
 /// The events of a text that is read without a callback.
-pub(crate) type Events<'a> = OffsetIter<'a, DefaultBrokenLinkCallback>;
+type Events<'a> = OffsetIter<'a, DefaultBrokenLinkCallback>;
 
 /// The same with the ids of their headings.
-pub(crate) type EventsWithIds<'a> = HeadingIds<'a, Events<'a>>;
+type EventsWithIds<'a> = HeadingIds<'a, Events<'a>>;
+
+/// The same with what is added to them.
+pub(crate) type TextEvents<'a> = AddedEvents<
+    Events<'a>,
+    EventsWithIds<'a>,
+    Prefixed<'a, EventsWithIds<'a>>,
+>;
 
 /// Returns the events of a text of which `syntax` is read, with their ranges.
-pub(crate) fn text_events<'a>(
-    alloc: Global,
-    text: &'a str,
-    syntax: Syntax,
-) -> Result<Events<'a>, Fault>
+fn text_events<'a>(alloc: Global, text: &'a str, syntax: Syntax) -> Result<Events<'a>, Fault>
     ensures new { IfOk result (IsNewParser (source_as syntax text.now)) }
     ensures refused { IfErr result (λ fault. fault ≡ Fault.Memory) }
 {
@@ -33,7 +39,7 @@ pub(crate) fn text_events<'a>(
 }
 
 /// Returns the events of a text of which `syntax` is read, with the ids of their headings.
-pub(crate) fn text_events_with_ids<'a>(
+fn text_events_with_ids<'a>(
     alloc: Global,
     text: &'a str,
     syntax: Syntax,
@@ -46,4 +52,29 @@ pub(crate) fn text_events_with_ids<'a>(
     let nobody: Option<DefaultBrokenLinkCallback> = None;
     let events = Parser::from_blocks(alloc, blocks, nobody)?.into_offset_iter();
     Ok(HeadingIds::new(alloc, taken, events))
+}
+
+/// Returns the events of a text of which `syntax` is read, with what is added to them.
+pub(crate) fn added_events<'a>(
+    alloc: Global,
+    text: &'a str,
+    syntax: Syntax,
+    additions: Additions<'_>,
+) -> Result<TextEvents<'a>, Fault>
+    ensures new { IfOk result
+        (IsNewAdded (additions_view additions.entry) (source_as syntax text.now)) }
+    ensures refused { IfErr result (λ fault. fault ≡ Fault.Memory) }
+{
+    match additions {
+        Additions::Nothing => Ok(AddedEvents::Alone(text_events(alloc, text, syntax)?)),
+        Additions::HeadingIds => {
+            let events = text_events_with_ids(alloc, text, syntax)?;
+            Ok(AddedEvents::WithIds(events))
+        }
+        Additions::PrefixedIds(prefix) => {
+            let prefix = String::from_str(alloc, prefix)?;
+            let events = text_events_with_ids(alloc, text, syntax)?;
+            Ok(AddedEvents::Prefixed(Prefixed::new(alloc, prefix, events)))
+        }
+    }
 }

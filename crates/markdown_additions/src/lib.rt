@@ -1,6 +1,7 @@
 //! What is written of the events of a text with what is added to them: ids of headings, and a prefix of all ids.
 #![tactic(auto)]
 
+mod added_events;
 mod additions;
 mod events;
 mod headings;

@@ -1,23 +1,24 @@
 -- A call from C: its outcome, the number that it returns, and what the buffer then holds.
-use Rattle.std.specs.Prelude.{◌≡◌, ℕ, ◌+◌, ℤ, Bool, true, false, ◌==◌, pos, negsuc, nat_le, ◌++◌, List, length, drop}
-use Rattle.std.specs.Prelude.{if◌then◌else◌}
+use Rattle.std.specs.Prelude.{◌≡◌, ℕ, ◌+◌, ℤ, Bool, true, false, not, ◌&&◌, ◌==◌, pos, negsuc, nat_le, ◌++◌, List}
+use Rattle.std.specs.Prelude.{length, drop, flat_map, if◌then◌else◌}
 use Rattle.std.specs.Prelude.{Result, Ok, Err, String, string_bytes, map}
 use Rattle.std.specs.Int.RustNames.{bit_and}
 use Rattle.std.specs.Str.{IsUtf8}
+use Rattle.markdown_additions.specs.Additions.{AdditionsView, AreFirstAdded, adds_ids, adds_nothing}
+use Rattle.markdown_additions.specs.Written.{BeginsTooDeep, headings_of_text, written_of_text}
+use Rattle.markdown_additions.specs.declared.written.Form.{Form}
+use Rattle.markdown_additions.specs.declared.written.Form.TheVariants.{Html, SafeHtml, Lines}
 use Rattle.markdown_base.specs.declared.fault.Fault.{Fault}
 use Rattle.markdown_base.specs.declared.fault.Fault.TheVariants as fault
 use Rattle.markdown_base.specs.Source.{Source, source_as}
 use Rattle.markdown_base.specs.Syntax.{full_syntax, profile_syntax}
 use Rattle.markdown_base.specs.declared.syntax.Syntax.{Syntax}
 use Rattle.markdown_inline.specs.ReadingOfText.{events_of_text}
-use Rattle.markdown_render.specs.HtmlOfText.{IsTextTooDeep, html_of_text}
 use Rattle.markdown_render.specs.Words.{of_bits}
 use Rattle.markdown_safe.specs.HtmlTree.{IsSafeTree}
 use Rattle.markdown_safe.specs.NestedEvents.{tables_are_whole}
 use Rattle.markdown_safe.specs.SafeHtml.{IsSafeHtml}
-use Rattle.markdown_safe.specs.SafeRendering.{IsSafeTextTooDeep, safe_html_of_text}
-use Rattle.markdown_text_json.specs.TextJson.{json_of_text}
-use Rattle.markdown_text_json.specs.OutlineJson.{outline_json_of_text}
+use Rattle.markdown_text_json.specs.OutlineJson.{entry_line}
 use Rattle.markdown_c.specs.declared.readings.Refusal.{Refusal}
 use Rattle.markdown_c.specs.declared.readings.Refusal.TheVariants.{NotUtf8, Memory, Depth, UnknownOption}
 
@@ -32,9 +33,13 @@ abbrev pub bytes_of : {A : Type 0} → Result (String A) Refusal → Result (Lis
 bytes_of (Ok whole) = Ok (string_bytes whole)
 bytes_of (Err refusal) = Err refusal
 
--- the bits that enable extensions, those from 1 to 11 and from 13 to 15
+-- the bits that enable extensions of the syntax, those from 1 to 11 and from 13 to 15
 abbrev pub extension_flags : ℕ
 extension_flags = 0xEFFE
+
+-- the bit by which a caller asks for ids of headings
+abbrev pub heading_ids_flag : ℕ
+heading_ids_flag = 0x1000_0000
 
 -- the bit by which a caller asks for the port's profile
 abbrev pub profile_flag : ℕ
@@ -46,12 +51,20 @@ extended_flag = 0x4000_0000
 
 -- no bit is set but these
 abbrev pub are_known : (bits : ℕ) → Bool
-are_known bits = bit_and bits (extension_flags + profile_flag + extended_flag) == bits
+are_known bits = bit_and bits (extension_flags + heading_ids_flag + profile_flag + extended_flag) == bits
 
 -- what is read of a text by these bits: all, or what the port's profile reads
 abbrev pub syntax_by_bits : (bits : ℕ) → Syntax
 syntax_by_bits bits =
     if bit_and bits profile_flag == 0 then full_syntax (of_bits bits) else profile_syntax (of_bits bits)
+
+-- whether these bits give headings ids; in the port's profile none do
+abbrev pub gives_ids : (bits : ℕ) → Bool
+gives_ids bits = (bit_and bits profile_flag == 0) && not (bit_and bits heading_ids_flag == 0)
+
+-- what these bits add to the events of a text
+abbrev pub additions_by_bits : (bits : ℕ) → AdditionsView
+additions_by_bits bits = if gives_ids bits then adds_ids else adds_nothing
 
 -- what a call has to write is that of the text, or there is nothing, for this reason
 abbrev pub IsOutcome : (IsOf : Source → List ℕ → Type 0) → (IsDeep : Source → Type 0) → (bits : ℕ) → (text : List ℕ)
@@ -63,30 +76,41 @@ IsOutcome IsOf IsDeep bits text (Err NotUtf8) = IsUtf8 text → ⊥
 IsOutcome IsOf IsDeep bits text (Err Memory) = Unit {0}
 IsOutcome IsOf IsDeep bits text (Err Depth) = IsDeep (source_as (syntax_by_bits bits) text)
 
+-- among the first events of a text with what the bits add, as they are written in a form, more Starts are open in an
+-- image than can be counted
+abbrev pub IsTooDeepAsAsked : Form → (bits : ℕ) → Source → Type 0
+IsTooDeepAsAsked form bits s = BeginsTooDeep form (AreFirstAdded (additions_by_bits bits) s)
+
 -- no text is too deep for lines
 abbrev pub NeverTooDeep : Source → Type 0
 NeverTooDeep s = ⊥
 
--- the HTML of a text, or why there is none
+-- the HTML of a text with what the bits add, or why there is none
 abbrev pub IsHtmlOutcome : (bits : ℕ) → (text : List ℕ) → Result (List ℕ) Refusal → Type 0
-IsHtmlOutcome = IsOutcome (λ s html. html ≡ html_of_text s) IsTextTooDeep
+IsHtmlOutcome bits =
+    IsOutcome (λ s html. html ≡ written_of_text Html (additions_by_bits bits) s) (IsTooDeepAsAsked Html bits) bits
 
 -- the safe HTML, which is safe, and a tree where the tables among the events of the text are whole
-pub record IsSafeHtmlOf (s : Source) (html : List ℕ) : Type 0 where
-  pub is : html ≡ safe_html_of_text s
+pub record IsSafeHtmlOf (bits : ℕ) (s : Source) (html : List ℕ) : Type 0 where
+  pub is : html ≡ written_of_text SafeHtml (additions_by_bits bits) s
   pub safe : IsSafeHtml html
   pub tree : tables_are_whole (map (λ e. e.0) (events_of_text s)) ≡ true → IsSafeTree html
 
 abbrev pub IsSafeHtmlOutcome : (bits : ℕ) → (text : List ℕ) → Result (List ℕ) Refusal → Type 0
-IsSafeHtmlOutcome = IsOutcome IsSafeHtmlOf IsSafeTextTooDeep
+IsSafeHtmlOutcome bits = IsOutcome (IsSafeHtmlOf bits) (IsTooDeepAsAsked SafeHtml bits) bits
 
 -- the lines of the events
 abbrev pub IsJsonOutcome : (bits : ℕ) → (text : List ℕ) → Result (List ℕ) Refusal → Type 0
-IsJsonOutcome = IsOutcome (λ s lines. lines ≡ json_of_text s) NeverTooDeep
+IsJsonOutcome bits =
+    IsOutcome (λ s lines. lines ≡ written_of_text Lines (additions_by_bits bits) s) NeverTooDeep bits
 
--- the lines of the headings
+-- the lines of the headings of a text, with their ids where the bits give them ids
+abbrev pub outline_by_bits : (bits : ℕ) → Source → List ℕ
+outline_by_bits bits s =
+    flat_map (entry_line (gives_ids bits)) (headings_of_text false (additions_by_bits bits) s)
+
 abbrev pub IsOutlineOutcome : (bits : ℕ) → (text : List ℕ) → Result (List ℕ) Refusal → Type 0
-IsOutlineOutcome = IsOutcome (λ s lines. lines ≡ outline_json_of_text s) NeverTooDeep
+IsOutlineOutcome bits = IsOutcome (λ s lines. lines ≡ outline_by_bits bits s) NeverTooDeep bits
 
 -- the status of a refusal: -1, -2, -3 and -4
 abbrev pub refusal_status : Refusal → ℤ

@@ -10,7 +10,8 @@ use std::alloc::Global;
 
 /// Renders a trusted text as HTML, which is not sanitised. Returns the length of the HTML in bytes, and writes the HTML to
 /// the front of `out`, if it fits; otherwise `out` is unchanged. The text is read in full. Bits 1 to 11 and 13 to 15 of
-/// `options` enable extensions, as in `Options`; bit 29 asks for the port's profile instead, and bit 30 changes nothing.
+/// `options` enable extensions, as in `Options`, and bit 28 gives each heading an id; bit 29 asks for the port's profile
+/// instead, which has no such ids, and bit 30 changes nothing.
 ///
 /// # Errors
 ///
@@ -63,9 +64,9 @@ pub extern "C" fn markdown_to_json(alloc: Global, text: &[u8], options: u32, out
     answer(json_of(alloc, text, options), out)
 }
 
-/// Writes the headings of a text as JSON: a line for each, with its level, its text without markup, and its range of
-/// byte offsets in `text`. Returns the length of the lines in bytes, and writes them to the front of `out`, if they
-/// fit; otherwise `out` is unchanged. `options` are as for `markdown_to_html`.
+/// Writes the headings of a text as JSON: a line for each, with its level, its text without markup, its range of byte
+/// offsets in `text`, and with bit 28 of `options` its id. Returns the length of the lines in bytes, and writes them to
+/// the front of `out`, if they fit; otherwise `out` is unchanged. `options` are as for `markdown_to_html`.
 ///
 /// # Errors
 ///

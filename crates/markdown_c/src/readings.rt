@@ -1,19 +1,23 @@
 //! The outcomes of calls: the HTML or the lines of a text, or the refusal.
-ghost use Rattle.std.specs.Prelude.{◌≡◌, true, false, IfOk, IfErr};
+ghost use Rattle.std.specs.Prelude.{◌≡◌, true, false, IfOk, IfErr, flat_map, map, string_bytes};
 ghost use Rattle.std.specs.Str.{IsUtf8};
+ghost use Rattle.markdown_additions.specs.Additions.{additions_view};
+ghost use Rattle.markdown_base.specs.Source.{source_as};
 ghost use Rattle.markdown_c.specs.CallsFromC.{IsHtmlOutcome, IsJsonOutcome, IsOutlineOutcome, IsSafeHtmlOutcome};
-ghost use Rattle.markdown_c.specs.CallsFromC.{are_known, bytes_of, syntax_by_bits};
+ghost use Rattle.markdown_c.specs.CallsFromC.{additions_by_bits, are_known, bytes_of, gives_ids};
+ghost use Rattle.markdown_c.specs.CallsFromC.{outline_by_bits, syntax_by_bits};
 ghost use Rattle.markdown_c.specs.declared.readings.Refusal.{Refusal};
+ghost use Rattle.markdown_outline.specs.Outline.{entry_view};
+ghost use Rattle.markdown_text_json.specs.OutlineJson.{entry_line};
 
 use bitflags::Flags;
+use markdown_additions::{Additions, Form, headings_source, written_source};
 use markdown_base::fault::Fault;
 use markdown_base::options::Options;
 use markdown_base::syntax::Syntax;
-use markdown_defs::DefaultBrokenLinkCallback;
-use markdown_render::render_source;
-use markdown_safe::safe_html_source;
-use markdown_text_json::{outline_json_source, text_json_source};
-use std::alloc::Global;
+use markdown_outline::Entry;
+use markdown_text_json::{push_outline, push_outline_with_ids};
+use std::alloc::{AllocError, Global};
 use std::str;
 
 /// Why a call has nothing to write.
@@ -56,8 +60,11 @@ fn text_of(bytes: &[u8]) -> Result<&str, Refusal>
     }
 }
 
-/// The bits that enable extensions.
+/// The bits that enable extensions of the syntax.
 const EXTENSIONS: u32 = 0xEFFE;
+
+/// The bit that gives headings ids.
+const HEADING_IDS: u32 = 1 << 28;
 
 /// The bit that asks for the port's profile.
 const PROFILE: u32 = 1 << 29;
@@ -72,7 +79,7 @@ fn syntax_of(bits: u32) -> Result<Syntax, Refusal>
     ensures refused { IfErr result (λ refusal. (refusal ≡ Refusal.UnknownOption)
         × (are_known bits ≡ false)) }
 {
-    if bits & (EXTENSIONS + PROFILE + EXTENDED) != bits {
+    if bits & (EXTENSIONS + HEADING_IDS + PROFILE + EXTENDED) != bits {
         return Err(Refusal::UnknownOption);
     }
     let options = Options::from_bits_retain(bits);
@@ -83,14 +90,32 @@ fn syntax_of(bits: u32) -> Result<Syntax, Refusal>
     }
 }
 
+/// Returns whether these bits give headings ids.
+fn gives_ids(bits: u32) -> bool
+    ensures { result ≡ gives_ids bits }
+{
+    bits & PROFILE == 0 && bits & HEADING_IDS != 0
+}
+
+/// Returns what these bits add to the events of a text.
+fn additions_of<'p>(bits: u32) -> Additions<'p>
+    ensures { additions_view result ≡ additions_by_bits bits }
+{
+    if gives_ids(bits) {
+        Additions::HeadingIds
+    } else {
+        Additions::Nothing
+    }
+}
+
 /// Returns the HTML of a text, without a callback.
 pub(crate) fn html_of(alloc: Global, bytes: &[u8], bits: u32) -> Result<String, Refusal>
     ensures { IsHtmlOutcome bits bytes.now (bytes_of result) }
 {
     let syntax = syntax_of(bits)?;
     let text = text_of(bytes)?;
-    let nobody = None::<DefaultBrokenLinkCallback>;
-    Ok(render_source(alloc, text, syntax, nobody)?)
+    let additions = additions_of(bits);
+    Ok(written_source(alloc, text, syntax, additions, Form::Html)?)
 }
 
 /// Returns the safe HTML of a text, without a callback.
@@ -99,8 +124,8 @@ pub(crate) fn safe_html_of(alloc: Global, bytes: &[u8], bits: u32) -> Result<Str
 {
     let syntax = syntax_of(bits)?;
     let text = text_of(bytes)?;
-    let nobody = None::<DefaultBrokenLinkCallback>;
-    Ok(safe_html_source(alloc, text, syntax, nobody)?)
+    let additions = additions_of(bits);
+    Ok(written_source(alloc, text, syntax, additions, Form::SafeHtml)?)
 }
 
 /// Returns the lines of the events of a text.
@@ -109,7 +134,33 @@ pub(crate) fn json_of(alloc: Global, bytes: &[u8], bits: u32) -> Result<String, 
 {
     let syntax = syntax_of(bits)?;
     let text = text_of(bytes)?;
-    Ok(text_json_source(alloc, text, syntax)?)
+    let additions = additions_of(bits);
+    Ok(written_source(alloc, text, syntax, additions, Form::Lines)?)
+}
+
+/// Returns the lines of headings, with their ids or without them.
+fn lines_of(alloc: Global, headings: &[Entry], with_ids: bool) -> Result<String, AllocError>
+    ensures { IfOk result (λ lines.
+        string_bytes lines ≡ flat_map (entry_line with_ids) (map entry_view headings.now)) }
+{
+    let mut lines = String::new(alloc);
+    if with_ids {
+        push_outline_with_ids(&mut lines, headings)?;
+    } else {
+        push_outline(&mut lines, headings)?;
+    }
+    Ok(lines)
+}
+
+/// Returns the lines of the headings of a text.
+fn outline_source(alloc: Global, text: &str, syntax: Syntax, bits: u32) -> Result<String, Fault>
+    ensures lines { IfOk result (λ lines.
+        string_bytes lines ≡ outline_by_bits bits (source_as syntax text.now)) }
+    ensures refused { IfErr result (λ fault. fault ≡ Fault.Memory) }
+{
+    let additions = additions_of(bits);
+    let headings = headings_source(alloc, text, syntax, additions, false)?;
+    Ok(lines_of(alloc, headings.as_slice(), gives_ids(bits))?)
 }
 
 /// Returns the lines of the headings of a text.
@@ -118,5 +169,5 @@ pub(crate) fn outline_of(alloc: Global, bytes: &[u8], bits: u32) -> Result<Strin
 {
     let syntax = syntax_of(bits)?;
     let text = text_of(bytes)?;
-    Ok(outline_json_source(alloc, text, syntax)?)
+    Ok(outline_source(alloc, text, syntax, bits)?)
 }

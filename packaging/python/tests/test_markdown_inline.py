@@ -35,6 +35,20 @@ class Html(unittest.TestCase):
         trusted = markdown_inline.html(heading, ["heading-attributes"], safe=False)
         self.assertEqual(trusted, '<h1 id="b" onclick="c">a</h1>\n')
 
+    def test_ids_of_headings(self):
+        text = "# A\n\n# A\n\n# A 1\n"
+        ids = '<h1 id="a">A</h1>\n<h1 id="a-1">A</h1>\n<h1 id="a-1-1">A 1</h1>\n'
+        self.assertEqual(markdown_inline.html(text, ["heading-ids"], safe=False), ids)
+        safe = '<h1 id="user-content-a">a</h1>\n<p><a href="#user-content-a">b</a></p>\n'
+        self.assertEqual(markdown_inline.html("# a\n\n[b](#a)\n", markdown_inline.GITHUB), safe)
+
+    def test_sets(self):
+        everything = {*markdown_inline.EXTENSIONS} - {"gfm", "old-footnotes"}
+        self.assertEqual({*markdown_inline.ALL}, everything)
+        self.assertLess({*markdown_inline.GITHUB}, everything)
+        read = "<p><del>a</del> <sup>b</sup></p>\n"
+        self.assertEqual(markdown_inline.html("~~a~~ ^b^", markdown_inline.ALL), read)
+
     def test_html_is_safe_unless_told_otherwise(self):
         text = "<b>c</b> [l](javascript:x) [m](/y)"
         safe = '<p>&lt;b&gt;c&lt;/b&gt; <a href="">l</a> <a href="/y">m</a></p>\n'
@@ -63,6 +77,11 @@ class Readings(unittest.TestCase):
         wanted = [Heading(1, "A é", 0, 8), Heading(2, "B", 12, 16)]
         self.assertEqual(markdown_inline.outline("# A *é*\n\nx\n\nB\n-\n")[0], wanted[0])
         self.assertEqual([it.text for it in markdown_inline.outline("# A *é*\n\nx\n\nB\n-\n")], ["A é", "B"])
+
+    def test_outline_with_ids(self):
+        wanted = [Heading(1, "A b", 0, 8, "a-b"), Heading(2, "C", 9, 14, "c")]
+        self.assertEqual(markdown_inline.outline("# A *b*\n\n## C\n", ["heading-ids"]), wanted)
+        self.assertIsNone(markdown_inline.outline("# A")[0].id)
 
     def test_ranges_count_characters(self):
         text = "ä 𝒳 `c` \u2028 [x](y)\n\n# é\n"

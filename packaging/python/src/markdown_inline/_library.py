@@ -3,13 +3,14 @@ from __future__ import annotations
 
 import ctypes
 from pathlib import Path
-from typing import Dict, Iterable
+from typing import Dict, Iterable, Tuple
 
 #: The names of the extensions, with their bits.
 EXTENSIONS: Dict[str, int] = {
     "alerts": 1 << 11,
     "footnotes": 1 << 2,
     "heading-attributes": 1 << 6,
+    "heading-ids": 1 << 28,
     "math": 1 << 10,
     "old-footnotes": (1 << 9) | (1 << 2),
     "pluses": 1 << 8,
@@ -22,6 +23,13 @@ EXTENSIONS: Dict[str, int] = {
     "wikilinks": 1 << 15,
     "yaml": 1 << 7,
 }
+
+#: The names of the extensions that GitHub has.
+GITHUB: Tuple[str, ...] = ("alerts", "footnotes", "heading-ids", "strikethrough", "tables", "tasklists")
+
+#: The names of all extensions but `old-footnotes`, which changes what footnotes are.
+ALL: Tuple[str, ...] = tuple(name for name in EXTENSIONS if name != "old-footnotes")
+
 # (another name of alerts)
 EXTENSIONS["gfm"] = EXTENSIONS["alerts"]
 

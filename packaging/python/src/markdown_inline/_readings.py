@@ -3,7 +3,7 @@ from __future__ import annotations
 
 import json
 from itertools import accumulate
-from typing import Any, Dict, Iterable, Iterator, List, NamedTuple, Sequence, Union
+from typing import Any, Dict, Iterable, Iterator, List, NamedTuple, Optional, Sequence, Union
 
 from ._library import encoded, result_of
 
@@ -23,12 +23,13 @@ class Event(NamedTuple):
 
 
 class Heading(NamedTuple):
-    """A heading: its level, 1 to 6, and its text without markup. It spans `text[start:end]`."""
+    """A heading: its level, 1 to 6, its text without markup, and with `heading-ids` its id. It spans `text[start:end]`."""
 
     level: int
     text: str
     start: int
     end: int
+    id: Optional[str] = None
 
 
 def html(text: str, extensions: Iterable[str] = (), *, safe: bool = True) -> str:
@@ -62,7 +63,7 @@ def outline(text: str, extensions: Iterable[str] = ()) -> List[Heading]:
     of_text = encoded(text)
     characters = _characters(of_text)
     entries = map(json.loads, _lines(result_of("outline", of_text, extensions)))
-    return [Heading(it["level"], it["text"], *_range(it["range"], characters)) for it in entries]
+    return [Heading(it["level"], it["text"], *_range(it["range"], characters), it.get("id")) for it in entries]
 
 
 def _events(lines: bytes, characters: Sequence[int]) -> Iterator[Event]:

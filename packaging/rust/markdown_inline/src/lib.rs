@@ -74,6 +74,30 @@ impl Extensions {
     pub const YAML: Extensions = Extensions(sys::MARKDOWN_YAML);
     /// Metadata between `+++` lines; HTML shows none of it.
     pub const PLUSES: Extensions = Extensions(sys::MARKDOWN_PLUSES);
+    /// An id for each heading without one, as on GitHub, which links `[a](#some-heading)` lead to. Safe HTML has it after
+    /// `user-content-`, and the lines of [`to_outline`] have it as `id`.
+    pub const HEADING_IDS: Extensions = Extensions(sys::MARKDOWN_HEADING_IDS);
+    /// What GitHub reads: alerts, footnotes, ids of headings, strikethrough, tables and task lists.
+    pub const GITHUB: Extensions = Extensions(
+        Extensions::ALERTS.0
+            | Extensions::FOOTNOTES.0
+            | Extensions::HEADING_IDS.0
+            | Extensions::STRIKETHROUGH.0
+            | Extensions::TABLES.0
+            | Extensions::TASKLISTS.0,
+    );
+    /// All extensions but `OLD_FOOTNOTES`, which changes what footnotes are.
+    pub const ALL: Extensions = Extensions(
+        Extensions::GITHUB.0
+            | Extensions::HEADING_ATTRIBUTES.0
+            | Extensions::MATH.0
+            | Extensions::PLUSES.0
+            | Extensions::SMART.0
+            | Extensions::SUBSCRIPT.0
+            | Extensions::SUPERSCRIPT.0
+            | Extensions::WIKILINKS.0
+            | Extensions::YAML.0,
+    );
 }
 
 impl BitOr for Extensions {
@@ -127,7 +151,8 @@ pub fn to_json(text: &str, extensions: Extensions) -> Result<String, Error> {
     result_of(sys::markdown_json_alloc, text, extensions)
 }
 
-/// Returns the headings of a text: a line of JSON for each, with its level, its text and its range of bytes.
+/// Returns the headings of a text: a line of JSON for each, with its level, its text, its range of bytes, and with
+/// [`Extensions::HEADING_IDS`] its id.
 pub fn to_outline(text: &str, extensions: Extensions) -> Result<String, Error> {
     result_of(sys::markdown_outline_alloc, text, extensions)
 }
@@ -151,6 +176,27 @@ mod tests {
             to_json("é", Extensions::NONE)
                 .is_ok_and(|lines| lines.contains("[{\"Text\":\"é\"},{\"start\":0,\"end\":2}]\n"))
         );
+    }
+
+    #[test]
+    fn ids_of_headings() {
+        let text = "# A\n\n# A\n\n# A 1\n";
+        let html = "<h1 id=\"a\">A</h1>\n<h1 id=\"a-1\">A</h1>\n<h1 id=\"a-1-1\">A 1</h1>\n";
+        assert_eq!(to_html(text, Extensions::HEADING_IDS).as_deref(), Ok(html));
+        assert_eq!(to_html("# A", Extensions::NONE).as_deref(), Ok("<h1>A</h1>\n"));
+        let safe = "<h1 id=\"user-content-a\">a</h1>\n<p><a href=\"#user-content-a\">b</a></p>\n";
+        assert_eq!(to_safe_html("# a\n\n[b](#a)\n", Extensions::GITHUB).as_deref(), Ok(safe));
+        let outline = "{\"level\":1,\"text\":\"A b\",\"range\":{\"start\":0,\"end\":8},\"id\":\"a-b\"}\n";
+        assert_eq!(to_outline("# A *b*\n", Extensions::ALL).as_deref(), Ok(outline));
+        assert!(to_json("# A", Extensions::HEADING_IDS).is_ok_and(|lines| lines.contains("\"id\":\"a\"")));
+    }
+
+    #[test]
+    fn sets() {
+        let (github, all) = (Extensions::GITHUB.0, Extensions::ALL.0);
+        assert_eq!(github | sys::MARKDOWN_EXTENDED, sys::MARKDOWN_GITHUB);
+        assert_eq!(github & !all, 0);
+        assert_eq!((Extensions::ALL | Extensions::OLD_FOOTNOTES).0, all | 1 << 9);
     }
 
     #[test]

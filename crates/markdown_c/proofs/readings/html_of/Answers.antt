@@ -1,21 +1,25 @@
--- What is returned without a callback, of bytes that are text, as the bits ask.
-use Rattle.std.proofs.Common.{refl, ◌≡◌}
+-- What is written of bytes that are text, as the bits ask.
+use Rattle.std.proofs.Common.{◌≡◌}
 use Rattle.std.proofs.lemmas.Result.{err_from_is_err_and}
-use Rattle.markdown_render.specs.HtmlOfText.{IsTextTooDeep, html_of_text}
+use Rattle.markdown_additions.specs.Written.{written_of_text}
+use Rattle.markdown_additions.specs.declared.written.Form.TheVariants.{Html}
+use Rattle.markdown_c.specs.CallsFromC.{IsTooDeepAsAsked, additions_by_bits}
 use Rattle.markdown_c.proofs.OutcomeLemmas.{refused_of, written_of}
 use Rattle.markdown_c.proofs.readings.html_of.Goals as goal
 
 pub returns : goal.returns
 returns c =
-    written_of (λ s html. html ≡ html_of_text s) IsTextTooDeep _
-    c.args.bytes.now _ _ c.in_ok-syntax.ensures.known c.in_ok-text.ensures.text _
-    (c.in_ok-render_source.ensures.alone refl).output
+    let bits = c.args.bits in
+    written_of (λ s html. html ≡ written_of_text Html (additions_by_bits bits) s) (IsTooDeepAsAsked Html bits) _
+    c.args.bytes.now _ bits c.in_ok-syntax.ensures.known c.in_ok-text.ensures.text _
+    (rw c.additions_of-additions.ensures at c.in_ok-written_source.ensures.written)
 
-pub returns-in_err-render_source : goal.returns-in_err-render_source
-returns-in_err-render_source c =
-    let p = err_from_is_err_and c.from_residual-in_err-render_source.result
-    c.from_residual-in_err-render_source.ensures.1 in
+pub returns-in_err-written_source : goal.returns-in_err-written_source
+returns-in_err-written_source c =
+    let bits = c.args.bits in
+    let p = err_from_is_err_and c.from_residual-in_err-written_source.result
+    c.from_residual-in_err-written_source.ensures.1 in
     rw (p.1, p.2)
-    (refused_of (λ s html. html ≡ html_of_text s) IsTextTooDeep _
-    c.args.bytes.now _ _ c.in_ok-syntax.ensures.known c.in_ok-text.ensures.text _
-    (c.in_err-render_source.ensures.alone refl).faults)
+    (refused_of (λ s html. html ≡ written_of_text Html (additions_by_bits bits) s) (IsTooDeepAsAsked Html bits) _
+    c.args.bytes.now _ bits c.in_ok-syntax.ensures.known c.in_ok-text.ensures.text _
+    (rw c.additions_of-additions.ensures at c.in_err-written_source.ensures.faults))

@@ -1,22 +1,25 @@
--- What is returned without a callback, of bytes that are text, as the bits ask.
-use Rattle.std.proofs.Common.{inl, ◌≡◌}
+-- What is written of bytes that are text, as the bits ask. No text is too deep for lines.
+use Rattle.std.proofs.Common.{inl, ◌≡◌, ⊎_elim}
 use Rattle.std.proofs.lemmas.Result.{err_from_is_err_and}
-use Rattle.markdown_text_json.specs.TextJson.{json_of_text}
-use Rattle.markdown_c.specs.CallsFromC.{NeverTooDeep}
+use Rattle.markdown_additions.specs.Written.{written_of_text}
+use Rattle.markdown_additions.specs.declared.written.Form.TheVariants.{Lines}
+use Rattle.markdown_c.specs.CallsFromC.{NeverTooDeep, additions_by_bits}
 use Rattle.markdown_c.proofs.OutcomeLemmas.{refused_of, written_of}
 use Rattle.markdown_c.proofs.readings.json_of.Goals as goal
 
 pub returns : goal.returns
 returns c =
-    written_of (λ s lines. lines ≡ json_of_text s) NeverTooDeep _
-    c.args.bytes.now _ _ c.in_ok-syntax.ensures.known c.in_ok-text.ensures.text _
-    c.in_ok-text_json_source.ensures.json
+    let bits = c.args.bits in
+    written_of (λ s lines. lines ≡ written_of_text Lines (additions_by_bits bits) s) NeverTooDeep _
+    c.args.bytes.now _ bits c.in_ok-syntax.ensures.known c.in_ok-text.ensures.text _
+    (rw c.additions_of-additions.ensures at c.in_ok-written_source.ensures.written)
 
-pub returns-in_err-text_json_source : goal.returns-in_err-text_json_source
-returns-in_err-text_json_source c =
-    let p = err_from_is_err_and c.from_residual-in_err-text_json_source.result
-    c.from_residual-in_err-text_json_source.ensures.1 in
+pub returns-in_err-written_source : goal.returns-in_err-written_source
+returns-in_err-written_source c =
+    let bits = c.args.bits in
+    let p = err_from_is_err_and c.from_residual-in_err-written_source.result
+    c.from_residual-in_err-written_source.ensures.1 in
     rw (p.1, p.2)
-    (refused_of (λ s lines. lines ≡ json_of_text s) NeverTooDeep _
-    c.args.bytes.now _ _ c.in_ok-syntax.ensures.known c.in_ok-text.ensures.text _
-    (inl c.in_err-text_json_source.ensures.refused))
+    (refused_of (λ s lines. lines ≡ written_of_text Lines (additions_by_bits bits) s) NeverTooDeep _
+    c.args.bytes.now _ bits c.in_ok-syntax.ensures.known c.in_ok-text.ensures.text _
+    (⊎_elim (λ memory. inl memory) (λ deep. absurd deep.1.deep) c.in_err-written_source.ensures.faults))

@@ -1,27 +1,35 @@
--- What is returned without a callback, of bytes that are text, as the bits ask.
-use Rattle.std.proofs.Common.{refl}
+-- What is written of bytes that are text, as the bits ask.
+use Rattle.std.proofs.Common.{◌≡◌, ◌∙◌}
 use Rattle.std.proofs.lemmas.Result.{err_from_is_err_and}
-use Rattle.markdown_safe.specs.SafeRendering.{IsSafeTextTooDeep}
-use Rattle.markdown_safe.proofs.SafeRenderingLemmas.{tree_alone}
-use Rattle.markdown_c.specs.CallsFromC.{IsSafeHtmlOf}
+use Rattle.markdown_additions.specs.Additions.{added_events}
+use Rattle.markdown_additions.specs.Written.{bare_events, written_of_text}
+use Rattle.markdown_additions.specs.declared.written.Form.TheVariants.{SafeHtml}
+use Rattle.markdown_base.specs.Source.{source_as}
+use Rattle.markdown_safe.specs.SafeHtml.{IsSafeHtml}
+use Rattle.markdown_safe.proofs.SafeEventsLemmas.{html_is_safe}
+use Rattle.markdown_c.specs.CallsFromC.{IsSafeHtmlOf, IsTooDeepAsAsked, additions_by_bits}
 use Rattle.markdown_c.proofs.OutcomeLemmas.{refused_of, written_of}
 use Rattle.markdown_c.proofs.readings.safe_html_of.Goals as goal
 
 pub returns : goal.returns
 returns c =
-    written_of IsSafeHtmlOf IsSafeTextTooDeep _
-    c.args.bytes.now _ _ c.in_ok-syntax.ensures.known c.in_ok-text.ensures.text _
+    let bits = c.args.bits in
+    let s = source_as c.in_ok-syntax.syntax c.in_ok-text.text.now in
+    let is = rw c.additions_of-additions.ensures at c.in_ok-written_source.ensures.written in
+    written_of (IsSafeHtmlOf bits) (IsTooDeepAsAsked SafeHtml bits) _
+    c.args.bytes.now _ bits c.in_ok-syntax.ensures.known c.in_ok-text.ensures.text _
     (record {
-      is = (c.in_ok-safe_html_source.ensures.alone refl).output;
-      safe = c.in_ok-safe_html_source.ensures.safe;
-      tree = tree_alone _ _ _ c.in_ok-safe_html_source.ensures.html;
+      is = is;
+      safe = rw is (html_is_safe (bare_events (added_events (additions_by_bits bits) s)));
+      tree = c.in_ok-written_source.ensures.tree;
     })
 
-pub returns-in_err-safe_html_source : goal.returns-in_err-safe_html_source
-returns-in_err-safe_html_source c =
-    let p = err_from_is_err_and c.from_residual-in_err-safe_html_source.result
-    c.from_residual-in_err-safe_html_source.ensures.1 in
+pub returns-in_err-written_source : goal.returns-in_err-written_source
+returns-in_err-written_source c =
+    let bits = c.args.bits in
+    let p = err_from_is_err_and c.from_residual-in_err-written_source.result
+    c.from_residual-in_err-written_source.ensures.1 in
     rw (p.1, p.2)
-    (refused_of IsSafeHtmlOf IsSafeTextTooDeep _
-    c.args.bytes.now _ _ c.in_ok-syntax.ensures.known c.in_ok-text.ensures.text _
-    (c.in_err-safe_html_source.ensures.alone refl).faults)
+    (refused_of (IsSafeHtmlOf bits) (IsTooDeepAsAsked SafeHtml bits) _
+    c.args.bytes.now _ bits c.in_ok-syntax.ensures.known c.in_ok-text.ensures.text _
+    (rw c.additions_of-additions.ensures at c.in_err-written_source.ensures.faults))

@@ -1,0 +1,22 @@
+-- What is written is the safe HTML of the events of the text.
+use Rattle.std.proofs.lemmas.Result.{err_from_is_err_and}
+use Rattle.markdown_additions.proofs.GivenEventsLemmas.{TextSteps, gives_new_added}
+use Rattle.markdown_additions.proofs.NewEventsLemmas.{safe_faults_of_new, safe_html_of_new}
+use Rattle.markdown_additions.proofs.TreeLemmas.{tree_of_new}
+use Rattle.markdown_additions.proofs.written.safe_html.Goals as goal
+
+pub returns-clause-written : goal.returns-clause-written
+returns-clause-written c a s new =
+    safe_html_of_new (TextSteps _) a s c.args.events (gives_new_added _ a s c.args.events new)
+    c.new-unplaced.result c.new-unplaced.ensures c.new-safe.result c.new-safe.ensures _ _
+    c.new-written.ensures.bytes c.in_ok-push_html.ensures.ok
+
+pub returns-clause-tree : goal.returns-clause-tree
+returns-clause-tree c a s new whole = rw (returns-clause-written c a s new) (tree_of_new a s c.args.events new whole)
+
+pub returns-in_err-push_html-clause-faults : goal.returns-in_err-push_html-clause-faults
+returns-in_err-push_html-clause-faults c =
+    let p = err_from_is_err_and c.from_residual.result c.from_residual.ensures.1 in
+    rw (p.1, p.2) (λ a s new. safe_faults_of_new (TextSteps _) a s c.args.events
+    (gives_new_added _ a s c.args.events new) c.new-unplaced.result c.new-unplaced.ensures c.new-safe.result
+    c.new-safe.ensures _ _ _ c.in_err-push_html.ensures.err)
