@@ -1,5 +1,5 @@
 -- What the links that are added leave of events.
-use Rattle.std.proofs.Common.{◌≡◌, ◌⊎◌, ◌≤◌, ◌+◌, ◌-◌, ◌∙◌, inl, inr, ℕ, zero, suc, Bool, true, false, List, [], ◌∷◌}
+use Rattle.std.proofs.Common.{◌≡◌, ◌≤◌, ◌+◌, ◌-◌, ◌∙◌, inl, inr, ℕ, zero, suc, Bool, true, false, List, [], ◌∷◌}
 use Rattle.std.proofs.Common.{◌++◌}
 use Rattle.std.proofs.Common.{refl, sym, ap, subst, map, length, take, drop, append_assoc, append-nil, flat_map}
 use Rattle.std.specs.Prelude.{◌&&◌, nat_le, slice_range, if◌then◌else◌}
@@ -12,22 +12,22 @@ use Rattle.std.proofs.lemmas.List.{map-append, take-append-drop}
 use Rattle.markdown_autolinks.specs.Addresses.{addresses_after, first_address}
 use Rattle.markdown_autolinks.proofs.FoundLemmas.{first_lies}
 use Rattle.markdown_autolinks.proofs.RunLemmas.{addresses_left, events_linked, events_merged, left_begins, left_ends}
-use Rattle.markdown_base.specs.Event.{EventView, TagView, end, link, start, tag_end, text}
+use Rattle.markdown_base.specs.Event.{TagView, end, link, start, tag_end, text}
 use Rattle.markdown_base.specs.declared.tag.LinkType.{LinkType}
 use Rattle.markdown_base.specs.declared.tag.TagEnd.{TagEnd}
 use Rattle.markdown_base.specs.declared.tag.TagEnd.TheVariants as closes
 use Rattle.markdown_out.specs.OutLaws.{RangedEvent}
 use Rattle.markdown_autolinks.specs.Addresses.{address_destination, addresses_in}
-use Rattle.markdown_autolinks.specs.LinkedEvents.{Texts, left_alone_after, texts_events, with_addresses}
+use Rattle.markdown_autolinks.specs.LinkedEvents.{Texts, left_alone_after, texts_events}
 use Rattle.markdown_autolinks.specs.LinkedEvents.{with_addresses_after}
-use Rattle.markdown_autolinks.specs.LinkedLaws.{AddsLinksAlone, IsLinkTag, IsShownAsSearched, LinksAreApart, Nests}
+use Rattle.markdown_autolinks.specs.LinkedLaws.{IsShownAsSearched, LinksAreApart, Nests}
 use Rattle.markdown_autolinks.specs.LinkedLaws.{NestingStays}
 use Rattle.markdown_autolinks.specs.LinkedLaws.{NoLinkGetsIntoALink, NoLinkIn}
 use Rattle.markdown_autolinks.specs.LinkedLaws.{OnlyLinksAreAdded, Sign, Without, other_of, others, shows, signs}
 use Rattle.markdown_autolinks.specs.LinkedLaws.{signs_of}
-use Rattle.markdown_autolinks.specs.LinkedRuns.{RunTextView, address_link_type, run_left, first_part, is_as_in_source}
+use Rattle.markdown_autolinks.specs.LinkedRuns.{RunTextView, address_link_type, run_left, is_as_in_source}
 use Rattle.markdown_autolinks.specs.LinkedRuns.{is_of_source}
-use Rattle.markdown_autolinks.specs.LinkedRuns.{is_left_alone, last_part, link_over}
+use Rattle.markdown_autolinks.specs.LinkedRuns.{is_left_alone, link_over}
 use Rattle.markdown_autolinks.specs.LinkedRuns.{linked_events, merged_run, run_events, run_range, run_text, run_with}
 use Rattle.markdown_autolinks.specs.LinkedRuns.{searched_bytes, shown_bytes, take_run, text_of_run, text_unless_empty}
 use Rattle.markdown_autolinks.specs.declared.address.Address.{Address}

@@ -30,8 +30,8 @@ module _ (source : List ℕ) where
   with_addresses_after inside texts (e ∷ events) =
       texts_events texts ++ e ∷ with_addresses_after (left_alone_after inside e.0) [] events
 
-  -- events of a source, with the bare addresses in their Texts as links, and Texts that stand together as one; in a link,
-  -- an image, a code block, an HTML block and metadata all stays
+  -- events of a source, with the bare addresses in their Texts as links, and Texts that stand together as one; in a
+  -- link, an image, a code block, an HTML block and metadata all stays
   abbrev pub with_addresses : List RangedEvent → List RangedEvent
   with_addresses events = with_addresses_after 0 [] events
 

@@ -1,12 +1,12 @@
 -- Laws of the links that are made of addresses: what is added, and where it stands.
-use Rattle.std.specs.Prelude.{◌≡◌, ◌⊎◌, ℕ, zero, suc, ◌+◌, List, [], ◌∷◌, ◌++◌, map, if◌then◌else◌}
+use Rattle.std.specs.Prelude.{◌≡◌, ◌⊎◌, ℕ, List, [], ◌∷◌, map}
 use Rattle.std.specs.List.{AllByRecursion, flat_map}
-use Rattle.markdown_base.specs.Event.{EventView, TagView, end, link, start, tag_end, text}
+use Rattle.markdown_base.specs.Event.{EventView, end, link, start, tag_end, text}
 use Rattle.markdown_base.specs.declared.tag.TagEnd.{TagEnd}
 use Rattle.markdown_base.specs.declared.tag.TagEnd.TheVariants as closes
 use Rattle.markdown_out.specs.OutLaws.{RangedEvent}
 use Rattle.markdown_autolinks.specs.LinkedEvents.{with_addresses}
-use Rattle.markdown_autolinks.specs.LinkedRuns.{is_left_alone, run_text}
+use Rattle.markdown_autolinks.specs.LinkedRuns.{run_text}
 
 -- the tag of a link that may have been added: its title and its label are empty
 abbrev pub IsLinkTag : EventView → Type 0
