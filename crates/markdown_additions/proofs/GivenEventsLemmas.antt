@@ -255,11 +255,11 @@ module _ {F : Type 0} (step : F → Question → Option Answer → F → Type 0)
   abbrev pub ParserSteps : OffsetIter F → Option Item → OffsetIter F → Type 0
   ParserSteps o item t = NextGives step IsPlacedOf (offset_parser o) item (offset_parser t)
 
-  gives_new : (s : Source) (o : OffsetIter F) → IsNewParser s o
+  pub gives_new : (s : Source) (o : OffsetIter F) → IsNewParser s o
       → GivesEvents ParserSteps o (added_events adds_nothing s) (AreFirstAdded adds_nothing s)
   gives_new s o new = gives_text step s new.blocks o new.of_text new.reads new.alone
 
-  gives_new_with_ids : (s : Source) (h : HeadingIds (OffsetIter F)) → IsNewWithIds s h
+  pub gives_new_with_ids : (s : Source) (h : HeadingIds (OffsetIter F)) → IsNewWithIds s h
       → GivesEvents (ids_steps ParserSteps ids_state) h (added_events adds_ids s) (AreFirstAdded adds_ids s)
   gives_new_with_ids s h new =
       gives_ids ParserSteps ids_state (taken_in_text s) h (added_events adds_nothing s) (AreFirstAdded adds_nothing s)

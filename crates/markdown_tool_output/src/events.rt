@@ -27,10 +27,10 @@ fn lines_alone(alloc: Global, text: &str, syntax: Syntax) -> Result<String, Faul
         ≡ placed_event_lines text.now (added_events adds_nothing (source_as syntax text.now))) }
     ensures refused { IfErr result (λ fault. fault ≡ Fault.Memory) }
 {
+    let positions = Positions::new(alloc, text)?;
     let blocks = Blocks::of_source(alloc, text, Options::empty(), syntax)?;
     let nobody: Option<DefaultBrokenLinkCallback> = None;
     let events = Parser::from_blocks(alloc, blocks, nobody)?.into_offset_iter();
-    let positions = Positions::new(alloc, text)?;
     let mut lines = String::new(alloc);
     push_json_with_places(&mut lines, events, &positions)?;
     Ok(lines)
@@ -42,12 +42,12 @@ fn lines_with_ids(alloc: Global, text: &str, syntax: Syntax) -> Result<String, F
         ≡ placed_event_lines text.now (added_events adds_ids (source_as syntax text.now))) }
     ensures refused { IfErr result (λ fault. fault ≡ Fault.Memory) }
 {
+    let positions = Positions::new(alloc, text)?;
     let blocks = Blocks::of_source(alloc, text, Options::empty(), syntax)?;
     let taken = Taken::of_blocks(alloc, &blocks)?;
     let nobody: Option<DefaultBrokenLinkCallback> = None;
     let parser = Parser::from_blocks(alloc, blocks, nobody)?;
     let events = HeadingIds::new(alloc, taken, parser.into_offset_iter());
-    let positions = Positions::new(alloc, text)?;
     let mut lines = String::new(alloc);
     push_json_with_places(&mut lines, events, &positions)?;
     Ok(lines)
