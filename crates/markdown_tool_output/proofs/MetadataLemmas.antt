@@ -1,11 +1,10 @@
 -- What an event that a parser without a callback returns says of the metadata in what was left of it.
-use Rattle.std.proofs.Common.{◌≡◌, ◌∙◌, ℕ, List, [], ◌∷◌, Ok, Option, Some, None}
+use Rattle.std.proofs.Common.{◌≡◌, ◌∙◌, List, [], ◌∷◌, Ok, Option, Some, None}
 use Rattle.std.proofs.Common.{Result, ap, option_and_then, refl, sym}
 use Rattle.markdown_base.specs.Event.{EventView, event_view}
 use Rattle.markdown_base.specs.Questions.{Answer, Answers, Question}
 use Rattle.markdown_base.specs.declared.event.Event.{Event}
 use Rattle.markdown_base.specs.declared.fault.Fault.{Fault}
-use Rattle.markdown_base.specs.declared.tag.MetadataBlockKind.{MetadataBlockKind}
 use Rattle.markdown_defs.specs.Callback.{Asks}
 use Rattle.markdown_inline.specs.Elements.{Element, Placed, event, events_of}
 use Rattle.markdown_inline.specs.NextGives.{GivesItem, IsEventOf, NextGives}

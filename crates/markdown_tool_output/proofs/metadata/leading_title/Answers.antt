@@ -1,8 +1,8 @@
 -- The first event tells the kind, and the Texts after it are the metadata.
-use Rattle.std.proofs.Common.{◌≡◌, ◌∙◌, None, Some, ap, option_and_then, option_map, string_bytes, sym}
+use Rattle.std.proofs.Common.{◌∙◌, ap, option_and_then, sym}
 use Rattle.std.proofs.lemmas.Result.{IfOk-weaker}
 use Rattle.markdown_page.specs.MetadataTitle.{metadata_title}
-use Rattle.markdown_tool_output.specs.Metadata.{leading_text, leading_title}
+use Rattle.markdown_tool_output.specs.Metadata.{leading_text}
 use Rattle.markdown_tool_output.proofs.MetadataLemmas.{events_left, stays_alone, title_taken}
 use Rattle.markdown_tool_output.proofs.metadata.leading_title.Goals as goal
 
