@@ -31,6 +31,7 @@ option_row name option enabler = row name (effects.Option option) enabler
 unfoldable pub extensions : List Offered
 extensions =
     option_row (codes "alerts") enable.ENABLE_GFM AllAndGfm
+    ∷ row (codes "autolinks") effects.Autolinks AllAndGfm
     ∷ option_row (codes "footnotes") enable.ENABLE_FOOTNOTES AllAndGfm
     ∷ option_row (codes "heading-attributes") enable.ENABLE_HEADING_ATTRIBUTES All
     ∷ row (codes "heading-ids") effects.HeadingIds AllGfmAndPage
@@ -61,11 +62,12 @@ is_enabled sets parts e =
 
 -- nothing is enabled
 abbrev pub nothing_enabled : Enabled
-nothing_enabled = record { options = no_options; heading_ids = false }
+nothing_enabled = record { options = no_options; autolinks = false; heading_ids = false }
 
 -- what is enabled, with one effect more
 abbrev pub with_effect : Effect → Enabled → Enabled
 with_effect (effects.Option option) e = record e { options = both_options e.options option }
+with_effect effects.Autolinks e = record e { autolinks = true }
 with_effect effects.HeadingIds e = record e { heading_ids = true }
 
 -- what is enabled, with what these extensions enable of which each is enabled or not

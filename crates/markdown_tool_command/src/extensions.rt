@@ -39,6 +39,8 @@ pub struct Sets {
 pub enum Effect {
     /// An option of the parser.
     Option(Options),
+    /// Links of bare addresses.
+    Autolinks,
     /// Ids of headings.
     HeadingIds,
 }
@@ -48,6 +50,8 @@ pub enum Effect {
 pub struct Enabled {
     /// The options of the parser.
     pub options: Options,
+    /// Whether bare addresses become links.
+    pub autolinks: bool,
     /// Whether headings without an id get one.
     pub heading_ids: bool,
 }
@@ -60,10 +64,15 @@ pub struct Extension {
     pub enabler: Enabler,
 }
 
-static EXTENSIONS: [Extension; 15] = [
+static EXTENSIONS: [Extension; 16] = [
     Extension {
         name: "alerts",
         effect: Effect::Option(Options::ENABLE_GFM),
+        enabler: Enabler::AllAndGfm,
+    },
+    Extension {
+        name: "autolinks",
+        effect: Effect::Autolinks,
         enabler: Enabler::AllAndGfm,
     },
     Extension {
@@ -222,6 +231,7 @@ impl Enabled {
     {
         Enabled {
             options: Options::empty(),
+            autolinks: false,
             heading_ids: false,
         }
     }
@@ -233,6 +243,7 @@ impl Enabled {
         let mut enabled = self;
         match effect {
             Effect::Option(option) => enabled.options = enabled.options.union(option),
+            Effect::Autolinks => enabled.autolinks = true,
             Effect::HeadingIds => enabled.heading_ids = true,
         }
         enabled

@@ -132,8 +132,8 @@ fn with_files<'a>(alloc: Global, command: Command<'a>) -> Result<Command<'a>, Al
 /// The end of the help: the extensions, in the order of their table, and the exit statuses. A star marks those that `--gfm`
 /// enables.
 const AFTER_HELP: &str =
-    "Extensions: alerts*, footnotes*, heading-attributes, heading-ids*, math, old-footnotes, pluses, smart,\n\
-    strikethrough*, subscript, superscript, tables*, tasklists*, wikilinks, yaml.\n\n\
+    "Extensions: alerts*, autolinks*, footnotes*, heading-attributes, heading-ids*, math, old-footnotes, pluses, \
+    smart,\nstrikethrough*, subscript, superscript, tables*, tasklists*, wikilinks, yaml.\n\n\
     Exit status: 0 if all was written, 1 if something failed, 2 if the command line is wrong.";
 
 /// Returns the command without its arguments.

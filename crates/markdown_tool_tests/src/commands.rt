@@ -173,7 +173,7 @@ Options:
   -h, --help              Print help
   -V, --version           Print version
 
-Extensions: alerts*, footnotes*, heading-attributes, heading-ids*, math, old-footnotes, pluses, smart,
+Extensions: alerts*, autolinks*, footnotes*, heading-attributes, heading-ids*, math, old-footnotes, pluses, smart,
 strikethrough*, subscript, superscript, tables*, tasklists*, wikilinks, yaml.
 
 Exit status: 0 if all was written, 1 if something failed, 2 if the command line is wrong.
