@@ -1,16 +1,24 @@
 -- What a parser gives, and the adapters over what gives some events.
-use Rattle.std.proofs.Common.{◌≡◌, ⊎_elim, ℕ, false, List, [], ◌∷◌, ◌++◌, map, Ok, Err, Option, Some, None, Result}
+use Rattle.std.proofs.Common.{◌≡◌, ⊎_elim, ℕ, Bool, true, false, List, [], ◌∷◌, ◌++◌, map, Ok, Err, Option, Some, None, Result}
 use Rattle.std.proofs.Common.{ap, refl, subst, sym, ◌∙◌, is_some}
 use Rattle.std.specs.Iterator.{Drains, Yields}
 use Rattle.std.specs.declared.ops.Range.{Range}
-use Rattle.markdown_additions.specs.AddedItems.{added_steps}
-use Rattle.markdown_additions.specs.Additions.{AdditionsView, AreFirstAdded, AreFirstOfText, AreFirstWithPrefix}
-use Rattle.markdown_additions.specs.Additions.{AreFirstWithTheirIds, added_events, adds_ids, adds_nothing}
-use Rattle.markdown_additions.specs.Additions.{adds_prefixed_ids}
+use Rattle.either.specs.Iterator.{either_steps}
+use Rattle.either.specs.declared.Either.{Either}
+use Rattle.either.specs.declared.Either.TheVariants.{Left, Right}
+use Rattle.markdown_additions.specs.Additions.{AdditionsView, AreFirstAdded, AreFirstOfText, AreFirstTextEvents}
+use Rattle.markdown_additions.specs.Additions.{AreFirstWithLinks, AreFirstWithPrefix, AreFirstWithTheirIds}
+use Rattle.markdown_additions.specs.Additions.{IdsView, added_events, adds_ids, adds_no_ids, adds_prefixed_ids}
+use Rattle.markdown_additions.specs.Additions.{text_events}
 use Rattle.markdown_additions.specs.GivenEvents.{GivesEvents}
-use Rattle.markdown_additions.specs.TextEvents.{IsNewAdded, IsNewParser, IsNewWithIds, TextEvents}
-use Rattle.markdown_additions.specs.declared.added_events.AddedEvents.{AddedEvents}
-use Rattle.markdown_additions.specs.declared.added_events.AddedEvents.TheVariants as added
+use Rattle.markdown_additions.specs.TextEvents.{IsNewAdded, IsNewParser, IsNewText, IsNewWithAddedIds, IsNewWithIds}
+use Rattle.markdown_additions.specs.TextEvents.{IsNewWithLinks, ParsedEvents, TextEvents}
+use Rattle.markdown_autolinks.specs.AutolinksLaws.{IsNewLinked, ReturnsLinked}
+use Rattle.markdown_autolinks.specs.AutolinksNext.{LinkedState, linked_steps}
+use Rattle.markdown_autolinks.specs.AutolinksState.{linked_state}
+use Rattle.markdown_autolinks.specs.LinkedEvents.{with_addresses}
+use Rattle.markdown_autolinks.specs.declared.adapter.Autolinks.{Autolinks}
+use Rattle.markdown_autolinks.proofs.LinkedRunLemmas.{returns_linked}
 use Rattle.markdown_base.specs.Questions.{Question, Answer, Answers}
 use Rattle.markdown_base.specs.Source.{Source}
 use Rattle.markdown_base.specs.declared.event.Event.{Event}
@@ -125,6 +133,24 @@ module _ {F : Type 0} (step : F → Question → Option Answer → F → Type 0)
         memory = λ given t fault y. memory_alone o t given fault y;
       }
 
+-- a new adapter of links gives the events with their bare addresses as links
+module _ {S M : Type 0} (steps : S → Option Item → S → Type 0) (state : M → LinkedState S) where
+  gives_links : (source : List ℕ) (m : M) (events : List Ranged) (begins : List Ranged → Type 0)
+      → ReturnsLinked steps state source m → GivesEvents steps (state m).iter events begins
+      → GivesEvents (linked_steps steps state) m (with_addresses source events) (AreFirstWithLinks source begins)
+  gives_links source m events begins returns gives = record {
+    whole = λ given d. let a = returns.all given d in
+        a.are ∙ ap (with_addresses source) (gives.whole a.events a.read);
+    first = λ given t y. let f = returns.first given t y in
+        record {
+          events = map ranged_view f.events;
+          begin = gives.first f.events f.left f.read;
+          first = record { missing = f.first.missing; is = f.first.is };
+        };
+    memory = λ given t fault y. ⊎_elim (λ e. gives.memory e.events e.left fault e.read) (λ is. is)
+        (returns.error given t fault y);
+  }
+
 -- a new adapter of ids gives the events with the ids of their headings
 module _ {S M : Type 0} (steps : S → Option Item → S → Type 0) (state : M → IdsState S) where
   gives_ids : (taken : List Id) (m : M) (events : List Ranged) (begins : List Ranged → Type 0)
@@ -217,88 +243,129 @@ module _ {S E : Type 0} (inner : S → Option Item → S → Type 0) (outer : E 
         gives.memory given run.0 fault run.1;
   }
 
--- an `AddedEvents` gives what the iterator in it gives
-module _ {A I P : Type 0} (alone : A → Option Item → A → Type 0) (ids : I → Option Item → I → Type 0)
-    (prefixed : P → Option Item → P → Type 0) where
-  abbrev Added : AddedEvents A I P → Option Item → AddedEvents A I P → Type 0
-  Added = added_steps alone ids prefixed
+-- one of two iterators gives what it gives
+module _ {A B : Type 0} (lefts : A → Option Item → A → Type 0) (rights : B → Option Item → B → Type 0) where
+  abbrev EitherSteps : Either A B → Option Item → Either A B → Type 0
+  EitherSteps = either_steps lefts rights
 
-  one_alone : (s : A) (r : Option Item) (t : AddedEvents A I P) → Added (added.Alone s) r t
-      → (u : A) × alone s r u × (t ≡ added.Alone u)
-  one_alone s r (added.Alone t) step = (t, step, refl)
-  one_alone s r t step = absurd step
+  one_left : (s : A) (r : Option Item) (t : Either A B) → EitherSteps (Left s) r t
+      → (u : A) × lefts s r u × (t ≡ Left u)
+  one_left s r (Left t) step = (t, step, refl)
+  one_left s r (Right t) step = absurd step
 
-  one_with_ids : (s : I) (r : Option Item) (t : AddedEvents A I P) → Added (added.WithIds s) r t
-      → (u : I) × ids s r u × (t ≡ added.WithIds u)
-  one_with_ids s r (added.WithIds t) step = (t, step, refl)
-  one_with_ids s r t step = absurd step
-
-  one_prefixed : (s : P) (r : Option Item) (t : AddedEvents A I P) → Added (added.Prefixed s) r t
-      → (u : P) × prefixed s r u × (t ≡ added.Prefixed u)
-  one_prefixed s r (added.Prefixed t) step = (t, step, refl)
-  one_prefixed s r t step = absurd step
+  one_right : (s : B) (r : Option Item) (t : Either A B) → EitherSteps (Right s) r t
+      → (u : B) × rights s r u × (t ≡ Right u)
+  one_right s r (Left t) step = absurd step
+  one_right s r (Right t) step = (t, step, refl)
 
   module _ {events : List Ranged} {begins : List Ranged → Type 0} where
-    gives_alone : (s : A) → GivesEvents alone s events begins → GivesEvents Added (added.Alone s) events begins
-    gives_alone s gives = gives_inside alone Added (λ x. added.Alone x) one_alone s gives
+    gives_left : (s : A) → GivesEvents lefts s events begins → GivesEvents EitherSteps (Left s) events begins
+    gives_left s gives = gives_inside lefts EitherSteps (λ x. Left x) one_left s gives
 
-    gives_with_ids : (s : I) → GivesEvents ids s events begins → GivesEvents Added (added.WithIds s) events begins
-    gives_with_ids s gives = gives_inside ids Added (λ x. added.WithIds x) one_with_ids s gives
-
-    gives_with_prefix : (s : P) → GivesEvents prefixed s events begins
-        → GivesEvents Added (added.Prefixed s) events begins
-    gives_with_prefix s gives = gives_inside prefixed Added (λ x. added.Prefixed x) one_prefixed s gives
+    gives_right : (s : B) → GivesEvents rights s events begins → GivesEvents EitherSteps (Right s) events begins
+    gives_right s gives = gives_inside rights EitherSteps (λ x. Right x) one_right s gives
 
 -- ---- new events of a text
 
 module _ {F : Type 0} (step : F → Question → Option Answer → F → Type 0) where
-  abbrev pub ParserSteps : OffsetIter F → Option Item → OffsetIter F → Type 0
+  abbrev ParserSteps : OffsetIter F → Option Item → OffsetIter F → Type 0
   ParserSteps o item t = NextGives step IsPlacedOf (offset_parser o) item (offset_parser t)
 
-  pub gives_new : (s : Source) (o : OffsetIter F) → IsNewParser s o
-      → GivesEvents ParserSteps o (added_events adds_nothing s) (AreFirstAdded adds_nothing s)
-  gives_new s o new = gives_text step s new.blocks o new.of_text new.reads new.alone
+  abbrev LinksSteps : Autolinks (OffsetIter F) → Option Item → Autolinks (OffsetIter F) → Type 0
+  LinksSteps = linked_steps ParserSteps linked_state
 
-  pub gives_new_with_ids : (s : Source) (h : HeadingIds (OffsetIter F)) → IsNewWithIds s h
-      → GivesEvents (ids_steps ParserSteps ids_state) h (added_events adds_ids s) (AreFirstAdded adds_ids s)
-  gives_new_with_ids s h new =
-      gives_ids ParserSteps ids_state (taken_in_text s) h (added_events adds_nothing s) (AreFirstAdded adds_nothing s)
-      (returns_with_ids ParserSteps ids_state h (taken_in_text s) new.ids) (gives_new s (ids_state h).iter new.parser)
+  abbrev ParsedSteps : ParsedEvents F → Option Item → ParsedEvents F → Type 0
+  ParsedSteps = either_steps ParserSteps LinksSteps
 
-  gives_new_prefixed : (s : Source) (prefix : List ℕ) (p : Prefixed (HeadingIds (OffsetIter F)))
-      → IsNewWithIds s (unprefixed_source p) → prefix_of p ≡ prefix
-      → GivesEvents (prefixed_steps (ids_steps ParserSteps ids_state)) p (added_events (adds_prefixed_ids prefix) s)
-      (AreFirstAdded (adds_prefixed_ids prefix) s)
-  gives_new_prefixed s prefix p new is =
-      let steps = ids_steps ParserSteps ids_state in
-      gives_prefixed steps prefix p (added_events adds_ids s) (AreFirstAdded adds_ids s) is
-      (gives_new_with_ids s (unprefixed_source p) new)
-      (λ given d. all_prefixed steps p given d) (λ given t y. first_prefixed steps p t given y)
+  gives_new_parser : (s : Source) (o : OffsetIter F) → IsNewParser s o
+      → GivesEvents ParserSteps o (text_events false s) (AreFirstOfText s)
+  gives_new_parser s o new = gives_text step s new.blocks o new.of_text new.reads new.alone
+
+  gives_new_links : (s : Source) (l : Autolinks (OffsetIter F)) → IsNewWithLinks s l
+      → GivesEvents LinksSteps l (text_events true s) (AreFirstTextEvents true s)
+  gives_new_links s l new =
+      gives_links ParserSteps linked_state s.text l (text_events false s) (AreFirstOfText s)
+      (returns_linked ParserSteps linked_state l s.text new.links)
+      (gives_new_parser s (linked_state l).iter new.parser)
+
+  gives_new_text : (autolinks : Bool) (s : Source) (events : ParsedEvents F) → IsNewText autolinks s events
+      → GivesEvents ParsedSteps events (text_events autolinks s) (AreFirstTextEvents autolinks s)
+  gives_new_text false s (Left o) new = gives_left ParserSteps LinksSteps o (gives_new_parser s o new)
+  gives_new_text true s (Right l) new = gives_right ParserSteps LinksSteps l (gives_new_links s l new)
+  gives_new_text autolinks s events new = absurd new
+
+  abbrev IdsSteps : HeadingIds (ParsedEvents F) → Option Item → HeadingIds (ParsedEvents F) → Type 0
+  IdsSteps = ids_steps ParsedSteps ids_state
+
+  abbrev PrefixSteps : Prefixed (HeadingIds (ParsedEvents F)) → Option Item → Prefixed (HeadingIds (ParsedEvents F))
+      → Type 0
+  PrefixSteps = prefixed_steps IdsSteps
+
+  gives_new_ids : (a : Bool) (s : Source) (h : HeadingIds (ParsedEvents F)) → IsNewWithIds a s h
+      → GivesEvents IdsSteps h (with_ids (taken_in_text s) (text_events a s))
+      (AreFirstWithTheirIds (taken_in_text s) (AreFirstTextEvents a s))
+  gives_new_ids a s h new =
+      gives_ids ParsedSteps ids_state (taken_in_text s) h (text_events a s) (AreFirstTextEvents a s)
+      (returns_with_ids ParsedSteps ids_state h (taken_in_text s) new.ids)
+      (gives_new_text a s (ids_state h).iter new.text)
+
+  gives_new_prefixed : (a : Bool) (s : Source) (prefix : List ℕ) (p : Prefixed (HeadingIds (ParsedEvents F)))
+      → IsNewWithIds a s (unprefixed_source p) → prefix_of p ≡ prefix
+      → GivesEvents PrefixSteps p (prefixed_events prefix (with_ids (taken_in_text s) (text_events a s)))
+      (AreFirstWithPrefix prefix (AreFirstWithTheirIds (taken_in_text s) (AreFirstTextEvents a s)))
+  gives_new_prefixed a s prefix p new is =
+      gives_prefixed IdsSteps prefix p _ _ is (gives_new_ids a s (unprefixed_source p) new)
+      (λ given d. all_prefixed IdsSteps p given d) (λ given t y. first_prefixed IdsSteps p t given y)
 
   -- so new events of a text with what is added are these
   abbrev pub TextSteps : TextEvents F → Option Item → TextEvents F → Type 0
-  TextSteps =
-      added_steps ParserSteps (ids_steps ParserSteps ids_state) (prefixed_steps (ids_steps ParserSteps ids_state))
+  TextSteps = either_steps ParsedSteps (either_steps IdsSteps PrefixSteps)
+
+  gives_new_ids_added : (view : IdsView) (a : Bool) (s : Source) (events : TextEvents F)
+      → IsNewWithAddedIds view a s events
+      → GivesEvents TextSteps events (added_events (record { autolinks = a; ids = view }) s)
+      (AreFirstAdded (record { autolinks = a; ids = view }) s)
+  gives_new_ids_added adds_no_ids a s (Left events) new =
+      gives_left ParsedSteps (either_steps IdsSteps PrefixSteps) events (gives_new_text a s events new)
+  gives_new_ids_added adds_ids a s (Right (Left h)) new =
+      gives_right ParsedSteps (either_steps IdsSteps PrefixSteps) (Left h)
+      (gives_left IdsSteps PrefixSteps h (gives_new_ids a s h new))
+  gives_new_ids_added (adds_prefixed_ids prefix) a s (Right (Right p)) new =
+      gives_right ParsedSteps (either_steps IdsSteps PrefixSteps) (Right p)
+      (gives_right IdsSteps PrefixSteps p (gives_new_prefixed a s prefix p new.0 new.1))
+  gives_new_ids_added view a s events new = absurd new
 
   pub gives_new_added : (view : AdditionsView) (s : Source) (events : TextEvents F) → IsNewAdded view s events
       → GivesEvents TextSteps events (added_events view s) (AreFirstAdded view s)
-  gives_new_added adds_nothing s (added.Alone o) new = gives_alone ParserSteps _ _ o (gives_new s o new)
-  gives_new_added adds_ids s (added.WithIds h) new = gives_with_ids ParserSteps _ _ h (gives_new_with_ids s h new)
-  gives_new_added (adds_prefixed_ids prefix) s (added.Prefixed p) new =
-      gives_with_prefix ParserSteps _ _ p (gives_new_prefixed s prefix p new.0 new.1)
-  gives_new_added view s other new = absurd new
+  gives_new_added view s events new = gives_new_ids_added view.ids view.autolinks s events new
 
--- a new adapter of ids over a new parser
-pub new_with_ids : {F : Type 0} (s : Source) (h : HeadingIds (OffsetIter F)) (o : OffsetIter F) (t : Taken)
-    → ids_state h ≡ record { iter = o; kept = []; inside = false; taken = t; over = false } → IsNewParser s o
-    → StandsFor t (taken_in_text s) → IsNewWithIds s h
-new_with_ids {F} s h o t is new stands = record {
-  parser = subst (λ (x : OffsetIter F). IsNewParser s x) (sym (ap (λ (st : IdsState (OffsetIter F)). st.iter) is)) new;
+-- a new adapter of links over a new parser
+pub new_with_links : {F : Type 0} (s : Source) (text : List ℕ) (l : Autolinks (OffsetIter F)) (o : OffsetIter F)
+    → linked_state l ≡ record { source = text; iter = o; kept = []; inside = 0; over = false } → s.text ≡ text
+    → IsNewParser s o → IsNewWithLinks s l
+new_with_links {F} s text l o is same new = record {
+  parser =
+      subst (λ (x : OffsetIter F). IsNewParser s x) (sym (ap (λ (st : LinkedState (OffsetIter F)). st.iter) is)) new;
+  links = record {
+    of = ap (λ (st : LinkedState (OffsetIter F)). st.source) is ∙ sym same;
+    nothing = ap (λ (st : LinkedState (OffsetIter F)). st.kept) is;
+    outside = ap (λ (st : LinkedState (OffsetIter F)). st.inside) is;
+    goes_on = ap (λ (st : LinkedState (OffsetIter F)). st.over) is;
+  };
+}
+
+-- a new adapter of ids over new events
+pub new_with_ids : {F : Type 0} (autolinks : Bool) (s : Source) (h : HeadingIds (ParsedEvents F)) (o : ParsedEvents F)
+    (t : Taken) → ids_state h ≡ record { iter = o; kept = []; inside = false; taken = t; over = false }
+    → IsNewText autolinks s o → StandsFor t (taken_in_text s) → IsNewWithIds autolinks s h
+new_with_ids {F} autolinks s h o t is new stands = record {
+  text = subst (λ (x : ParsedEvents F). IsNewText autolinks s x)
+      (sym (ap (λ (st : IdsState (ParsedEvents F)). st.iter) is)) new;
   ids = record {
-    nothing = ap (λ (st : IdsState (OffsetIter F)). st.kept) is;
-    outside = ap (λ (st : IdsState (OffsetIter F)). st.inside) is;
-    goes_on = ap (λ (st : IdsState (OffsetIter F)). st.over) is;
+    nothing = ap (λ (st : IdsState (ParsedEvents F)). st.kept) is;
+    outside = ap (λ (st : IdsState (ParsedEvents F)). st.inside) is;
+    goes_on = ap (λ (st : IdsState (ParsedEvents F)). st.over) is;
     stands = subst (λ (x : Taken). StandsFor x (taken_in_text s))
-        (sym (ap (λ (st : IdsState (OffsetIter F)). st.taken) is)) stands;
+        (sym (ap (λ (st : IdsState (ParsedEvents F)). st.taken) is)) stands;
   };
 }

@@ -4,6 +4,5 @@ pub mod Written
 -- what an iterator gives
 pub mod GivenEvents
 pub mod UnplacedItems
-pub mod AddedItems
 -- the terms of private clauses
 pub mod TextEvents

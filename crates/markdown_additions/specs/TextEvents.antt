@@ -1,8 +1,11 @@
 -- The events of a text that have just been made, with what is added to them. Only private clauses cite this.
-use Rattle.std.specs.Prelude.{◌≡◌, None}
-use Rattle.markdown_additions.specs.Additions.{AdditionsView, adds_ids, adds_nothing, adds_prefixed_ids}
-use Rattle.markdown_additions.specs.declared.added_events.AddedEvents.{AddedEvents}
-use Rattle.markdown_additions.specs.declared.added_events.AddedEvents.TheVariants as added
+use Rattle.std.specs.Prelude.{◌≡◌, Bool, true, false, None}
+use Rattle.either.specs.declared.Either.{Either}
+use Rattle.either.specs.declared.Either.TheVariants.{Left, Right}
+use Rattle.markdown_additions.specs.Additions.{AdditionsView, IdsView, adds_ids, adds_no_ids, adds_prefixed_ids}
+use Rattle.markdown_autolinks.specs.AutolinksLaws.{IsNewLinked}
+use Rattle.markdown_autolinks.specs.AutolinksState.{linked_state}
+use Rattle.markdown_autolinks.specs.declared.adapter.Autolinks.{Autolinks}
 use Rattle.markdown_base.specs.Source.{Source}
 use Rattle.markdown_blocks.specs.Blocks.{IsBlocksOf}
 use Rattle.markdown_blocks.specs.declared.blocks.Blocks.{Blocks}
@@ -15,9 +18,13 @@ use Rattle.markdown_heading_ids.specs.declared.prefixed.Prefixed.{Prefixed}
 use Rattle.markdown_inline.specs.ParserLeft.{ReadsBlocks, offset_parser, parser_callback}
 use Rattle.markdown_inline.specs.declared.walk.OffsetIter.{OffsetIter}
 
--- events with what is added, over those of a parser
+-- the events of a parser, without links of bare addresses or with them
+abbrev pub ParsedEvents : (F : Type 0) → Type 0
+ParsedEvents F = Either (OffsetIter F) (Autolinks (OffsetIter F))
+
+-- the same, with what ids are added: none, ids, or ids and a prefix
 abbrev pub TextEvents : (F : Type 0) → Type 0
-TextEvents F = AddedEvents (OffsetIter F) (HeadingIds (OffsetIter F)) (Prefixed (HeadingIds (OffsetIter F)))
+TextEvents F = Either (ParsedEvents F) (Either (HeadingIds (ParsedEvents F)) (Prefixed (HeadingIds (ParsedEvents F))))
 
 module _ {F : Type 0} where
   -- nothing has been read of a parser of a block result of a text, and it has no callback
@@ -27,16 +34,31 @@ module _ {F : Type 0} where
     pub reads : ReadsBlocks blocks (offset_parser o)
     pub alone : parser_callback (offset_parser o) ≡ None
 
-  -- nothing has been read of such a parser under an adapter of ids, where those are taken that the text has from the
+  -- nothing has been read of such a parser under an adapter of links
+  pub record IsNewWithLinks (s : Source) (l : Autolinks (OffsetIter F)) : Type 0 where
+    pub parser : IsNewParser s (linked_state l).iter
+    pub links : IsNewLinked (linked_state l) s.text
+
+  -- nothing has been read of a parser of a text, under an adapter of links where these are added
+  abbrev pub IsNewText : (autolinks : Bool) → Source → ParsedEvents F → Type 0
+  IsNewText false s (Left o) = IsNewParser s o
+  IsNewText true s (Right l) = IsNewWithLinks s l
+  IsNewText autolinks s other = ⊥
+
+  -- nothing has been read of such events under an adapter of ids, where those are taken that the text has from the
   -- start
-  pub record IsNewWithIds (s : Source) (h : HeadingIds (OffsetIter F)) : Type 0 where
-    pub parser : IsNewParser s (ids_state h).iter
+  pub record IsNewWithIds (autolinks : Bool) (s : Source) (h : HeadingIds (ParsedEvents F)) : Type 0 where
+    pub text : IsNewText autolinks s (ids_state h).iter
     pub ids : IsNewIds (ids_state h) (taken_in_text s)
+
+  -- nothing has been read of the events of a text with the ids that are added
+  abbrev pub IsNewWithAddedIds : IdsView → (autolinks : Bool) → Source → TextEvents F → Type 0
+  IsNewWithAddedIds adds_no_ids autolinks s (Left events) = IsNewText autolinks s events
+  IsNewWithAddedIds adds_ids autolinks s (Right (Left h)) = IsNewWithIds autolinks s h
+  IsNewWithAddedIds (adds_prefixed_ids prefix) autolinks s (Right (Right p)) =
+      IsNewWithIds autolinks s (unprefixed_source p) × (prefix_of p ≡ prefix)
+  IsNewWithAddedIds view autolinks s other = ⊥
 
   -- nothing has been read of the events of a text with what is added
   abbrev pub IsNewAdded : AdditionsView → Source → TextEvents F → Type 0
-  IsNewAdded adds_nothing s (added.Alone o) = IsNewParser s o
-  IsNewAdded adds_ids s (added.WithIds h) = IsNewWithIds s h
-  IsNewAdded (adds_prefixed_ids prefix) s (added.Prefixed p) =
-      IsNewWithIds s (unprefixed_source p) × (prefix_of p ≡ prefix)
-  IsNewAdded view s other = ⊥
+  IsNewAdded a s events = IsNewWithAddedIds a.ids a.autolinks s events

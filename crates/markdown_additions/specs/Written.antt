@@ -10,6 +10,7 @@ use Rattle.markdown_base.specs.declared.fault.Fault.{Fault}
 use Rattle.markdown_base.specs.declared.fault.Fault.TheVariants.{Depth, Memory}
 use Rattle.markdown_inline.specs.ReadingOfText.{events_of_text}
 use Rattle.markdown_json.specs.Json.{line_json}
+use Rattle.markdown_links.specs.LinkEntries.{LinkEntryView, link_entries_of}
 use Rattle.markdown_out.specs.EventHtml.{html_of}
 use Rattle.markdown_out.specs.LookBacks.{IsTooDeep}
 use Rattle.markdown_outline.specs.Outline.{EntryView, Ranged, entries_of}
@@ -70,3 +71,7 @@ safe_if asked events = if asked then safe_ranged events else events
 -- the headings of a text with what is added, made safe where that is asked for
 abbrev pub headings_of_text : (safe : Bool) → AdditionsView → Source → List EntryView
 headings_of_text safe a s = entries_of (safe_if safe (added_events a s))
+
+-- the links and images of a text with what is added
+abbrev pub links_with_additions : AdditionsView → Source → List LinkEntryView
+links_with_additions a s = link_entries_of (added_events a s)

@@ -2,11 +2,35 @@
 
 /// What is added to the events of a text.
 #[derive(Clone, Copy, Debug, Drop)]
-pub enum Additions<'p> {
-    /// Nothing.
-    Nothing,
-    /// An id for each heading without one.
-    HeadingIds,
+pub struct Additions<'p> {
+    /// Whether bare addresses become links.
+    pub autolinks: bool,
+    /// The ids of headings.
+    pub ids: Ids<'p>,
+}
+
+/// The ids of headings that events have.
+#[derive(Clone, Copy, Debug, Drop)]
+pub enum Ids<'p> {
+    /// Those of their attributes alone.
+    Own,
+    /// These, and one for each heading without one.
+    All,
     /// The same, and then this text before each id of a heading and each name of a footnote, and in links to them.
-    PrefixedIds(&'p str),
+    Prefixed(&'p str),
+}
+
+impl<'p> Additions<'p> {
+    ghost use Rattle.std.specs.Prelude.{◌≡◌, false};
+    ghost use Rattle.markdown_additions.specs.Additions.{additions_view, adds_no_ids};
+
+    /// Returns no additions.
+    pub fn none() -> Additions<'p>
+        ensures { additions_view result ≡ record { autolinks = false; ids = adds_no_ids } }
+    {
+        Additions {
+            autolinks: false,
+            ids: Ids::Own,
+        }
+    }
 }

@@ -1,11 +1,12 @@
 //! The events of a text, with what is added to them.
 ghost use Rattle.std.specs.Prelude.{◌≡◌, IfErr, IfOk};
 ghost use Rattle.markdown_additions.specs.Additions.{additions_view};
-ghost use Rattle.markdown_additions.specs.TextEvents.{IsNewAdded, IsNewParser, IsNewWithIds};
-ghost use Rattle.markdown_base.specs.Source.{source_as};
+ghost use Rattle.markdown_additions.specs.TextEvents.{IsNewAdded, IsNewParser, IsNewText, IsNewWithIds};
+ghost use Rattle.markdown_base.specs.Source.{Source, source_as};
 
-use crate::added_events::AddedEvents;
-use crate::additions::Additions;
+use crate::additions::{Additions, Ids};
+use either::Either;
+use markdown_autolinks::Autolinks;
 use markdown_base::fault::Fault;
 use markdown_base::options::Options;
 use markdown_base::syntax::Syntax;
@@ -18,40 +19,67 @@ use std::alloc::Global;
 /// The events of a text that is read without a callback.
 type Events<'a> = OffsetIter<'a, DefaultBrokenLinkCallback>;
 
-/// The same with the ids of their headings.
-type EventsWithIds<'a> = HeadingIds<'a, Events<'a>>;
+/// The same, or these with links of bare addresses.
+type ParsedEvents<'a> = Either<Events<'a>, Autolinks<'a, Events<'a>>>;
 
-/// The same with what is added to them.
-pub(crate) type TextEvents<'a> = AddedEvents<
-    Events<'a>,
-    EventsWithIds<'a>,
-    Prefixed<'a, EventsWithIds<'a>>,
+/// The same with the ids of their headings.
+type EventsWithIds<'a> = HeadingIds<'a, ParsedEvents<'a>>;
+
+/// The events of a text with what is added to them: without ids, with ids, or with ids and a prefix.
+pub(crate) type TextEvents<'a> = Either<
+    ParsedEvents<'a>,
+    Either<EventsWithIds<'a>, Prefixed<'a, EventsWithIds<'a>>>,
 >;
 
-/// Returns the events of a text of which `syntax` is read, with their ranges.
-fn text_events<'a>(alloc: Global, text: &'a str, syntax: Syntax) -> Result<Events<'a>, Fault>
-    ensures new { IfOk result (IsNewParser (source_as syntax text.now)) }
+/// Returns the events of a text, with its bare addresses as links if `autolinks` is set.
+fn with_links<'a>(
+    alloc: Global,
+    text: &'a str,
+    autolinks: bool,
+    events: Events<'a>,
+) -> ParsedEvents<'a>
+    ensures { (s : Source) → s.text ≡ text.now → IsNewParser s events.entry → IsNewText autolinks s result }
+{
+    if autolinks {
+        Either::Right(Autolinks::new(alloc, text, events))
+    } else {
+        Either::Left(events)
+    }
+}
+
+/// Returns the events of a text of which `syntax` is read, with their ranges, and with links of bare addresses if `autolinks`
+/// is set.
+fn parsed_events<'a>(
+    alloc: Global,
+    text: &'a str,
+    syntax: Syntax,
+    autolinks: bool,
+) -> Result<ParsedEvents<'a>, Fault>
+    ensures new { IfOk result (IsNewText autolinks (source_as syntax text.now)) }
     ensures refused { IfErr result (λ fault. fault ≡ Fault.Memory) }
 {
     let blocks = Blocks::of_source(alloc, text, Options::empty(), syntax)?;
     let nobody: Option<DefaultBrokenLinkCallback> = None;
-    Ok(Parser::from_blocks(alloc, blocks, nobody)?.into_offset_iter())
+    let events = Parser::from_blocks(alloc, blocks, nobody)?.into_offset_iter();
+    Ok(with_links(alloc, text, autolinks, events))
 }
 
-/// Returns the events of a text of which `syntax` is read, with the ids of their headings.
-fn text_events_with_ids<'a>(
+/// Returns the same events with the ids of their headings.
+fn events_with_ids<'a>(
     alloc: Global,
     text: &'a str,
     syntax: Syntax,
+    autolinks: bool,
 ) -> Result<EventsWithIds<'a>, Fault>
-    ensures new { IfOk result (IsNewWithIds (source_as syntax text.now)) }
+    ensures new { IfOk result (IsNewWithIds autolinks (source_as syntax text.now)) }
     ensures refused { IfErr result (λ fault. fault ≡ Fault.Memory) }
 {
     let blocks = Blocks::of_source(alloc, text, Options::empty(), syntax)?;
     let taken = Taken::of_blocks(alloc, &blocks)?;
     let nobody: Option<DefaultBrokenLinkCallback> = None;
     let events = Parser::from_blocks(alloc, blocks, nobody)?.into_offset_iter();
-    Ok(HeadingIds::new(alloc, taken, events))
+    let linked = with_links(alloc, text, autolinks, events);
+    Ok(HeadingIds::new(alloc, taken, linked))
 }
 
 /// Returns the events of a text of which `syntax` is read, with what is added to them.
@@ -65,16 +93,17 @@ pub(crate) fn added_events<'a>(
         (IsNewAdded (additions_view additions.entry) (source_as syntax text.now)) }
     ensures refused { IfErr result (λ fault. fault ≡ Fault.Memory) }
 {
-    match additions {
-        Additions::Nothing => Ok(AddedEvents::Alone(text_events(alloc, text, syntax)?)),
-        Additions::HeadingIds => {
-            let events = text_events_with_ids(alloc, text, syntax)?;
-            Ok(AddedEvents::WithIds(events))
+    let autolinks = additions.autolinks;
+    match additions.ids {
+        Ids::Own => Ok(Either::Left(parsed_events(alloc, text, syntax, autolinks)?)),
+        Ids::All => {
+            let events = events_with_ids(alloc, text, syntax, autolinks)?;
+            Ok(Either::Right(Either::Left(events)))
         }
-        Additions::PrefixedIds(prefix) => {
+        Ids::Prefixed(prefix) => {
             let prefix = String::from_str(alloc, prefix)?;
-            let events = text_events_with_ids(alloc, text, syntax)?;
-            Ok(AddedEvents::Prefixed(Prefixed::new(alloc, prefix, events)))
+            let events = events_with_ids(alloc, text, syntax, autolinks)?;
+            Ok(Either::Right(Either::Right(Prefixed::new(alloc, prefix, events))))
         }
     }
 }

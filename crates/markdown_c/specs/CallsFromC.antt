@@ -4,7 +4,7 @@ use Rattle.std.specs.Prelude.{length, drop, flat_map, if◌then◌else◌}
 use Rattle.std.specs.Prelude.{Result, Ok, Err, String, string_bytes, map}
 use Rattle.std.specs.Int.RustNames.{bit_and}
 use Rattle.std.specs.Str.{IsUtf8}
-use Rattle.markdown_additions.specs.Additions.{AdditionsView, AreFirstAdded, adds_ids, adds_nothing}
+use Rattle.markdown_additions.specs.Additions.{AdditionsView, AreFirstAdded, adds_ids, adds_no_ids}
 use Rattle.markdown_additions.specs.Written.{BeginsTooDeep, headings_of_text, written_of_text}
 use Rattle.markdown_additions.specs.declared.written.Form.{Form}
 use Rattle.markdown_additions.specs.declared.written.Form.TheVariants.{Html, SafeHtml, Lines}
@@ -37,6 +37,10 @@ bytes_of (Err refusal) = Err refusal
 abbrev pub extension_flags : ℕ
 extension_flags = 0xEFFE
 
+-- the bit by which a caller asks for links of bare addresses
+abbrev pub autolinks_flag : ℕ
+autolinks_flag = 0x800_0000
+
 -- the bit by which a caller asks for ids of headings
 abbrev pub heading_ids_flag : ℕ
 heading_ids_flag = 0x1000_0000
@@ -51,12 +55,17 @@ extended_flag = 0x4000_0000
 
 -- no bit is set but these
 abbrev pub are_known : (bits : ℕ) → Bool
-are_known bits = bit_and bits (extension_flags + heading_ids_flag + profile_flag + extended_flag) == bits
+are_known bits =
+    bit_and bits (extension_flags + autolinks_flag + heading_ids_flag + profile_flag + extended_flag) == bits
 
 -- what is read of a text by these bits: all, or what the port's profile reads
 abbrev pub syntax_by_bits : (bits : ℕ) → Syntax
 syntax_by_bits bits =
     if bit_and bits profile_flag == 0 then full_syntax (of_bits bits) else profile_syntax (of_bits bits)
+
+-- whether these bits make links of bare addresses; in the port's profile none do
+abbrev pub gives_autolinks : (bits : ℕ) → Bool
+gives_autolinks bits = (bit_and bits profile_flag == 0) && not (bit_and bits autolinks_flag == 0)
 
 -- whether these bits give headings ids; in the port's profile none do
 abbrev pub gives_ids : (bits : ℕ) → Bool
@@ -64,7 +73,8 @@ gives_ids bits = (bit_and bits profile_flag == 0) && not (bit_and bits heading_i
 
 -- what these bits add to the events of a text
 abbrev pub additions_by_bits : (bits : ℕ) → AdditionsView
-additions_by_bits bits = if gives_ids bits then adds_ids else adds_nothing
+additions_by_bits bits =
+    record { autolinks = gives_autolinks bits; ids = if gives_ids bits then adds_ids else adds_no_ids }
 
 -- what a call has to write is that of the text, or there is nothing, for this reason
 abbrev pub IsOutcome : (IsOf : Source → List ℕ → Type 0) → (IsDeep : Source → Type 0) → (bits : ℕ) → (text : List ℕ)

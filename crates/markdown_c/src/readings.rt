@@ -4,14 +4,14 @@ ghost use Rattle.std.specs.Str.{IsUtf8};
 ghost use Rattle.markdown_additions.specs.Additions.{additions_view};
 ghost use Rattle.markdown_base.specs.Source.{source_as};
 ghost use Rattle.markdown_c.specs.CallsFromC.{IsHtmlOutcome, IsJsonOutcome, IsOutlineOutcome, IsSafeHtmlOutcome};
-ghost use Rattle.markdown_c.specs.CallsFromC.{additions_by_bits, are_known, bytes_of, gives_ids};
+ghost use Rattle.markdown_c.specs.CallsFromC.{additions_by_bits, are_known, bytes_of, gives_autolinks, gives_ids};
 ghost use Rattle.markdown_c.specs.CallsFromC.{outline_by_bits, syntax_by_bits};
 ghost use Rattle.markdown_c.specs.declared.readings.Refusal.{Refusal};
 ghost use Rattle.markdown_outline.specs.Outline.{entry_view};
 ghost use Rattle.markdown_text_json.specs.OutlineJson.{entry_line};
 
 use bitflags::Flags;
-use markdown_additions::{Additions, Form, headings_source, written_source};
+use markdown_additions::{Additions, Form, Ids, headings_source, written_source};
 use markdown_base::fault::Fault;
 use markdown_base::options::Options;
 use markdown_base::syntax::Syntax;
@@ -63,6 +63,9 @@ fn text_of(bytes: &[u8]) -> Result<&str, Refusal>
 /// The bits that enable extensions of the syntax.
 const EXTENSIONS: u32 = 0xEFFE;
 
+/// The bit that makes links of bare addresses.
+const AUTOLINKS: u32 = 1 << 27;
+
 /// The bit that gives headings ids.
 const HEADING_IDS: u32 = 1 << 28;
 
@@ -79,7 +82,7 @@ fn syntax_of(bits: u32) -> Result<Syntax, Refusal>
     ensures refused { IfErr result (λ refusal. (refusal ≡ Refusal.UnknownOption)
         × (are_known bits ≡ false)) }
 {
-    if bits & (EXTENSIONS + HEADING_IDS + PROFILE + EXTENDED) != bits {
+    if bits & (EXTENSIONS + AUTOLINKS + HEADING_IDS + PROFILE + EXTENDED) != bits {
         return Err(Refusal::UnknownOption);
     }
     let options = Options::from_bits_retain(bits);
@@ -88,6 +91,13 @@ fn syntax_of(bits: u32) -> Result<Syntax, Refusal>
     } else {
         Ok(Syntax::profile(options))
     }
+}
+
+/// Returns whether these bits make links of bare addresses.
+fn gives_autolinks(bits: u32) -> bool
+    ensures { result ≡ gives_autolinks bits }
+{
+    bits & PROFILE == 0 && bits & AUTOLINKS != 0
 }
 
 /// Returns whether these bits give headings ids.
@@ -101,10 +111,17 @@ fn gives_ids(bits: u32) -> bool
 fn additions_of<'p>(bits: u32) -> Additions<'p>
     ensures { additions_view result ≡ additions_by_bits bits }
 {
+    let autolinks = gives_autolinks(bits);
     if gives_ids(bits) {
-        Additions::HeadingIds
+        Additions {
+            autolinks,
+            ids: Ids::All,
+        }
     } else {
-        Additions::Nothing
+        Additions {
+            autolinks,
+            ids: Ids::Own,
+        }
     }
 }
 

@@ -8,7 +8,8 @@ use Rattle.markdown_contents.specs.Contents.{contents_of}
 
 -- the headings of a text with no extension enabled, with their ids
 abbrev pub headings_in : (text : List ℕ) → List EntryView
-headings_in text = headings_of_text false adds_ids (source_as commonmark text)
+headings_in text =
+    headings_of_text false (record { autolinks = false; ids = adds_ids }) (source_as commonmark text)
 
 -- their table of contents
 abbrev pub contents_in : (text : List ℕ) → List ℕ

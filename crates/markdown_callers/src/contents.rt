@@ -5,7 +5,7 @@ ghost use Rattle.markdown_callers.specs.ContentsOfText.{contents_in, headings_in
 
 use markdown::outline::Entry;
 use markdown::{Fault, Options, Syntax};
-use markdown_additions::{Additions, headings_source};
+use markdown_additions::{Additions, Ids, headings_source};
 use markdown_contents::list_of;
 use std::alloc::Global;
 
@@ -16,7 +16,11 @@ pub fn headings(alloc: Global, source: &str) -> Result<Vec<Entry>, Fault>
     ensures refused { IfErr result (λ fault. fault ≡ Fault.Memory) }
 {
     let syntax = Syntax::profile(Options::empty());
-    headings_source(alloc, source, syntax, Additions::HeadingIds, false)
+    let additions = Additions {
+        autolinks: false,
+        ids: Ids::All,
+    };
+    headings_source(alloc, source, syntax, additions, false)
 }
 
 /// Returns the table of contents of a text: a line for each heading, below the nearest heading of a lower level, with a

@@ -3,5 +3,4 @@ pub mod ConversionLemmas
 pub mod FileTextLemmas
 pub mod MetadataLemmas
 pub mod OutputsLemmas
-pub mod PlacedEventsLemmas
 pub mod StepsLemmas

@@ -3,8 +3,10 @@ use Rattle.std.specs.Prelude.{◌≡◌, ℕ, suc, Bool, false, not, ◌&&◌, i
 use Rattle.std.specs.Prelude.{◌⊎◌, ◌==◌, Option, Some, None, bytes_eq, is_some, true}
 use Rattle.std.specs.Prelude.{option_map, codes, decimal, map, nat_lt, slice_get, string_bytes, unwrap_or}
 use denote.Ref.{Bor}
-use Rattle.markdown_additions.specs.Additions.{AdditionsView, added_events, adds_ids, adds_nothing, adds_prefixed_ids}
-use Rattle.markdown_additions.specs.Written.{IsFaultOfWritingText, headings_of_text, written_of_text}
+use Rattle.markdown_additions.specs.Additions.{AdditionsView, IdsView, added_events, adds_ids, adds_no_ids}
+use Rattle.markdown_additions.specs.Additions.{adds_prefixed_ids}
+use Rattle.markdown_additions.specs.Written.{IsFaultOfWritingText, headings_of_text, links_with_additions}
+use Rattle.markdown_additions.specs.Written.{written_of_text}
 use Rattle.markdown_additions.specs.declared.written.Form.TheVariants as form
 use Rattle.markdown_base.specs.Source.{Source, source_as}
 use Rattle.markdown_base.specs.Syntax.{full_syntax}
@@ -13,9 +15,8 @@ use Rattle.markdown_base.specs.declared.fault.Fault.TheVariants as fault_kind
 use Rattle.markdown_contents.specs.Contents.{contents_in_file}
 use Rattle.markdown_json.specs.Json.{string}
 use Rattle.markdown_contents.specs.HtmlList.{html_list_of}
-use Rattle.markdown_links.specs.LinksOfText.{links_of_text}
 use Rattle.markdown_lint_json.specs.BrokenJson.{broken_lines, broken_of_text, placed_broken_lines}
-use Rattle.markdown_lint_json.specs.LinkJson.{links_json_of_text, placed_link_lines}
+use Rattle.markdown_lint_json.specs.LinkJson.{link_lines, placed_link_lines}
 use Rattle.markdown_lint_json.specs.PlacedEvents.{placed_event_lines}
 use Rattle.markdown_lint_json.specs.PlacedOutline.{placed_outline_lines}
 use Rattle.markdown_outline.specs.Outline.{EntryView}
@@ -42,14 +43,25 @@ pub record FileView : Type 0 where
 abbrev pub file_prefix : ℕ → List ℕ
 file_prefix number = codes "f" ++ decimal number ++ codes "-"
 
+-- the ids that are added to the events of a file that becomes lines
+abbrev pub line_ids : Enabled → IdsView
+line_ids e = if e.heading_ids then adds_ids else adds_no_ids
+
+-- and to those of a file that becomes HTML: those of several files begin with the number of theirs
+abbrev pub html_ids : Enabled → FileView → IdsView
+html_ids e f = if e.heading_ids && f.several then adds_prefixed_ids (file_prefix f.number) else line_ids e
+
 -- what is added to the events of a file that becomes HTML
 abbrev pub html_additions : Enabled → FileView → AdditionsView
-html_additions e f =
-    if e.heading_ids then (if f.several then adds_prefixed_ids (file_prefix f.number) else adds_ids) else adds_nothing
+html_additions e f = record { autolinks = e.autolinks; ids = html_ids e f }
 
 -- and to those of a file that becomes lines
 abbrev pub line_additions : Enabled → AdditionsView
-line_additions e = if e.heading_ids then adds_ids else adds_nothing
+line_additions e = record { autolinks = e.autolinks; ids = line_ids e }
+
+-- and to those of a file whose headings are listed with links to them
+abbrev pub contents_additions : Enabled → AdditionsView
+contents_additions e = record { autolinks = e.autolinks; ids = adds_ids }
 
 -- the source that a file's text is: without a byte order mark
 abbrev pub file_source : Enabled → FileView → Source
@@ -80,8 +92,9 @@ outline_of_file positions e f =
 -- the lines of the links and images of a file
 abbrev pub links_of_file : (positions : Bool) → Enabled → FileView → List ℕ
 links_of_file positions e f =
-    if positions then placed_link_lines (without_mark f.text) (links_of_text (file_source e f))
-    else links_json_of_text (file_source e f)
+    if positions
+    then placed_link_lines (without_mark f.text) (links_with_additions (line_additions e) (file_source e f))
+    else link_lines (links_with_additions (line_additions e) (file_source e f))
 
 -- the lines of the references of a file whose link label no definition has
 abbrev pub broken_of_file : (positions : Bool) → Enabled → FileView → List ℕ
@@ -102,7 +115,7 @@ output_of_file format.Outline positions e f = outline_of_file positions e f
 output_of_file format.Links positions e f = links_of_file positions e f
 output_of_file format.Broken positions e f = broken_of_file positions e f
 output_of_file format.Contents positions e f =
-    contents_in_file (link_name f) (headings_of_text false adds_ids (file_source e f))
+    contents_in_file (link_name f) (headings_of_text false (contents_additions e) (file_source e f))
 
 -- this is why nothing is written for a file: an allocation was refused, or its text is too deep for HTML
 abbrev pub IsFaultOfFile : Format → Enabled → FileView → Fault → Type 0

@@ -1,18 +1,19 @@
 //! The headings of a file: its outline, its table of contents, and what a page has of them.
 ghost use Rattle.std.specs.Prelude.{◌≡◌, IfErr, IfOk, false, map, option_copied, string_bytes};
-ghost use Rattle.markdown_additions.specs.Additions.{adds_ids};
 ghost use Rattle.markdown_additions.specs.Written.{headings_of_text};
 ghost use Rattle.markdown_contents.specs.Contents.{contents_in_file};
 ghost use Rattle.markdown_lint_json.specs.PlacedOutline.{placed_outline_lines};
 ghost use Rattle.markdown_outline.specs.Outline.{entry_view};
 ghost use Rattle.markdown_tool_output.specs.FileText.{without_mark};
 ghost use Rattle.markdown_tool_output.specs.Files.{file_view};
-ghost use Rattle.markdown_tool_output.specs.Outputs.{file_source, first_title, headings_of_file, is_safe, link_name};
-ghost use Rattle.markdown_tool_output.specs.Outputs.{bare_outline, line_headings, outline_of_file};
+ghost use Rattle.markdown_tool_output.specs.Outputs.{bare_outline, contents_additions, file_source, first_title};
+ghost use Rattle.markdown_tool_output.specs.Outputs.{headings_of_file, is_safe, line_headings, link_name};
+ghost use Rattle.markdown_tool_output.specs.Outputs.{outline_of_file};
 
+use crate::additions::{contents_additions, line_additions};
 use crate::file::{File, file_prefix, link_name};
 use crate::text::without_mark;
-use markdown_additions::{Additions, headings_source};
+use markdown_additions::{Additions, Ids, headings_source};
 use markdown_base::fault::Fault;
 use markdown_base::syntax::Syntax;
 use markdown_contents::list_in;
@@ -25,22 +26,6 @@ use markdown_tool_command::Format;
 use markdown_tool_command::extensions::Enabled;
 use std::alloc::Global;
 
-/// Returns the headings of a file, with ids that have no prefix.
-fn headings_with_ids(alloc: Global, enabled: Enabled, file: File<'_>) -> Result<Vec<Entry>, Fault>
-    ensures headings { IfOk result (λ headings. map entry_view headings.items
-        ≡ headings_of_text false adds_ids (file_source enabled (file_view file.entry))) }
-    ensures refused { IfErr result (λ fault. fault ≡ Fault.Memory) }
-{
-    let syntax = Syntax::full(enabled.options);
-    headings_source(
-        alloc,
-        without_mark(file.text),
-        syntax,
-        Additions::HeadingIds,
-        false,
-    )
-}
-
 /// Returns the headings of a file, with ids where those are enabled.
 fn line_headings(alloc: Global, enabled: Enabled, file: File<'_>) -> Result<Vec<Entry>, Fault>
     ensures headings { IfOk result (λ headings.
@@ -49,11 +34,7 @@ fn line_headings(alloc: Global, enabled: Enabled, file: File<'_>) -> Result<Vec<
 {
     let syntax = Syntax::full(enabled.options);
     let text = without_mark(file.text);
-    if enabled.heading_ids {
-        headings_source(alloc, text, syntax, Additions::HeadingIds, false)
-    } else {
-        headings_source(alloc, text, syntax, Additions::Nothing, false)
-    }
+    headings_source(alloc, text, syntax, line_additions(enabled), false)
 }
 
 /// Returns the lines of the headings of a file without places, with their ids where those are enabled.
@@ -118,10 +99,14 @@ pub(crate) fn contents_of_file(
 ) -> Result<String, Fault>
     ensures list { IfOk result (λ list. string_bytes list
         ≡ contents_in_file (link_name (file_view file.entry))
-        (headings_of_text false adds_ids (file_source enabled (file_view file.entry)))) }
+        (headings_of_text false (contents_additions enabled)
+        (file_source enabled (file_view file.entry)))) }
     ensures refused { IfErr result (λ fault. fault ≡ Fault.Memory) }
 {
-    let headings = headings_with_ids(alloc, enabled, file)?;
+    let syntax = Syntax::full(enabled.options);
+    let text = without_mark(file.text);
+    let additions = contents_additions(enabled);
+    let headings = headings_source(alloc, text, syntax, additions, false)?;
     list_in(alloc, link_name(file), headings.as_slice())
 }
 
@@ -146,20 +131,15 @@ pub(crate) fn headings_of_file(
     let syntax = Syntax::full(enabled.options);
     let text = without_mark(file.text);
     let safe = is_safe(format);
-    if !enabled.heading_ids {
-        return headings_source(alloc, text, syntax, Additions::Nothing, safe);
-    }
-    if !file.several {
-        return headings_source(alloc, text, syntax, Additions::HeadingIds, safe);
+    if !enabled.heading_ids || !file.several {
+        return headings_source(alloc, text, syntax, line_additions(enabled), safe);
     }
     let prefix = file_prefix(alloc, file.number)?;
-    headings_source(
-        alloc,
-        text,
-        syntax,
-        Additions::PrefixedIds(prefix.as_str()),
-        safe,
-    )
+    let additions = Additions {
+        autolinks: enabled.autolinks,
+        ids: Ids::Prefixed(prefix.as_str()),
+    };
+    headings_source(alloc, text, syntax, additions, safe)
 }
 
 /// Returns the title of the first heading of level 1 that has one.

@@ -1,7 +1,7 @@
 //! What the program `markdown` writes for a request, and the program over any files.
 #![tactic(auto)]
 
-mod events;
+mod additions;
 pub mod failure;
 mod file;
 pub mod files;

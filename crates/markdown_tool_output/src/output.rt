@@ -6,13 +6,13 @@ ghost use Rattle.markdown_tool_output.specs.Outputs.{IsFaultOfFile, IsFaultOfFil
 ghost use Rattle.markdown_tool_output.specs.Outputs.{events_of_file, file_source, html_additions, line_additions, named_line};
 ghost use Rattle.markdown_tool_output.specs.Outputs.{output_of, output_of_file, outputs_of};
 
-use crate::events::placed_events;
+use crate::additions::line_additions;
 use crate::file::{File, file_prefix, files_of};
 use crate::headings::{contents_of_file, outline_of_file};
 use crate::lint::{broken_of_file, links_of_file};
 use crate::page::{Inside, page_of};
 use crate::text::without_mark;
-use markdown_additions::{Additions, Form, written_source};
+use markdown_additions::{Additions, Form, Ids, placed_lines_source, written_source};
 use markdown_base::fault::Fault;
 use markdown_base::syntax::Syntax;
 use markdown_json::{Piece, push_pieces};
@@ -34,36 +34,15 @@ fn html_of_file(
 {
     let syntax = Syntax::full(enabled.options);
     let text = without_mark(file.text);
-    if !enabled.heading_ids {
-        return written_source(alloc, text, syntax, Additions::Nothing, form);
-    }
-    if !file.several {
-        return written_source(alloc, text, syntax, Additions::HeadingIds, form);
+    if !enabled.heading_ids || !file.several {
+        return written_source(alloc, text, syntax, line_additions(enabled), form);
     }
     let prefix = file_prefix(alloc, file.number)?;
-    written_source(
-        alloc,
-        text,
-        syntax,
-        Additions::PrefixedIds(prefix.as_str()),
-        form,
-    )
-}
-
-/// Returns the lines of the events of a file.
-fn lines_of_file(alloc: Global, enabled: Enabled, file: File<'_>) -> Result<String, Fault>
-    ensures lines { let f = file_view file.entry in IfOk result (λ lines. string_bytes lines
-        ≡ written_of_text Form.Lines (line_additions enabled) (file_source enabled f)) }
-    ensures faults { let f = file_view file.entry in IfErr result
-        (IsFaultOfWritingText Form.Lines (line_additions enabled) (file_source enabled f)) }
-{
-    let syntax = Syntax::full(enabled.options);
-    let text = without_mark(file.text);
-    if enabled.heading_ids {
-        written_source(alloc, text, syntax, Additions::HeadingIds, Form::Lines)
-    } else {
-        written_source(alloc, text, syntax, Additions::Nothing, Form::Lines)
-    }
+    let additions = Additions {
+        autolinks: enabled.autolinks,
+        ids: Ids::Prefixed(prefix.as_str()),
+    };
+    written_source(alloc, text, syntax, additions, form)
 }
 
 /// Returns the lines of the events of a file, with the places of their ranges if `positions` is set.
@@ -78,10 +57,13 @@ fn events_of_file(
     ensures faults { let f = file_view file.entry in IfErr result
         (IsFaultOfWritingText Form.Lines (line_additions enabled) (file_source enabled f)) }
 {
+    let syntax = Syntax::full(enabled.options);
+    let text = without_mark(file.text);
+    let additions = line_additions(enabled);
     if positions {
-        Ok(placed_events(alloc, enabled, file)?)
+        Ok(placed_lines_source(alloc, text, syntax, additions)?)
     } else {
-        lines_of_file(alloc, enabled, file)
+        written_source(alloc, text, syntax, additions, Form::Lines)
     }
 }
 
