@@ -141,9 +141,11 @@ record IsTreeFrom (awaited : List TagEnd) (first : Bool) (events : List Ranged) 
   whole : keep_tables_whole awaited first (bare_events events) ≡ true
 
 both_true : {x y : Bool} → x && y ≡ true → (x ≡ true) × (y ≡ true)
-both_true {true} {true} both = (refl, refl)
-both_true {true} {false} both = (refl, both)
-both_true {false} {y} both = cc both
+both_true {x} {y} both = by x y both
+  where
+    by : (a b : Bool) → a && b ≡ true → (a ≡ true) × (b ≡ true)
+    by true b both = (refl, both)
+    by false b both = cc both
 
 tree_more : (a : List TagEnd) (first : Bool) (e : Ranged) (events : List Ranged) → IsAwaited e.0 a
     → keeps_tables_whole e.0 a first ≡ true → IsTreeFrom (awaited_after e.0 a) (starts_table e.0) events
@@ -168,7 +170,7 @@ text_passes (b ∷ bytes) range a rest t = tree_more a false (text (b ∷ bytes)
 
 run_text_passes : (run : List RunTextView) → Passes (text_of_run run)
 run_text_passes [] a rest t = t
-run_text_passes (x ∷ run) = text_passes (shown_bytes (x ∷ run)) (run_range x run)
+run_text_passes (x ∷ run) a rest t = text_passes (shown_bytes (x ∷ run)) (run_range x run) a rest t
 
 link_passes : (kind : LinkType) (destination : List ℕ) (run : List RunTextView)
     → Passes (link_over kind destination run)
@@ -192,7 +194,7 @@ linked_passes searched used run (x ∷ addresses) =
 merged_passes : (run : List RunTextView) → Passes (merged_run run)
 merged_passes [] a rest t = t
 merged_passes (x ∷ []) a rest t = tree_more a false (text x.shown, x.range) rest tt refl t
-merged_passes (x ∷ y ∷ run) = run_text_passes (x ∷ y ∷ run)
+merged_passes (x ∷ y ∷ run) a rest t = run_text_passes (x ∷ y ∷ run) a rest t
 
 run_passes : (run : List RunTextView) → Passes (run_events run)
 run_passes run = by (addresses_in (searched_bytes run))
@@ -205,16 +207,16 @@ run_passes run = by (addresses_in (searched_bytes run))
 run_before : (source : List ℕ) (texts : Texts) (a : List TagEnd) (first : Bool) (rest : List Ranged)
     → (first ≡ false) ⊎ (texts ≡ []) → IsTreeFrom a first rest
     → IsTreeFrom a first (texts_events source texts ++ rest)
-run_before source texts a first rest (inl no) t =
-    subst (λ (b : Bool). IsTreeFrom a b (texts_events source texts ++ rest)) (sym no)
-    (run_passes (map (run_text source) texts) a rest (subst (λ (b : Bool). IsTreeFrom a b rest) no t))
+run_before source texts a first rest (inl is) t =
+    subst (λ (b : Bool). IsTreeFrom a b (texts_events source texts ++ rest)) (sym is)
+    (run_passes (map (run_text source) texts) a rest (subst (λ (b : Bool). IsTreeFrom a b rest) is t))
 run_before source texts a first rest (inr none) t =
     subst (λ (ts : Texts). IsTreeFrom a first (texts_events source ts ++ rest)) (sym none) t
 
 -- a Text does not follow the Start of a table
-not_first : {first : Bool} → not first ≡ true → first ≡ false
-not_first {false} is = refl
-not_first {true} is = cc is
+not_first : (first : Bool) → not first ≡ true → first ≡ false
+not_first false is = refl
+not_first true is = cc is
 
 trees_linked_from : (source : List ℕ) (inside : ℕ) (texts : Texts) (events : List Ranged) (a : List TagEnd)
     (first : Bool) → (first ≡ false) ⊎ (texts ≡ []) → IsTreeFrom a first events
@@ -223,9 +225,9 @@ trees_linked_from source inside texts [] a first begun t =
     subst (λ (es : List Ranged). IsTreeFrom a first es) (append-nil (texts_events source texts))
     (run_before source texts a first [] begun t)
 trees_linked_from source zero texts ((text bytes, range) ∷ events) a first begun t =
-    let no : first ≡ false = not_first (both_true t.whole).0 in
+    let is : first ≡ false = not_first first (both_true t.whole).0 in
     subst (λ (b : Bool). IsTreeFrom a b (with_addresses_after source zero (texts ++ (bytes, range) ∷ []) events))
-    (sym no)
+    (sym is)
     (trees_linked_from source zero (texts ++ (bytes, range) ∷ []) events a false (inl refl)
     (tree_rest a first (text bytes, range) events t))
 trees_linked_from source zero texts ((v, range) ∷ events) a first begun t =

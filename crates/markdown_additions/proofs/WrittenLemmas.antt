@@ -15,6 +15,9 @@ use Rattle.markdown_base.specs.declared.event.Event.{Event}
 use Rattle.markdown_base.specs.declared.fault.Fault.{Fault}
 use Rattle.markdown_base.specs.declared.fault.Fault.TheVariants.{Blocks, Depth, Memory}
 use Rattle.markdown_json.specs.JsonLines as json
+use Rattle.markdown_links.specs.LinkEntries.{LinkEntryView, link_entries_of}
+use Rattle.markdown_links.specs.LinksRead.{AreLinksOfAll}
+use Rattle.markdown_lint_json.specs.PlacedEvents.{IsWrittenWithPlaces, StopsWithPlaces, placed_event_lines}
 use Rattle.markdown_out.specs.EventHtml.{html_of}
 use Rattle.markdown_out.specs.HtmlCorrect.{GoesTooDeep, IsOwnFault, IsRendered, StopsAtError, items}
 use Rattle.markdown_out.specs.LookBacks.{IsTooDeep}
@@ -217,7 +220,7 @@ module _ {S M N : Type 0} (steps : S → Option Item → S → Type 0) (iter : M
       (error_safe (unplaced_steps steps iter) source n stop.left stop.events fault stop.read))
   safe_faults n old new fault gives (inr own) = own_safe n old new fault gives own
 
--- ---- lines of JSON, and headings
+-- ---- lines of JSON, headings and links
 
 lines_seen : (given : List Placed) → json.lines_of given ≡ flat_map ranged_line (map ranged_view given)
 lines_seen given = sym (flat_map-map ranged_line ranged_view given)
@@ -238,6 +241,21 @@ module _ {S : Type 0} (steps : S → Option Item → S → Type 0) (it : S) (eve
 
   pub headings_stopped : (fault : Fault) → MeetsError steps it fault → fault ≡ Memory
   headings_stopped fault e = gives.memory e.events e.left fault e.read
+
+  pub links_read : (entries : List LinkEntryView) → AreLinksOfAll steps it entries → entries ≡ link_entries_of events
+  links_read entries l = l.are ∙ ap link_entries_of (gives.whole l.events l.read)
+
+  pub placed_written : (seen text old new : List ℕ) → seen ≡ text → old ≡ []
+      → IsWrittenWithPlaces steps seen it old new → new ≡ placed_event_lines text events
+  placed_written seen text old new is empty w =
+      w.stands
+      ∙ ap (λ bytes. bytes ++ placed_event_lines seen (map ranged_view w.events)) empty
+      ∙ ap (placed_event_lines seen) (gives.whole w.events w.read)
+      ∙ ap (λ t. placed_event_lines t events) is
+
+  pub placed_stopped : (seen old new : List ℕ) (fault : Fault) → StopsWithPlaces steps seen it old new fault
+      → fault ≡ Memory
+  placed_stopped seen old new fault s = gives.memory s.events s.left fault s.read
 
 -- ---- events with their ranges, made safe
 

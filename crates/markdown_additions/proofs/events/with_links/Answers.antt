@@ -1,9 +1,13 @@
 -- Nothing has been read of the events, with links or without them.
 use Rattle.markdown_additions.proofs.GivenEventsLemmas.{new_with_links}
 use Rattle.markdown_additions.proofs.events.with_links.Goals as goal
+use Rattle.markdown_additions.proofs.TreeLemmas.{tree_of_new}
+use Rattle.markdown_additions.proofs.CanCallLemmas.{text_can, text_ends}
+use Rattle.markdown_additions.proofs.NewEventsLemmas.{html_of_new}
 
 pub returns-then-autolinks : goal.returns-then-autolinks
-returns-then-autolinks c s is new = ?
+returns-then-autolinks c s is new =
+    rw c.if-autolinks.true (new_with_links s c.args.text.now c.new.result c.args.events c.new.ensures is new)
 
 pub returns-else-autolinks : goal.returns-else-autolinks
-returns-else-autolinks c s is new = ?
+returns-else-autolinks c s is new = rw c.if-autolinks.false new
