@@ -140,6 +140,12 @@ extern "C" {
 /** `[[page]]` and `[[page|text]]`. */
 #define MARKDOWN_WIKILINKS (1 << 15)
 
+/** Links of bare addresses, as on GitHub: of web addresses, `http://a.b`, and with `https` or `ftp`; of those that begin with
+ * `www.`, to `http://www.a.b`; and of addresses of mail, `x@y.z`. Not in the port's profile. Libraries up to 0.9.0 ignore
+ * the bit.
+ */
+#define MARKDOWN_AUTOLINKS (1 << 27)
+
 /** An id for each heading without one, as on GitHub, which links `[a](#some-heading)` lead to: its text in lower case with
  * hyphens for spaces, and a number after it where that is taken; not in the port's profile. Safe HTML has it after
  * `user-content-`, and the lines of `markdown_to_outline` have it as `id`. Libraries up to 0.9.0 ignore the bit.
@@ -148,8 +154,8 @@ extern "C" {
 
 /** What GitHub reads, as `markdown --gfm` does. */
 #define MARKDOWN_GITHUB \
-    (MARKDOWN_EXTENDED | MARKDOWN_ALERTS | MARKDOWN_FOOTNOTES | MARKDOWN_HEADING_IDS | MARKDOWN_STRIKETHROUGH | \
-     MARKDOWN_TABLES | MARKDOWN_TASKLISTS)
+    (MARKDOWN_EXTENDED | MARKDOWN_ALERTS | MARKDOWN_AUTOLINKS | MARKDOWN_FOOTNOTES | MARKDOWN_HEADING_IDS | \
+     MARKDOWN_STRIKETHROUGH | MARKDOWN_TABLES | MARKDOWN_TASKLISTS)
 
 /** The port's profile in place of the full reading: HTML that is fixed to the byte. E-mail addresses in angle brackets,
  * and named entities other than `&amp;`, `&lt;`, `&gt;` and `&quot;`, are text. Libraries up to 0.9.0 ignore the bit, and

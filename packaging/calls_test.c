@@ -8,7 +8,7 @@
 #include "markdown.h"
 
 /* All extensions. */
-#define ALL_OPTIONS ((uint32_t)0xeffe | MARKDOWN_HEADING_IDS)
+#define ALL_OPTIONS ((uint32_t)0xeffe | MARKDOWN_AUTOLINKS | MARKDOWN_HEADING_IDS)
 
 /* The stack that is enough, as the header says. */
 #define SMALL_STACK (64 * 1024)
@@ -92,6 +92,27 @@ static void test_heading_ids(void) {
           "a bit that means nothing is taken");
 }
 
+/* The bit of bare addresses is honoured by all calls, and by none in the port's profile. */
+static void test_bare_addresses(void) {
+    const struct calls html = all_calls[0], safe = all_calls[1], json = all_calls[2], outline = all_calls[3];
+    const char *text = "www.a.b x@y.z", *none = "<p>www.a.b x@y.z</p>\n";
+    const char *links = "<p><a href=\"http://www.a.b\">www.a.b</a> <a href=\"mailto:x@y.z\">x@y.z</a></p>\n";
+    test_result(&html, text, MARKDOWN_AUTOLINKS, links);
+    test_result(&html, text, MARKDOWN_DEFAULT, none);
+    test_result(&html, text, MARKDOWN_PROFILE | MARKDOWN_AUTOLINKS, none);
+    test_result(&safe, text, MARKDOWN_GITHUB, links);
+    test_result(&json, "x@y.z", MARKDOWN_AUTOLINKS,
+                "[{\"Start\":\"Paragraph\"},{\"start\":0,\"end\":5}]\n"
+                "[{\"Start\":{\"Link\":{\"link_type\":\"Email\",\"dest_url\":\"x@y.z\",\"title\":\"\",\"id\":\"\"}}},"
+                "{\"start\":0,\"end\":5}]\n"
+                "[{\"Text\":\"x@y.z\"},{\"start\":0,\"end\":5}]\n"
+                "[{\"End\":\"Link\"},{\"start\":0,\"end\":5}]\n"
+                "[{\"End\":\"Paragraph\"},{\"start\":0,\"end\":5}]\n");
+    /* (an address keeps its hyphens) */
+    test_result(&outline, "# www.a.b/c--d\n", MARKDOWN_AUTOLINKS | MARKDOWN_SMART,
+                "{\"level\":1,\"text\":\"www.a.b/c--d\",\"range\":{\"start\":0,\"end\":15}}\n");
+}
+
 static void test_call(const struct calls *calls) {
     test_same_length(calls, "", 0);
     test_same_length(calls, "# *a*\0b", 7);
@@ -139,12 +160,13 @@ int main(void) {
         test_call(&all_calls[i]);
     }
     test_heading_ids();
+    test_bare_addresses();
     static const char *const parts[] = {"> ", "- ", "> 1. ", "*a ", "**a *b ", "![", "[a](", "# a\n", "<a href=\"",
                                         "$`", "&copy;", "[^a]", "~a^b", "\"a' ", "<!-- ", "a\n\n- b\n\n    c\n",
                                         "[a]: <b> 'c'\n\n"};
     for (size_t i = 0; i < sizeof parts / sizeof parts[0]; i++) {
         test_small_stack(parts[i]);
     }
-    puts("C: the calls that allocate, NULL, the version, ids of headings, a small stack");
+    puts("C: the calls that allocate, NULL, the version, ids of headings, bare addresses, a small stack");
     return 0;
 }

@@ -520,8 +520,9 @@ NEEDS = {
     **{kind: ["heading-ids"] for kind in HEADINGS},
     "ids-of-authors-and-equal-headings": ["heading-ids", "heading-attributes"],
     "footnotes-and-equal-headings": ["heading-ids", "footnotes"],
-    "addresses-in-cells": ["tables"],
-    "addresses-and-dashes": ["smart"],
+    **{kind: ["autolinks"] for kind in ADDRESSES},
+    "addresses-in-cells": ["autolinks", "tables"],
+    "addresses-and-dashes": ["autolinks", "smart"],
 }
 # what else `markdown` writes for these kinds, and is checked
 WRITTEN = {

@@ -130,7 +130,7 @@ static void try_refused(markdown_call *call, struct bytes text, uint32_t options
 static void try_refusals(markdown_call *call) {
     uint8_t text[] = {'a', 0xff};
     try_refused(call, (struct bytes){text, 2}, OPTIONS, MARKDOWN_NOT_UTF8, "0xff");
-    const uint32_t unknown[] = {1, 1 << 12, 1 << 16, 1 << 27, UINT32_C(1) << 31};
+    const uint32_t unknown[] = {1, 1 << 12, 1 << 16, 1 << 26, UINT32_C(1) << 31};
     for (size_t i = 0; i < sizeof unknown / sizeof unknown[0]; i++) {
         try_refused(call, (struct bytes){text, 1}, OPTIONS | unknown[i], MARKDOWN_UNKNOWN_OPTION, "an unknown bit");
     }

@@ -10,8 +10,8 @@ use std::alloc::Global;
 
 /// Renders a trusted text as HTML, which is not sanitised. Returns the length of the HTML in bytes, and writes the HTML to
 /// the front of `out`, if it fits; otherwise `out` is unchanged. The text is read in full. Bits 1 to 11 and 13 to 15 of
-/// `options` enable extensions, as in `Options`, and bit 28 gives each heading an id; bit 29 asks for the port's profile
-/// instead, which has no such ids, and bit 30 changes nothing.
+/// `options` enable extensions, as in `Options`, bit 27 makes links of bare addresses, and bit 28 gives each heading an id;
+/// bit 29 asks for the port's profile instead, which has no such links and ids, and bit 30 changes nothing.
 ///
 /// # Errors
 ///

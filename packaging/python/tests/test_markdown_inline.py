@@ -35,6 +35,12 @@ class Html(unittest.TestCase):
         trusted = markdown_inline.html(heading, ["heading-attributes"], safe=False)
         self.assertEqual(trusted, '<h1 id="b" onclick="c">a</h1>\n')
 
+    def test_bare_addresses(self):
+        link = '<p><a href="http://a.b">http://a.b</a></p>\n'
+        self.assertEqual(markdown_inline.html("http://a.b", ["autolinks"]), link)
+        self.assertEqual(markdown_inline.html("http://a.b", markdown_inline.GITHUB), link)
+        self.assertEqual(markdown_inline.html("http://a.b"), "<p>http://a.b</p>\n")
+
     def test_ids_of_headings(self):
         text = "# A\n\n# A\n\n# A 1\n"
         ids = '<h1 id="a">A</h1>\n<h1 id="a-1">A</h1>\n<h1 id="a-1-1">A 1</h1>\n'

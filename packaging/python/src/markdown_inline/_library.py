@@ -8,6 +8,7 @@ from typing import Dict, Iterable, Tuple
 #: The names of the extensions, with their bits.
 EXTENSIONS: Dict[str, int] = {
     "alerts": 1 << 11,
+    "autolinks": 1 << 27,
     "footnotes": 1 << 2,
     "heading-attributes": 1 << 6,
     "heading-ids": 1 << 28,
@@ -25,7 +26,7 @@ EXTENSIONS: Dict[str, int] = {
 }
 
 #: The names of the extensions that GitHub has.
-GITHUB: Tuple[str, ...] = ("alerts", "footnotes", "heading-ids", "strikethrough", "tables", "tasklists")
+GITHUB: Tuple[str, ...] = ("alerts", "autolinks", "footnotes", "heading-ids", "strikethrough", "tables", "tasklists")
 
 #: The names of all extensions but `old-footnotes`, which changes what footnotes are.
 ALL: Tuple[str, ...] = tuple(name for name in EXTENSIONS if name != "old-footnotes")

@@ -74,12 +74,15 @@ impl Extensions {
     pub const YAML: Extensions = Extensions(sys::MARKDOWN_YAML);
     /// Metadata between `+++` lines; HTML shows none of it.
     pub const PLUSES: Extensions = Extensions(sys::MARKDOWN_PLUSES);
+    /// Links of bare addresses, as on GitHub: of `http://a.b`, and with `https` or `ftp`; of `www.a.b`; and of `x@y.z`.
+    pub const AUTOLINKS: Extensions = Extensions(sys::MARKDOWN_AUTOLINKS);
     /// An id for each heading without one, as on GitHub, which links `[a](#some-heading)` lead to. Safe HTML has it after
     /// `user-content-`, and the lines of [`to_outline`] have it as `id`.
     pub const HEADING_IDS: Extensions = Extensions(sys::MARKDOWN_HEADING_IDS);
-    /// What GitHub reads: alerts, footnotes, ids of headings, strikethrough, tables and task lists.
+    /// What GitHub reads: alerts, bare addresses as links, footnotes, ids of headings, strikethrough, tables and task lists.
     pub const GITHUB: Extensions = Extensions(
         Extensions::ALERTS.0
+            | Extensions::AUTOLINKS.0
             | Extensions::FOOTNOTES.0
             | Extensions::HEADING_IDS.0
             | Extensions::STRIKETHROUGH.0
@@ -176,6 +179,14 @@ mod tests {
             to_json("é", Extensions::NONE)
                 .is_ok_and(|lines| lines.contains("[{\"Text\":\"é\"},{\"start\":0,\"end\":2}]\n"))
         );
+    }
+
+    #[test]
+    fn bare_addresses() {
+        let links = "<p><a href=\"http://www.a.b\">www.a.b</a> <a href=\"mailto:x@y.z\">x@y.z</a></p>\n";
+        assert_eq!(to_html("www.a.b x@y.z", Extensions::AUTOLINKS).as_deref(), Ok(links));
+        assert_eq!(to_safe_html("www.a.b x@y.z", Extensions::GITHUB).as_deref(), Ok(links));
+        assert_eq!(to_html("www.a.b x@y.z", Extensions::NONE).as_deref(), Ok("<p>www.a.b x@y.z</p>\n"));
     }
 
     #[test]
