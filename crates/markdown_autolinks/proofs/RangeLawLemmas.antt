@@ -7,7 +7,7 @@ use Rattle.std.specs.declared.ops.Range.{Range}
 use Rattle.std.proofs.lemmas.Bool.Decides.{nat_tests}
 use Rattle.std.proofs.lemmas.List.{drop-take, take-take}
 use Rattle.std.proofs.lemmas.Str.{IsCharBoundary-end, IsUtf8-append, IsUtf8-between, IsUtf8-nil}
-use Rattle.markdown_base.specs.Event.{end, start, text}
+use Rattle.markdown_base.specs.Event.{end, html_block, start, text}
 use Rattle.markdown_base.specs.declared.tag.LinkType.{LinkType}
 use Rattle.markdown_base.specs.declared.tag.TagEnd.TheVariants as closes
 use Rattle.markdown_base.proofs.ByteListLemmas.{byte_of_part, part_length}
@@ -463,6 +463,8 @@ module _ (source : List ℕ) where
   places_before : (low high l h : ℕ) (events : List RangedEvent) → l ≤ low → h ≤ high
       → PlacesRise source low high events → PlacesRise source l h events
   places_before low high l h [] lower earlier rise = tt
+  places_before low high l h ((start html_block, range) ∷ events) lower earlier rise =
+      (rise.0, omega (arith, lower, rise.1), places_before low high l h events lower earlier rise.2)
   places_before low high l h ((start tag, range) ∷ events) lower earlier rise = (
     rise.0,
     omega (arith, lower, rise.1),
@@ -480,6 +482,12 @@ module _ (source : List ℕ) where
   rise_on : (most low high : ℕ) (xs ys : List RangedEvent) → low ≤ most → high ≤ most
       → RangesRise source most low high xs → PlacesRise source most most ys → PlacesRise source low high (xs ++ ys)
   rise_on most low high [] ys lower earlier rises later = places_before most most low high ys lower earlier later
+  rise_on most low high ((start html_block, range) ∷ xs) ys lower earlier rises later = (
+    rises.0,
+    rises.1,
+    rise_on most low high xs ys lower earlier
+        (rises_before most range.start range.end low high xs rises.1 rises.2 rises.4) later,
+  )
   rise_on most low high ((start tag, range) ∷ xs) ys lower earlier rises later = (
     rises.0,
     rises.1,
@@ -503,6 +511,7 @@ module _ (source : List ℕ) where
   stays_risen : (at : ℕ) (e : RangedEvent) (events after : List RangedEvent) → EventsFollow source at (e ∷ events)
       → ((to : ℕ) → EventsFollow source to events → PlacesRise source to to after)
       → PlacesRise source at at (e ∷ after)
+  stays_risen at (start html_block, range) events after follow later = (follow.0, follow.1, later at follow.2)
   stays_risen at (start tag, range) events after follow later = (
     follow.0,
     follow.1,

@@ -2,7 +2,7 @@
 use Rattle.std.specs.Prelude.{◌≡◌, ◌<◌, ◌≤◌, ℕ, true, List, [], ◌∷◌, length, Some, IsUtf8}
 use Rattle.std.specs.List.{AllByRecursion}
 use Rattle.std.specs.declared.ops.Range.{Range}
-use Rattle.markdown_base.specs.Event.{end, start, text}
+use Rattle.markdown_base.specs.Event.{end, html_block, start, text}
 use Rattle.markdown_out.specs.OutLaws.{RangedEvent}
 use Rattle.markdown_autolinks.specs.AddressBytes.{goes_on_at}
 use Rattle.markdown_autolinks.specs.Addresses.{addresses_in, first_address}
@@ -39,9 +39,12 @@ module _ (source : List ℕ) where
       IsBetweenCharacters range × (at ≤ range.start) × IsUtf8 bytes × TextsFollow range.end texts
 
   -- events between characters of the source, each after those before it, and the first after a place: a Start begins
-  -- after it, an End ends after it, and any other event does both; Texts are whole characters
+  -- after it, an End ends after it, and any other event does both; Texts are whole characters. The first line of an
+  -- HTML block may begin before the block, with white space
   abbrev pub EventsFollow : ℕ → List RangedEvent → Type 0
   EventsFollow at [] = Unit {0}
+  EventsFollow at ((start html_block, range) ∷ events) =
+      IsBetweenCharacters range × (at ≤ range.start) × EventsFollow at events
   EventsFollow at ((start tag, range) ∷ events) =
       IsBetweenCharacters range × (at ≤ range.start) × EventsFollow range.start events
   EventsFollow at ((end tag, range) ∷ events) =
@@ -59,10 +62,13 @@ module _ (source : List ℕ) where
       IsBetweenCharacters range × (low ≤ range.start) × (high ≤ range.end) × (range.end ≤ most)
       × RangesRise most range.start range.end events
 
-  -- the same of events that nest, without a last place: no event begins before a Start or another event before it
-  -- begins, unless it is an End, and no event ends before an End or another event before it ends, unless it is a Start
+  -- the same of events that nest, without a last place: no event but an End begins before one before it that is no End
+  -- begins, or before `low`; and no event but a Start ends before one before it that is no Start ends, or before
+  -- `high`. What follows the Start of an HTML block may begin before that
   abbrev pub PlacesRise : (low high : ℕ) → List RangedEvent → Type 0
   PlacesRise low high [] = Unit {0}
+  PlacesRise low high ((start html_block, range) ∷ events) =
+      IsBetweenCharacters range × (low ≤ range.start) × PlacesRise low high events
   PlacesRise low high ((start tag, range) ∷ events) =
       IsBetweenCharacters range × (low ≤ range.start) × PlacesRise range.start high events
   PlacesRise low high ((end tag, range) ∷ events) =
@@ -76,13 +82,13 @@ abbrev pub texts_end : ℕ → Texts → ℕ
 texts_end at [] = at
 texts_end at ((bytes, range) ∷ texts) = texts_end range.end texts
 
--- where Texts that stand together follow each other, their events do not fall back, and stay between where the first
--- Text may begin and where the last ends
+-- where Texts that stand together follow each other, none of their events falls back, and all are between a place that
+-- may be where the first Text begins, and the place where the last one ends
 abbrev pub RangesStayInRun : Type 0
 RangesStayInRun = (source : List ℕ) → IsUtf8 source → (at : ℕ) (texts : Texts) → TextsFollow source at texts
     → RangesRise source (texts_end at texts) at at (texts_events source texts)
 
--- where the events of a source follow each other, those with links do not fall back
+-- where the events of a source follow each other, none of those with links falls back
 abbrev pub RangesStayInOrder : Type 0
 RangesStayInOrder = (source : List ℕ) → IsUtf8 source → (at : ℕ) (events : List RangedEvent)
     → EventsFollow source at events → PlacesRise source at at (with_addresses source events)
