@@ -1,15 +1,16 @@
--- Where an address that is found lies: after what is used up, in the text, and between characters.
+-- Where an address that is found lies: after what is used up, in the text, and between characters; and what is in it.
 use Rattle.std.proofs.Common.{◌≡◌, ◌<◌, ◌≤◌, ◌+◌, ◌-◌, ◌⊎◌, inl, inr, ℕ, zero, suc, Bool, true, false, List, ◌∷◌, []}
 use Rattle.std.proofs.Common.{refl, arith, length, drop, Option, Some, None, get_or, IsUtf8}
-use Rattle.std.specs.Prelude.{◌==◌, ◌&&◌, nat_eq, nat_le, nat_lt, codes}
-use Rattle.std.specs.Char.{is_ascii_alphabetic}
-use Rattle.std.specs.List.{starts_with}
+use Rattle.std.specs.Prelude.{◌==◌, ◌&&◌, ◌||◌, not, nat_eq, nat_le, nat_lt, codes}
+use Rattle.std.specs.Char.{is_ascii_alphabetic, is_ascii_alphanumeric}
+use Rattle.std.specs.List.{list_all, starts_with}
 use Rattle.std.specs.Str.{IsCharBoundary}
 use Rattle.std.proofs.lemmas.Bool.Decides.{nat_tests}
 use Rattle.std.proofs.lemmas.List.{get_or-drop}
 use Rattle.std.proofs.lemmas.Str.{IsCharBoundary-after_ascii, IsCharBoundary-before_ascii}
-use Rattle.markdown_autolinks.specs.AddressBytes.{byte_at, first_failing, goes_on_at}
-use Rattle.markdown_autolinks.specs.AddressBytes.{is_host, is_domain_at, is_mailbox_byte, is_white_at, passing_from}
+use Rattle.markdown_autolinks.specs.AddressBytes.{are_white_pair, are_white_triple, byte_at, first_failing, goes_on_at}
+use Rattle.markdown_autolinks.specs.AddressBytes.{is_host, is_domain_at, is_mailbox_byte, is_white_at, is_white_byte}
+use Rattle.markdown_autolinks.specs.AddressBytes.{passing_from}
 use Rattle.markdown_autolinks.specs.Addresses.{address_after, address_end, address_found_at, address_scheme_length}
 use Rattle.markdown_autolinks.specs.Addresses.{domain_end, entity_left_out, first_address}
 use Rattle.markdown_autolinks.specs.Addresses.{first_address_from, is_after_letter, is_domain, is_end_mark, left_out}
@@ -19,7 +20,8 @@ use Rattle.markdown_autolinks.specs.Addresses.{web_address, www_address}
 use Rattle.markdown_autolinks.specs.declared.address.Address.{Address}
 use Rattle.markdown_autolinks.specs.declared.address.AddressForm.{AddressForm}
 use Rattle.markdown_autolinks.specs.declared.address.AddressForm.TheVariants as forms
-use Rattle.markdown_autolinks.proofs.TailLemmas.{IsLeftOut, is_left_out, not_after}
+use Rattle.markdown_autolinks.proofs.PlaceLemmas.{before_failing, from_passing}
+use Rattle.markdown_autolinks.proofs.TailLemmas.{IsLeftOut, is_left_out}
 
 -- where an address lies
 pub record LiesIn (text : List ℕ) (used : ℕ) (a : Address) : Type 0 where
@@ -30,6 +32,7 @@ pub record LiesIn (text : List ℕ) (used : ℕ) (a : Address) : Type 0 where
   pub start : IsCharBoundary text a.start
   pub name : IsCharBoundary text a.name
   pub end : IsUtf8 text → IsCharBoundary text a.end
+  pub goes_on : (at : ℕ) → a.start ≤ at → at < a.end → goes_on_at text at ≡ true
 
 -- ---- places between characters
 
@@ -161,15 +164,11 @@ trimmed_begins text start (suc n) end inside begins =
         let l = later (left_out_begins text start end some inside out) in rw e (omega (arith, l.0), l.1)
 
 address_end_begins : (text : List ℕ) (at : ℕ) → at ≤ length text
-    → (address_end text at ≤ length text) × IsCharBoundary text (address_end text at)
+    → (address_end text at ≤ first_failing (goes_on_at text) at (length text - at))
+    × IsCharBoundary text (address_end text at)
 address_end_begins text at inside =
-    let within = failing_within (goes_on_at text) at (length text - at) in
-    let most : end ≤ length text = omega (arith, within.1, inside) in
-    let t = trimmed_begins text at (end - at) end most (word_end_begins text at inside) in
-    (omega (arith, t.0, most), t.1)
-  where
-    end : ℕ
-    end = first_failing (goes_on_at text) at (length text - at)
+    let end = first_failing (goes_on_at text) at (length text - at) in
+    let begins = word_end_begins text at inside in trimmed_begins text at (end - at) end begins.0 begins
 
 -- ---- each kind of address
 
@@ -196,10 +195,12 @@ address_after_lies text used at before form a low inside small is =
           after = low;
           name_after = omega arith;
           some = omega (arith, some);
-          inside = begins.0;
+          inside = begins.1.0;
           start = ascii_at text at inside small;
           name = ascii_at text at inside small;
           end = λ utf8. begins.1;
+          goes_on = λ i first last.
+              before_failing (goes_on_at text) at (length text - at) i first (omega (arith, last, begins.0));
         })
 
 web_lies : (text : List ℕ) (used at : ℕ) (a : Address) → used ≤ at → at < length text
@@ -232,65 +233,107 @@ www_lies text used at a low inside w is =
         let letter : byte_at text at ≡ 119 = grind (arith, nat_tests) in
         address_after_lies text used at 4 forms.Www a low inside (omega (arith, letter)) (rw e at is)
 
--- the bytes from a place to an `@` pass, and it is not before what is used up
-passing_passes : (passes : ℕ → Bool) (at n : ℕ) → n ≤ at
-    → (at - n ≤ passing_from passes at n) × (passing_from passes at n < at → passes (passing_from passes at n) ≡ true)
-passing_passes passes at zero few = (omega arith, λ before. absurd (omega (arith, before)))
-passing_passes passes at (suc n) few =
-    cases (passes (at - 1)) refl (passing_passes passes (at - 1) n (omega (arith, few)))
+-- the bytes from which on all pass are not before what is used up
+passing_within : (passes : ℕ → Bool) (at n : ℕ) → n ≤ at → at - n ≤ passing_from passes at n
+passing_within passes at zero few = omega arith
+passing_within passes at (suc n) few =
+    cases (passes (at - 1)) refl (passing_within passes (at - 1) n (omega (arith, few)))
   where
-    cases : (t : Bool) → passes (at - 1) ≡ t
-        → (at - 1 - n ≤ passing_from passes (at - 1) n)
-        × (passing_from passes (at - 1) n < at - 1 → passes (passing_from passes (at - 1) n) ≡ true)
-        → (at - suc n ≤ passing_from passes at (suc n))
-        × (passing_from passes at (suc n) < at → passes (passing_from passes at (suc n)) ≡ true)
-    cases false e before = rw e (omega (arith, few), λ less. absurd (omega (arith, less)))
-    cases true e before = rw e (omega (arith, before.0), λ less. here (nat_lt begin (at - 1)) refl)
-      where
-        begin : ℕ
-        begin = passing_from passes (at - 1) n
+    cases : (t : Bool) → passes (at - 1) ≡ t → at - 1 - n ≤ passing_from passes (at - 1) n
+        → at - suc n ≤ passing_from passes at (suc n)
+    cases false e before = rw e (omega (arith, few))
+    cases true e before = rw e (omega (arith, before))
 
-        here : (t : Bool) → nat_lt begin (at - 1) ≡ t → passes begin ≡ true
-        here true f = before.1 (grind (arith, nat_tests))
-        here false f =
-            let low = not_after passes (at - 1) n in
-            let last : begin ≡ at - 1 = grind (arith, nat_tests, low) in rw last e
+-- an ASCII byte that is no white space, no control and no `<`
+abbrev is_ascii_part : ℕ → Bool
+is_ascii_part b = nat_lt 32 b && nat_lt b 128 && not (b == 60)
 
-mailbox_is_small : (b : ℕ) → is_mailbox_byte b ≡ true → b < 128
-mailbox_is_small b mailbox = grind (arith, nat_tests)
+part_is_small : (b : ℕ) → is_ascii_part b ≡ true → b < 128
+part_is_small b part = grind (arith, nat_tests)
 
-letter_is_small : (b : ℕ) → is_ascii_alphabetic b ≡ true → b < 128
-letter_is_small b letter = grind (arith, nat_tests)
+-- an address goes on over it
+part_goes_on : (text : List ℕ) (at : ℕ) → is_ascii_part (byte_at text at) ≡ true → goes_on_at text at ≡ true
+part_goes_on text at part = by (byte_at text at) (byte_at text (at + 1)) (byte_at text (at + 2)) part
+  where
+    by : (a b c : ℕ) → is_ascii_part a ≡ true
+        → (not (is_white_byte a || are_white_pair a b || are_white_triple a b c) && not (a == 60)) ≡ true
+    by a b c part =
+        let white : is_white_byte a ≡ false = grind (arith, nat_tests) in
+        let less : (a == 60) ≡ false = grind (arith, nat_tests) in
+        let one : (a == 0xC2) ≡ false = grind (arith, nat_tests) in
+        let two : (a == 0xE1) ≡ false = grind (arith, nat_tests) in
+        let three : (a == 0xE2) ≡ false = grind (arith, nat_tests) in
+        let four : (a == 0xE3) ≡ false = grind (arith, nat_tests) in rw (white, less, one, two, three, four) refl
 
-mailto_is_small : (xs : List ℕ) → starts_with nat_eq xs (codes "mailto:") ≡ true → get_or xs 0 0 < 128
-mailto_is_small [] begins = cc begins
-mailto_is_small (x ∷ xs) begins = grind (arith, nat_tests)
+mailbox_is_part : (b : ℕ) → is_mailbox_byte b ≡ true → is_ascii_part b ≡ true
+mailbox_is_part b mailbox =
+    let low : 32 < b = grind (arith, nat_tests) in
+    let high : b < 128 = grind (arith, nat_tests) in
+    let other : (b == 60) ≡ false = grind (arith, nat_tests) in grind (arith, nat_tests)
+
+domain_is_part : (text : List ℕ) (at : ℕ) → is_domain_at text at ≡ true → is_ascii_part (byte_at text at) ≡ true
+domain_is_part text at domain = by (byte_at text at) (is_ascii_alphanumeric (byte_at text (at + 1))) domain
+  where
+    by : (b : ℕ) (next : Bool)
+        → (is_ascii_alphanumeric b || (b == 45) || (b == 95) || ((b == 46) && next)) ≡ true → is_ascii_part b ≡ true
+    by b next domain =
+        let low : 32 < b = grind (arith, nat_tests) in
+        let high : b < 128 = grind (arith, nat_tests) in
+        let other : (b == 60) ≡ false = grind (arith, nat_tests) in grind (arith, nat_tests)
+
+-- where bytes begin with some that all pass, those pass
+starts_with_passing : (passes : ℕ → Bool) (xs word : List ℕ) (i : ℕ) → starts_with nat_eq xs word ≡ true
+    → list_all passes word ≡ true → i < length word → passes (get_or xs i 0) ≡ true
+starts_with_passing passes xs [] i begins all less = absurd (omega (arith, less))
+starts_with_passing passes [] (b ∷ word) i begins all less = cc begins
+starts_with_passing passes (x ∷ xs) (b ∷ word) zero begins all less =
+    let same : x ≡ b = grind (arith, nat_tests) in
+    let first : passes b ≡ true = grind (arith, nat_tests) in rw same first
+starts_with_passing passes (x ∷ xs) (b ∷ word) (suc i) begins all less =
+    let after : starts_with nat_eq xs word ≡ true = grind (arith, nat_tests) in
+    let rest : list_all passes word ≡ true = grind (arith, nat_tests) in
+    starts_with_passing passes xs word i after rest (omega (arith, less))
+
+-- where a mail address begins whose name begins at a place, and that it goes on up to there
+record BeginsMail (text : List ℕ) (used name begin : ℕ) : Type 0 where
+  pub after : used ≤ begin
+  pub before : begin ≤ name
+  pub start : IsCharBoundary text begin
+  pub parts : (at : ℕ) → begin ≤ at → at < name → is_ascii_part (byte_at text at) ≡ true
 
 mail_begins : (text : List ℕ) (used name : ℕ) → used ≤ name → name < length text → byte_at text name < 128
-    → (used ≤ mail_begin text used name) × (mail_begin text used name ≤ name)
-    × IsCharBoundary text (mail_begin text used name)
+    → BeginsMail text used name (mail_begin text used name)
 mail_begins text used name after inside small =
     cases (nat_le 7 (name - used) && starts_with nat_eq (drop (name - 7) text) (codes "mailto:")) refl
   where
     cases : (t : Bool) → (nat_le 7 (name - used) && starts_with nat_eq (drop (name - 7) text) (codes "mailto:")) ≡ t
-        → (used ≤ mail_begin text used name) × (mail_begin text used name ≤ name)
-        × IsCharBoundary text (mail_begin text used name)
-    cases false e = rw e (after, omega arith, ascii_at text name inside small)
+        → BeginsMail text used name (mail_begin text used name)
+    cases false e = rw e (record {
+      after = after;
+      before = omega arith;
+      start = ascii_at text name inside small;
+      parts = λ at low high. absurd (omega (arith, low, high));
+    })
     cases true e =
         let seven : 7 ≤ name - used = grind (arith, nat_tests) in
         let begins : starts_with nat_eq (drop (name - 7) text) (codes "mailto:") ≡ true = grind (arith, nat_tests) in
-        let nothing : name - 7 + 0 ≡ name - 7 = omega arith in
-        let m : byte_at text (name - 7) < 128 =
-        rw (get_or-drop (name - 7) text 0 0, nothing) at (mailto_is_small (drop (name - 7) text) begins) in
-        rw e (
-          omega (arith, seven),
-          omega arith,
-          ascii_at text (name - 7) (omega (arith, inside)) (omega (arith, m)),
-        )
+        let parts : (at : ℕ) → name - 7 ≤ at → at < name → is_ascii_part (byte_at text at) ≡ true =
+        λ at low high.
+        let there : name - 7 + (at - (name - 7)) ≡ at = omega (arith, low) in
+        rw (get_or-drop (name - 7) text (at - (name - 7)) 0, there) at
+        (starts_with_passing is_ascii_part (drop (name - 7) text) (codes "mailto:") (at - (name - 7)) begins refl
+        (omega (arith, low, high, seven))) in
+        rw e (record {
+          after = omega (arith, seven);
+          before = omega arith;
+          start = ascii_at text (name - 7) (omega (arith, inside))
+              (part_is_small (byte_at text (name - 7)) (parts (name - 7) (omega arith) (omega (arith, seven))));
+          parts = parts;
+        })
 
-mail_lies : (text : List ℕ) (used at : ℕ) (a : Address) → used ≤ at → at < length text
+mail_lies : (text : List ℕ) (used at : ℕ) (a : Address) → used ≤ at → at < length text → (byte_at text at == 64) ≡ true
     → mail_address text used at ≡ Some a → LiesIn text used a
-mail_lies text used at a low inside is = cases (nat_lt name at && is_domain text at end) refl
+mail_lies text used at a low inside mark is = cases (nat_lt name at && is_domain text at end) refl
   where
     name : ℕ
     name = mailbox_begin text used at
@@ -301,29 +344,54 @@ mail_lies text used at a low inside is = cases (nat_lt name at && is_domain text
     start : ℕ
     start = mail_begin text used name
 
+    -- from the name to the end of the domain
+    part : (i : ℕ) → name ≤ i → i < end → is_ascii_part (byte_at text i) ≡ true
+    part i low high = place (nat_lt i at) refl
+      where
+        place : (t : Bool) → nat_lt i at ≡ t → is_ascii_part (byte_at text i) ≡ true
+        place true e = mailbox_is_part (byte_at text i)
+            (from_passing (λ j. is_mailbox_byte (byte_at text j)) at (at - used) i low (grind (arith, nat_tests)))
+        place false e = sign (i == at) refl
+          where
+            sign : (t : Bool) → (i == at) ≡ t → is_ascii_part (byte_at text i) ≡ true
+            sign true f =
+                let same : i ≡ at = grind (arith, nat_tests) in
+                let byte : byte_at text at ≡ 64 = grind (arith, nat_tests) in rw (same, byte) refl
+            sign false f = domain_is_part text i
+                (before_failing (is_domain_at text) (at + 1) (length text - (at + 1)) i (grind (arith, nat_tests)) high)
+
     cases : (t : Bool) → (nat_lt name at && is_domain text at end) ≡ t → LiesIn text used a
     cases false e = let no : None ≡ Some a = rw e at is in cc
     cases true e =
         let found : Some (record { start = start; name = name; end = end; form = forms.Mail }) ≡ Some a = rw e at is in
         let before : name < at = grind (arith, nat_tests) in
-        let passes = passing_passes (λ i. is_mailbox_byte (byte_at text i)) at (at - used) (omega arith) in
-        let after : used ≤ name = omega (arith, passes.0, low) in
+        let first = passing_within (λ i. is_mailbox_byte (byte_at text i)) at (at - used) (omega arith) in
+        let after : used ≤ name = omega (arith, first, low) in
         let within = failing_within (is_domain_at text) (at + 1) (length text - (at + 1)) in
-        let small : byte_at text name < 128 = mailbox_is_small (byte_at text name) (passes.1 before) in
-        let last : byte_at text (end - 1) < 128 = letter_is_small (byte_at text (end - 1)) (grind (arith, nat_tests)) in
         let most : end ≤ length text = omega (arith, within.1, inside) in
         let low_end : at + 1 ≤ end = within.0 in
+        let small : byte_at text name < 128 =
+        part_is_small (byte_at text name) (part name (omega arith) (omega (arith, before, low_end))) in
+        let last : byte_at text (end - 1) < 128 =
+        part_is_small (byte_at text (end - 1))
+        (part (end - 1) (omega (arith, before, low_end)) (omega (arith, low_end))) in
         let same : end - 1 + 1 ≡ end = omega (arith, low_end) in
         let begin = mail_begins text used name after (omega (arith, before, inside)) small in
         rw (← some_same found) (record {
-          after = begin.0;
-          name_after = begin.1;
+          after = begin.after;
+          name_after = begin.before;
           some = omega (arith, before, low_end);
           inside = most;
-          start = begin.2;
+          start = begin.start;
           name = ascii_at text name (omega (arith, before, inside)) small;
           end = λ utf8. rw same at (IsCharBoundary-after_ascii text (end - 1) utf8 (omega (arith, low_end, most)) last);
+          goes_on = λ i first last. part_goes_on text i (from begin i first last (nat_lt i name) refl);
         })
+      where
+        from : BeginsMail text used name start → (i : ℕ) → start ≤ i → i < end → (t : Bool) → nat_lt i name ≡ t
+            → is_ascii_part (byte_at text i) ≡ true
+        from begin i first last true e = begin.parts i first (grind (arith, nat_tests))
+        from begin i first last false e = part i (grind (arith, nat_tests)) last
 
 -- ---- the first address
 
@@ -336,7 +404,7 @@ found_at_lies : (text : List ℕ) (used at : ℕ) (a : Address) → used ≤ at 
 found_at_lies text used at a low inside is = at_sign (byte_at text at == 64) refl
   where
     at_sign : (t : Bool) → (byte_at text at == 64) ≡ t → LiesIn text used a
-    at_sign true e = mail_lies text used at a low inside (rw e at is)
+    at_sign true e = mail_lies text used at a low inside e (rw e at is)
     at_sign false e = letter (byte_at text at == 119) refl
       where
         letter : (t : Bool) → (byte_at text at == 119) ≡ t → LiesIn text used a

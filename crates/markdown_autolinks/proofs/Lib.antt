@@ -10,3 +10,5 @@ pub mod RunLemmas
 pub mod ReadLemmas
 pub mod LinkedRunLemmas
 pub mod LawLemmas
+pub mod AddressLawLemmas
+pub mod RangeLawLemmas

@@ -111,3 +111,31 @@ late_on text at more left byte inside is first second =
     let one : (byte_at text (left - 1) == underscore) ≡ false = grind (arith, nat_tests) in
     let two : (byte_at text (left - 1) == full_stop) ≡ false = grind (arith, nat_tests) in
     late_next text at more left inside ∙ rw (one, two) refl
+
+-- a place before the first that fails passes
+pub before_failing : (passes : ℕ → Bool) (at n i : ℕ) → at ≤ i → i < first_failing passes at n → passes i ≡ true
+before_failing passes at zero i low high = absurd (omega (arith, low, high))
+before_failing passes at (suc n) i low high = cases (passes at) refl (before_failing passes (at + 1) n i)
+  where
+    cases : (t : Bool) → passes at ≡ t → (at + 1 ≤ i → i < first_failing passes (at + 1) n → passes i ≡ true)
+        → passes i ≡ true
+    cases false e later = let there = rw e at high in absurd (omega (arith, low, there))
+    cases true e later = here (i == at) refl
+      where
+        here : (t : Bool) → (i == at) ≡ t → passes i ≡ true
+        here true f = let same : i ≡ at = grind (arith, nat_tests) in rw same e
+        here false f = let there = rw e at high in later (grind (arith, nat_tests)) there
+
+-- a place from which on all before another pass does so itself
+pub from_passing : (passes : ℕ → Bool) (at n i : ℕ) → passing_from passes at n ≤ i → i < at → passes i ≡ true
+from_passing passes at zero i low high = absurd (omega (arith, low, high))
+from_passing passes at (suc n) i low high = cases (passes (at - 1)) refl (from_passing passes (at - 1) n i)
+  where
+    cases : (t : Bool) → passes (at - 1) ≡ t
+        → (passing_from passes (at - 1) n ≤ i → i < at - 1 → passes i ≡ true) → passes i ≡ true
+    cases false e earlier = let there = rw e at low in absurd (omega (arith, there, high))
+    cases true e earlier = here (i == at - 1) refl
+      where
+        here : (t : Bool) → (i == at - 1) ≡ t → passes i ≡ true
+        here true f = let same : i ≡ at - 1 = grind (arith, nat_tests) in rw same e
+        here false f = let there = rw e at low in earlier there (grind (arith, nat_tests))

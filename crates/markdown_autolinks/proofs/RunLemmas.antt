@@ -209,6 +209,24 @@ searched_drop (suc n) (t ∷ run) inside =
         let cuts : suc n ≤ length t.searched = grind (arith, nat_tests) in
         rw e (sym (drop-append-le (suc n) t.searched more cuts))
 
+-- a place of a text after what is used of it is one of what is left
+pub cut_left : (text left : List ℕ) (used at : ℕ) → used ≤ length text → left ≡ drop used text → used ≤ at
+    → IsCharBoundary text at → is_cut_at left (at - used) ≡ true
+cut_left text left used at inside is after b =
+    let there : used + (at - used) ≡ at = omega (arith, after) in
+    ap (λ (bytes : List ℕ). is_cut_at bytes (at - used)) is
+    ∙ cut_drop text used (at - used) inside ∙ ap (is_cut_at text) there ∙ boundary_cut text at b
+
+-- a run that is left of a text, up to a place of it
+pub drops_left : (text : List ℕ) (rest : List RunTextView) (used at : ℕ) → searched_bytes rest ≡ drop used text
+    → used ≤ at → at ≤ length text → searched_bytes (run_left (at - used) rest) ≡ drop at text
+drops_left text rest used at is after inside =
+    let size : length (searched_bytes rest) ≡ length text - used = ap length is ∙ length-drop used text in
+    let there : used + (at - used) ≡ at = omega (arith, after) in
+    searched_drop (at - used) rest (omega (arith, size, inside))
+    ∙ ap (drop (at - used)) is ∙ drop-drop (at - used) used text
+    ∙ ap (λ (n : ℕ). drop n text) there
+
 -- ---- the addresses that are left
 
 -- where an address is found, the rest begins with it
@@ -290,44 +308,22 @@ pub record IsLinking (text : List ℕ) (run : List RunTextView) (before : List (
 
 module _ {text : List ℕ} {run rest : List RunTextView} {before made : List (Item (Range ℕ))} {used : ℕ}
     (k : IsLinking text run before rest used made) where
-  -- a place of the text after what is used is one of what is left
-  cut_left : (at : ℕ) → used ≤ at → IsCharBoundary text at → is_cut_at (searched_bytes rest) (at - used) ≡ true
-  cut_left at after b =
-      let there : used + (at - used) ≡ at = omega (arith, after) in
-      ap (λ (bytes : List ℕ). is_cut_at bytes (at - used)) k.left
-      ∙ cut_drop text used (at - used) k.inside ∙ ap (is_cut_at text) there ∙ boundary_cut text at b
-
-  drops_left : (at : ℕ) → used ≤ at → at ≤ length text
-      → searched_bytes (run_left (at - used) rest) ≡ drop at text
-  drops_left at after inside =
-      let size : length (searched_bytes rest) ≡ length text - used = ap length k.left ∙ length-drop used text in
-      let there : used + (at - used) ≡ at = omega (arith, after) in
-      searched_drop (at - used) rest (omega (arith, size, inside))
-      ∙ ap (drop (at - used)) k.left ∙ drop-drop (at - used) used text
-      ∙ ap (λ (n : ℕ). drop n text) there
-
   module _ {a : Address} (l : LiesIn text used a) where
     pub between_cut : is_cut_at (searched_bytes rest) (a.start - used) ≡ true
-    between_cut = cut_left a.start l.after l.start
+    between_cut = cut_left text (searched_bytes rest) used a.start k.inside k.left l.after l.start
+
+    drops_start : searched_bytes (run_left (a.start - used) rest) ≡ drop a.start text
+    drops_start = drops_left text rest used a.start k.left l.after (omega (arith, l.name_after, l.some, l.inside))
 
     pub linked_cut : IsUtf8 text → is_cut_at (searched_bytes (run_left (a.start - used) rest)) (a.end - a.start) ≡ true
     linked_cut utf8 =
-        let start : a.start ≤ length text = omega (arith, l.name_after, l.some, l.inside) in
-        let there : a.start + (a.end - a.start) ≡ a.end = omega (arith, l.name_after, l.some) in
-        ap (λ (bytes : List ℕ). is_cut_at bytes (a.end - a.start)) (drops_left a.start l.after start)
-        ∙ cut_drop text a.start (a.end - a.start) start ∙ ap (is_cut_at text) there
-        ∙ boundary_cut text a.end (l.end utf8)
+        cut_left text (searched_bytes (run_left (a.start - used) rest)) a.start a.end
+        (omega (arith, l.name_after, l.some, l.inside)) drops_start (omega (arith, l.name_after, l.some)) (l.end utf8)
 
     drops_linked : searched_bytes (run_left (a.end - a.start) (run_left (a.start - used) rest)) ≡ drop a.end text
     drops_linked =
-        let start : a.start ≤ length text = omega (arith, l.name_after, l.some, l.inside) in
-        let there : a.start + (a.end - a.start) ≡ a.end = omega (arith, l.name_after, l.some) in
-        let first = drops_left a.start l.after start in
-        let size : length (searched_bytes (run_left (a.start - used) rest)) ≡ length text - a.start =
-        ap length first ∙ length-drop a.start text in
-        searched_drop (a.end - a.start) (run_left (a.start - used) rest) (omega (arith, size, l.inside))
-        ∙ ap (drop (a.end - a.start)) first ∙ drop-drop (a.end - a.start) a.start text
-        ∙ ap (λ (n : ℕ). drop n text) there
+        drops_left text (run_left (a.start - used) rest) a.start a.end drops_start
+        (omega (arith, l.name_after, l.some)) l.inside
 
     -- the link of the first address is made
     pub links_on : first_address text used ≡ Some a
@@ -378,7 +374,7 @@ module _ {text : List ℕ} {run rest : List RunTextView} {before made : List (It
 
   -- what is left is made
   pub last_cut : is_cut_at (searched_bytes rest) (length text - used) ≡ true
-  last_cut = cut_left (length text) k.inside (IsCharBoundary-end text)
+  last_cut = cut_left text (searched_bytes rest) used (length text) k.inside k.left k.inside (IsCharBoundary-end text)
 
   pub links_end : first_address text used ≡ None
       → made ++ as_items (text_of_run (take_run (length text - used) rest))

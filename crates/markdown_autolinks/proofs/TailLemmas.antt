@@ -54,16 +54,6 @@ counts_no_letters text byte start (suc n) at mark few =
         (is_other is_ascii_alphabetic (byte_at text (at - 1)) byte e mark) ∙ before)
     cases false e before = rw e refl
 
--- the letters begin no later than they end
-pub not_after : (passes : ℕ → Bool) (at n : ℕ) → passing_from passes at n ≤ at
-not_after passes at zero = omega arith
-not_after passes at (suc n) = cases (passes (at - 1)) refl (not_after passes (at - 1) n)
-  where
-    cases : (t : Bool) → passes (at - 1) ≡ t → passing_from passes (at - 1) n ≤ at - 1
-        → passing_from passes at (suc n) ≤ at
-    cases true e before = rw e (omega (arith, before))
-    cases false e before = rw e (omega arith)
-
 -- what is left out together with a `;` has none of these bytes
 entity_counts : (text : List ℕ) (byte start left : ℕ) → start < left → (byte_at text (left - 1) == byte) ≡ false
     → is_ascii_alphabetic byte ≡ false → (38 == byte) ≡ false

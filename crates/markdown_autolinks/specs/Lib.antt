@@ -10,3 +10,4 @@ pub mod AutolinksState
 pub mod AutolinksLaws
 pub mod RunRead
 pub mod LinkedLaws
+pub mod LinkRangeLaws

@@ -5,6 +5,9 @@ ghost use Rattle.markdown_autolinks.specs.AutolinksLaws.{IsNewLinked, ReturnsLin
 ghost use Rattle.markdown_autolinks.specs.AutolinksNext.{MayReadOn, most_to_come};
 ghost use Rattle.markdown_autolinks.specs.AutolinksNext.{linked_steps};
 ghost use Rattle.markdown_autolinks.specs.AutolinksState.{linked_state};
+ghost use Rattle.markdown_autolinks.specs.LinkRangeLaws.{AddressesAreUnbroken};
+ghost use Rattle.markdown_autolinks.specs.LinkRangeLaws.{FirstAddressIsUnbroken};
+ghost use Rattle.markdown_autolinks.specs.LinkRangeLaws.{RangesStayInOrder, RangesStayInRun};
 ghost use Rattle.markdown_autolinks.specs.LinkedLaws.{NestingStays, NoLinkGetsIntoALink};
 ghost use Rattle.markdown_autolinks.specs.LinkedLaws.{OnlyLinksAreAdded};
 ghost use Rattle.markdown_out.specs.MergeNext.{CanMerge};
@@ -44,4 +47,19 @@ pub fn events_gain_links_alone()
     ensures only { OnlyLinksAreAdded }
     ensures nest { NestingStays }
     ensures apart { NoLinkGetsIntoALink }
+{}
+
+/// States that no address is empty, or has white space or a `<` in it: none of those of a text, and not the first after
+/// what is used up.
+pub fn addresses_are_unbroken()
+    ensures all { AddressesAreUnbroken }
+    ensures first { FirstAddressIsUnbroken }
+{}
+
+/// States where events with links are in a source, if those before follow each other there, between its characters: those
+/// of Texts that stand together are where the Texts were, none falls back behind the one before it, and each begins and
+/// ends between characters; and so it is with all events.
+pub fn ranges_stay_in_order()
+    ensures run { RangesStayInRun }
+    ensures events { RangesStayInOrder }
 {}
