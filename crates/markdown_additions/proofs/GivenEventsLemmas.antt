@@ -1,6 +1,6 @@
 -- What a parser gives, and the adapters over what gives some events.
-use Rattle.std.proofs.Common.{◌≡◌, ⊎_elim, ℕ, Bool, true, false, List, [], ◌∷◌, ◌++◌, map, Ok, Err, Option, Some, None, Result}
-use Rattle.std.proofs.Common.{ap, refl, subst, sym, ◌∙◌, is_some}
+use Rattle.std.proofs.Common.{◌≡◌, ⊎_elim, ℕ, Bool, true, false, List, [], ◌∷◌, ◌++◌, map, Ok, Err, Option, Some, None}
+use Rattle.std.proofs.Common.{Result, ap, refl, subst, sym, ◌∙◌, is_some}
 use Rattle.std.specs.Iterator.{Drains, Yields}
 use Rattle.std.specs.declared.ops.Range.{Range}
 use Rattle.either.specs.Iterator.{either_steps}

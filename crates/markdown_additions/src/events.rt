@@ -38,7 +38,8 @@ fn with_links<'a>(
     autolinks: bool,
     events: Events<'a>,
 ) -> ParsedEvents<'a>
-    ensures { (s : Source) → s.text ≡ text.now → IsNewParser s events.entry → IsNewText autolinks s result }
+    ensures { (s : Source) → s.text ≡ text.now → IsNewParser s events.entry
+        → IsNewText autolinks s result }
 {
     if autolinks {
         Either::Right(Autolinks::new(alloc, text, events))
