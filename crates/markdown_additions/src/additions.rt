@@ -19,18 +19,3 @@ pub enum Ids<'p> {
     /// The same, and then this text before each id of a heading and each name of a footnote, and in links to them.
     Prefixed(&'p str),
 }
-
-impl<'p> Additions<'p> {
-    ghost use Rattle.std.specs.Prelude.{◌≡◌, false};
-    ghost use Rattle.markdown_additions.specs.Additions.{additions_view, adds_no_ids};
-
-    /// Returns no additions.
-    pub fn none() -> Additions<'p>
-        ensures { additions_view result ≡ record { autolinks = false; ids = adds_no_ids } }
-    {
-        Additions {
-            autolinks: false,
-            ids: Ids::Own,
-        }
-    }
-}
