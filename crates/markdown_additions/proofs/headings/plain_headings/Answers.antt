@@ -1,16 +1,19 @@
 -- The headings are those of the events of the text.
-use Rattle.std.proofs.Common.{⊎_elim}
+use Rattle.std.proofs.Common.{⊎_elim, refl}
 use Rattle.std.proofs.lemmas.Result.{IfErr-weaker, IfOk-weaker}
 use Rattle.markdown_additions.proofs.CanCallLemmas.{text_can, text_ends}
 use Rattle.markdown_additions.proofs.GivenEventsLemmas.{gives_new_added}
 use Rattle.markdown_additions.proofs.WrittenLemmas.{headings_read, headings_stopped}
 use Rattle.markdown_additions.proofs.headings.plain_headings.Goals as goal
 
-pub outline-requires-clause-can : goal.outline-requires-clause-can
-outline-requires-clause-can c = text_can (λ f. Unit {0}) (λ f. tt) c.args.events
-
-pub outline-requires-clause-ends : goal.outline-requires-clause-ends
-outline-requires-clause-ends c = text_ends (λ f. Unit {0}) (λ f. tt) c.args.events
+pub outline-requires : goal.outline-requires
+outline-requires c k = (
+  (refl, tt),
+  (
+    text_can (λ f. Unit {0}) (λ f. tt) c.args.events,
+    text_ends (λ f. Unit {0}) (λ f. tt) c.args.events,
+  ),
+)
 
 pub returns-clause-headings : goal.returns-clause-headings
 returns-clause-headings c =

@@ -1,5 +1,5 @@
 -- The headings are those of the events of the text, made safe.
-use Rattle.std.proofs.Common.{⊎_elim}
+use Rattle.std.proofs.Common.{⊎_elim, refl}
 use Rattle.std.proofs.lemmas.Result.{IfErr-weaker, IfOk-weaker}
 use Rattle.markdown_safe.specs.SafeSource.{placed_source}
 use Rattle.markdown_additions.proofs.CanCallLemmas.{text_can, text_ends}
@@ -7,11 +7,14 @@ use Rattle.markdown_additions.proofs.GivenEventsLemmas.{TextSteps, gives_new_add
 use Rattle.markdown_additions.proofs.NewEventsLemmas.{headings_of_new, headings_stopped_of_new}
 use Rattle.markdown_additions.proofs.headings.safe_headings.Goals as goal
 
-pub outline-requires-clause-can : goal.outline-requires-clause-can
-outline-requires-clause-can c = text_can (λ f. Unit {0}) (λ f. tt) (placed_source c.new-safe.result)
-
-pub outline-requires-clause-ends : goal.outline-requires-clause-ends
-outline-requires-clause-ends c = text_ends (λ f. Unit {0}) (λ f. tt) (placed_source c.new-safe.result)
+pub outline-requires : goal.outline-requires
+outline-requires c k = (
+  (refl, tt),
+  (
+    text_can (λ f. Unit {0}) (λ f. tt) (placed_source c.new-safe.result),
+    text_ends (λ f. Unit {0}) (λ f. tt) (placed_source c.new-safe.result),
+  ),
+)
 
 pub returns-clause-headings : goal.returns-clause-headings
 returns-clause-headings c =

@@ -1,16 +1,19 @@
 -- The links are those of the events of the text.
-use Rattle.std.proofs.Common.{⊎_elim}
+use Rattle.std.proofs.Common.{⊎_elim, refl}
 use Rattle.std.proofs.lemmas.Result.{IfErr-weaker, IfOk-weaker}
 use Rattle.markdown_additions.proofs.CanCallLemmas.{text_can, text_ends}
 use Rattle.markdown_additions.proofs.GivenEventsLemmas.{gives_new_added}
 use Rattle.markdown_additions.proofs.WrittenLemmas.{headings_stopped, links_read}
 use Rattle.markdown_additions.proofs.links.links_of.Goals as goal
 
-pub links-requires-clause-can : goal.links-requires-clause-can
-links-requires-clause-can c = text_can (λ f. Unit {0}) (λ f. tt) c.args.events
-
-pub links-requires-clause-ends : goal.links-requires-clause-ends
-links-requires-clause-ends c = text_ends (λ f. Unit {0}) (λ f. tt) c.args.events
+pub links-requires : goal.links-requires
+links-requires c k = (
+  (refl, tt),
+  (
+    text_can (λ f. Unit {0}) (λ f. tt) c.args.events,
+    text_ends (λ f. Unit {0}) (λ f. tt) c.args.events,
+  ),
+)
 
 pub returns-clause-links : goal.returns-clause-links
 returns-clause-links c =

@@ -1,16 +1,19 @@
 -- What is written are the lines of the events of the text with their places.
-use Rattle.std.proofs.Common.{⊎_elim}
+use Rattle.std.proofs.Common.{⊎_elim, refl}
 use Rattle.std.proofs.lemmas.Result.{err_from_is_err_and}
 use Rattle.markdown_additions.proofs.CanCallLemmas.{text_can, text_ends}
 use Rattle.markdown_additions.proofs.GivenEventsLemmas.{gives_new_added}
 use Rattle.markdown_additions.proofs.WrittenLemmas.{placed_stopped, placed_written}
 use Rattle.markdown_additions.proofs.placed.placed_lines.Goals as goal
 
-pub push_json_with_places-requires-clause-can : goal.push_json_with_places-requires-clause-can
-push_json_with_places-requires-clause-can c = text_can (λ f. Unit {0}) (λ f. tt) c.args.events
-
-pub push_json_with_places-requires-clause-ends : goal.push_json_with_places-requires-clause-ends
-push_json_with_places-requires-clause-ends c = text_ends (λ f. Unit {0}) (λ f. tt) c.args.events
+pub push_json_with_places-requires : goal.push_json_with_places-requires
+push_json_with_places-requires c k = (
+  (refl, tt),
+  (
+    text_can (λ f. Unit {0}) (λ f. tt) c.args.events,
+    text_ends (λ f. Unit {0}) (λ f. tt) c.args.events,
+  ),
+)
 
 pub returns-clause-lines : goal.returns-clause-lines
 returns-clause-lines c a s new =

@@ -1,4 +1,5 @@
 -- What is written is the HTML of the events of the text.
+use Rattle.std.proofs.Common.{refl}
 use Rattle.std.proofs.lemmas.Result.{err_from_is_err_and}
 use Rattle.markdown_additions.specs.UnplacedItems.{placed_iter}
 use Rattle.markdown_additions.proofs.CanCallLemmas.{text_can, text_ends}
@@ -6,11 +7,14 @@ use Rattle.markdown_additions.proofs.GivenEventsLemmas.{TextSteps, gives_new_add
 use Rattle.markdown_additions.proofs.NewEventsLemmas.{html_faults_of_new, html_of_new}
 use Rattle.markdown_additions.proofs.written.html.Goals as goal
 
-pub push_html-requires-clause-can : goal.push_html-requires-clause-can
-push_html-requires-clause-can c = text_can (λ f. Unit {0}) (λ f. tt) (placed_iter c.new-unplaced.result)
-
-pub push_html-requires-clause-ends : goal.push_html-requires-clause-ends
-push_html-requires-clause-ends c = text_ends (λ f. Unit {0}) (λ f. tt) (placed_iter c.new-unplaced.result)
+pub push_html-requires : goal.push_html-requires
+push_html-requires c k = (
+  (refl, tt),
+  (
+    text_can (λ f. Unit {0}) (λ f. tt) (placed_iter c.new-unplaced.result),
+    text_ends (λ f. Unit {0}) (λ f. tt) (placed_iter c.new-unplaced.result),
+  ),
+)
 
 pub returns-clause-written : goal.returns-clause-written
 returns-clause-written c a s new =

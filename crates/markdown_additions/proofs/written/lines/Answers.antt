@@ -1,16 +1,19 @@
 -- What is written are the lines of the events of the text.
-use Rattle.std.proofs.Common.{⊎_elim, inl}
+use Rattle.std.proofs.Common.{⊎_elim, inl, refl}
 use Rattle.std.proofs.lemmas.Result.{err_from_is_err_and}
 use Rattle.markdown_additions.proofs.CanCallLemmas.{text_can, text_ends}
 use Rattle.markdown_additions.proofs.GivenEventsLemmas.{gives_new_added}
 use Rattle.markdown_additions.proofs.WrittenLemmas.{lines_stopped, lines_written}
 use Rattle.markdown_additions.proofs.written.lines.Goals as goal
 
-pub push_json-requires-clause-can : goal.push_json-requires-clause-can
-push_json-requires-clause-can c = text_can (λ f. Unit {0}) (λ f. tt) c.args.events
-
-pub push_json-requires-clause-ends : goal.push_json-requires-clause-ends
-push_json-requires-clause-ends c = text_ends (λ f. Unit {0}) (λ f. tt) c.args.events
+pub push_json-requires : goal.push_json-requires
+push_json-requires c k = (
+  (refl, tt),
+  (
+    text_can (λ f. Unit {0}) (λ f. tt) c.args.events,
+    text_ends (λ f. Unit {0}) (λ f. tt) c.args.events,
+  ),
+)
 
 pub returns-clause-written : goal.returns-clause-written
 returns-clause-written c a s new =

@@ -1,4 +1,5 @@
 -- What is written is the safe HTML of the events of the text.
+use Rattle.std.proofs.Common.{refl}
 use Rattle.std.proofs.lemmas.Result.{err_from_is_err_and}
 use Rattle.markdown_additions.specs.UnplacedItems.{placed_iter}
 use Rattle.markdown_safe.specs.SafeSource.{safe_source}
@@ -8,11 +9,14 @@ use Rattle.markdown_additions.proofs.NewEventsLemmas.{safe_faults_of_new, safe_h
 use Rattle.markdown_additions.proofs.TreeLemmas.{tree_of_new}
 use Rattle.markdown_additions.proofs.written.safe_html.Goals as goal
 
-pub push_html-requires-clause-can : goal.push_html-requires-clause-can
-push_html-requires-clause-can c = text_can (λ f. Unit {0}) (λ f. tt) (placed_iter (safe_source c.new-safe.result))
-
-pub push_html-requires-clause-ends : goal.push_html-requires-clause-ends
-push_html-requires-clause-ends c = text_ends (λ f. Unit {0}) (λ f. tt) (placed_iter (safe_source c.new-safe.result))
+pub push_html-requires : goal.push_html-requires
+push_html-requires c k = (
+  (refl, tt),
+  (
+    text_can (λ f. Unit {0}) (λ f. tt) (placed_iter (safe_source c.new-safe.result)),
+    text_ends (λ f. Unit {0}) (λ f. tt) (placed_iter (safe_source c.new-safe.result)),
+  ),
+)
 
 pub returns-clause-written : goal.returns-clause-written
 returns-clause-written c a s new =
