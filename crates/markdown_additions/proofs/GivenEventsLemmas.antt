@@ -13,7 +13,7 @@ use Rattle.markdown_additions.specs.Additions.{text_events}
 use Rattle.markdown_additions.specs.GivenEvents.{GivesEvents}
 use Rattle.markdown_additions.specs.TextEvents.{IsNewAdded, IsNewParser, IsNewText, IsNewWithAddedIds, IsNewWithIds}
 use Rattle.markdown_additions.specs.TextEvents.{IsNewWithLinks, ParsedEvents, TextEvents}
-use Rattle.markdown_autolinks.specs.AutolinksLaws.{IsNewLinked, ReturnsLinked}
+use Rattle.markdown_autolinks.specs.AutolinksLaws.{ReturnsLinked}
 use Rattle.markdown_autolinks.specs.AutolinksNext.{LinkedState, linked_steps}
 use Rattle.markdown_autolinks.specs.AutolinksState.{linked_state}
 use Rattle.markdown_autolinks.specs.LinkedEvents.{with_addresses}

@@ -1,9 +1,6 @@
 -- Nothing has been read of the events, with links or without them.
 use Rattle.markdown_additions.proofs.GivenEventsLemmas.{new_with_links}
 use Rattle.markdown_additions.proofs.events.with_links.Goals as goal
-use Rattle.markdown_additions.proofs.TreeLemmas.{tree_of_new}
-use Rattle.markdown_additions.proofs.CanCallLemmas.{text_can, text_ends}
-use Rattle.markdown_additions.proofs.NewEventsLemmas.{html_of_new}
 
 pub returns-then-autolinks : goal.returns-then-autolinks
 returns-then-autolinks c s is new =

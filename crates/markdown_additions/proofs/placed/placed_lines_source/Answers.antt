@@ -1,0 +1,17 @@
+-- The lines are those of the events that have just been made.
+use Rattle.std.proofs.lemmas.Result.{IfErr-weaker, IfOk-weaker}
+use Rattle.markdown_additions.specs.Additions.{additions_view}
+use Rattle.markdown_base.specs.Source.{source_as}
+use Rattle.markdown_additions.proofs.placed.placed_lines_source.Goals as goal
+
+pub returns-clause-lines : goal.returns-clause-lines
+returns-clause-lines c =
+    IfOk-weaker c.placed_lines.result _ _
+    (λ x h. h (additions_view c.args.additions) (source_as c.args.syntax c.args.text.now)
+    c.in_ok-events.ensures.new) c.placed_lines.ensures.lines
+
+pub returns-clause-refused : goal.returns-clause-refused
+returns-clause-refused c =
+    IfErr-weaker c.placed_lines.result _ _
+    (λ x h. h (additions_view c.args.additions) (source_as c.args.syntax c.args.text.now)
+    c.in_ok-events.ensures.new) c.placed_lines.ensures.refused
