@@ -1,6 +1,9 @@
 -- What the library returns for a text, as the outcome of its bytes.
-use Rattle.std.proofs.Common.{◌≡◌, ◌⊎◌, ℕ, true, List, Ok, Err, inl, inr}
+use Rattle.std.proofs.Common.{◌≡◌, ◌⊎◌, ℕ, true, List, Ok, Err, inl, inr, subst}
 use Rattle.std.specs.Str.{IsUtf8}
+use Rattle.markdown_additions.specs.Additions.{AdditionsView}
+use Rattle.markdown_additions.specs.Written.{IsFaultOfWritingText}
+use Rattle.markdown_additions.specs.declared.written.Form.{Form}
 use Rattle.markdown_base.specs.Source.{Source, source_as}
 use Rattle.markdown_base.specs.declared.fault.Fault.{Fault}
 use Rattle.markdown_base.specs.declared.fault.Fault.TheVariants as fault
@@ -20,3 +23,8 @@ module _ (IsOf : Source → List ℕ → Type 0) (IsDeep : Source → Type 0) (t
       → IsOutcome IsOf IsDeep bits bytes (Err (refusal_of f))
   refused_of f (inl e) = rw e tt
   refused_of f (inr (e, deep)) = rw e (rw (same.0, set.0) at deep)
+
+-- what is added has another name
+pub faults_as_asked : (form : Form) (s : Source) {a b : AdditionsView} (f : Fault) → a ≡ b
+    → IsFaultOfWritingText form a s f → IsFaultOfWritingText form b s f
+faults_as_asked form s f is why = subst (λ v. IsFaultOfWritingText form v s f) is why

@@ -1,10 +1,11 @@
 -- What is written of bytes that are text, as the bits ask.
-use Rattle.std.proofs.Common.{◌≡◌}
+use Rattle.std.proofs.Common.{◌≡◌, ap, ◌∙◌}
 use Rattle.std.proofs.lemmas.Result.{err_from_is_err_and}
 use Rattle.markdown_additions.specs.Written.{written_of_text}
 use Rattle.markdown_additions.specs.declared.written.Form.TheVariants.{Html}
+use Rattle.markdown_base.specs.Source.{source_as}
 use Rattle.markdown_c.specs.CallsFromC.{IsTooDeepAsAsked, additions_by_bits}
-use Rattle.markdown_c.proofs.OutcomeLemmas.{refused_of, written_of}
+use Rattle.markdown_c.proofs.OutcomeLemmas.{faults_as_asked, refused_of, written_of}
 use Rattle.markdown_c.proofs.readings.html_of.Goals as goal
 
 pub returns : goal.returns
@@ -12,7 +13,9 @@ returns c =
     let bits = c.args.bits in
     written_of (λ s html. html ≡ written_of_text Html (additions_by_bits bits) s) (IsTooDeepAsAsked Html bits) _
     c.args.bytes.now _ bits c.in_ok-syntax.ensures.known c.in_ok-text.ensures.text _
-    (rw c.additions_of-additions.ensures at c.in_ok-written_source.ensures.written)
+    (c.in_ok-written_source.ensures.written
+    ∙ ap (λ a. written_of_text Html a (source_as c.in_ok-syntax.syntax c.in_ok-text.text.now))
+    c.additions_of-additions.ensures)
 
 pub returns-in_err-written_source : goal.returns-in_err-written_source
 returns-in_err-written_source c =
@@ -22,4 +25,5 @@ returns-in_err-written_source c =
     rw (p.1, p.2)
     (refused_of (λ s html. html ≡ written_of_text Html (additions_by_bits bits) s) (IsTooDeepAsAsked Html bits) _
     c.args.bytes.now _ bits c.in_ok-syntax.ensures.known c.in_ok-text.ensures.text _
-    (rw c.additions_of-additions.ensures at c.in_err-written_source.ensures.faults))
+    (faults_as_asked Html (source_as c.in_ok-syntax.syntax c.in_ok-text.text.now) _
+    c.additions_of-additions.ensures c.in_err-written_source.ensures.faults))

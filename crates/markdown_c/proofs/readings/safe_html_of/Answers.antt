@@ -1,21 +1,21 @@
 -- What is written of bytes that are text, as the bits ask.
-use Rattle.std.proofs.Common.{◌≡◌, ◌∙◌}
+use Rattle.std.proofs.Common.{◌∙◌, ap}
 use Rattle.std.proofs.lemmas.Result.{err_from_is_err_and}
 use Rattle.markdown_additions.specs.Additions.{added_events}
 use Rattle.markdown_additions.specs.Written.{bare_events, written_of_text}
 use Rattle.markdown_additions.specs.declared.written.Form.TheVariants.{SafeHtml}
 use Rattle.markdown_base.specs.Source.{source_as}
-use Rattle.markdown_safe.specs.SafeHtml.{IsSafeHtml}
 use Rattle.markdown_safe.proofs.SafeEventsLemmas.{html_is_safe}
 use Rattle.markdown_c.specs.CallsFromC.{IsSafeHtmlOf, IsTooDeepAsAsked, additions_by_bits}
-use Rattle.markdown_c.proofs.OutcomeLemmas.{refused_of, written_of}
+use Rattle.markdown_c.proofs.OutcomeLemmas.{faults_as_asked, refused_of, written_of}
 use Rattle.markdown_c.proofs.readings.safe_html_of.Goals as goal
 
 pub returns : goal.returns
 returns c =
     let bits = c.args.bits in
     let s = source_as c.in_ok-syntax.syntax c.in_ok-text.text.now in
-    let is = rw c.additions_of-additions.ensures at c.in_ok-written_source.ensures.written in
+    let is = c.in_ok-written_source.ensures.written
+    ∙ ap (λ a. written_of_text SafeHtml a s) c.additions_of-additions.ensures in
     written_of (IsSafeHtmlOf bits) (IsTooDeepAsAsked SafeHtml bits) _
     c.args.bytes.now _ bits c.in_ok-syntax.ensures.known c.in_ok-text.ensures.text _
     (record {
@@ -32,4 +32,5 @@ returns-in_err-written_source c =
     rw (p.1, p.2)
     (refused_of (IsSafeHtmlOf bits) (IsTooDeepAsAsked SafeHtml bits) _
     c.args.bytes.now _ bits c.in_ok-syntax.ensures.known c.in_ok-text.ensures.text _
-    (rw c.additions_of-additions.ensures at c.in_err-written_source.ensures.faults))
+    (faults_as_asked SafeHtml (source_as c.in_ok-syntax.syntax c.in_ok-text.text.now) _
+    c.additions_of-additions.ensures c.in_err-written_source.ensures.faults))
