@@ -132,6 +132,7 @@ class DocsTest(MadeUpTree):
         "docs/use-in": COPIER,
         "include/markdown.h": HEADER,
         "packaging/python/src/markdown_inline/__init__.py": '__version__ = "1.2.3"\n',
+        "packaging/README.md": 'one = { path = "../markdown_inline-1.2.3" }\ntwo = { path = "../markdown_inline-sys-1.2.3" }\n',
         "packaging/rust/Cargo.toml": 'version = "1.2.3"\n',
         "crates/markdown/CALLING.md": CALLING,
         "crates/markdown_base/src/lib.rt": CODE_OF_BASE,
@@ -419,8 +420,10 @@ class Versions(DocsTest):
     def test_another_version(self):
         for path in ("README.md", "packaging/rust/Cargo.toml", "crates/markdown_c/src/lib.rt"):
             self.replace(path, "1.2.3", "1.2.2")
+        self.replace("packaging/README.md", "sys-1.2.3", "sys-1.2.2")
         self.replace("include/markdown.h", "PATCH 3", "PATCH 2")
-        paths = ("README.md", "packaging/rust/Cargo.toml", "crates/markdown_c/src/lib.rt", "include/markdown.h, in numbers")
+        paths = ["README.md", "packaging/rust/Cargo.toml", "packaging/README.md", "crates/markdown_c/src/lib.rt"]
+        paths += ["include/markdown.h, in numbers"]
         self.assert_finds(self.check, *(f"{path} names the version 1.2.2, not 1.2.3, as CHANGELOG.md" for path in paths))
 
     def test_no_version(self):

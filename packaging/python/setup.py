@@ -17,7 +17,7 @@ class PlatformDistribution(Distribution):
 
 class PlatformWheel(bdist_wheel):
     def get_tag(self):
-        # (packaging/check-library checks that the shared object fits this tag)
+        # (packaging/check-binaries checks that the shared object fits this tag)
         return "py3", "none", "manylinux_2_17_x86_64"
 
 

@@ -1,24 +1,33 @@
 //! Finds the library `libmarkdown_inline`: in the folder `MARKDOWN_INLINE_LIB_DIR`, where that is set, and there the static
-//! one unless `MARKDOWN_INLINE_DYNAMIC` is set; otherwise where `pkg-config` knows it.
+//! one unless `MARKDOWN_INLINE_DYNAMIC` is set; otherwise in this crate, where it has the archive of the target, as those that
+//! are published have, unless the feature `system` is on; otherwise where `pkg-config` knows it.
 
 use std::env;
 use std::error::Error;
+use std::path::PathBuf;
 use std::process::Command;
 
 fn main() -> Result<(), Box<dyn Error>> {
     println!("cargo::rerun-if-env-changed=MARKDOWN_INLINE_LIB_DIR");
     println!("cargo::rerun-if-env-changed=MARKDOWN_INLINE_DYNAMIC");
     println!("cargo::rerun-if-env-changed=PKG_CONFIG_PATH");
-    match env::var("MARKDOWN_INLINE_LIB_DIR") {
-        Ok(folder) => {
-            let kind = if env::var_os("MARKDOWN_INLINE_DYNAMIC").is_some() { "dylib" } else { "static" };
-            println!("cargo::rustc-link-search=native={folder}");
-            println!("cargo::rustc-link-lib={kind}=markdown_inline");
-            println!("cargo::rerun-if-changed={folder}/libmarkdown_inline.a");
-            Ok(())
-        }
-        Err(_) => link_by_pkg_config(),
+    if let Ok(folder) = env::var("MARKDOWN_INLINE_LIB_DIR") {
+        let kind = if env::var_os("MARKDOWN_INLINE_DYNAMIC").is_some() { "dylib" } else { "static" };
+        link(&folder, kind);
+        return Ok(());
     }
+    let folder = PathBuf::from(env::var("CARGO_MANIFEST_DIR")?).join("lib").join(env::var("TARGET")?);
+    if env::var_os("CARGO_FEATURE_SYSTEM").is_none() && folder.join("libmarkdown_inline.a").is_file() {
+        link(folder.to_str().ok_or("the crate's folder is not UTF-8")?, "static");
+        return Ok(());
+    }
+    link_by_pkg_config()
+}
+
+fn link(folder: &str, kind: &str) {
+    println!("cargo::rustc-link-search=native={folder}");
+    println!("cargo::rustc-link-lib={kind}=markdown_inline");
+    println!("cargo::rerun-if-changed={folder}/libmarkdown_inline.a");
 }
 
 fn link_by_pkg_config() -> Result<(), Box<dyn Error>> {
@@ -26,9 +35,9 @@ fn link_by_pkg_config() -> Result<(), Box<dyn Error>> {
     let flags = match flags {
         Ok(ran) if ran.status.success() => String::from_utf8(ran.stdout)?,
         _ => {
-            return Err(
-                "no libmarkdown_inline: set MARKDOWN_INLINE_LIB_DIR, or install it where pkg-config finds it".into()
-            );
+            return Err("no libmarkdown_inline: this crate has none for the target, or the feature system is on; set \
+                        MARKDOWN_INLINE_LIB_DIR, or install it where pkg-config finds it"
+                .into());
         }
     };
     for flag in flags.split_whitespace() {

@@ -160,6 +160,11 @@ pub fn to_outline(text: &str, extensions: Extensions) -> Result<String, Error> {
     result_of(sys::markdown_outline_alloc, text, extensions)
 }
 
+/// The code of the README, which is tested too.
+#[cfg(doctest)]
+#[doc = include_str!("../README.md")]
+struct Readme;
+
 #[cfg(test)]
 mod tests {
     use super::*;
