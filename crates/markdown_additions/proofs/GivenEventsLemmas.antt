@@ -12,7 +12,10 @@ use Rattle.markdown_additions.specs.Additions.{IdsView, added_events, adds_ids, 
 use Rattle.markdown_additions.specs.Additions.{text_events}
 use Rattle.markdown_additions.specs.GivenEvents.{GivesEvents}
 use Rattle.markdown_additions.specs.TextEvents.{IsNewAdded, IsNewParser, IsNewText, IsNewWithAddedIds, IsNewWithIds}
-use Rattle.markdown_additions.specs.TextEvents.{IsNewWithLinks, ParsedEvents, TextEvents}
+use Rattle.markdown_additions.specs.TextEvents.{IsNewWithLinks, NestedEvents, ParsedEvents, calls_with_ids}
+use Rattle.markdown_additions.specs.TextEvents.{nested_calls, nested_events, nobody_answers, parsed_calls, parser_calls}
+use Rattle.markdown_additions.specs.TextEvents.{text_steps}
+use Rattle.markdown_additions.specs.declared.events.TextEvents.{TextEvents}
 use Rattle.markdown_autolinks.specs.AutolinksLaws.{ReturnsLinked}
 use Rattle.markdown_autolinks.specs.AutolinksNext.{LinkedState, linked_steps}
 use Rattle.markdown_autolinks.specs.AutolinksState.{linked_state}
@@ -268,76 +271,88 @@ module _ {A B : Type 0} (lefts : A → Option Item → A → Type 0) (rights : B
 -- ---- new events of a text
 
 module _ {F : Type 0} (step : F → Question → Option Answer → F → Type 0) where
-  abbrev ParserSteps : OffsetIter F → Option Item → OffsetIter F → Type 0
-  ParserSteps o item t = NextGives step IsPlacedOf (offset_parser o) item (offset_parser t)
+  gives_new_parser : (s : Source) (o : OffsetIter F) → IsNewParser s o
+      → GivesEvents (parser_calls step) o (text_events false s) (AreFirstOfText s)
+  gives_new_parser s o new = gives_text step s new.blocks o new.of_text new.reads new.alone
 
   abbrev LinksSteps : Autolinks (OffsetIter F) → Option Item → Autolinks (OffsetIter F) → Type 0
-  LinksSteps = linked_steps ParserSteps linked_state
-
-  abbrev ParsedSteps : ParsedEvents F → Option Item → ParsedEvents F → Type 0
-  ParsedSteps = either_steps ParserSteps LinksSteps
-
-  gives_new_parser : (s : Source) (o : OffsetIter F) → IsNewParser s o
-      → GivesEvents ParserSteps o (text_events false s) (AreFirstOfText s)
-  gives_new_parser s o new = gives_text step s new.blocks o new.of_text new.reads new.alone
+  LinksSteps = linked_steps (parser_calls step) linked_state
 
   gives_new_links : (s : Source) (l : Autolinks (OffsetIter F)) → IsNewWithLinks s l
       → GivesEvents LinksSteps l (text_events true s) (AreFirstTextEvents true s)
   gives_new_links s l new =
-      gives_links ParserSteps linked_state s.text l (text_events false s) (AreFirstOfText s)
-      (returns_linked ParserSteps linked_state l s.text new.links)
+      gives_links (parser_calls step) linked_state s.text l (text_events false s) (AreFirstOfText s)
+      (returns_linked (parser_calls step) linked_state l s.text new.links)
       (gives_new_parser s (linked_state l).iter new.parser)
 
   gives_new_text : (autolinks : Bool) (s : Source) (events : ParsedEvents F) → IsNewText autolinks s events
-      → GivesEvents ParsedSteps events (text_events autolinks s) (AreFirstTextEvents autolinks s)
-  gives_new_text false s (Left o) new = gives_left ParserSteps LinksSteps o (gives_new_parser s o new)
-  gives_new_text true s (Right l) new = gives_right ParserSteps LinksSteps l (gives_new_links s l new)
+      → GivesEvents (parsed_calls step) events (text_events autolinks s) (AreFirstTextEvents autolinks s)
+  gives_new_text false s (Left o) new = gives_left (parser_calls step) LinksSteps o (gives_new_parser s o new)
+  gives_new_text true s (Right l) new = gives_right (parser_calls step) LinksSteps l (gives_new_links s l new)
   gives_new_text autolinks s events new = absurd new
 
-  abbrev IdsSteps : HeadingIds (ParsedEvents F) → Option Item → HeadingIds (ParsedEvents F) → Type 0
-  IdsSteps = ids_steps ParsedSteps ids_state
+  gives_new_ids : (a : Bool) (s : Source) (h : HeadingIds (ParsedEvents F)) → IsNewWithIds a s h
+      → GivesEvents (calls_with_ids step) h (with_ids (taken_in_text s) (text_events a s))
+      (AreFirstWithTheirIds (taken_in_text s) (AreFirstTextEvents a s))
+  gives_new_ids a s h new =
+      gives_ids (parsed_calls step) ids_state (taken_in_text s) h (text_events a s) (AreFirstTextEvents a s)
+      (returns_with_ids (parsed_calls step) ids_state h (taken_in_text s) new.ids)
+      (gives_new_text a s (ids_state h).iter new.text)
 
   abbrev PrefixSteps : Prefixed (HeadingIds (ParsedEvents F)) → Option Item → Prefixed (HeadingIds (ParsedEvents F))
       → Type 0
-  PrefixSteps = prefixed_steps IdsSteps
-
-  gives_new_ids : (a : Bool) (s : Source) (h : HeadingIds (ParsedEvents F)) → IsNewWithIds a s h
-      → GivesEvents IdsSteps h (with_ids (taken_in_text s) (text_events a s))
-      (AreFirstWithTheirIds (taken_in_text s) (AreFirstTextEvents a s))
-  gives_new_ids a s h new =
-      gives_ids ParsedSteps ids_state (taken_in_text s) h (text_events a s) (AreFirstTextEvents a s)
-      (returns_with_ids ParsedSteps ids_state h (taken_in_text s) new.ids)
-      (gives_new_text a s (ids_state h).iter new.text)
+  PrefixSteps = prefixed_steps (calls_with_ids step)
 
   gives_new_prefixed : (a : Bool) (s : Source) (prefix : List ℕ) (p : Prefixed (HeadingIds (ParsedEvents F)))
       → IsNewWithIds a s (unprefixed_source p) → prefix_of p ≡ prefix
       → GivesEvents PrefixSteps p (prefixed_events prefix (with_ids (taken_in_text s) (text_events a s)))
       (AreFirstWithPrefix prefix (AreFirstWithTheirIds (taken_in_text s) (AreFirstTextEvents a s)))
   gives_new_prefixed a s prefix p new is =
-      gives_prefixed IdsSteps prefix p _ _ is (gives_new_ids a s (unprefixed_source p) new)
-      (λ given d. all_prefixed IdsSteps p given d) (λ given t y. first_prefixed IdsSteps p t given y)
+      gives_prefixed (calls_with_ids step) prefix p _ _ is (gives_new_ids a s (unprefixed_source p) new)
+      (λ given d. all_prefixed (calls_with_ids step) p given d)
+      (λ given t y. first_prefixed (calls_with_ids step) p t given y)
 
-  -- so new events of a text with what is added are these
-  abbrev pub TextSteps : TextEvents F → Option Item → TextEvents F → Type 0
-  TextSteps = either_steps ParsedSteps (either_steps IdsSteps PrefixSteps)
+  abbrev WithIdsSteps : Either (HeadingIds (ParsedEvents F)) (Prefixed (HeadingIds (ParsedEvents F))) → Option Item
+      → Either (HeadingIds (ParsedEvents F)) (Prefixed (HeadingIds (ParsedEvents F))) → Type 0
+  WithIdsSteps = either_steps (calls_with_ids step) PrefixSteps
 
-  gives_new_ids_added : (view : IdsView) (a : Bool) (s : Source) (events : TextEvents F)
+  gives_new_nested : (view : IdsView) (a : Bool) (s : Source) (events : NestedEvents F)
       → IsNewWithAddedIds view a s events
-      → GivesEvents TextSteps events (added_events (record { autolinks = a; ids = view }) s)
+      → GivesEvents (nested_calls step) events (added_events (record { autolinks = a; ids = view }) s)
       (AreFirstAdded (record { autolinks = a; ids = view }) s)
-  gives_new_ids_added adds_no_ids a s (Left events) new =
-      gives_left ParsedSteps (either_steps IdsSteps PrefixSteps) events (gives_new_text a s events new)
-  gives_new_ids_added adds_ids a s (Right (Left h)) new =
-      gives_right ParsedSteps (either_steps IdsSteps PrefixSteps) (Left h)
-      (gives_left IdsSteps PrefixSteps h (gives_new_ids a s h new))
-  gives_new_ids_added (adds_prefixed_ids prefix) a s (Right (Right p)) new =
-      gives_right ParsedSteps (either_steps IdsSteps PrefixSteps) (Right p)
-      (gives_right IdsSteps PrefixSteps p (gives_new_prefixed a s prefix p new.0 new.1))
-  gives_new_ids_added view a s events new = absurd new
+  gives_new_nested adds_no_ids a s (Left events) new =
+      gives_left (parsed_calls step) WithIdsSteps events (gives_new_text a s events new)
+  gives_new_nested adds_ids a s (Right (Left h)) new =
+      gives_right (parsed_calls step) WithIdsSteps (Left h)
+      (gives_left (calls_with_ids step) PrefixSteps h (gives_new_ids a s h new))
+  gives_new_nested (adds_prefixed_ids prefix) a s (Right (Right p)) new =
+      gives_right (parsed_calls step) WithIdsSteps (Right p)
+      (gives_right (calls_with_ids step) PrefixSteps p (gives_new_prefixed a s prefix p new.0 new.1))
+  gives_new_nested view a s events new = absurd new
 
-  pub gives_new_added : (view : AdditionsView) (s : Source) (events : TextEvents F) → IsNewAdded view s events
-      → GivesEvents TextSteps events (added_events view s) (AreFirstAdded view s)
-  gives_new_added view s events new = gives_new_ids_added view.ids view.autolinks s events new
+-- an iterator whose calls are those of one in it gives the same events
+module _ {S E : Type 0} (inner : S → Option Item → S → Type 0) (of : E → S) where
+  abbrev Outer : E → Option Item → E → Type 0
+  Outer s r t = inner (of s) r (of t)
+
+  yields_of : (s : E) (read : List Item) (t : E) → Yields Outer s read t → Yields inner (of s) read (of t)
+  yields_of s [] t y = ap of y
+  yields_of s (item ∷ read) t (j, step, y) = (of j, step, yields_of j read t y)
+
+  gives_of : {events : List Ranged} {begins : List Ranged → Type 0} (s : E) → GivesEvents inner (of s) events begins
+      → GivesEvents Outer s events begins
+  gives_of s gives = record {
+    whole = λ given (u, (t, y, z)). gives.whole given (of u, (of t, yields_of s (event_items given) t y, z));
+    first = λ given t y. gives.first given (of t) (yields_of s (event_items given) t y);
+    memory = λ given t fault y. gives.memory given (of t) fault (yields_of s (event_items given ++ Err fault ∷ []) t y);
+  }
+
+-- so new events of a text with what is added are these
+pub gives_new_added : (view : AdditionsView) (s : Source) (events : TextEvents) → IsNewAdded view s events
+    → GivesEvents text_steps events (added_events view s) (AreFirstAdded view s)
+gives_new_added view s events new =
+    gives_of (nested_calls nobody_answers) nested_events events
+    (gives_new_nested nobody_answers view.ids view.autolinks s (nested_events events) new)
 
 -- a new adapter of links over a new parser
 pub new_with_links : {F : Type 0} (s : Source) (text : List ℕ) (l : Autolinks (OffsetIter F)) (o : OffsetIter F)

@@ -1,6 +1,5 @@
 -- what iterators give, and what is written of it
 pub mod GivenEventsLemmas
-pub mod CanCallLemmas
 pub mod WrittenLemmas
 pub mod NewEventsLemmas
 pub mod TreeLemmas

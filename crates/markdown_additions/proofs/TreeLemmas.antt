@@ -7,8 +7,10 @@ use Rattle.std.specs.declared.ops.Range.{Range}
 use Rattle.either.specs.declared.Either.TheVariants.{Left, Right}
 use Rattle.markdown_additions.specs.Additions.{AdditionsView, IdsView, added_events, adds_ids, adds_no_ids}
 use Rattle.markdown_additions.specs.Additions.{adds_prefixed_ids, text_events, with_added_ids}
-use Rattle.markdown_additions.specs.TextEvents.{IsNewAdded, IsNewText, IsNewWithAddedIds, ParsedEvents, TextEvents}
+use Rattle.markdown_additions.specs.TextEvents.{IsNewAdded, IsNewText, IsNewWithAddedIds, NestedEvents, ParsedEvents}
+use Rattle.markdown_additions.specs.TextEvents.{nested_events}
 use Rattle.markdown_additions.specs.Written.{bare_events, written_of_text}
+use Rattle.markdown_additions.specs.declared.events.TextEvents.{TextEvents}
 use Rattle.markdown_additions.specs.declared.written.Form.TheVariants.{SafeHtml}
 use Rattle.markdown_autolinks.specs.Addresses.{address_destination, addresses_in}
 use Rattle.markdown_autolinks.specs.LinkedEvents.{Texts, left_alone_after, texts_events, with_addresses_after}
@@ -277,18 +279,18 @@ blocks_of_text false s (Left o) new = (new.blocks, new.of_text)
 blocks_of_text true s (Right l) new = (new.parser.blocks, new.parser.of_text)
 blocks_of_text autolinks s events new = absurd new
 
-blocks_of_new : {F : Type 0} (view : IdsView) (autolinks : Bool) (s : Source) (events : TextEvents F)
+blocks_of_new : {F : Type 0} (view : IdsView) (autolinks : Bool) (s : Source) (events : NestedEvents F)
     → IsNewWithAddedIds view autolinks s events → (blocks : Blocks) × IsBlocksOf s blocks
 blocks_of_new adds_no_ids autolinks s (Left events) new = blocks_of_text autolinks s events new
 blocks_of_new adds_ids autolinks s (Right (Left h)) new = blocks_of_text autolinks s _ new.text
 blocks_of_new (adds_prefixed_ids prefix) autolinks s (Right (Right p)) new = blocks_of_text autolinks s _ new.0.text
 blocks_of_new view autolinks s events new = absurd new
 
-pub tree_of_new : {F : Type 0} (view : AdditionsView) (s : Source) (events : TextEvents F)
-    → IsNewAdded view s events → tables_are_whole (map (λ e. e.0) (events_of_text s)) ≡ true
+pub tree_of_new : (view : AdditionsView) (s : Source) (events : TextEvents) → IsNewAdded view s events
+    → tables_are_whole (map (λ e. e.0) (events_of_text s)) ≡ true
     → IsSafeTree (written_of_text SafeHtml view s)
 tree_of_new view s events new whole =
-    let b = blocks_of_new view.ids view.autolinks s events new in
+    let b = blocks_of_new view.ids view.autolinks s (nested_events events) new in
     let t = trees_with_added_ids view.ids (taken_in_text s) (text_events view.autolinks s)
     (trees_of_text view.autolinks s (record {
       nest = nested_text s b.0 b.1;

@@ -1,26 +1,14 @@
 -- What is written is the safe HTML of the events of the text.
-use Rattle.std.proofs.Common.{refl}
 use Rattle.std.proofs.lemmas.Result.{err_from_is_err_and}
-use Rattle.markdown_additions.specs.UnplacedItems.{placed_iter}
-use Rattle.markdown_safe.specs.SafeSource.{safe_source}
-use Rattle.markdown_additions.proofs.CanCallLemmas.{text_can, text_ends}
-use Rattle.markdown_additions.proofs.GivenEventsLemmas.{TextSteps, gives_new_added}
+use Rattle.markdown_additions.specs.TextEvents.{text_steps}
+use Rattle.markdown_additions.proofs.GivenEventsLemmas.{gives_new_added}
 use Rattle.markdown_additions.proofs.NewEventsLemmas.{safe_faults_of_new, safe_html_of_new}
 use Rattle.markdown_additions.proofs.TreeLemmas.{tree_of_new}
 use Rattle.markdown_additions.proofs.written.safe_html.Goals as goal
 
-pub push_html-requires : goal.push_html-requires
-push_html-requires c k = (
-  (refl, tt),
-  (
-    text_can (λ f. Unit {0}) (λ f. tt) (placed_iter (safe_source c.new-safe.result)),
-    text_ends (λ f. Unit {0}) (λ f. tt) (placed_iter (safe_source c.new-safe.result)),
-  ),
-)
-
 pub returns-clause-written : goal.returns-clause-written
 returns-clause-written c a s new =
-    safe_html_of_new (TextSteps _) a s c.args.events (gives_new_added _ a s c.args.events new)
+    safe_html_of_new text_steps a s c.args.events (gives_new_added a s c.args.events new)
     c.new-unplaced.result c.new-unplaced.ensures c.new-safe.result c.new-safe.ensures _ _
     c.new-written.ensures.bytes c.in_ok-push_html.ensures.ok
 
@@ -30,6 +18,6 @@ returns-clause-tree c a s new whole = rw (returns-clause-written c a s new) (tre
 pub returns-in_err-push_html-clause-faults : goal.returns-in_err-push_html-clause-faults
 returns-in_err-push_html-clause-faults c =
     let p = err_from_is_err_and c.from_residual.result c.from_residual.ensures.1 in
-    rw (p.1, p.2) (λ a s new. safe_faults_of_new (TextSteps _) a s c.args.events
-    (gives_new_added _ a s c.args.events new) c.new-unplaced.result c.new-unplaced.ensures c.new-safe.result
+    rw (p.1, p.2) (λ a s new. safe_faults_of_new text_steps a s c.args.events
+    (gives_new_added a s c.args.events new) c.new-unplaced.result c.new-unplaced.ensures c.new-safe.result
     c.new-safe.ensures _ _ _ c.in_err-push_html.ensures.err)
