@@ -112,17 +112,8 @@ fn additions_of<'p>(bits: u32) -> Additions<'p>
     ensures { additions_view result ≡ additions_by_bits bits }
 {
     let autolinks = gives_autolinks(bits);
-    if gives_ids(bits) {
-        Additions {
-            autolinks,
-            ids: Ids::All,
-        }
-    } else {
-        Additions {
-            autolinks,
-            ids: Ids::Own,
-        }
-    }
+    let ids = if gives_ids(bits) { Ids::All } else { Ids::Own };
+    Additions { autolinks, ids }
 }
 
 /// Returns the HTML of a text, without a callback.

@@ -11,17 +11,12 @@ pub(crate) fn line_additions<'p>(enabled: Enabled) -> Additions<'p>
     ensures { additions_view result ≡ line_additions enabled }
 {
     let autolinks = enabled.autolinks;
-    if enabled.heading_ids {
-        Additions {
-            autolinks,
-            ids: Ids::All,
-        }
+    let ids = if enabled.heading_ids {
+        Ids::All
     } else {
-        Additions {
-            autolinks,
-            ids: Ids::Own,
-        }
-    }
+        Ids::Own
+    };
+    Additions { autolinks, ids }
 }
 
 /// Returns what is added to the events of a file whose headings are listed.
