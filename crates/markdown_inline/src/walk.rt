@@ -364,7 +364,7 @@ impl<'input> Parser<'input, DefaultBrokenLinkCallback> {
 }
 
 impl<'input, F: BrokenLinkCallback<'input>> Parser<'input, F> {
-    ghost use Rattle.std.specs.Prelude.{◌≡◌, IfOk, IfErr, IfSome};
+    ghost use Rattle.std.specs.Prelude.{◌≡◌, IfOk, IfErr, IfSome, MatchOption, Some, None};
     ghost use Rattle.markdown_blocks.specs.Blocks.{text_of_blocks};
     ghost use Rattle.markdown_inline.specs.CountsLaw.{CountsLaw, RisesPlainly};
     ghost use Rattle.markdown_base.specs.Source.{source_as};
@@ -484,6 +484,17 @@ impl<'input, F: BrokenLinkCallback<'input>> Parser<'input, F> {
         &self.resolver.lookup.tables.refdefs
     }
 
+    /// Returns the callback, where there is one. Questions that it notes were asked on the way to the last event returned.
+    pub fn callback(&self) -> Option<&F>
+        ensures { MatchOption result (parser_callback self.now ≡ None)
+            (λ callback. parser_callback self.now ≡ Some callback.now) }
+    {
+        match &self.resolver.lookup.callback {
+            Some(callback) => Some(callback),
+            None => None,
+        }
+    }
+
     /// Returns the counts of the work done so far.
     pub fn work(&self) -> Work
         ensures { result ≡ parser_work self.now }
@@ -503,6 +514,7 @@ impl<'input, F: BrokenLinkCallback<'input>> Parser<'input, F> {
 
 impl<'input, F: BrokenLinkCallback<'input>> OffsetIter<'input, F> {
     ghost use Rattle.std.specs.Prelude.{◌≡◌, ◌++◌, ◌∷◌, [], IfOk, IfErr, IfSome, IsTrue};
+    ghost use Rattle.std.specs.Prelude.{MatchOption, Some, None};
     ghost use Rattle.markdown_inline.specs.NextGives.{IsPlacedOf};
     ghost use Rattle.markdown_inline.specs.ParserLeft.{parser_callback, parser_definitions, parser_work, offset_parser};
     ghost use Rattle.markdown_inline.specs.Runs.{GaveRest};
@@ -513,6 +525,14 @@ impl<'input, F: BrokenLinkCallback<'input>> OffsetIter<'input, F> {
         ensures { result.now ≡ parser_definitions (offset_parser self.now) }
     {
         self.inner.reference_definitions()
+    }
+
+    /// Returns the callback, where there is one. Questions that it notes were asked on the way to the last event returned.
+    pub fn callback(&self) -> Option<&F>
+        ensures { MatchOption result (parser_callback (offset_parser self.now) ≡ None)
+            (λ callback. parser_callback (offset_parser self.now) ≡ Some callback.now) }
+    {
+        self.inner.callback()
     }
 
     /// Returns the counts of the work done so far.
