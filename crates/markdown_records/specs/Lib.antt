@@ -1,0 +1,13 @@
+-- Events as records: what records hold, contents as records, and records as contents.
+pub mod EntryView
+pub mod Numbers
+pub mod NumbersRead
+pub mod RecordView
+pub mod Drafts
+pub mod Encoded
+pub mod Decoded
+-- Definitions of other crates that the clauses cite.
+pub use Rattle.markdown_base.specs.Event
+-- the terms of private clauses
+pub mod RecordOf
+pub mod RecordsOf

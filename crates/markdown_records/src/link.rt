@@ -1,0 +1,128 @@
+//! Links, images and headings, and where the texts of links may stand in the source.
+ghost use Rattle.std.specs.Prelude.{◌≡◌, ◌+◌, ◌≤◌, ◌^◌, MatchOption, MatchResult, flat_map, length, map};
+ghost use Rattle.markdown_base.specs.Event.{attribute_view, link_view};
+ghost use Rattle.markdown_records.specs.Drafts.{attribute_parts, destination_of, heading_parts, inline_end};
+ghost use Rattle.markdown_records.specs.RecordOf.{heading_of, link_of, span_range, wording_of};
+
+use crate::draft::{Span, TextPlace};
+use crate::fault::RecordFault;
+use markdown_base::cow_str::CowStr;
+use markdown_base::tag::{HeadingLevel, LinkType};
+
+/// The texts of the Start of a link or an image.
+#[derive(Clone, Copy, Drop)]
+pub(crate) struct Link<'x> {
+    pub link_type: LinkType,
+    pub destination: &'x str,
+    pub title: &'x str,
+    pub label: &'x str,
+}
+
+impl<'x> Link<'x> {
+    /// Borrows the texts of the Start of a link or an image.
+    pub fn new(
+        link_type: LinkType,
+        destination: &'x CowStr<'_>,
+        title: &'x CowStr<'_>,
+        label: &'x CowStr<'_>,
+    ) -> Link<'x>
+        ensures { link_of result
+            ≡ link_view (link_type, destination.entry.now, title.entry.now, label.entry.now) }
+    {
+        Link {
+            link_type,
+            destination: destination.as_str(),
+            title: title.as_str(),
+            label: label.as_str(),
+        }
+    }
+}
+
+/// The fields of the Start of a heading.
+#[derive(Clone, Copy, Drop)]
+pub(crate) struct Heading<'x, 'a> {
+    pub level: HeadingLevel,
+    pub id: &'x Option<CowStr<'a>>,
+    pub classes: &'x [CowStr<'a>],
+    pub attributes: &'x [(CowStr<'a>, Option<CowStr<'a>>)],
+}
+
+/// Returns how many parts attributes have.
+fn count_parts(attributes: &[(CowStr<'_>, Option<CowStr<'_>>)]) -> Option<usize>
+    ensures { MatchOption result (2 ^ 32 ≤ length (flat_map attribute_parts (map attribute_view attributes.now)))
+        (λ parts. parts ≡ length (flat_map attribute_parts (map attribute_view attributes.now))) }
+{
+    let mut parts = 0usize;
+    for attribute in attributes {
+        parts = parts.checked_add(if attribute.1.is_some() { 2 } else { 1 })?;
+    }
+    Some(parts)
+}
+
+impl Heading<'_, '_> {
+    /// Returns how many parts the heading has.
+    pub fn parts(&self) -> Result<usize, RecordFault>
+        ensures { MatchResult result (λ parts. parts ≡ length (heading_parts (heading_of self.now)))
+            (λ fault. (fault ≡ RecordFault.TooLong)
+            × (2 ^ 32 ≤ length (heading_parts (heading_of self.now)))) }
+    {
+        match count_parts(self.attributes) {
+            Some(parts) => parts
+                .checked_add(self.classes.len())
+                .ok_or(RecordFault::TooLong),
+            None => Err(RecordFault::TooLong),
+        }
+    }
+}
+
+/// Returns the end of an inline link's destination, or of the `>` after it.
+fn inline_end(span: Span, title: &str) -> usize
+    ensures { result ≡ inline_end (span_range span) title.now }
+{
+    let last = (span.end as usize).saturating_sub(1);
+    if title.is_empty() {
+        last
+    } else {
+        last.saturating_sub(title.len()).saturating_sub(3)
+    }
+}
+
+/// Returns where the destination of a link is, whose text begins so many bytes after its start.
+pub(crate) fn destination_of<'x>(link: &Link<'x>, opening: u8, span: Span) -> TextPlace<'x>
+    ensures { wording_of result ≡ destination_of link.now.link_type (span.start + opening)
+        (span_range span) (link_of link.now) }
+{
+    let words = link.destination;
+    let inside = span.start as usize + opening as usize;
+    match link.link_type {
+        LinkType::Inline => {
+            let end = inline_end(span, link.title);
+            let first = end.saturating_sub(words.len());
+            let second = first.saturating_sub(1);
+            TextPlace::Sought {
+                words,
+                first,
+                second,
+            }
+        }
+        LinkType::Autolink | LinkType::Email => TextPlace::Sought {
+            words,
+            first: inside,
+            second: span.start as usize,
+        },
+        LinkType::WikiLink { .. } => {
+            let name = inside + 1;
+            TextPlace::Sought {
+                words,
+                first: name,
+                second: name,
+            }
+        }
+        LinkType::Reference
+        | LinkType::ReferenceUnknown
+        | LinkType::Collapsed
+        | LinkType::CollapsedUnknown
+        | LinkType::Shortcut
+        | LinkType::ShortcutUnknown => TextPlace::Pooled(words),
+    }
+}
