@@ -1,5 +1,5 @@
 -- What `Records` has written, and what a call writes or why it refuses. Only private fields are behind these names.
-use Rattle.std.specs.Prelude.{◌≡◌, ◌⊎◌, ◌<◌, ◌≤◌, ◌^◌, ◌++◌, ℕ, List, length, max, string_bytes, IfOk, IfErr, Result}
+use Rattle.std.specs.Prelude.{◌≡◌, ◌⊎◌, ◌<◌, ◌≤◌, ◌^◌, ◌++◌, ℕ, List, length, max, string_bytes, IfOk, IfErr, Result, Vec}
 use Rattle.std.specs.declared.ops.Range.{Range}
 use Rattle.markdown_base.specs.declared.fault.Fault.TheVariants.{Memory}
 use Rattle.markdown_records.specs.Drafts.{DraftView, Wording}

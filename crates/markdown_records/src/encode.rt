@@ -91,7 +91,7 @@ impl<'t> Records<'t> {
 
     /// Returns where the text of a draft is, which is appended to the pool if it stands at neither offset of the source.
     fn spot(&mut self, text: TextPlace<'_>) -> Result<SpotHeld, RecordFault>
-        ensures { Places self.old (wording_of text) result self.new }
+        ensures { Places self.old (wording_of text.entry) result self.new }
     {
         match text {
             TextPlace::Absent => Ok(SpotHeld {
@@ -123,7 +123,7 @@ impl<'t> Records<'t> {
 
     /// Appends the record of a draft.
     pub(crate) fn push(&mut self, draft: Draft<'_>) -> Result<(), RecordFault>
-        ensures { Writes self.old (draft_view draft ∷ []) result self.new }
+        ensures { Writes self.old (draft_view draft.entry ∷ []) result self.new }
     {
         let spot = self.spot(draft.text)?;
         let record = Record {
@@ -151,7 +151,7 @@ impl<'t> Records<'t> {
         span: Span,
         text: TextPlace<'_>,
     ) -> Result<(), RecordFault>
-        ensures { Writes self.old (single kind detail (span_range span) (wording_of text)) result self.new }
+        ensures { Writes self.old (single kind detail (span_range span) (wording_of text.entry)) result self.new }
     {
         self.push(Draft::single(kind, detail, span, text))
     }

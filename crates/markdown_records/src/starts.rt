@@ -20,7 +20,7 @@ use markdown_base::tag::{Alignment, CodeBlockKind, Tag, TagEnd};
 impl Records<'_> {
     /// Appends the records of the Start of a heading.
     fn push_heading(&mut self, heading: Heading<'_, '_>, span: Span) -> Result<(), RecordFault>
-        ensures { Writes self.old (heading_drafts (span_range span) (heading_of heading)) result self.new }
+        ensures { Writes self.old (heading_drafts (span_range span) (heading_of heading.entry)) result self.new }
     {
         let text = match heading.id {
             None => TextPlace::Absent,
@@ -82,7 +82,7 @@ impl Records<'_> {
         link: Link<'_>,
         span: Span,
     ) -> Result<(), RecordFault>
-        ensures { Writes self.old (link_drafts kind (span.start + opening) (span_range span) (link_of link)) result self.new }
+        ensures { Writes self.old (link_drafts kind (span.start + opening) (span_range span) (link_of link.entry)) result self.new }
     {
         let inside = span.start as usize + opening as usize;
         let last = (span.end as usize).saturating_sub(1);
