@@ -6,6 +6,7 @@ pub mod RecordView
 pub mod Drafts
 pub mod Encoded
 pub mod Decoded
+pub mod ReadsBack
 -- Definitions of other crates that the clauses cite.
 pub use Rattle.markdown_base.specs.Event
 -- the terms of private clauses
