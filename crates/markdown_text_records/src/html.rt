@@ -1,0 +1,44 @@
+//! The HTML of what records say.
+ghost use Rattle.std.specs.Prelude.{MatchResult, string_bytes};
+ghost use Rattle.markdown_text_records.specs.RecordsHtml.{IsHtmlFault, IsHtmlOf, IsSafeHtmlOf};
+
+use markdown_base::fault::Fault;
+use markdown_out::push_html;
+use markdown_records::{RecordFault, RecordedText};
+use markdown_safe::Safe;
+use std::alloc::Global;
+
+/// Returns the HTML of the events that records say of a text.
+///
+/// # Errors
+///
+/// `NotRecords` unless each byte of the records is as it has to be for this text, `Of(Fault::Memory)` if an allocation fails,
+/// and `Of(Fault::Depth)` where more than 2^64 - 1 Starts are open in one image.
+pub fn html_of_records(alloc: Global, text: &str, records: &[u8]) -> Result<String, RecordFault>
+    ensures { MatchResult result (λ html. IsHtmlOf text.now records.now (string_bytes html))
+        (IsHtmlFault text.now records.now) }
+{
+    let recorded = RecordedText::of_bytes(alloc, text, records)?;
+    let mut html = String::new(alloc);
+    push_html(alloc, &mut html, recorded.events(alloc))?;
+    Ok(html)
+}
+
+/// Returns the safe HTML of the events that records say of a text: whatever they say, no script runs.
+///
+/// # Errors
+///
+/// As those of `html_of_records`.
+pub fn safe_html_of_records(
+    alloc: Global,
+    text: &str,
+    records: &[u8],
+) -> Result<String, RecordFault>
+    ensures { MatchResult result (λ html. IsSafeHtmlOf text.now records.now (string_bytes html))
+        (IsSafeHtmlFault text.now records.now) }
+{
+    let recorded = RecordedText::of_bytes(alloc, text, records)?;
+    let mut html = String::new(alloc);
+    push_html(alloc, &mut html, Safe::new(alloc, recorded.events(alloc)))?;
+    Ok(html)
+}
