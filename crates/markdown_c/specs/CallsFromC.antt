@@ -1,7 +1,7 @@
 -- A call from C: its outcome, the number that it returns, and what the buffer then holds.
 use Rattle.std.specs.Prelude.{◌≡◌, ℕ, ◌+◌, ℤ, Bool, true, false, not, ◌&&◌, ◌==◌, pos, negsuc, nat_le, ◌++◌, List}
 use Rattle.std.specs.Prelude.{length, drop, flat_map, if◌then◌else◌}
-use Rattle.std.specs.Prelude.{Result, Ok, Err, String, string_bytes, map}
+use Rattle.std.specs.Prelude.{Result, Ok, Err, String, Vec, string_bytes, map}
 use Rattle.std.specs.Int.RustNames.{bit_and}
 use Rattle.std.specs.Str.{IsUtf8}
 use Rattle.markdown_additions.specs.Additions.{AdditionsView, AreFirstAdded, adds_ids, adds_no_ids}
@@ -21,6 +21,7 @@ use Rattle.markdown_safe.specs.SafeHtml.{IsSafeHtml}
 use Rattle.markdown_text_json.specs.OutlineJson.{entry_line}
 use Rattle.markdown_c.specs.declared.readings.Refusal.{Refusal}
 use Rattle.markdown_c.specs.declared.readings.Refusal.TheVariants.{NotUtf8, Memory, Depth, UnknownOption}
+use Rattle.markdown_c.specs.declared.readings.Refusal.TheVariants.{NotRecords, TooLong}
 
 -- the refusal for an error of the library; no text has the error Blocks
 abbrev pub refusal_of : Fault → Refusal
@@ -32,6 +33,11 @@ refusal_of fault.Blocks = Memory
 abbrev pub bytes_of : {A : Type 0} → Result (String A) Refusal → Result (List ℕ) Refusal
 bytes_of (Ok whole) = Ok (string_bytes whole)
 bytes_of (Err refusal) = Err refusal
+
+-- the same of an outcome that is bytes
+abbrev pub items_of : {A : Type 0} → Result (Vec ℕ) A → Result (List ℕ) A
+items_of (Ok bytes) = Ok bytes.items
+items_of (Err refusal) = Err refusal
 
 -- the bits that enable extensions of the syntax, those from 1 to 11 and from 13 to 15
 abbrev pub extension_flags : ℕ
@@ -85,6 +91,8 @@ IsOutcome IsOf IsDeep bits text (Err UnknownOption) = are_known bits ≡ false
 IsOutcome IsOf IsDeep bits text (Err NotUtf8) = IsUtf8 text → ⊥
 IsOutcome IsOf IsDeep bits text (Err Memory) = Unit {0}
 IsOutcome IsOf IsDeep bits text (Err Depth) = IsDeep (source_as (syntax_by_bits bits) text)
+IsOutcome IsOf IsDeep bits text (Err NotRecords) = ⊥
+IsOutcome IsOf IsDeep bits text (Err TooLong) = ⊥
 
 -- among the first events of a text with what the bits add, as they are written in a form, more Starts are open in an
 -- image than can be counted
@@ -122,12 +130,14 @@ outline_by_bits bits s =
 abbrev pub IsOutlineOutcome : (bits : ℕ) → (text : List ℕ) → Result (List ℕ) Refusal → Type 0
 IsOutlineOutcome bits = IsOutcome (λ s lines. lines ≡ outline_by_bits bits s) NeverTooDeep bits
 
--- the status of a refusal: -1, -2, -3 and -4
+-- the status of a refusal, from -1 to -6
 abbrev pub refusal_status : Refusal → ℤ
 refusal_status NotUtf8 = negsuc 0
 refusal_status Memory = negsuc 1
 refusal_status Depth = negsuc 2
 refusal_status UnknownOption = negsuc 3
+refusal_status NotRecords = negsuc 4
+refusal_status TooLong = negsuc 5
 
 -- the number that is returned: the length of the text to write, or a status
 abbrev pub returned_number : Result (List ℕ) Refusal → ℤ

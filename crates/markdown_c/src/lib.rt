@@ -5,3 +5,5 @@
 mod buffer;
 pub mod calls;
 mod readings;
+pub mod record_calls;
+mod records;

@@ -31,6 +31,10 @@ pub enum Refusal {
     Depth,
     /// A bit of the options is set that means nothing.
     UnknownOption,
+    /// The bytes are no records, or not of this text.
+    NotRecords,
+    /// A length or a number in the records is 2^32 or greater.
+    TooLong,
 }
 
 /// Converts an error of the library. No text has the error `Blocks`.
@@ -49,7 +53,7 @@ impl From<Fault> for Refusal {
 }
 
 /// Returns the bytes as text, or `NotUtf8`.
-fn text_of(bytes: &[u8]) -> Result<&str, Refusal>
+pub(crate) fn text_of(bytes: &[u8]) -> Result<&str, Refusal>
     ensures text { IfOk result (λ text. (text.now ≡ bytes.now) × IsUtf8 bytes.now) }
     ensures refused { IfErr result (λ refusal. (refusal ≡ Refusal.NotUtf8)
         × (IsUtf8 bytes.now → ⊥)) }
@@ -76,7 +80,7 @@ const PROFILE: u32 = 1 << 29;
 const EXTENDED: u32 = 1 << 30;
 
 /// Returns what is read of a text by these bits, or `UnknownOption` if one of them means nothing.
-fn syntax_of(bits: u32) -> Result<Syntax, Refusal>
+pub(crate) fn syntax_of(bits: u32) -> Result<Syntax, Refusal>
     ensures known { IfOk result (λ syntax. (syntax ≡ syntax_by_bits bits)
         × (are_known bits ≡ true)) }
     ensures refused { IfErr result (λ refusal. (refusal ≡ Refusal.UnknownOption)

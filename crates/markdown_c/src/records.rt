@@ -1,0 +1,82 @@
+//! The outcomes of the calls that write and read records.
+ghost use Rattle.markdown_c.specs.CallsFromC.{bytes_of, items_of};
+ghost use Rattle.markdown_c.specs.RecordCalls.{IsFoldOutcome, IsRecordsHtmlOutcome, IsRecordsOutcome, IsRecordsSafeHtmlOutcome};
+
+use crate::readings::{Refusal, syntax_of, text_of};
+use markdown_records::RecordFault;
+use markdown_text_records::{
+    answers_of, fold_label, html_of_records, records_source, safe_html_of_records,
+};
+use std::alloc::Global;
+
+/// Converts an error of records.
+impl From<RecordFault> for Refusal {
+    ghost use Rattle.std.specs.Prelude.{◌≡◌};
+    ghost use Rattle.markdown_c.specs.RecordCalls.{refusal_of_records};
+
+    ghost from_gives = { λ fault refusal. refusal ≡ refusal_of_records fault };
+
+    fn from(fault: RecordFault) -> Refusal {
+        match fault {
+            RecordFault::Of(fault) => Refusal::from(fault),
+            RecordFault::TooLong => Refusal::TooLong,
+            RecordFault::NotRecords => Refusal::NotRecords,
+        }
+    }
+}
+
+/// Returns the records of a text, whose questions these answers answer; if there are none, nothing is asked.
+pub(crate) fn records_of(
+    alloc: Global,
+    bytes: &[u8],
+    bits: u32,
+    answers: &[u8],
+) -> Result<Vec<u8>, Refusal>
+    ensures { IsRecordsOutcome bits bytes.now answers.now (items_of result) }
+{
+    let syntax = syntax_of(bits)?;
+    let text = text_of(bytes)?;
+    let table = if answers.is_empty() {
+        None
+    } else {
+        Some(answers_of(alloc, text, answers)?)
+    };
+    Ok(records_source(alloc, text, syntax, table)?)
+}
+
+/// Returns the HTML of the events that records say of a text.
+pub(crate) fn records_html_of(
+    alloc: Global,
+    bytes: &[u8],
+    records: &[u8],
+    bits: u32,
+) -> Result<String, Refusal>
+    ensures { IsRecordsHtmlOutcome bits bytes.now records.now (bytes_of result) }
+{
+    // the options decide nothing yet
+    let _ = syntax_of(bits)?;
+    let text = text_of(bytes)?;
+    Ok(html_of_records(alloc, text, records)?)
+}
+
+/// Returns the safe HTML of the events that records say of a text.
+pub(crate) fn records_safe_html_of(
+    alloc: Global,
+    bytes: &[u8],
+    records: &[u8],
+    bits: u32,
+) -> Result<String, Refusal>
+    ensures { IsRecordsSafeHtmlOutcome bits bytes.now records.now (bytes_of result) }
+{
+    let _ = syntax_of(bits)?;
+    let text = text_of(bytes)?;
+    Ok(safe_html_of_records(alloc, text, records)?)
+}
+
+/// Returns the case folding of a link label.
+pub(crate) fn fold_of(alloc: Global, label: &[u8]) -> Result<String, Refusal>
+    ensures { IsFoldOutcome label.now (bytes_of result) }
+{
+    let label = text_of(label)?;
+    Ok(fold_label(alloc, label)?)
+}
