@@ -5,3 +5,5 @@ pub mod TextsReadBackLemmas
 pub mod NumbersReadBackLemmas
 pub mod GroupsReadBackLemmas
 pub mod PartsReadBackLemmas
+pub mod EventsReadBackLemmas
+pub mod EntriesReadBackLemmas
