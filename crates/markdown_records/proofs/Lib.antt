@@ -7,3 +7,4 @@ pub mod GroupsReadBackLemmas
 pub mod PartsReadBackLemmas
 pub mod EventsReadBackLemmas
 pub mod EntriesReadBackLemmas
+pub mod ReadsBackLemmas
