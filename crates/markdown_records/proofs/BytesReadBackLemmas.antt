@@ -1,8 +1,9 @@
 -- Records read back from their bytes.
-use Rattle.std.proofs.Common.{◌≡◌, ◌<◌, ◌^◌, ◌++◌, ◌∙◌, ◌∷◌, ◌+◌, ◌*◌, ◌/◌, ℕ, List, [], ap, refl, drop, take, length, arith, length-append}
+use Rattle.std.proofs.Common.{◌≡◌, ◌<◌, ◌^◌, ◌++◌, ◌∷◌, ◌*◌, ◌/◌, ℕ, List, [], refl, take, length, arith}
 use Rattle.std.specs.List.{flat_map}
 use Rattle.std.proofs.lemmas.Nat.{from_le_bytes-to_le_bytes_4}
-use Rattle.markdown_records.specs.RecordView.{RecordView, record_bytes, record_in, records_from, records_in, record_size}
+use Rattle.markdown_records.specs.RecordView.{RecordView, record_bytes, record_in, records_from, records_in}
+use Rattle.markdown_records.specs.RecordView.{record_size}
 
 -- all numbers of a record have 32 bits
 pub record IsShort (r : RecordView) : Type 0 where

@@ -1,13 +1,14 @@
 -- Records fall into the groups that their drafts have made.
-use Rattle.std.proofs.Common.{◌≡◌, ◌≤◌, ◌++◌, ◌∙◌, ◌∷◌, ◌==◌, ◌&&◌, ℕ, Bool, true, false, List, [], ap, sym, refl, length, nat_le, Option, Some, None, le-leb, eq-eqb, append_assoc}
+use Rattle.std.proofs.Common.{◌≡◌, ◌≤◌, ◌++◌, ◌∙◌, ◌∷◌, ◌&&◌, ℕ, true, false, List, [], ap, sym, refl, length}
+use Rattle.std.proofs.Common.{nat_le, Option, Some, le-leb, eq-eqb}
 use Rattle.std.specs.List.{flat_map}
 use Rattle.markdown_records.specs.Decoded.{Group, are_parts, each_of, grouped, is_part, is_sound, said_by}
-use Rattle.markdown_records.specs.Drafts.{DraftView}
+use Rattle.markdown_records.specs.Drafts.{DraftView, Wording}
 use Rattle.markdown_records.specs.Encoded.{Sheet, Spot, placed, record_at, spot_of, then_draft, then_drafts}
 use Rattle.markdown_records.specs.Numbers.{first_part_kind}
 use Rattle.markdown_records.specs.RecordView.{RecordView}
 use Rattle.markdown_records.proofs.SheetsReadBackLemmas.{length_records_of, records_after, records_of}
-use Rattle.markdown_records.proofs.TextsReadBackLemmas.{AllRead, Reads, read_first, read_second}
+use Rattle.markdown_records.proofs.TextsReadBackLemmas.{AllRead, read_first, read_second}
 
 -- a draft is that of a part
 pub record IsPartDraft (d : DraftView) : Type 0 where
@@ -17,14 +18,19 @@ pub record IsPartDraft (d : DraftView) : Type 0 where
   pub end : d.range.end ≡ 0
   pub parts : d.parts ≡ 0
 
+pub is_part_draft : {kind : ℕ} {wording : Wording} → nat_le first_part_kind kind ≡ true
+    → IsPartDraft (record {
+      kind = kind;
+      detail = 0;
+      range = record { start = 0; end = 0 };
+      wording = wording;
+      parts = 0;
+    })
+is_part_draft kind = record { kind = kind; detail = refl; start = refl; end = refl; parts = refl }
+
 abbrev pub ArePartDrafts : List DraftView → Type 0
 ArePartDrafts [] = Unit {0}
 ArePartDrafts (d ∷ ds) = IsPartDraft d × ArePartDrafts ds
-
-pub part_drafts_after : (first second : List DraftView) → ArePartDrafts first → ArePartDrafts second
-    → ArePartDrafts (first ++ second)
-part_drafts_after [] second are others = others
-part_drafts_after (d ∷ first) second are others = (are.0, part_drafts_after first second are.1 others)
 
 -- records are those of parts by their kinds
 abbrev pub HavePartKinds : List RecordView → Type 0
@@ -87,12 +93,13 @@ one_more read rs rest a all one others =
 
 -- what drafts say, one after another, is read of their records
 pub all_groups : {A : Type 0} (source pool : List ℕ) (drafts : A → List DraftView) (read : Group → Option A)
-    → ((a : A) (sheet : Sheet) → AllRead source pool sheet (drafts a) → ReadsOne read (records_of source sheet (drafts a)) a)
+    → ((a : A) (sheet : Sheet) → AllRead source pool sheet (drafts a)
+    → ReadsOne read (records_of source sheet (drafts a)) a)
     → (all : List A) (sheet : Sheet) → AllRead source pool sheet (flat_map drafts all)
     → ReadsAll read (records_of source sheet (flat_map drafts all)) all
 all_groups source pool drafts read one [] sheet reads = record { no_parts = refl; says = refl }
-all_groups source pool drafts read one (a ∷ all) sheet reads = rw (records_after source sheet (drafts a) (flat_map drafts all))
-    (one_more read (records_of source sheet (drafts a))
+all_groups source pool drafts read one (a ∷ all) sheet reads =
+    rw (records_after source sheet (drafts a) (flat_map drafts all)) (one_more read (records_of source sheet (drafts a))
     (records_of source (then_drafts source sheet (drafts a)) (flat_map drafts all)) a all
     (one a sheet (read_first source pool sheet (drafts a) (flat_map drafts all) reads))
     (all_groups source pool drafts read one all (then_drafts source sheet (drafts a))
@@ -100,4 +107,4 @@ all_groups source pool drafts read one (a ∷ all) sheet reads = rw (records_aft
 
 pub said_back : {A : Type 0} (source pool : List ℕ) (read : Group → Option A) (rs : List RecordView) (all : List A)
     → ReadsAll read rs all → said_by source pool read rs ≡ Some all
-said_back source pool read rs all reads = rw (reads.no_parts) reads.says
+said_back source pool read rs all reads = rw reads.no_parts reads.says

@@ -1,5 +1,5 @@
 -- Levels and types read back from their numbers.
-use Rattle.std.proofs.Common.{◌≡◌, ◌∷◌, ℕ, Bool, true, false, List, [], refl, map, Option, Some, None}
+use Rattle.std.proofs.Common.{◌≡◌, ◌∷◌, Bool, true, false, List, [], refl, map, Option, Some, None}
 use Rattle.markdown_base.specs.declared.tag.Alignment.{Alignment}
 use Rattle.markdown_base.specs.declared.tag.Alignment.TheVariants as align
 use Rattle.markdown_base.specs.declared.tag.BlockQuoteKind.{BlockQuoteKind}
@@ -11,7 +11,8 @@ use Rattle.markdown_base.specs.declared.tag.LinkType.TheVariants as written
 use Rattle.markdown_base.specs.declared.tag.MetadataBlockKind.{MetadataBlockKind}
 use Rattle.markdown_base.specs.declared.tag.MetadataBlockKind.TheVariants as fence
 use Rattle.markdown_records.specs.Decoded.{each_of}
-use Rattle.markdown_records.specs.Numbers.{alignment_letter, bool_number, level_number, link_type_number, metadata_number, quote_number}
+use Rattle.markdown_records.specs.Numbers.{alignment_letter, bool_number, level_number, link_type_number}
+use Rattle.markdown_records.specs.Numbers.{metadata_number, quote_number}
 use Rattle.markdown_records.specs.NumbersRead.{alignment_of, bool_of, level_of, link_type_of, metadata_of, quote_of}
 
 pub level_back : (l : HeadingLevel) → level_of (level_number l) ≡ Some l

@@ -1,16 +1,16 @@
 -- The texts of parts read back: titles and labels of links, and the classes and attributes of headings.
-use Rattle.std.proofs.Common.{◌≡◌, ◌++◌, ◌∙◌, ◌∷◌, ℕ, List, [], ap, sym, refl, length, Option, Some, None, append_assoc, append-nil}
+use Rattle.std.proofs.Common.{◌≡◌, ◌++◌, ◌∷◌, ℕ, List, [], refl, Option, Some, None, append_assoc, append-nil}
 use Rattle.std.specs.List.{flat_map}
 use Rattle.std.specs.declared.ops.Range.{Range}
-use Rattle.markdown_base.specs.Event.{HeadingView, LinkView}
+use Rattle.markdown_base.specs.Event.{LinkView}
 use Rattle.markdown_base.specs.declared.tag.HeadingLevel.{HeadingLevel}
 use Rattle.markdown_base.specs.declared.tag.LinkType.{LinkType}
 use Rattle.markdown_base.specs.declared.tag.LinkType.TheVariants as written
 use Rattle.markdown_records.specs.Decoded.{title_and_label, with_parts, with_value}
-use Rattle.markdown_records.specs.Drafts.{DraftView, attribute_parts, class_part, destination_of, part_unless_empty, sought}
-use Rattle.markdown_records.specs.Encoded.{Sheet, spot_of, then_draft, then_drafts}
+use Rattle.markdown_records.specs.Drafts.{DraftView, attribute_parts, class_part, destination_of, part_unless_empty}
+use Rattle.markdown_records.specs.Encoded.{Sheet, spot_of}
 use Rattle.markdown_records.specs.Numbers as number
-use Rattle.markdown_records.proofs.GroupsReadBackLemmas.{ArePartDrafts, part_drafts_after}
+use Rattle.markdown_records.proofs.GroupsReadBackLemmas.{ArePartDrafts, is_part_draft}
 use Rattle.markdown_records.proofs.SheetsReadBackLemmas.{records_of}
 use Rattle.markdown_records.proofs.TextsReadBackLemmas.{AllRead, Said, text_at}
 
@@ -46,13 +46,10 @@ title_and_label_back source pool sheet a b c d (t ∷ title) (l ∷ label) reads
 
 pub link_part_drafts : (a b c d : ℕ) (title label : List ℕ) → ArePartDrafts (title_and_label_parts a b c d title label)
 link_part_drafts a b c d [] [] = tt
-link_part_drafts a b c d (t ∷ title) [] =
-    (record { kind = refl; detail = refl; start = refl; end = refl; parts = refl }, tt)
-link_part_drafts a b c d [] (l ∷ label) =
-    (record { kind = refl; detail = refl; start = refl; end = refl; parts = refl }, tt)
+link_part_drafts a b c d (t ∷ title) [] = (is_part_draft refl, tt)
+link_part_drafts a b c d [] (l ∷ label) = (is_part_draft refl, tt)
 link_part_drafts a b c d (t ∷ title) (l ∷ label) =
-    (record { kind = refl; detail = refl; start = refl; end = refl; parts = refl },
-    (record { kind = refl; detail = refl; start = refl; end = refl; parts = refl }, tt))
+    (is_part_draft refl, (is_part_draft refl, tt))
 
 -- the last attribute gets its value
 value_back : (source pool : List ℕ) (before : List (List ℕ × Option (List ℕ))) (name value : List ℕ)
@@ -70,12 +67,19 @@ attributes_back : (source pool : List ℕ) (level : HeadingLevel) (id : Option (
     ≡ Some (record { level = level; id = id; classes = classes; attributes = before ++ attributes })
 attributes_back source pool level id classes before [] sheet reads = rw (append-nil before) refl
 attributes_back source pool level id classes before ((name, None) ∷ attributes) sheet reads =
-    rw (reads.0.said, attributes_back source pool level id classes (before ++ (name, None) ∷ []) attributes _ reads.1,
-    append_assoc before ((name, None) ∷ []) attributes) refl
+    rw (
+      reads.0.said,
+      attributes_back source pool level id classes (before ++ (name, None) ∷ []) attributes _ reads.1,
+      append_assoc before ((name, None) ∷ []) attributes,
+    ) refl
 attributes_back source pool level id classes before ((name, Some value) ∷ attributes) sheet reads =
-    rw (reads.0.said, reads.1.0.said, value_back source pool before name value,
-    attributes_back source pool level id classes (before ++ (name, Some value) ∷ []) attributes _ reads.1.1,
-    append_assoc before ((name, Some value) ∷ []) attributes) refl
+    rw (
+      reads.0.said,
+      reads.1.0.said,
+      value_back source pool before name value,
+      attributes_back source pool level id classes (before ++ (name, Some value) ∷ []) attributes _ reads.1.1,
+      append_assoc before ((name, Some value) ∷ []) attributes,
+    ) refl
 
 -- the classes of a heading after others, and then its attributes
 pub heading_parts_back : (source pool : List ℕ) (level : HeadingLevel) (id : Option (List ℕ))
@@ -87,20 +91,20 @@ pub heading_parts_back : (source pool : List ℕ) (level : HeadingLevel) (id : O
 heading_parts_back source pool level id before [] attributes sheet reads =
     rw (append-nil before) (attributes_back source pool level id before [] attributes sheet reads)
 heading_parts_back source pool level id before (class ∷ classes) attributes sheet reads =
-    rw (reads.0.said, heading_parts_back source pool level id (before ++ class ∷ []) classes attributes _ reads.1,
-    append_assoc before (class ∷ []) classes) refl
+    rw (
+      reads.0.said,
+      heading_parts_back source pool level id (before ++ class ∷ []) classes attributes _ reads.1,
+      append_assoc before (class ∷ []) classes,
+    ) refl
 
 attribute_part_drafts : (attributes : List (List ℕ × Option (List ℕ)))
     → ArePartDrafts (flat_map attribute_parts attributes)
 attribute_part_drafts [] = tt
-attribute_part_drafts ((name, None) ∷ attributes) =
-    (record { kind = refl; detail = refl; start = refl; end = refl; parts = refl }, attribute_part_drafts attributes)
+attribute_part_drafts ((name, None) ∷ attributes) = (is_part_draft refl, attribute_part_drafts attributes)
 attribute_part_drafts ((name, Some value) ∷ attributes) =
-    (record { kind = refl; detail = refl; start = refl; end = refl; parts = refl },
-    (record { kind = refl; detail = refl; start = refl; end = refl; parts = refl }, attribute_part_drafts attributes))
+    (is_part_draft refl, (is_part_draft refl, attribute_part_drafts attributes))
 
 pub heading_part_drafts : (classes : List (List ℕ)) (attributes : List (List ℕ × Option (List ℕ)))
     → ArePartDrafts (flat_map class_part classes ++ flat_map attribute_parts attributes)
 heading_part_drafts [] attributes = attribute_part_drafts attributes
-heading_part_drafts (class ∷ classes) attributes =
-    (record { kind = refl; detail = refl; start = refl; end = refl; parts = refl }, heading_part_drafts classes attributes)
+heading_part_drafts (class ∷ classes) attributes = (is_part_draft refl, heading_part_drafts classes attributes)

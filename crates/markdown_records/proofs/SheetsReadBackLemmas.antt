@@ -1,15 +1,17 @@
 -- What drafts leave on a sheet.
-use Rattle.std.proofs.Common.{◌≡◌, ◌<◌, ◌^◌, ◌++◌, ◌∙◌, ◌∷◌, ◌+◌, ℕ, List, [], ap, sym, refl, length, arith, append-nil, append_assoc}
+use Rattle.std.proofs.Common.{◌≡◌, ◌<◌, ◌^◌, ◌++◌, ◌∙◌, ◌∷◌, ◌+◌, ℕ, List, [], ap, sym, refl, length, arith}
+use Rattle.std.proofs.Common.{append-nil, append_assoc}
 use Rattle.std.specs.List.{flat_map}
-use Rattle.markdown_records.specs.Drafts.{DraftView, Wording}
-use Rattle.markdown_records.specs.Encoded.{FitDrafts, Sheet, placed, pooled_bytes, spot_of, then_draft, then_drafts}
+use Rattle.markdown_records.specs.Drafts.{DraftView}
+use Rattle.markdown_records.specs.Encoded.{FitDrafts, Sheet, placed, pooled_bytes, then_draft, then_drafts}
 use Rattle.markdown_records.specs.RecordView.{RecordView, record_bytes}
 use Rattle.markdown_records.proofs.BytesReadBackLemmas.{AreShort}
 
 -- the records of drafts that are written on a sheet
 abbrev pub records_of : (source : List ℕ) → Sheet → List DraftView → List RecordView
 records_of source sheet [] = []
-records_of source sheet (d ∷ ds) = placed source (length sheet.pool) d ∷ records_of source (then_draft source sheet d) ds
+records_of source sheet (d ∷ ds) =
+    placed source (length sheet.pool) d ∷ records_of source (then_draft source sheet d) ds
 
 -- what they add to the pool
 abbrev pub pooled_by : (source : List ℕ) → List DraftView → List ℕ
@@ -56,13 +58,16 @@ records_after source sheet (d ∷ first) second =
 pub fit_short : (source : List ℕ) (sheet : Sheet) (ds : List DraftView) → FitDrafts source sheet ds
     → AreShort (records_of source sheet ds)
 fit_short source sheet [] fit = tt
-fit_short source sheet (d ∷ ds) fit = (record {
-  start = fit.0.start;
-  end = fit.0.end;
-  at = fit.0.at;
-  length = fit.0.length;
-  parts = fit.0.parts;
-}, fit_short source (then_draft source sheet d) ds fit.1)
+fit_short source sheet (d ∷ ds) fit = (
+  record {
+    start = fit.0.start;
+    end = fit.0.end;
+    at = fit.0.at;
+    length = fit.0.length;
+    parts = fit.0.parts;
+  },
+  fit_short source (then_draft source sheet d) ds fit.1,
+)
 
 pub fit_count : (source : List ℕ) (sheet : Sheet) (ds : List DraftView) → FitDrafts source sheet ds
     → sheet.count < 2 ^ 32 → (then_drafts source sheet ds).count < 2 ^ 32

@@ -1,13 +1,15 @@
 -- Texts read back from the places that their records name.
-use Rattle.std.proofs.Common.{◌≡◌, ◌<◌, ◌≤◌, ◌++◌, ◌∙◌, ◌∷◌, ◌+◌, ◌-◌, ◌&&◌, ◌==◌, ℕ, suc, zero, Bool, true, false, not, List, [], ap, sym, refl, length, arith, append_assoc, length-append, subst, Option, Some, None, slice_get, slice_index, slice_range, nat_le, if◌then◌else◌, take, drop, IsUtf8, IsCharBoundary, bytes_eq, le-leb, true≢false}
+use Rattle.std.proofs.Common.{◌≡◌, ◌<◌, ◌≤◌, ◌++◌, ◌∷◌, ◌+◌, ◌-◌, ◌&&◌, ◌==◌, ℕ, suc, zero, Bool, true, false, not}
+use Rattle.std.proofs.Common.{List, [], ap, sym, refl, length, arith, append_assoc, length-append, subst, Option}
+use Rattle.std.proofs.Common.{Some, None, slice_get, slice_index, nat_le, if◌then◌else◌, IsUtf8, IsCharBoundary}
+use Rattle.std.proofs.Common.{bytes_eq, le-leb, true≢false}
 use Rattle.std.specs.Option.{option_map_or}
 use Rattle.std.proofs.lemmas.Str.{IsCharBoundary-at_seam, IsUtf8-append, IsUtf8-nil}
 use Rattle.std.proofs.lemmas.Bool.Decides.{nat_tests}
 use Rattle.std.proofs.lemmas.Slice.Eq.{bytes_eq-Decides}
 use Rattle.std.proofs.Math.Seq.{drop-append_seam, take-append_seam}
-use Rattle.markdown_records.specs.Decoded.{text_in}
 use Rattle.markdown_records.specs.Drafts.{DraftView, Wording, no_text, numbered, pooled, sought}
-use Rattle.markdown_records.specs.Encoded.{Sheet, Spot, placed, pooled_bytes, record_at, spot_of, stands_at, then_draft, then_drafts}
+use Rattle.markdown_records.specs.Encoded.{Sheet, Spot, pooled_bytes, spot_of, stands_at, then_draft, then_drafts}
 use Rattle.markdown_records.specs.ReadsBack.{AreSound, IsWording}
 use Rattle.markdown_records.specs.RecordView.{is_boundary, slice_of, in_pool, in_source}
 use Rattle.markdown_records.proofs.SheetsReadBackLemmas.{pooled_by}
@@ -26,11 +28,11 @@ boundary text at is = rw (le-leb at (length text) is.0) (begins_there text at is
 slice_between : (before text after : List ℕ) → IsUtf8 text → IsUtf8 after
     → slice_of (before ++ (text ++ after)) (length before) (length text) ≡ Some text
 slice_between before text after utf8 rest =
-    let begin = boundary (before ++ (text ++ after)) (length before)
-        (IsCharBoundary-at_seam (before ++ (text ++ after)) before (text ++ after) refl (IsUtf8-append text after utf8 rest)) in
-    let seam = IsCharBoundary-at_seam (before ++ (text ++ after)) (before ++ text) after
-        (sym (append_assoc before text after)) rest in
-    let end = boundary (before ++ (text ++ after)) (length before + length text) (rw (← length-append before text) seam) in
+    let all = before ++ (text ++ after) in
+    let begin = boundary all (length before)
+    (IsCharBoundary-at_seam all before (text ++ after) refl (IsUtf8-append text after utf8 rest)) in
+    let seam = IsCharBoundary-at_seam all (before ++ text) after (sym (append_assoc before text after)) rest in
+    let end = boundary all (length before + length text) (rw (← length-append before text) seam) in
     let count : length before + length text - length before ≡ length text = omega arith in
     rw (begin, end, count, drop-append_seam before (text ++ after), take-append_seam text after) refl
 
@@ -39,7 +41,8 @@ stands_there : (source : List ℕ) (at : ℕ) (text : List ℕ) → stands_at so
     → slice_of source at (length text) ≡ Some text
 stands_there source at text stands = by_slice (slice_of source at (length text)) stands
   where
-    by_slice : (slice : Option (List ℕ)) → option_map_or (λ slice. bytes_eq slice text) slice false ≡ true → slice ≡ Some text
+    by_slice : (slice : Option (List ℕ)) → option_map_or (λ slice. bytes_eq slice text) slice false ≡ true
+        → slice ≡ Some text
     by_slice None is = absurd (true≢false (sym is))
     by_slice (Some slice) is = ap (λ t. Some t) ((bytes_eq-Decides slice text).0 is)
 
@@ -87,7 +90,8 @@ AllRead source pool sheet (d ∷ ds) =
 pub pooled_utf8 : (source : List ℕ) (ds : List DraftView) → AreSound ds → IsUtf8 (pooled_by source ds)
 pooled_utf8 source [] sound = IsUtf8-nil
 pooled_utf8 source (d ∷ ds) sound =
-    IsUtf8-append (pooled_bytes source d.wording) (pooled_by source ds) (by_wording d.wording sound.1) (pooled_utf8 source ds sound.2)
+    IsUtf8-append (pooled_bytes source d.wording) (pooled_by source ds) (by_wording d.wording sound.1)
+    (pooled_utf8 source ds sound.2)
   where
     by_wording : (w : Wording) → IsWording w → IsUtf8 (pooled_bytes source w)
     by_wording no_text is = IsUtf8-nil
@@ -104,12 +108,15 @@ pooled_utf8 source (d ∷ ds) sound =
 pub all_read : (source : List ℕ) (sheet : Sheet) (ds : List DraftView) → AreSound ds
     → AllRead source (sheet.pool ++ pooled_by source ds) sheet ds
 all_read source sheet [] sound = tt
-all_read source sheet (d ∷ ds) sound = (record {
-  order = sound.0;
-  said = said source sheet.pool (pooled_by source ds) d.wording sound.1 (pooled_utf8 source ds sound.2);
-}, subst (λ pool. AllRead source pool (then_draft source sheet d) ds)
-    (append_assoc sheet.pool (pooled_bytes source d.wording) (pooled_by source ds))
-    (all_read source (then_draft source sheet d) ds sound.2))
+all_read source sheet (d ∷ ds) sound = (
+  record {
+    order = sound.0;
+    said = said source sheet.pool (pooled_by source ds) d.wording sound.1 (pooled_utf8 source ds sound.2);
+  },
+  subst (λ pool. AllRead source pool (then_draft source sheet d) ds)
+      (append_assoc sheet.pool (pooled_bytes source d.wording) (pooled_by source ds))
+      (all_read source (then_draft source sheet d) ds sound.2),
+)
 
 -- the same of the first of drafts, and of those after them
 pub read_first : (source pool : List ℕ) (sheet : Sheet) (first second : List DraftView)
