@@ -83,7 +83,11 @@ module _ (source pool : List ℕ) where
       (rw (level_back level, heading_parts_back source pool level None [] classes attributes _ reads.1) refl)
   heading_back sheet range level (Some id) classes attributes reads =
       start_of_group sheet _ _ _ reads.0 refl (heading_part_drafts classes attributes) refl
-      (rw (level_back level, reads.0.said, heading_parts_back source pool level (Some id) [] classes attributes _ reads.1) refl)
+      (rw (
+        level_back level,
+        reads.0.said,
+        heading_parts_back source pool level (Some id) [] classes attributes _ reads.1,
+      ) refl)
 
   -- the first draft of a link or an image, and what is read of it and of its parts
   abbrev link_head : (kind inside : ℕ) → Range ℕ → LinkView → DraftView
