@@ -5,6 +5,7 @@ mod draft;
 mod encode;
 mod events;
 mod fault;
+pub mod laws;
 mod link;
 mod numbers;
 mod numbers_read;
