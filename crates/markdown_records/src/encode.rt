@@ -9,6 +9,7 @@ ghost use Rattle.markdown_records.specs.RecordsOf.{Finishes, Places, Writes, ent
 use crate::draft::{Draft, Span, SpotHeld, TextPlace, small};
 use crate::fault::RecordFault;
 use crate::record::{A_NUMBER, IN_POOL, IN_SOURCE, NOWHERE, Record};
+use crate::slices::slice_of;
 use std::alloc::Global;
 
 /// The records of the events of a text, and the pool of the texts that are no slices of it.
@@ -36,10 +37,7 @@ pub struct Records<'t> {
 fn stands_at(source: &str, at: usize, text: &str) -> bool
     ensures { result ≡ stands_at source.now at text.now }
 {
-    let Some(end) = at.checked_add(text.len()) else {
-        return false;
-    };
-    match source.get(at..end) {
+    match slice_of(source, at, text.len()) {
         Some(slice) => slice == text,
         None => false,
     }
