@@ -1,2 +1,3 @@
 pub mod BoundaryLemmas
 pub mod WritesLemmas
+pub mod DraftLemmas

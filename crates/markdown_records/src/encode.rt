@@ -99,7 +99,7 @@ impl<'t> Records<'t> {
             }),
             TextPlace::Number(number) => Ok(SpotHeld {
                 place: A_NUMBER,
-                at: number as u32,
+                at: (number % (1 << 32)) as u32,
                 length: (number >> 32) as u32,
             }),
             TextPlace::Pooled(words) => self.in_pool(words),
@@ -135,7 +135,9 @@ impl<'t> Records<'t> {
             length: spot.length,
             parts: small(draft.parts)?,
         };
-        let count = self.count.checked_add(1).ok_or(RecordFault::TooLong)?;
+        let Some(count) = self.count.checked_add(1) else {
+            return Err(RecordFault::TooLong);
+        };
         self.records.extend_from_slice(&record.bytes())?;
         self.count = count;
         Ok(())
