@@ -1,9 +1,12 @@
--- The records of an event have its range.
-use Rattle.std.proofs.Common.{◌≡◌, ℕ, List, [], ◌∷◌, Some, None, refl, subst}
+-- The records of an event have its range; and how many parts a heading has.
+use Rattle.std.proofs.Common.{◌≡◌, ℕ, ◌+◌, List, [], ◌∷◌, ◌++◌, length, map, Option, Some, None, refl, ap, ap₂, subst, ◌∙◌}
+use Rattle.std.proofs.Common.{arith, length-append}
+use Rattle.std.specs.List.{flat_map}
+use Rattle.std.proofs.lemmas.List.Folds.{flat_map-map}
 use Rattle.std.specs.declared.ops.Range.{Range}
 use Rattle.markdown_base.specs.Event as event
 use Rattle.markdown_base.specs.Event.{EventView, TagView}
-use Rattle.markdown_records.specs.Drafts.{DraftView, event_drafts, start_drafts}
+use Rattle.markdown_records.specs.Drafts.{DraftView, attribute_parts, class_part, event_drafts, start_drafts}
 use Rattle.markdown_records.specs.Encoded.{FitDrafts, Sheet}
 use Rattle.markdown_records.specs.RecordsOf.{IsShortRange}
 
@@ -63,3 +66,17 @@ fit_short source sheet range (d ∷ ds) begins f = subst IsShortRange begins (re
 pub event_short : (source : List ℕ) (sheet : Sheet) (range : Range ℕ) (e : EventView)
     → FitDrafts source sheet (event_drafts range e) → IsShortRange range
 event_short source sheet range e = fit_short source sheet range (event_drafts range e) (event_begins range e)
+
+class_count : {A : Type 0} (view : A → List ℕ) (classes : List A)
+    → length (flat_map class_part (map view classes)) ≡ length classes
+class_count view [] = refl
+class_count view (x ∷ classes) = omega (arith, class_count view classes)
+
+-- a heading has a part for each class, and the parts of its attributes
+pub heading_count : {A B : Type 0} (view : A → List ℕ) (attribute : B → List ℕ × Option (List ℕ)) (classes : List A)
+    (attributes : List B)
+    → length (flat_map class_part (map view classes) ++ flat_map attribute_parts (map attribute attributes))
+    ≡ length classes + length (flat_map (λ a. attribute_parts (attribute a)) attributes)
+heading_count view attribute classes attributes =
+    length-append (flat_map class_part (map view classes)) (flat_map attribute_parts (map attribute attributes))
+    ∙ ap₂ (λ (n m : ℕ). n + m) (class_count view classes) (ap length (flat_map-map attribute_parts attribute attributes))

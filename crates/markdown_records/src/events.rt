@@ -159,7 +159,7 @@ impl Records<'_> {
         let span = span_of(&definition.span)?;
         let inside = span.start as usize + 1;
         // the label fits, or there is no record of it
-        let after = inside + small(label.len())? as usize + 3;
+        let after = inside + small(label.len())? as usize;
         let text = TextPlace::Sought {
             words: label,
             first: inside,
@@ -175,8 +175,8 @@ impl Records<'_> {
         let words = definition.dest.as_str();
         let destination = TextPlace::Sought {
             words,
-            first: after,
-            second: after + 1,
+            first: after + 3,
+            second: after + 4,
         };
         self.push(Draft::part(numbers::DESTINATION, destination))?;
         match &definition.title {
