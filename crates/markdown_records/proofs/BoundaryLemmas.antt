@@ -1,6 +1,6 @@
 -- A test of `RecordView` says where characters begin as the kit does, and so which slices of a text there are.
-use Rattle.std.proofs.Common.{◌≡◌, ℕ, zero, suc, ◌+◌, ◌<◌, ◌≤◌, ◌^◌, Bool, true, false, not, ◌&&◌, nat_le, List, [], ◌∷◌}
-use Rattle.std.proofs.Common.{length, arith, Some, None, refl, ap, ◌∙◌, ⊎_elim}
+use Rattle.std.proofs.Common.{◌≡◌, ℕ, zero, suc, ◌+◌, ◌<◌, ◌≤◌, true, false, not, ◌&&◌, nat_le, List, [], ◌∷◌}
+use Rattle.std.proofs.Common.{length, arith, Some, None, refl, ⊎_elim}
 use Rattle.std.specs.Bool.{Decides}
 use Rattle.std.specs.List.{slice_get, slice_index, slice_range}
 use Rattle.std.specs.Option.{option_map_or}

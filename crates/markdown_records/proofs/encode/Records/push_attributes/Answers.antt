@@ -2,7 +2,7 @@
 use Rattle.std.proofs.lemmas.List.Folds.{flat_map-map}
 use Rattle.markdown_base.specs.Event.{attribute_view}
 use Rattle.markdown_records.specs.Drafts.{attribute_parts}
-use Rattle.markdown_records.proofs.WritesLemmas.{written_all, written_more, written_none, written_refused}
+use Rattle.markdown_records.proofs.WritesLemmas.{written_all, written_more, written_refused}
 use Rattle.markdown_records.proofs.encode.Records.push_attributes.Goals as goal
 
 pub loop-attribute-preserved : goal.loop-attribute-preserved

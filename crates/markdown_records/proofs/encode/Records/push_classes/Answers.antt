@@ -2,7 +2,7 @@
 use Rattle.std.proofs.lemmas.List.Folds.{flat_map-map}
 use Rattle.markdown_base.specs.CowText.{text_of}
 use Rattle.markdown_records.specs.Drafts.{class_part}
-use Rattle.markdown_records.proofs.WritesLemmas.{written_all, written_more, written_none, written_refused}
+use Rattle.markdown_records.proofs.WritesLemmas.{written_all, written_more, written_refused}
 use Rattle.markdown_records.proofs.encode.Records.push_classes.Goals as goal
 
 pub loop-class-preserved : goal.loop-class-preserved
