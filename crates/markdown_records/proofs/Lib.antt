@@ -8,3 +8,6 @@ pub mod PartsReadBackLemmas
 pub mod EventsReadBackLemmas
 pub mod EntriesReadBackLemmas
 pub mod ReadsBackLemmas
+pub mod BoundaryLemmas
+pub mod WritesLemmas
+pub mod DraftLemmas

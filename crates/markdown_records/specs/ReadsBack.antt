@@ -8,14 +8,14 @@ use Rattle.markdown_records.specs.Decoded.{decoded}
 use Rattle.markdown_records.specs.Encoded.{FitDrafts, blank, encoded, whole_sheet}
 use Rattle.markdown_records.specs.EntryView.{Contents}
 
--- a text is UTF-8, and a number has 64 bits
+-- a text is UTF-8
 abbrev pub IsWording : Wording → Type 0
 IsWording no_text = Unit {0}
-IsWording (numbered n) = n < 2 ^ 64
+IsWording (numbered n) = Unit {0}
 IsWording (pooled text) = IsUtf8 text
 IsWording (sought first second text) = IsUtf8 text
 
--- no range ends before it begins, each text is UTF-8, and numbers have 64 bits
+-- no range ends before it begins, and each text is UTF-8
 abbrev pub AreSound : List DraftView → Type 0
 AreSound [] = Unit {0}
 AreSound (d ∷ ds) = (d.range.start ≤ d.range.end) × IsWording d.wording × AreSound ds
@@ -33,5 +33,5 @@ pub record IsRecordable (source : List ℕ) (c : Contents) : Type 0 where
 
 -- they read back
 abbrev pub ReadsBack : Type 0
-ReadsBack = (source : List ℕ) (c : Contents) → IsUtf8 source → IsRecordable source c
+ReadsBack = (source : List ℕ) (c : Contents) → IsRecordable source c
     → decoded source (encoded source c) ≡ Some c

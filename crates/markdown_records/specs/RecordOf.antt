@@ -1,5 +1,5 @@
 -- Records of the code, and drafts of them, as views. Only private clauses cite this.
-use Rattle.std.specs.Prelude.{ℕ, List, map}
+use Rattle.std.specs.Prelude.{ℕ, map}
 use Rattle.std.specs.Option.{option_map}
 use Rattle.std.specs.declared.ops.Range.{Range}
 use Rattle.markdown_base.specs.CowText.{text_of}

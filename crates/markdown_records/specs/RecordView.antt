@@ -1,5 +1,5 @@
 -- A record, and its 24 bytes; the header before the records, and the whole. Numbers are little-endian.
-use Rattle.std.specs.Prelude.{ℕ, ◌+◌, ◌/◌, Bool, true, List, [], ◌∷◌, ◌++◌, ◌&&◌, ◌==◌, nat_le, not, zero, suc, length, take, drop}
+use Rattle.std.specs.Prelude.{ℕ, ◌+◌, ◌/◌, Bool, true, List, [], ◌∷◌, ◌++◌, ◌&&◌, nat_le, not, zero, suc, length, take, drop}
 use Rattle.std.specs.Prelude.{slice_get, slice_index, slice_range, codes, if◌then◌else◌, Option, None, Some}
 use Rattle.std.specs.Int.{w32, to_le_bytes, from_le_bytes}
 use Rattle.std.specs.Option.{option_map_or}

@@ -1,5 +1,6 @@
 -- What `Records` has written, and what a call writes or why it refuses. Only private fields are behind these names.
 use Rattle.std.specs.Prelude.{◌≡◌, ◌⊎◌, ◌<◌, ◌≤◌, ◌^◌, ◌++◌, ℕ, List, length, max, string_bytes, IfOk, IfErr, Result, Vec}
+use Rattle.std.specs.declared.alloc.Global.{Global}
 use Rattle.std.specs.declared.ops.Range.{Range}
 use Rattle.markdown_base.specs.declared.fault.Fault.TheVariants.{Memory}
 use Rattle.markdown_records.specs.Drafts.{DraftView, Wording}
@@ -64,7 +65,7 @@ pub record Places (old : Records) (wording : Wording) (result : Result SpotHeld 
   pub refused : IfErr result (IsNoPlace (spot_of (records_source old) (length (sheet_of old).pool) wording))
 
 -- the whole is the bytes of the sheet, or there are none: an allocation failed, or the text or the pool is too long
-pub record Finishes (old : Records) (result : Result (Vec ℕ) RecordFault) : Type 0 where
+pub record Finishes (old : Records) (result : Result (Vec ℕ Global) RecordFault) : Type 0 where
   pub whole : IfOk result (λ bytes. bytes.items ≡ sheet_bytes (records_source old) (entries_of old) (sheet_of old))
   pub refused : IfErr result (λ fault. (fault ≡ Of Memory)
       ⊎ ((fault ≡ TooLong) × (2 ^ 32 ≤ max (length (records_source old)) (length (sheet_of old).pool))))

@@ -1,5 +1,6 @@
 //! A record whose text has no place yet.
-ghost use Rattle.std.specs.Prelude.{◌≡◌, ◌<◌, ◌≤◌, ◌^◌, MatchResult};
+ghost use Rattle.std.specs.Prelude.{◌≡◌, ◌∷◌, [], ◌<◌, ◌≤◌, ◌^◌, MatchResult};
+ghost use Rattle.markdown_records.specs.Drafts.{part, single};
 ghost use Rattle.markdown_records.specs.RecordOf.{draft_view, span_range, wording_of};
 ghost use Rattle.markdown_records.specs.RecordsOf.{IsShortRange};
 
@@ -74,7 +75,9 @@ pub(crate) struct Draft<'x> {
 
 impl<'x> Draft<'x> {
     /// Returns the draft of a record without parts.
-    pub fn single(kind: u8, detail: u8, span: Span, text: TextPlace<'x>) -> Draft<'x> {
+    pub fn single(kind: u8, detail: u8, span: Span, text: TextPlace<'x>) -> Draft<'x>
+        ensures { draft_view result ∷ [] ≡ single kind detail (span_range span) (wording_of text.entry) }
+    {
         Draft {
             kind,
             detail,
@@ -85,7 +88,9 @@ impl<'x> Draft<'x> {
     }
 
     /// Returns the draft of a part.
-    pub fn part(kind: u8, text: TextPlace<'x>) -> Draft<'x> {
+    pub fn part(kind: u8, text: TextPlace<'x>) -> Draft<'x>
+        ensures { draft_view result ∷ [] ≡ part kind (wording_of text.entry) }
+    {
         Draft::single(kind, 0, Span { start: 0, end: 0 }, text)
     }
 }

@@ -9,6 +9,7 @@ ghost use Rattle.markdown_records.specs.RecordsOf.{Finishes, Places, Writes, ent
 use crate::draft::{Draft, Span, SpotHeld, TextPlace, small};
 use crate::fault::RecordFault;
 use crate::record::{A_NUMBER, IN_POOL, IN_SOURCE, NOWHERE, Record};
+use crate::slices::slice_of;
 use std::alloc::Global;
 
 /// The records of the events of a text, and the pool of the texts that are no slices of it.
@@ -36,10 +37,7 @@ pub struct Records<'t> {
 fn stands_at(source: &str, at: usize, text: &str) -> bool
     ensures { result ≡ stands_at source.now at text.now }
 {
-    let Some(end) = at.checked_add(text.len()) else {
-        return false;
-    };
-    match source.get(at..end) {
+    match slice_of(source, at, text.len()) {
         Some(slice) => slice == text,
         None => false,
     }
@@ -101,7 +99,7 @@ impl<'t> Records<'t> {
             }),
             TextPlace::Number(number) => Ok(SpotHeld {
                 place: A_NUMBER,
-                at: number as u32,
+                at: (number % (1 << 32)) as u32,
                 length: (number >> 32) as u32,
             }),
             TextPlace::Pooled(words) => self.in_pool(words),
@@ -137,7 +135,9 @@ impl<'t> Records<'t> {
             length: spot.length,
             parts: small(draft.parts)?,
         };
-        let count = self.count.checked_add(1).ok_or(RecordFault::TooLong)?;
+        let Some(count) = self.count.checked_add(1) else {
+            return Err(RecordFault::TooLong);
+        };
         self.records.extend_from_slice(&record.bytes())?;
         self.count = count;
         Ok(())

@@ -1,10 +1,10 @@
 //! Events, questions, answers and definitions as records.
-ghost use Rattle.std.specs.Prelude.{◌+◌, ◌-◌, length};
+ghost use Rattle.std.specs.Prelude.{◌≡◌, ◌+◌, ◌-◌, ℕ, List, length};
 ghost use Rattle.markdown_base.specs.BlockParts.{definition_view};
 ghost use Rattle.markdown_base.specs.CowText.{text_of};
 ghost use Rattle.markdown_base.specs.Event.{code, event_view};
-ghost use Rattle.markdown_records.specs.Drafts.{definition_drafts, event_drafts, no_text, part, question_drafts, single};
-ghost use Rattle.markdown_records.specs.Drafts.{sought, text_draft};
+ghost use Rattle.markdown_records.specs.Drafts.{definition_drafts, definition_parts, event_drafts, no_text, part};
+ghost use Rattle.markdown_records.specs.Drafts.{question_drafts, single, sought, text_draft};
 ghost use Rattle.markdown_records.specs.Numbers.{title_part};
 ghost use Rattle.markdown_records.specs.RecordOf.{span_range};
 ghost use Rattle.markdown_records.specs.RecordsOf.{Writes, WritesEntry};
@@ -18,6 +18,17 @@ use markdown_base::cow_str::CowStr;
 use markdown_base::event::Event;
 use markdown_base::tag::LinkType;
 use std::ops::Range;
+
+/// Returns how many parts a definition has: its destination, and its title.
+fn definition_part_count(definition: &LinkDef<'_>) -> usize
+    ensures { (label : List ℕ) → length (definition_parts (record { label = label; definition = definition_view definition.now }))
+        ≡ result }
+{
+    match &definition.title {
+        None => 1,
+        Some(_) => 2,
+    }
+}
 
 impl Records<'_> {
     /// Appends the record of an event with a text, which may stand at this offset.
@@ -148,25 +159,24 @@ impl Records<'_> {
         let span = span_of(&definition.span)?;
         let inside = span.start as usize + 1;
         // the label fits, or there is no record of it
-        let after = inside + small(label.len())? as usize + 3;
+        let after = inside + small(label.len())? as usize;
         let text = TextPlace::Sought {
             words: label,
             first: inside,
             second: inside,
         };
-        let parts = if definition.title.is_some() { 2 } else { 1 };
         self.push(Draft {
             kind: numbers::DEFINITION,
             detail: 0,
             span,
             text,
-            parts,
+            parts: definition_part_count(definition),
         })?;
         let words = definition.dest.as_str();
         let destination = TextPlace::Sought {
             words,
-            first: after,
-            second: after + 1,
+            first: after + 3,
+            second: after + 4,
         };
         self.push(Draft::part(numbers::DESTINATION, destination))?;
         match &definition.title {

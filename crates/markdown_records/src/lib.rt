@@ -10,6 +10,7 @@ mod link;
 mod numbers;
 mod numbers_read;
 mod record;
+mod slices;
 mod starts;
 
 pub use encode::Records;

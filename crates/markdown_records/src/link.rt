@@ -1,7 +1,10 @@
 //! Links, images and headings, and where the texts of links may stand in the source.
-ghost use Rattle.std.specs.Prelude.{◌≡◌, ◌+◌, ◌≤◌, ◌^◌, MatchOption, MatchResult, flat_map, length, map};
+ghost use Rattle.std.specs.Prelude.{◌≡◌, ◌+◌, ◌≤◌, ◌^◌, ℕ, MatchResult, length};
+ghost use Rattle.std.specs.Option.{option_map_or};
+ghost use Rattle.std.specs.declared.ops.Range.{Range};
 ghost use Rattle.markdown_base.specs.Event.{attribute_view, link_view};
-ghost use Rattle.markdown_records.specs.Drafts.{attribute_parts, destination_of, heading_parts, inline_end};
+ghost use Rattle.markdown_records.specs.Drafts.{attribute_parts, destination_of, heading_parts, inline_end, link_parts};
+ghost use Rattle.markdown_records.specs.Drafts.{no_text, pooled};
 ghost use Rattle.markdown_records.specs.RecordOf.{heading_of, link_of, span_range, wording_of};
 
 use crate::draft::{Span, TextPlace};
@@ -36,6 +39,15 @@ impl<'x> Link<'x> {
             label: label.as_str(),
         }
     }
+
+    /// Returns how many parts the link has: its title and its label, unless they are empty.
+    pub fn parts(&self) -> usize
+        ensures { (inside : ℕ) (range : Range ℕ) → length (link_parts inside range (link_of self.now)) ≡ result }
+    {
+        let title = if self.title.is_empty() { 0usize } else { 1 };
+        let label = if self.label.is_empty() { 0 } else { 1 };
+        title + label
+    }
 }
 
 /// The fields of the Start of a heading.
@@ -47,31 +59,41 @@ pub(crate) struct Heading<'x, 'a> {
     pub attributes: &'x [(CowStr<'a>, Option<CowStr<'a>>)],
 }
 
-/// Returns how many parts attributes have.
-fn count_parts(attributes: &[(CowStr<'_>, Option<CowStr<'_>>)]) -> Option<usize>
-    ensures { MatchOption result (2 ^ 32 ≤ length (flat_map attribute_parts (map attribute_view attributes.now)))
-        (λ parts. parts ≡ length (flat_map attribute_parts (map attribute_view attributes.now))) }
+/// Returns how many parts an attribute has.
+fn part_count(attribute: &(CowStr<'_>, Option<CowStr<'_>>)) -> usize
+    ensures { result ≡ length (attribute_parts (attribute_view attribute.now)) }
 {
-    let mut parts = 0usize;
-    for attribute in attributes {
-        parts = parts.checked_add(if attribute.1.is_some() { 2 } else { 1 })?;
+    match &attribute.1 {
+        None => 1,
+        Some(_) => 2,
     }
-    Some(parts)
 }
 
 impl Heading<'_, '_> {
+    /// Returns the text of the heading's id.
+    pub fn id_text(&self) -> TextPlace<'_>
+        ensures { wording_of result ≡ option_map_or (λ id. pooled id) (heading_of self.now).id no_text }
+    {
+        match self.id {
+            None => TextPlace::Absent,
+            Some(id) => TextPlace::Pooled(id.as_str()),
+        }
+    }
+
     /// Returns how many parts the heading has.
     pub fn parts(&self) -> Result<usize, RecordFault>
         ensures { MatchResult result (λ parts. parts ≡ length (heading_parts (heading_of self.now)))
             (λ fault. (fault ≡ RecordFault.TooLong)
             × (2 ^ 32 ≤ length (heading_parts (heading_of self.now)))) }
     {
-        match count_parts(self.attributes) {
-            Some(parts) => parts
-                .checked_add(self.classes.len())
-                .ok_or(RecordFault::TooLong),
-            None => Err(RecordFault::TooLong),
+        let mut parts = self.classes.len();
+        for attribute in self.attributes {
+            let Some(more) = parts.checked_add(part_count(attribute)) else {
+                return Err(RecordFault::TooLong);
+            };
+            parts = more;
         }
+        Ok(parts)
     }
 }
 

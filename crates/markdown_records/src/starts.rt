@@ -22,16 +22,13 @@ impl Records<'_> {
     fn push_heading(&mut self, heading: Heading<'_, '_>, span: Span) -> Result<(), RecordFault>
         ensures { Writes self.old (heading_drafts (span_range span) (heading_of heading.entry)) result self.new }
     {
-        let text = match heading.id {
-            None => TextPlace::Absent,
-            Some(id) => TextPlace::Pooled(id.as_str()),
-        };
+        let parts = heading.parts()?;
         self.push(Draft {
             kind: numbers::HEADING,
             detail: level_number(heading.level),
             span,
-            text,
-            parts: heading.parts()?,
+            text: heading.id_text(),
+            parts,
         })?;
         self.push_classes(heading.classes)?;
         self.push_attributes(heading.attributes)
@@ -55,10 +52,12 @@ impl Records<'_> {
         ensures { Writes self.old (attribute_parts (attribute_view attribute.now)) result self.new }
     {
         self.push(Draft::part(numbers::NAME, TextPlace::Pooled(attribute.0.as_str())))?;
-        if let Some(value) = &attribute.1 {
-            self.push(Draft::part(numbers::VALUE, TextPlace::Pooled(value.as_str())))?;
+        match &attribute.1 {
+            None => Ok(()),
+            Some(value) => {
+                self.push(Draft::part(numbers::VALUE, TextPlace::Pooled(value.as_str())))
+            }
         }
-        Ok(())
     }
 
     /// Appends the parts of attributes.
@@ -86,15 +85,14 @@ impl Records<'_> {
     {
         let inside = span.start as usize + opening as usize;
         let last = (span.end as usize).saturating_sub(1);
-        let title_at = last.saturating_sub(link.title.len()).saturating_sub(1);
+        let title_at = last.saturating_sub(link.title.len() + 1);
         let label_at = last.saturating_sub(link.label.len());
-        let parts = usize::from(!link.title.is_empty()) + usize::from(!link.label.is_empty());
         self.push(Draft {
             kind,
             detail: link_type_number(link.link_type),
             span,
             text: destination_of(&link, opening, span),
-            parts,
+            parts: link.parts(),
         })?;
         self.push_unless_empty(numbers::TITLE, link.title, title_at, title_at)?;
         self.push_unless_empty(numbers::LABEL, link.label, label_at, inside)

@@ -3,4 +3,4 @@ use Rattle.markdown_records.proofs.ReadsBackLemmas.{contents_read_back}
 use Rattle.markdown_records.proofs.laws.records_read_back.Goals as goal
 
 pub returns : goal.returns
-returns c = λ source contents utf8 is. contents_read_back source contents is
+returns c = contents_read_back
