@@ -5,7 +5,7 @@ use Rattle.std.specs.Option.{option_map}
 use Rattle.std.specs.declared.ops.Range.{Range}
 use Rattle.markdown_base.specs.Questions.{Answer, Question}
 use Rattle.markdown_defs.specs.CallbackViews.{question_of}
-use Rattle.markdown_text_records.specs.TextRecords.{Table, answered}
+use Rattle.markdown_text_records.specs.AnswerTable.{Table, answered}
 use Rattle.markdown_text_records.specs.declared.answering.Answering.{Answering}
 use Rattle.markdown_text_records.specs.declared.answering.GivenAnswer.{GivenAnswer}
 
@@ -27,3 +27,12 @@ pub record Answers (old : Answering) (question : Question) (answer : Option Answ
   pub left : table_left new ≡ drop 1 (table_left old)
   pub kept : new.is_refused ≡ false → (old.is_refused ≡ false)
       × (map question_of new.asked.items ≡ map question_of old.asked.items ++ question ∷ [])
+
+-- a question of this range gets this answer, which is the next one of the table; what was asked stays
+pub record GivesAnswer (old : Answering) (span : Range ℕ) (answer : Option (Bor (List ℕ) × Bor (List ℕ)))
+    (new : Answering) : Type 0 where
+  pub by_table : (q : Question) → q.span ≡ span
+      → option_map link_answer answer ∷ [] ≡ answered (table_left old) (q ∷ [])
+  pub left : table_left new ≡ drop 1 (table_left old)
+  pub asked : new.asked ≡ old.asked
+  pub refused : new.is_refused ≡ old.is_refused

@@ -1,5 +1,7 @@
 -- The records of a text.
+pub mod AnswerTable
 pub mod TextRecords
+pub mod RecordsHtml
 -- the terms of private clauses
 pub mod AnsweringView
 pub mod DefinitionsView

@@ -1,11 +1,8 @@
 -- What the records of a text say: the reading of the text, in which a table answers the questions of the callback, and its
 -- link reference definitions.
-use Rattle.std.specs.Prelude.{◌≡◌, ◌&&◌, ◌==◌, ◌++◌, Bool, true, false, List, [], ◌∷◌, cond, find, is_some, map, if◌then◌else◌}
-use Rattle.std.specs.Prelude.{Option, Some, None}
+use Rattle.std.specs.Prelude.{◌≡◌, ◌++◌, Bool, true, false, List, [], ◌∷◌, map, if◌then◌else◌, Option, Some, None}
 use Rattle.std.specs.List.{fold, list_any}
-use Rattle.std.specs.declared.ops.Range.{Range}
-use Rattle.std.specs.Prelude.{ℕ}
-use Rattle.markdown_base.specs.Questions.{Answer, Answers, Question}
+use Rattle.markdown_base.specs.Questions.{Answers}
 use Rattle.markdown_base.specs.Source.{Source}
 use Rattle.markdown_block_rules.specs.BlockRules.{block_definitions}
 use Rattle.markdown_builder.specs.BuilderView.{Definition}
@@ -14,6 +11,7 @@ use Rattle.markdown_inline.specs.Elements.{Element, event, question, questions_o
 use Rattle.markdown_inline.specs.ReadingOfText.{reading_of_text, unlabelled}
 use Rattle.markdown_records.specs.EntryView as entry
 use Rattle.markdown_records.specs.EntryView.{Contents, EntryView, LabelledView}
+use Rattle.markdown_text_records.specs.AnswerTable.{Table, answered}
 
 -- an element of a reading, as an entry
 abbrev pub entry_of : Element → EntryView
@@ -37,20 +35,6 @@ contents_of_text s asks answers = record {
   entries = map entry_of (reading_of_text s asks answers);
   definitions = map labelled (findable (block_definitions s));
 }
-
--- a table of answers, each to a question with this range
-abbrev pub Table : Type 0
-Table = List (Range ℕ × Option Answer)
-
-abbrev pub is_range : Range ℕ → Range ℕ → Bool
-is_range a b = (a.start == b.start) && (a.end == b.end)
-
--- the answers of a table to questions: the k-th one gets the k-th answer if that is to its range; all others get None
-abbrev pub answered : Table → List Question → Answers
-answered table [] = []
-answered [] (q ∷ questions) = None ∷ answered [] questions
-answered (a ∷ table) (q ∷ questions) =
-    (if is_range a.0 q.span then a.1 else None) ∷ answered table questions
 
 -- the answers of a table to the questions of a text, which is read with these answers
 abbrev pub AreAnswers : Source → Table → Answers → Type 0

@@ -1,6 +1,7 @@
 //! A callback that answers from a table, and keeps what it is asked.
-ghost use Rattle.std.specs.Prelude.{◌≡◌, [], false};
-ghost use Rattle.markdown_text_records.specs.AnsweringView.{table_left};
+ghost use Rattle.std.specs.Prelude.{◌≡◌, ◌∷◌, [], drop, false, map};
+ghost use Rattle.std.specs.Option.{option_map};
+ghost use Rattle.markdown_text_records.specs.AnsweringView.{GivesAnswer, given_view, link_answer, table_left};
 
 use markdown_base::cow_str::CowStr;
 use markdown_defs::{BrokenLink, BrokenLinkCallback};
@@ -44,7 +45,9 @@ impl<'a> Answering<'a> {
     }
 
     /// Returns the next answer of the table, if it is to this range.
-    fn next_answer(&mut self, span: &Range<usize>) -> Option<(&'a str, &'a str)> {
+    fn next_answer(&mut self, span: &Range<usize>) -> Option<(&'a str, &'a str)>
+        ensures { GivesAnswer self.old span.now result self.new }
+    {
         let given = self.table.get(self.count)?;
         self.count += 1;
         if given.span == *span { given.link } else { None }
