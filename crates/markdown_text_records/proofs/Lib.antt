@@ -1,1 +1,2 @@
-
+pub mod DefinitionsLemmas
+pub mod AnsweringLemmas

@@ -19,7 +19,7 @@ given_view given = (given.span, option_map link_answer given.link)
 
 -- the answers of the table that no question has got yet
 abbrev pub table_left : Answering → Table
-table_left c = drop c.count (map given_view c.table.items)
+table_left c = map given_view (drop c.count c.table.items)
 
 -- the answer is the next one of the table, and unless an allocation was refused, the question is kept after those before
 pub record Answers (old : Answering) (question : Question) (answer : Option Answer) (new : Answering) : Type 0 where

@@ -1,6 +1,7 @@
 //! A callback that answers from a table, and keeps what it is asked.
 ghost use Rattle.std.specs.Prelude.{◌≡◌, ◌∷◌, [], drop, false, map};
 ghost use Rattle.std.specs.Option.{option_map};
+ghost use Rattle.markdown_text_records.specs.AnswerTable.{is_range};
 ghost use Rattle.markdown_text_records.specs.AnsweringView.{GivesAnswer, given_view, link_answer, table_left};
 
 use markdown_base::cow_str::CowStr;
@@ -29,6 +30,13 @@ pub(crate) struct Answering<'a> {
     pub is_refused: bool,
 }
 
+/// Returns whether an answer is to this range.
+fn is_to(given: &GivenAnswer<'_>, span: &Range<usize>) -> bool
+    ensures { result ≡ is_range given.now.span span.now }
+{
+    given.span.start == span.start && given.span.end == span.end
+}
+
 impl<'a> Answering<'a> {
     /// Returns a callback that was asked nothing.
     pub fn of_table(alloc: Global, table: Vec<GivenAnswer<'a>>) -> Answering<'a>
@@ -50,7 +58,7 @@ impl<'a> Answering<'a> {
     {
         let given = self.table.get(self.count)?;
         self.count += 1;
-        if given.span == *span { given.link } else { None }
+        if is_to(given, span) { given.link } else { None }
     }
 }
 
