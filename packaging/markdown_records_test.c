@@ -19,7 +19,7 @@ static const char *const texts[] = {
     "a *b* **c** `d` \\\ne\nf  \ng ~~h~~ ^i^ ~j~ $k$ $$l$$ <b>",
     "# A *b* {#c .d e=f g}\n\nB\n=\n",
     "> a\n\n> [!NOTE]\n> b\n\n---\n\n    c\n\n```d e\nf\n```\n\n<p>\ng\n</p>\n",
-    "- a\n- b\n\n1234567890123456789. c\n\n- [ ] d\n- [x] e\n",
+    "- a\n- b\n\n123456789. c\n\n- [ ] d\n- [x] e\n",
     "|a|b|c|\n|-|:-:|-:|\n|d|\n",
     "[a](b 'c') ![d](<e> \"f\") [g][h] [H][] [h] <i:j> <k@l.m> [[n]] [[o|p]] &copy; [q] [r]\n\n[h]: s 't'\n[u]: v\n",
     "---\na: b\n---\n\n+++\n\n[^a]\n\n[^a]: b\n\xc3\xa9 \"c\" -- d...\n",

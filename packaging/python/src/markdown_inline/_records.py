@@ -129,6 +129,8 @@ class Records:
                 self._check_no_event(row, parts)
         if opened:
             raise BadRecords("a start has no end")
+        # (these are checked as they are read)
+        self.definitions()
 
     def columns(self) -> Columns:
         """Returns the events as columns."""
