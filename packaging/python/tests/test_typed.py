@@ -82,8 +82,8 @@ class Events(unittest.TestCase):
         finally:
             del sys.path[0]
         text = "## A *b* `c`\n\n[d](e 'f')\\\n![g](h)\n\n1. - [x] i\n"
-        wanted = ["h2", "A ", "b", " ", "code c", "link e", "d", "break", "image", "g", "list from 1", "list", "done", "i", "end of h2"]
-        self.assertEqual(sorted(summary(text)), sorted(wanted))
+        wanted = ["h2", "A ", "b", " ", "code c", "end of h2", "link e", "d", "break", "image", "g", "list from 1", "list"]
+        self.assertEqual(list(summary(text)), [*wanted, "done", "i"])
 
 
 class Rendering(unittest.TestCase):
@@ -142,7 +142,8 @@ class Questions(unittest.TestCase):
             return {"x": "/x", "y": ("/y", "Y"), "ab": "ab"}.get(link.label)
 
         text = "[a] [x] [b][y] [ab][]\n\n> [c]\n"
-        wanted = '<p>[a] <a href="/x">x</a> <a href="/y" title="Y">b</a> <a href="ab">ab</a></p>\n<blockquote>\n<p>[c]</p>\n</blockquote>\n'
+        wanted = '<p>[a] <a href="/x">x</a> <a href="/y" title="Y">b</a> <a href="ab">ab</a></p>\n'
+        wanted += "<blockquote>\n<p>[c]</p>\n</blockquote>\n"
         self.assertEqual(typed.html(typed.events(text, broken_link=answer)), wanted)
         self.assertEqual(asked, ["a", "x", "y", "ab", "c"])
         made = [it.tag for it in typed.events("[x]", broken_link=answer) if isinstance(it, Start)][1]
@@ -151,13 +152,18 @@ class Questions(unittest.TestCase):
     def test_a_link_holds_no_link(self):
         """A bracket around an answered link is asked nothing, since no link is in a link."""
         asked = []
-        list(typed.events("[a [b] c]", broken_link=lambda link: asked.append(link.label) or ("/b" if link.label == "b" else None)))
+
+        def answer(link):
+            asked.append(link.label)
+            return "/b" if link.label == "b" else None
+
+        typed.events("[a [b] c]", broken_link=answer)
         self.assertEqual(asked, ["b"])
 
     def test_many_answers(self):
         text = " ".join(f"[{it}]" for it in range(30))
-        found = [it.tag.dest_url for it in typed.events(text, broken_link=lambda it: f"/{it.label}") if isinstance(it, Start) and isinstance(it.tag, Link)]
-        self.assertEqual(found, [f"/{it}" for it in range(30)])
+        tags = [it.tag for it in typed.events(text, broken_link=lambda link: f"/{link.label}") if isinstance(it, Start)]
+        self.assertEqual([it.dest_url for it in tags[1:]], [f"/{it}" for it in range(30)])
 
     def test_errors_of_the_callback(self):
         self.assertRaises(ZeroDivisionError, typed.events, "[a]", broken_link=lambda link: 1 // 0)
@@ -241,7 +247,8 @@ class Damage(unittest.TestCase):
 
 class Extensions(unittest.TestCase):
     def test_false_values(self):
-        for call in (markdown_inline.html, markdown_inline.events, markdown_inline.columns, markdown_inline.broken, typed.events):
+        calls = [markdown_inline.html, markdown_inline.events, markdown_inline.columns, markdown_inline.broken, typed.events]
+        for call in calls:
             self.assertRaises(TypeError, call, "a", {"tables": False})
             self.assertRaises(TypeError, call, "a", {"tables": True, "math": None})
         self.assertEqual(markdown_inline.html("~~a~~", {"strikethrough": True}), "<p><del>a</del></p>\n")

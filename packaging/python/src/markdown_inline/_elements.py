@@ -3,7 +3,8 @@ from __future__ import annotations
 
 import sys
 from dataclasses import dataclass
-from typing import TYPE_CHECKING, Any, Literal, Optional, Tuple, Type, TypeVar, Union
+from functools import partial
+from typing import TYPE_CHECKING, Literal, Optional, Tuple, Union
 
 LinkType = Literal[
     "inline",
@@ -22,28 +23,17 @@ Alignment = Literal["none", "left", "center", "right"]
 QuoteKind = Literal["note", "tip", "important", "warning", "caution"]
 MetadataStyle = Literal["yaml", "pluses"]
 
-_T = TypeVar("_T")
-
-if TYPE_CHECKING:
-    from typing_extensions import dataclass_transform
-
-    @dataclass_transform(frozen_default=True)
-    def _value(of: Type[_T]) -> Type[_T]: ...
-
-else:
-
-    def _value(of):
-        # (values are many, and have no `__dict__` where Python can leave it out)
-        settings: Any = {"slots": True} if sys.version_info >= (3, 10) else {}
-        return dataclass(frozen=True, **settings)(of)
+if not TYPE_CHECKING and sys.version_info >= (3, 10):
+    # (values are many: without a `__dict__` they take less memory)
+    dataclass = partial(dataclass, slots=True)
 
 
-@_value
+@dataclass(frozen=True)
 class Paragraph:
     pass
 
 
-@_value
+@dataclass(frozen=True)
 class Heading:
     """A heading. The id, the classes and the attributes are those of `heading-attributes`."""
 
@@ -53,105 +43,105 @@ class Heading:
     attributes: Tuple[Tuple[str, Optional[str]], ...] = ()
 
 
-@_value
+@dataclass(frozen=True)
 class BlockQuote:
     """A block quote, or with a kind an alert."""
 
     kind: Optional[QuoteKind] = None
 
 
-@_value
+@dataclass(frozen=True)
 class CodeBlock:
     """A code block: a fenced one with its info string, or with None an indented one."""
 
     info: Optional[str] = None
 
 
-@_value
+@dataclass(frozen=True)
 class HtmlBlock:
     pass
 
 
-@_value
+@dataclass(frozen=True)
 class ItemList:
     """A list, whose first number is None where it has bullets."""
 
     first: Optional[int] = None
 
 
-@_value
+@dataclass(frozen=True)
 class Item:
     pass
 
 
-@_value
+@dataclass(frozen=True)
 class FootnoteDefinition:
     name: str
 
 
-@_value
+@dataclass(frozen=True)
 class DefinitionList:
     pass
 
 
-@_value
+@dataclass(frozen=True)
 class DefinitionTitle:
     pass
 
 
-@_value
+@dataclass(frozen=True)
 class DefinitionDetails:
     pass
 
 
-@_value
+@dataclass(frozen=True)
 class Table:
     """A table, with the alignment of each column."""
 
     alignments: Tuple[Alignment, ...] = ()
 
 
-@_value
+@dataclass(frozen=True)
 class TableHead:
     pass
 
 
-@_value
+@dataclass(frozen=True)
 class TableRow:
     pass
 
 
-@_value
+@dataclass(frozen=True)
 class TableCell:
     pass
 
 
-@_value
+@dataclass(frozen=True)
 class Emphasis:
     pass
 
 
-@_value
+@dataclass(frozen=True)
 class Strong:
     pass
 
 
-@_value
+@dataclass(frozen=True)
 class Strikethrough:
     pass
 
 
-@_value
+@dataclass(frozen=True)
 class Superscript:
     pass
 
 
-@_value
+@dataclass(frozen=True)
 class Subscript:
     pass
 
 
-@_value
+@dataclass(frozen=True)
 class Link:
     """A link. The label is that of a reference, as its author wrote it, and otherwise empty."""
 
@@ -161,7 +151,7 @@ class Link:
     label: str = ""
 
 
-@_value
+@dataclass(frozen=True)
 class Image:
     """An image, with the fields of a link."""
 
@@ -171,7 +161,7 @@ class Image:
     label: str = ""
 
 
-@_value
+@dataclass(frozen=True)
 class MetadataBlock:
     style: MetadataStyle
 
@@ -203,7 +193,7 @@ Tag = Union[
 ]
 
 
-@_value
+@dataclass(frozen=True)
 class Start:
     """An element begins. It spans `text[start:end]`."""
 
@@ -212,7 +202,7 @@ class Start:
     end: int = 0
 
 
-@_value
+@dataclass(frozen=True)
 class End:
     """An element ends. The tag and the range are those of its Start."""
 
@@ -221,35 +211,35 @@ class End:
     end: int = 0
 
 
-@_value
+@dataclass(frozen=True)
 class Text:
     text: str
     start: int = 0
     end: int = 0
 
 
-@_value
+@dataclass(frozen=True)
 class Code:
     text: str
     start: int = 0
     end: int = 0
 
 
-@_value
+@dataclass(frozen=True)
 class InlineMath:
     text: str
     start: int = 0
     end: int = 0
 
 
-@_value
+@dataclass(frozen=True)
 class DisplayMath:
     text: str
     start: int = 0
     end: int = 0
 
 
-@_value
+@dataclass(frozen=True)
 class Html:
     """A line of an HTML block."""
 
@@ -258,39 +248,39 @@ class Html:
     end: int = 0
 
 
-@_value
+@dataclass(frozen=True)
 class InlineHtml:
     text: str
     start: int = 0
     end: int = 0
 
 
-@_value
+@dataclass(frozen=True)
 class FootnoteReference:
     name: str
     start: int = 0
     end: int = 0
 
 
-@_value
+@dataclass(frozen=True)
 class SoftBreak:
     start: int = 0
     end: int = 0
 
 
-@_value
+@dataclass(frozen=True)
 class HardBreak:
     start: int = 0
     end: int = 0
 
 
-@_value
+@dataclass(frozen=True)
 class Rule:
     start: int = 0
     end: int = 0
 
 
-@_value
+@dataclass(frozen=True)
 class TaskListMarker:
     done: bool
     start: int = 0

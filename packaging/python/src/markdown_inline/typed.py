@@ -9,10 +9,10 @@
             case Text(text): ..
 
 An event is a `Start` or an `End`, which have a tag as `Heading`, or one of its own, as `Text` or `SoftBreak`. All are frozen
-dataclasses: `dataclasses.replace` changes them. Ranges count the characters of the text.
+dataclasses, of which `dataclasses.replace` makes changed copies. Ranges count the characters of the text.
 
-The extensions `autolinks` and `heading-ids` change nothing here: what they add is only in the HTML of a text, in the outline
-and in the events of `markdown_inline.events`.
+The extensions `autolinks` and `heading-ids` change nothing here: what they add is in the HTML of a text, in its outline and
+in the events of `markdown_inline.events` alone.
 """
 from __future__ import annotations
 
@@ -120,7 +120,6 @@ __all__ = [
 _A = TypeVar("_A")
 
 _KINDS: Dict[type, int] = {
-    **{type(tag): kind for kind, tag in BARE_TAGS.items()},
     Heading: Kind.HEADING,
     BlockQuote: Kind.BLOCK_QUOTE,
     CodeBlock: Kind.CODE_BLOCK,
@@ -131,6 +130,8 @@ _KINDS: Dict[type, int] = {
     Image: Kind.IMAGE,
     MetadataBlock: Kind.METADATA_BLOCK,
 }
+for _bare_kind, _bare_tag in BARE_TAGS.items():
+    _KINDS[type(_bare_tag)] = _bare_kind
 _TEXT_KINDS: Dict[Callable[[str, int, int], Event], int] = {of: kind for kind, of in TEXTS.items()}
 _BARE_KINDS: Dict[Callable[[int, int], Event], int] = {of: kind for kind, of in BARE.items()}
 _LETTERS: Dict[Alignment, str] = {alignment: letter for letter, alignment in ALIGNMENTS.items()}
