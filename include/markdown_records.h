@@ -20,10 +20,10 @@
  *
  * ## Layout
  *
- * Numbers are little-endian. A header of 24 bytes comes first: `MDR1`, the version 1 and the size 24 of a record in 16 bits
- * each, and in 32 bits each how many records there are, how many of them come before the definitions, and how many bytes
- * the pool and the text have. Records of 24 bytes each follow, in the order of the fields of `markdown_record`, and then the
- * pool, which is UTF-8. The bytes of a text are a slice of the source, or of the pool.
+ * Numbers are little-endian. A header of 24 bytes comes first: `MDR1`, the version 1 and the size 24 of a record in 16
+ * bits each, and in 32 bits each how many records there are, how many of them come before the definitions, and how many
+ * bytes the pool and the text have. Records of 24 bytes each follow, in the order of the fields of `markdown_record`, and
+ * then the pool, which is UTF-8. The bytes of a text are a slice of the source, or of the pool.
  *
  * Records with a greater version may have more kinds, and are refused.
  */
@@ -48,8 +48,8 @@ extern "C" {
  */
 enum markdown_kind {
     MARKDOWN_KIND_PARAGRAPH = 0x01,
-    /** The detail is the level, 1 to 6. The text is the id, if there is one. Parts: classes, and then names of attributes,
-     * each with or without its value after it. */
+    /** The detail is the level, 1 to 6. The text is the id, if there is one. Parts: classes, and then names of
+     * attributes, each with or without its value after it. */
     MARKDOWN_KIND_HEADING = 0x02,
     /** The detail is an `enum markdown_quote`. */
     MARKDOWN_KIND_BLOCK_QUOTE = 0x03,
@@ -74,8 +74,8 @@ enum markdown_kind {
     MARKDOWN_KIND_STRIKETHROUGH = 0x12,
     MARKDOWN_KIND_SUPERSCRIPT = 0x13,
     MARKDOWN_KIND_SUBSCRIPT = 0x14,
-    /** The detail is an `enum markdown_link`, and the text is the destination. Parts: a title and a label, each only if it is
-     * not empty. */
+    /** The detail is an `enum markdown_link`, and the text is the destination. Parts: a title and a label, each only if
+     * it is not empty. */
     MARKDOWN_KIND_LINK = 0x15,
     /** As a link. */
     MARKDOWN_KIND_IMAGE = 0x16,
@@ -96,17 +96,18 @@ enum markdown_kind {
     /** The detail is 1 for a task that is done, and otherwise 0. */
     MARKDOWN_KIND_TASK_LIST_MARKER = 0x2a,
 
-    /** An end has the kind of its start with this bit, and the start's detail if it is a heading, a block quote, a list or
-     * metadata. */
+    /** An end has the kind of its start with this bit, and the start's detail if it is a heading, a block quote, a list
+     * or metadata. */
     MARKDOWN_KIND_END = 0x40,
 
     /** A reference without a definition, asked directly before the event that follows: the detail is an
      * `enum markdown_link`, and the text is the label. */
     MARKDOWN_KIND_QUESTION = 0x60,
-    /** For `markdown_to_records`: the answer to a question of the same range. The detail is 0 for none, and 1 for a link, whose
-     * destination is the text. Part: a title. */
+    /** For `markdown_to_records`: the answer to a question of the same range. The detail is 0 for none, and 1 for a link,
+     * whose destination is the text. Part: a title. */
     MARKDOWN_KIND_ANSWER = 0x61,
-    /** A reference definition, after all events: the text is the label. Parts: a destination, and a title if there is one. */
+    /** A reference definition, after all events: the text is the label. Parts: a destination, and a title if there is
+     * one. */
     MARKDOWN_KIND_DEFINITION = 0x62,
 
     MARKDOWN_KIND_PART = 0x80,
@@ -128,8 +129,8 @@ enum markdown_quote {
     MARKDOWN_QUOTE_CAUTION = 5
 };
 
-/** How a link is written: `[a](b)`, `[a][b]`, `[a][]`, `[a]`, `<a:b>`, `<a@b.c>`, `[[a]]` and `[[a|b]]`. An unknown one has no
- * definition, and is the answer to a question.
+/** How a link is written: `[a](b)`, `[a][b]`, `[a][]`, `[a]`, `<a:b>`, `<a@b.c>`, `[[a]]` and `[[a|b]]`. An unknown one
+ * has no definition, and is the answer to a question.
  */
 enum markdown_link {
     MARKDOWN_LINK_INLINE = 0,
@@ -325,9 +326,10 @@ static inline int markdown_record_may_have(const struct markdown_record *it, uin
     }
 }
 
-/** Returns 1 if these bytes are records of a text of this length, and otherwise 0: the header fits, every kind and detail is
- * known, every text lies within the source or the pool, every part belongs to a record that may have it, and no range ends
- * before it begins. Whether texts are UTF-8, and ranges lie within the text, is not checked.
+/** Returns 1 if these bytes are records of a text of this length, and otherwise 0: the header fits, every kind and detail
+ * is known, every text lies within the source or the pool, every part belongs to a record that may have it, and no range
+ * ends before it begins. Not checked is whether texts are UTF-8, ranges lie within the text, and starts have ends: the
+ * records that the library writes have all of that.
  */
 static inline int markdown_records_check(const uint8_t *bytes, size_t length, size_t text_length) {
     static const uint8_t format[8] = {'M', 'D', 'R', '1', 1, 0, MARKDOWN_RECORD_SIZE, 0};
@@ -369,13 +371,15 @@ static inline int markdown_records_check(const uint8_t *bytes, size_t length, si
  * ## Reading
  */
 
-/** Opens records of a text, both of which have to stay where they are. Returns 1, or 0 if `markdown_records_check` does. */
+/** Opens records of a text, both of which have to stay where they are. Returns 1, or 0 if `markdown_records_check`
+ * does.
+ */
 static inline int markdown_records_open(struct markdown_records *records, const char *text, size_t text_length,
                                         const uint8_t *bytes, size_t length) {
     if (!markdown_records_check(bytes, length, text_length)) {
         return 0;
     }
-    /* (no text is a slice of nothing, whose address has to be one) */
+    /* (an offset is added to it, which NULL does not allow) */
     records->text = text == NULL ? "" : text;
     records->bytes = bytes;
     records->count = markdown_records_u32(bytes + 8);

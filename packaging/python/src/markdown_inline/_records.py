@@ -2,7 +2,7 @@
 from __future__ import annotations
 
 from array import array
-from itertools import accumulate, compress
+from itertools import accumulate, compress, islice
 from typing import Callable, Dict, Iterator, List, NamedTuple, Optional, Sequence, Tuple, TypeVar
 
 from . import _elements as element
@@ -92,8 +92,8 @@ class Records:
         self.entries: int = entries
         self.kinds = records[SIZE : end : SIZE]
         self._text = text
+        self._rows = memoryview(records)[SIZE:end]
         self._pool = records[end:]
-        self._rows = [*map(Record._make, RECORD.iter_unpack(memoryview(records)[SIZE:end]))]
         self._characters = characters_of(text)
         if not _is_utf8(self._pool):
             raise BadRecords("texts in the pool are not UTF-8")
@@ -134,26 +134,30 @@ class Records:
 
     def columns(self) -> Columns:
         """Returns the events as columns."""
-        kinds = self.kinds[: self.entries]
-        are_events = [kind < QUESTION for kind in kinds]
-        details = bytes(compress((row.detail for row in self._rows), are_events))
-        starts = array("I", compress((self._characters[row.start] for row in self._rows), are_events))
-        ends = array("I", compress((self._characters[row.end] for row in self._rows), are_events))
-        return Columns(bytes(compress(kinds, are_events)), details, starts, ends)
+        rows, characters = self._rows[: SIZE * self.entries], self._characters
+        are_events = [kind < QUESTION for kind in rows[::SIZE]]
+        # (x86-64 has the lowest byte of a number first, as records have)
+        numbers = rows.cast("I")
+        starts, ends = (compress(numbers[column :: SIZE // 4], are_events) for column in (1, 2))
+        return Columns(
+            bytes(compress(rows[::SIZE], are_events)),
+            bytes(compress(rows[1::SIZE], are_events)),
+            array("I", map(characters.__getitem__, starts)),
+            array("I", map(characters.__getitem__, ends)),
+        )
 
     def definitions(self) -> List[Definition]:
         """Returns the reference definitions."""
-        return [self._definition(row, parts) for row, parts in self._groups(self.entries, len(self._rows))]
+        return [self._definition(row, parts) for row, parts in self._groups(self.entries, len(self.kinds))]
 
     def asked(self, number: int) -> Tuple[BrokenLink, Tuple[int, int]]:
         """Returns what the question with this number asks, and its range in bytes."""
-        row = self._rows[number]
+        row = Record._make(RECORD.unpack_from(self._rows, SIZE * number))
         return self._question(row), (row.start, row.end)
 
     def broken_links(self) -> List[BrokenLink]:
         """Returns what is asked of references without a definition."""
-        numbers = (number for number in range(self.entries) if self.kinds[number] == QUESTION)
-        return [self._question(self._rows[number]) for number in numbers]
+        return [self._question(row) for row, _ in self._groups(0, self.entries) if row.kind == QUESTION]
 
     def _question(self, row: Record) -> BrokenLink:
         self._expect(row.parts == 0)
@@ -161,16 +165,11 @@ class Records:
 
     def _groups(self, number: int, to: int) -> Iterator[Tuple[Record, List[Record]]]:
         """Returns an iterator over records with their parts."""
-        rows = self._rows
+        rows = map(Record._make, RECORD.iter_unpack(self._rows[SIZE * number : SIZE * to]))
         none: List[Record] = []
-        while number < to:
-            row = rows[number]
-            number += 1
-            parts = none
-            if row.parts:
-                parts = rows[number : number + row.parts]
-                number += row.parts
-            if row.spare or row.start > row.end or number > to:
+        for row in rows:
+            parts = [*islice(rows, row.parts)] if row.parts else none
+            if row.spare or row.start > row.end or len(parts) != row.parts:
                 raise BadRecords("a record has a range that ends before it begins, or lacks parts")
             yield row, parts
 
