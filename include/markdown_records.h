@@ -62,8 +62,8 @@ enum markdown_kind {
     /** The text is the name. */
     MARKDOWN_KIND_FOOTNOTE_DEFINITION = 0x08,
     MARKDOWN_KIND_DEFINITION_LIST = 0x09,
-    MARKDOWN_KIND_DEFINITION_TITLE = 0x0a,
-    MARKDOWN_KIND_DEFINITION_DETAILS = 0x0b,
+    MARKDOWN_KIND_DEFINITION_LIST_TITLE = 0x0a,
+    MARKDOWN_KIND_DEFINITION_LIST_DEFINITION = 0x0b,
     /** The text has the alignment of each column: `n` for none, `l` for left, `c` for center, and `r` for right. */
     MARKDOWN_KIND_TABLE = 0x0c,
     MARKDOWN_KIND_TABLE_HEAD = 0x0d,

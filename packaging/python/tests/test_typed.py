@@ -112,7 +112,7 @@ class Rendering(unittest.TestCase):
 
     def test_made_events_read_back(self):
         """Some have no text that they are read of."""
-        tags = [typed.DefinitionList(), typed.DefinitionTitle(), typed.DefinitionDetails()]
+        tags = [typed.DefinitionList(), typed.DefinitionListTitle(), typed.DefinitionListDefinition()]
         made = [Start(tags[0]), Start(tags[1]), End(tags[1]), Start(tags[2]), End(tags[2]), End(tags[0])]
         heading = Heading(3, "", ("a", "b"), (("c", None), ("d", "e"), ("f", "")))
         made += [Start(heading), End(heading), Start(ItemList(2**64 - 1)), End(ItemList(2**64 - 1))]

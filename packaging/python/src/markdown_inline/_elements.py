@@ -85,12 +85,12 @@ class DefinitionList:
 
 
 @dataclass(frozen=True)
-class DefinitionTitle:
+class DefinitionListTitle:
     pass
 
 
 @dataclass(frozen=True)
-class DefinitionDetails:
+class DefinitionListDefinition:
     pass
 
 
@@ -176,8 +176,8 @@ Tag = Union[
     Item,
     FootnoteDefinition,
     DefinitionList,
-    DefinitionTitle,
-    DefinitionDetails,
+    DefinitionListTitle,
+    DefinitionListDefinition,
     Table,
     TableHead,
     TableRow,

@@ -24,8 +24,8 @@ class Kind(IntEnum):
     ITEM = 0x07
     FOOTNOTE_DEFINITION = 0x08
     DEFINITION_LIST = 0x09
-    DEFINITION_TITLE = 0x0A
-    DEFINITION_DETAILS = 0x0B
+    DEFINITION_LIST_TITLE = 0x0A
+    DEFINITION_LIST_DEFINITION = 0x0B
     TABLE = 0x0C
     TABLE_HEAD = 0x0D
     TABLE_ROW = 0x0E
@@ -80,8 +80,8 @@ BARE_TAGS: Dict[int, Tag] = {
     Kind.HTML_BLOCK: element.HtmlBlock(),
     Kind.ITEM: element.Item(),
     Kind.DEFINITION_LIST: element.DefinitionList(),
-    Kind.DEFINITION_TITLE: element.DefinitionTitle(),
-    Kind.DEFINITION_DETAILS: element.DefinitionDetails(),
+    Kind.DEFINITION_LIST_TITLE: element.DefinitionListTitle(),
+    Kind.DEFINITION_LIST_DEFINITION: element.DefinitionListDefinition(),
     Kind.TABLE_HEAD: element.TableHead(),
     Kind.TABLE_ROW: element.TableRow(),
     Kind.TABLE_CELL: element.TableCell(),
