@@ -3,7 +3,7 @@
 
 /** # NAME
  *
- * **markdown** - Markdown to HTML, and to its events and its headings as JSON
+ * **markdown** - Markdown to HTML, to its events as JSON or as binary records, and to its headings as JSON
  *
  * # DESCRIPTION
  *
@@ -15,15 +15,17 @@
  *
  * ## Trusted texts and untrusted input
  *
- * For untrusted input use `markdown_to_safe_html` and `markdown_safe_html_alloc`. The HTML of the other calls is not
- * sanitised, nor is the JSON: they are for trusted texts. Raw HTML and destinations, even `javascript:`, come through
- * as the author wrote them.
+ * For untrusted input use `markdown_to_safe_html` and `markdown_safe_html_alloc`, and for its records
+ * `markdown_records_to_safe_html` and `markdown_records_safe_html_alloc`. The HTML of the other calls is not sanitised,
+ * nor are the JSON and the records: they are for trusted texts. Raw HTML and destinations, even `javascript:`, come
+ * through as the author wrote them.
  *
  * ## Pointers and lengths
  *
  * Lengths count bytes. `text` needs no NUL at its end: it is not read past `text_length` bytes, and may hold any
- * bytes, NUL among them. `text` is only read. Only the first `out_length` bytes of `out` are written, without a NUL at
- * the end. The two may not overlap. Each may be NULL if its length is 0. No pointer is kept after the call.
+ * bytes, NUL among them. `text` is only read, and so are `label`, `answers` and `records`. Only the first `out_length`
+ * bytes of `out` are written, without a NUL at the end. `out` may not overlap what is read. Each may be NULL if its
+ * length is 0. No pointer is kept after the call.
  *
  * ## Memory
  *
@@ -81,6 +83,12 @@ extern "C" {
 
 /** A bit of the options is set that is not listed below, as a bit of a later version. */
 #define MARKDOWN_UNKNOWN_OPTION (-4)
+
+/** The bytes are no records, or not records of this text. */
+#define MARKDOWN_NOT_RECORDS (-5)
+
+/** The text, its number of records or their texts have 2^32 bytes or more, which records cannot say. */
+#define MARKDOWN_TOO_LONG (-6)
 
 /**
  * ## Options
@@ -211,6 +219,53 @@ int64_t markdown_to_outline(const uint8_t *text, size_t text_length, uint32_t op
                             size_t out_length);
 
 /**
+ * ## Records
+ *
+ * Records are the events of a text with their ranges in a compact binary form, and after them the reference
+ * definitions. `markdown_records.h` has their layout, and reads them. They hold no pointers: texts that stand in the
+ * source are offsets into it, so records go with the text that they were made of.
+ */
+
+/** Writes the events of `text` as records. `MARKDOWN_AUTOLINKS` and `MARKDOWN_HEADING_IDS` change nothing here: the
+ * records are those of the text, without what these two add to its HTML.
+ *
+ * `answers` are records too: what is to become of references without a definition. If `answers_length` is 0, nothing is
+ * asked. Otherwise a question, a record with the label, stands where each such reference is met, and the first question
+ * gets the first answer, the second the second, and so on, if both have the same range. Those after the last answer stay
+ * text. To have questions with no answers yet, pass a header alone, which says 0 records and the length of the text.
+ *
+ * Returns the length of the records in bytes, and writes them to the front of `out`, if they fit; otherwise `out` is
+ * unchanged. On an error it returns `MARKDOWN_NOT_UTF8`, `MARKDOWN_NO_MEMORY`, `MARKDOWN_UNKNOWN_OPTION`,
+ * `MARKDOWN_TOO_LONG`, or `MARKDOWN_NOT_RECORDS` if `answers` are no records of `text`, and `out` is unchanged.
+ */
+int64_t markdown_to_records(const uint8_t *text, size_t text_length, uint32_t options, const uint8_t *answers,
+                            size_t answers_length, uint8_t *out, size_t out_length);
+
+/** Renders `records` of a trusted `text` as HTML, which is not sanitised. The records may be those of
+ * `markdown_to_records`, or be changed or made by the caller. They are read strictly, and ranges mean nothing here.
+ * `options` are those that the records were made with; they change nothing today, but a bit that is not listed is an
+ * error.
+ *
+ * Results are as those of `markdown_to_html`. The errors are `MARKDOWN_NOT_UTF8`, `MARKDOWN_NO_MEMORY`,
+ * `MARKDOWN_TOO_DEEP`, `MARKDOWN_UNKNOWN_OPTION` and `MARKDOWN_NOT_RECORDS`.
+ */
+int64_t markdown_records_to_html(const uint8_t *text, size_t text_length, const uint8_t *records, size_t records_length,
+                                 uint32_t options, uint8_t *out, size_t out_length);
+
+/** Renders `records` of an untrusted `text` as safe HTML, as `markdown_to_safe_html` does: what a caller inserts as raw
+ * HTML is shown as text too. Results and errors are those of `markdown_records_to_html`.
+ */
+int64_t markdown_records_to_safe_html(const uint8_t *text, size_t text_length, const uint8_t *records,
+                                      size_t records_length, uint32_t options, uint8_t *out, size_t out_length);
+
+/** Writes the full case folding of a label. The labels of two records name the same reference definition if their
+ * foldings are the same bytes.
+ *
+ * Results are as those of `markdown_to_html`. The errors are `MARKDOWN_NOT_UTF8` and `MARKDOWN_NO_MEMORY`.
+ */
+int64_t markdown_fold(const uint8_t *label, size_t label_length, uint8_t *out, size_t out_length);
+
+/**
  * ## Calls that allocate
  *
  * Each takes the arguments of the matching call into a buffer, without the buffer. It returns the result in memory
@@ -229,6 +284,21 @@ char *markdown_json_alloc(const char *text, size_t text_length, uint32_t options
 
 /** The lines of `markdown_to_outline`. */
 char *markdown_outline_alloc(const char *text, size_t text_length, uint32_t options, int64_t *length);
+
+/** The records of `markdown_to_records`. */
+uint8_t *markdown_records_alloc(const char *text, size_t text_length, uint32_t options, const uint8_t *answers,
+                                size_t answers_length, int64_t *length);
+
+/** The HTML of `markdown_records_to_html`, which is not sanitised. */
+char *markdown_records_html_alloc(const char *text, size_t text_length, const uint8_t *records, size_t records_length,
+                                  uint32_t options, int64_t *length);
+
+/** The safe HTML of `markdown_records_to_safe_html`. */
+char *markdown_records_safe_html_alloc(const char *text, size_t text_length, const uint8_t *records,
+                                       size_t records_length, uint32_t options, int64_t *length);
+
+/** The folding of `markdown_fold`. */
+char *markdown_fold_alloc(const char *label, size_t label_length, int64_t *length);
 
 /** Frees what one of these calls returned. Call it once for each result; it does nothing for NULL. */
 void markdown_free(void *result);

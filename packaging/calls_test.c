@@ -129,13 +129,23 @@ static void test_call(const struct calls *calls) {
     test_status(calls);
 }
 
-/* Renders a text by all calls. */
+/* Renders a text by all calls, and its records. */
 static void *render(void *text) {
+    size_t length = strlen(text);
     for (size_t i = 0; i < CALL_COUNT; i++) {
-        char *result = all_calls[i].allocating(text, strlen(text), ALL_OPTIONS, NULL);
+        char *result = all_calls[i].allocating(text, length, ALL_OPTIONS, NULL);
         check(result != NULL, "refused on a small stack");
         markdown_free(result);
     }
+    int64_t records_length = 0;
+    uint8_t *records = markdown_records_alloc(text, length, ALL_OPTIONS, NULL, 0, &records_length);
+    check(records != NULL, "records are refused on a small stack");
+    char *safe = markdown_records_safe_html_alloc(text, length, records, (size_t)records_length, ALL_OPTIONS, NULL);
+    char *folded = markdown_fold_alloc(text, length, NULL);
+    check(safe != NULL && folded != NULL, "a rendering of records is refused on a small stack");
+    markdown_free(records);
+    markdown_free(safe);
+    markdown_free(folded);
     return NULL;
 }
 

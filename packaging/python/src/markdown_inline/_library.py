@@ -3,7 +3,7 @@ from __future__ import annotations
 
 import ctypes
 from pathlib import Path
-from typing import Dict, Iterable, Tuple
+from typing import Any, Dict, Iterable, List, Mapping, Tuple
 
 #: The names of the extensions, with their bits.
 EXTENSIONS: Dict[str, int] = {
@@ -36,6 +36,8 @@ EXTENSIONS["gfm"] = EXTENSIONS["alerts"]
 
 _NO_MEMORY = -2
 _TOO_DEEP = -3
+_NOT_RECORDS = -5
+_TOO_LONG = -6
 
 
 class MarkdownError(ValueError):
@@ -50,14 +52,28 @@ class TooDeep(MarkdownError):
     """More than 2**64 - 1 events are open in one image."""
 
 
+class BadRecords(MarkdownError):
+    """The bytes are no records of this text."""
+
+
+class TooLong(MarkdownError):
+    """A text, or what its records hold, has 2**32 bytes or more."""
+
+
 _library = ctypes.CDLL(str(Path(__file__).with_name("libmarkdown_inline.so")))
 _library.markdown_free.argtypes = [ctypes.c_void_p]
 _library.markdown_free.restype = None
 
 
-def _bits(extensions: Iterable[str]) -> int:
+def bits_of(extensions: Iterable[str]) -> int:
+    """Returns the bits of the extensions with these names."""
     if isinstance(extensions, str):
         raise TypeError(f"extensions are an iterable of names, as [{extensions!r}]")
+    if isinstance(extensions, Mapping):
+        # (its keys are the names, so one that is set to false would be enabled)
+        for name, value in extensions.items():
+            if not value:
+                raise TypeError(f"extensions are the names of those that are enabled: leave out {name!r}, which is {value!r}")
     bits = 0
     for name in extensions:
         if name not in EXTENSIONS:
@@ -73,13 +89,17 @@ def encoded(text: str) -> bytes:
     return text.encode()
 
 
-def result_of(call: str, text: bytes, extensions: Iterable[str]) -> bytes:
+# How bytes are passed.
+_BYTES: List[Any] = [ctypes.c_char_p, ctypes.c_size_t]
+
+
+def _called(call: str, types: List[Any], *arguments: Any) -> bytes:
     """Returns what a call that allocates gives: `call` is its name, as `html` for `markdown_html_alloc`."""
     allocating = getattr(_library, f"markdown_{call}_alloc")
-    allocating.argtypes = [ctypes.c_char_p, ctypes.c_size_t, ctypes.c_uint32, ctypes.POINTER(ctypes.c_int64)]
+    allocating.argtypes = [*types, ctypes.POINTER(ctypes.c_int64)]
     allocating.restype = ctypes.c_void_p
     length = ctypes.c_int64()
-    result = allocating(text, len(text), _bits(extensions), ctypes.byref(length))
+    result = allocating(*arguments, ctypes.byref(length))
     if result is not None:
         try:
             return ctypes.string_at(result, length.value)
@@ -89,4 +109,30 @@ def result_of(call: str, text: bytes, extensions: Iterable[str]) -> bytes:
         raise MemoryError
     if length.value == _TOO_DEEP:
         raise TooDeep("an image is nested too deeply")
+    if length.value == _NOT_RECORDS:
+        raise BadRecords("the bytes are no records of this text")
+    if length.value == _TOO_LONG:
+        raise TooLong("a text, or what its records hold, has 4 GiB or more")
     raise MarkdownError(f"markdown_{call}_alloc returned status {length.value}")
+
+
+def result_of(call: str, text: bytes, extensions: Iterable[str]) -> bytes:
+    """Returns what a call that takes a text and options gives."""
+    return _called(call, [*_BYTES, ctypes.c_uint32], text, len(text), bits_of(extensions))
+
+
+def records_of(text: bytes, bits: int, answers: bytes = b"") -> bytes:
+    """Returns the records of a text. They have questions if `answers`, records of answers, are not empty."""
+    types = [*_BYTES, ctypes.c_uint32, *_BYTES]
+    return _called("records", types, text, len(text), bits, answers, len(answers))
+
+
+def html_of_records(text: bytes, records: bytes, safe: bool) -> bytes:
+    """Returns the HTML of records of a text."""
+    call = "records_safe_html" if safe else "records_html"
+    return _called(call, [*_BYTES, *_BYTES, ctypes.c_uint32], text, len(text), records, len(records), 0)
+
+
+def folding_of(label: bytes) -> bytes:
+    """Returns the case folding of a label."""
+    return _called("fold", _BYTES, label, len(label))

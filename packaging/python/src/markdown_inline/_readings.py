@@ -2,10 +2,11 @@
 from __future__ import annotations
 
 import json
-from itertools import accumulate
 from typing import Any, Dict, Iterable, Iterator, List, NamedTuple, Optional, Sequence, Union
 
-from ._library import encoded, result_of
+from ._library import bits_of, encoded, folding_of, records_of, result_of
+from ._questions import asked_records
+from ._records import BrokenLink, Columns, Definition, Records, characters_of
 
 
 class Event(NamedTuple):
@@ -55,15 +56,46 @@ def outline_json(text: str, extensions: Iterable[str] = ()) -> str:
 def events(text: str, extensions: Iterable[str] = ()) -> Iterator[Event]:
     """Returns an iterator over the events of a text. The text is read at the call."""
     of_text = encoded(text)
-    return _events(result_of("json", of_text, extensions), _characters(of_text))
+    return _events(result_of("json", of_text, extensions), characters_of(of_text))
 
 
 def outline(text: str, extensions: Iterable[str] = ()) -> List[Heading]:
     """Returns the headings of a text."""
     of_text = encoded(text)
-    characters = _characters(of_text)
+    characters = characters_of(of_text)
     entries = map(json.loads, _lines(result_of("outline", of_text, extensions)))
     return [Heading(it["level"], it["text"], *_range(it["range"], characters), it.get("id")) for it in entries]
+
+
+def records(text: str, extensions: Iterable[str] = ()) -> bytes:
+    """Returns the events of a text in a compact binary form, which include/markdown_records.h describes and
+    `typed.events_of_records` reads.
+    """
+    return records_of(encoded(text), bits_of(extensions))
+
+
+def columns(text: str, extensions: Iterable[str] = ()) -> Columns:
+    """Returns the events of a text as columns, without their texts, which is fast. An end has the kind of its start and
+    `Kind.END`. The extensions `autolinks` and `heading-ids` change nothing here.
+    """
+    of_text = encoded(text)
+    return Records(of_text, records_of(of_text, bits_of(extensions))).columns()
+
+
+def broken(text: str, extensions: Iterable[str] = ()) -> List[BrokenLink]:
+    """Returns the references that have no definition, of which the text would have links: `[a]`, `[a][]` and `[b][a]`."""
+    return asked_records(encoded(text), bits_of(extensions)).broken_links()
+
+
+def definitions(text: str, extensions: Iterable[str] = ()) -> List[Definition]:
+    """Returns the reference definitions of a text: of those whose labels have one `fold`ing, the first."""
+    of_text = encoded(text)
+    return Records(of_text, records_of(of_text, bits_of(extensions))).definitions()
+
+
+def fold(label: str) -> str:
+    """Returns the case folding of a label: labels with the same folding name the same definition."""
+    return folding_of(encoded(label)).decode()
 
 
 def _events(lines: bytes, characters: Sequence[int]) -> Iterator[Event]:
@@ -75,14 +107,6 @@ def _events(lines: bytes, characters: Sequence[int]) -> Iterator[Event]:
 
 def _lines(lines: bytes) -> List[bytes]:
     return lines.split(b"\n")[:-1]
-
-
-def _characters(text: bytes) -> Sequence[int]:
-    """Returns for each offset of bytes how many characters stand before it."""
-    if text.isascii():
-        return range(len(text) + 1)
-    # (all bytes of a character but the first are 0b10xxxxxx)
-    return [0, *accumulate(byte & 0xC0 != 0x80 for byte in text)]
 
 
 def _range(of_bytes: Dict[str, int], characters: Sequence[int]) -> "tuple[int, int]":
