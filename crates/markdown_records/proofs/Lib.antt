@@ -1,3 +1,2 @@
-pub mod BoundaryLemmas
 pub mod WritesLemmas
-pub mod DraftLemmas
+pub mod HeadingLemmas
