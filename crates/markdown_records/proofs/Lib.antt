@@ -1,2 +1,3 @@
 pub mod WritesLemmas
 pub mod HeadingLemmas
+pub mod BoundaryLemmas
