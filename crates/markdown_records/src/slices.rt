@@ -10,9 +10,11 @@ pub(crate) fn slice_of(text: &str, at: usize, length: usize) -> Option<&str>
 {
     // not `get`, whose clauses do not say that an empty slice is between characters
     let end = at.checked_add(length)?;
-    if text.is_char_boundary(at) && text.is_char_boundary(end) {
-        Some(&text[at..end])
-    } else {
-        None
+    if !text.is_char_boundary(at) {
+        return None;
     }
+    if !text.is_char_boundary(end) {
+        return None;
+    }
+    Some(&text[at..end])
 }
