@@ -1,11 +1,11 @@
 -- A test of `RecordView` says where characters begin as the kit does, and so which slices of a text there are.
-use Rattle.std.proofs.Common.{◌≡◌, ℕ, zero, suc, ◌+◌, ◌<◌, ◌≤◌, true, false, not, ◌&&◌, nat_le, List, [], ◌∷◌}
+use Rattle.std.proofs.Common.{◌≡◌, ℕ, zero, suc, ◌+◌, ◌<◌, ◌≤◌, true, not, ◌&&◌, nat_le, List, [], ◌∷◌}
 use Rattle.std.proofs.Common.{length, arith, Some, None, refl, ⊎_elim}
 use Rattle.std.specs.Bool.{Decides}
 use Rattle.std.specs.List.{slice_get, slice_index, slice_range}
 use Rattle.std.specs.Option.{option_map_or}
 use Rattle.std.specs.Str.{IsCharBoundary}
-use Rattle.std.proofs.lemmas.Bool.{cases_lt, leb-true, le-leb, and_left, and_right, false_from_ne_true, cond-true, cond-false}
+use Rattle.std.proofs.lemmas.Bool.{cases_lt, cond-true, le-leb, leb-true}
 use Rattle.std.proofs.lemmas.Bool.Decides.{Decides-and, Decides-like, Decides-not}
 use Rattle.markdown_records.specs.RecordView.{is_boundary, slice_of}
 
@@ -30,14 +30,11 @@ decides_inside (b ∷ text) (suc at) =
     (λ f (h : at < length text). f (omega (arith, h))) (decides_inside text at)
 
 -- the test is that of the kit
-pub boundary_decides : (text : List ℕ) (at : ℕ) → Decides (is_boundary text at) (IsCharBoundary text at)
+boundary_decides : (text : List ℕ) (at : ℕ) → Decides (is_boundary text at) (IsCharBoundary text at)
 boundary_decides text at =
     Decides-and (nat_le at (length text))
     (option_map_or (λ byte. not (nat_le 128 byte && nat_le byte 191)) (slice_get text at) true)
     (leb-true at (length text), le-leb at (length text)) (decides_inside text at)
-
-pub no_boundary : (text : List ℕ) (at : ℕ) → (IsCharBoundary text at → ⊥) → is_boundary text at ≡ false
-no_boundary text at h = false_from_ne_true (is_boundary text at) (λ e. h ((boundary_decides text at).0 e))
 
 -- characters begin and end at the ends
 pub slice_found : (text : List ℕ) (at count : ℕ) → IsCharBoundary text at → IsCharBoundary text (at + count)
@@ -46,15 +43,3 @@ slice_found text at count low high =
     cond-true (is_boundary text at && is_boundary text (at + count)) (Some (slice_range text at (at + count))) None
     ((Decides-and (is_boundary text at) (is_boundary text (at + count)) (boundary_decides text at)
     (boundary_decides text (at + count))).1 (low, high))
-
--- no character begins at the first end, or none ends at the second
-pub slice_cut_low : (text : List ℕ) (at count : ℕ) → (IsCharBoundary text at → ⊥) → slice_of text at count ≡ None
-slice_cut_low text at count h =
-    cond-false (is_boundary text at && is_boundary text (at + count)) (Some (slice_range text at (at + count))) None
-    (and_left (is_boundary text at) (is_boundary text (at + count)) (no_boundary text at h))
-
-pub slice_cut_high : (text : List ℕ) (at count : ℕ) → (IsCharBoundary text (at + count) → ⊥)
-    → slice_of text at count ≡ None
-slice_cut_high text at count h =
-    cond-false (is_boundary text at && is_boundary text (at + count)) (Some (slice_range text at (at + count))) None
-    (and_right (is_boundary text at) (is_boundary text (at + count)) (no_boundary text (at + count) h))

@@ -1,3 +1,6 @@
+pub mod BoundaryLemmas
+pub mod HeadingLemmas
+pub mod WritesLemmas
 -- Contents read back from their records.
 pub mod BytesReadBackLemmas
 pub mod SheetsReadBackLemmas
@@ -8,6 +11,3 @@ pub mod PartsReadBackLemmas
 pub mod EventsReadBackLemmas
 pub mod EntriesReadBackLemmas
 pub mod ReadsBackLemmas
-pub mod BoundaryLemmas
-pub mod WritesLemmas
-pub mod DraftLemmas

@@ -12,7 +12,7 @@ use Rattle.markdown_records.specs.Drafts.{DraftView}
 use Rattle.markdown_records.specs.Encoded.{FitDrafts, Sheet, Spot, placed, record_at, then_draft, then_drafts}
 use Rattle.markdown_records.specs.RecordOf.{spot_view}
 use Rattle.markdown_records.specs.RecordView.{record_bytes}
-use Rattle.markdown_records.specs.RecordsOf.{IsRefusal, Places, Writes, WritesEntry, entries_of, records_source, sheet_of}
+use Rattle.markdown_records.specs.RecordsOf.{IsRefusal, Places, Writes, entries_of, records_source, sheet_of}
 use Rattle.markdown_records.specs.declared.draft.SpotHeld.{SpotHeld}
 use Rattle.markdown_records.specs.declared.encode.Records.{Records}
 use Rattle.markdown_records.specs.declared.fault.RecordFault.{RecordFault}
@@ -40,10 +40,6 @@ refuses_less : (source other : List ℕ) (sheet next : Sheet) (ds es : List Draf
 refuses_less source other sheet next ds es fault fits =
     ⊎_elim (λ (memory : fault ≡ Of Memory). inl memory) (λ (p : (fault ≡ TooLong) × (FitDrafts other next es → ⊥)).
     inr (p.0, λ f. p.1 (fits f)))
-
--- nothing is written
-pub writes_none : {A : Type 0} {r : Records} {a : A} → Writes r [] (Ok a) r
-writes_none = record { source = refl; entries = refl; written = refl; refused = tt }
 
 -- the first drafts are refused
 pub refused_first : {A B : Type 0} {old new : Records} {ds : List DraftView} {fault : RecordFault}
@@ -78,26 +74,6 @@ writes_then {old} {middle} {new} {ds} {es} (Err fault) w v = record {
       fault (λ f. rw (w.source, w.written) (fit_later (records_source old) (sheet_of old) ds es f)) v.refused;
 }
 
--- the records so far are then those before the definitions
-pub writes_entry : {A B : Type 0} {old middle new : Records} {ds : List DraftView} {a : A} {b : B}
-    → Writes old ds (Ok a) middle → records_source new ≡ records_source middle → sheet_of new ≡ sheet_of middle
-    → entries_of new ≡ (sheet_of middle).count → WritesEntry old ds (Ok b) new
-writes_entry w source sheet entries = record {
-  source = source ∙ w.source;
-  entries = entries ∙ sym (ap (λ (s : Sheet). s.count) sheet);
-  written = sheet ∙ w.written;
-  refused = tt;
-}
-
-pub refused_entry : {A B : Type 0} {old new : Records} {ds : List DraftView} {fault : RecordFault}
-    → Writes {A = A} old ds (Err fault) new → WritesEntry {A = B} old ds (Err fault) new
-refused_entry w = record { source = w.source; entries = tt; written = tt; refused = w.refused }
-
--- nothing is written, since a number is too great
-pub too_long : {A : Type 0} {r : Records} {ds : List DraftView}
-    → (FitDrafts (records_source r) (sheet_of r) ds → ⊥) → Writes {A = A} r ds (Err TooLong) r
-too_long h = record { source = refl; entries = refl; written = tt; refused = inr (refl, h) }
-
 -- ---- a loop over a list, of which each element has drafts
 
 -- the drafts of the first so many are written
@@ -105,11 +81,7 @@ pub record WrittenTo {A : Type 0} (drafts_of : A → List DraftView) (old : Reco
     (new : Records) : Type 0 where
   pub writes : Writes {A = ⊤} old (flat_map drafts_of (take n xs)) (Ok tt) new
 
-pub written_none : {A : Type 0} {drafts_of : A → List DraftView} {old : Records} {xs : List A}
-    → WrittenTo drafts_of old xs 0 old
-written_none = record { writes = writes_none }
-
--- the next one's are
+-- and those of the next one
 pub written_more : {A : Type 0} {drafts_of : A → List DraftView} {old middle new : Records} {xs : List A} {n : ℕ}
     (d : A) → n < length xs → WrittenTo drafts_of old xs n middle
     → Writes {A = ⊤} middle (drafts_of (get_or xs n d)) (Ok tt) new → WrittenTo drafts_of old xs (n + 1) new
@@ -124,7 +96,7 @@ pub written_all : {A : Type 0} {drafts_of : A → List DraftView} {old new : Rec
 written_all {drafts_of} {old} {new} {xs} {n} h p =
     subst (λ ys. Writes {A = ⊤} old (flat_map drafts_of ys) (Ok tt) new) (take_all n xs h) p.writes
 
--- the next one's are refused
+-- those of the next one are refused
 pub written_refused : {A : Type 0} {drafts_of : A → List DraftView} {old middle new : Records} {xs : List A} {n : ℕ}
     {fault : RecordFault} {result : Result ⊤ RecordFault} (d : A) → n < length xs → WrittenTo drafts_of old xs n middle
     → IsErrAnd result (λ y. y ≡ fault) → Writes {A = ⊤} middle (drafts_of (get_or xs n d)) (Err fault) new

@@ -12,8 +12,8 @@ use Rattle.markdown_base.specs.declared.tag.TagEnd.{TagEnd}
 use Rattle.markdown_records.specs.EntryView as entry
 use Rattle.markdown_records.specs.EntryView.{EntryView, LabelledView}
 use Rattle.markdown_records.specs.Numbers as number
-use Rattle.markdown_records.specs.Numbers.{alignment_letter, bool_number, closed_kind, end_bit, end_detail, level_number}
-use Rattle.markdown_records.specs.Numbers.{link_type_number}
+use Rattle.markdown_records.specs.Numbers.{alignment_letter, bool_number, closed_kind, end_bit, end_detail}
+use Rattle.markdown_records.specs.Numbers.{level_number, link_type_number}
 
 -- the text of a draft
 pub data Wording : Type 0 where
@@ -89,7 +89,8 @@ destination_of written.ShortcutUnknown inside range l = pooled l.destination
 -- the title of a link, directly before `")`, and its label, directly before the end or as its text
 abbrev pub link_parts : (inside : ℕ) → Range ℕ → LinkView → List DraftView
 link_parts inside range l =
-    part_unless_empty number.title_part (range.end - 1 - (length l.title + 1)) (range.end - 1 - (length l.title + 1)) l.title
+    part_unless_empty number.title_part (range.end - 1 - (length l.title + 1)) (range.end - 1 - (length l.title + 1))
+    l.title
     ++ part_unless_empty number.label_part (range.end - 1 - length l.label) inside l.label
 
 abbrev pub link_drafts : (kind inside : ℕ) → Range ℕ → LinkView → List DraftView

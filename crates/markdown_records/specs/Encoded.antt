@@ -6,8 +6,8 @@ use Rattle.std.specs.Str.{bytes_eq}
 use Rattle.markdown_records.specs.Drafts.{DraftView, Wording, no_text, numbered, pooled, sought}
 use Rattle.markdown_records.specs.Drafts.{definition_drafts, entry_drafts}
 use Rattle.markdown_records.specs.EntryView.{Contents}
-use Rattle.markdown_records.specs.RecordView.{RecordView, a_number, header_bytes, in_pool, in_source, nowhere, record_bytes}
-use Rattle.markdown_records.specs.RecordView.{slice_of}
+use Rattle.markdown_records.specs.RecordView.{RecordView, a_number, header_bytes, in_pool, in_source, nowhere}
+use Rattle.markdown_records.specs.RecordView.{record_bytes, slice_of}
 
 -- where a text is
 pub record Spot : Type 0 where

@@ -1,5 +1,6 @@
 -- What `Records` has written, and what a call writes or why it refuses. Only private fields are behind these names.
-use Rattle.std.specs.Prelude.{◌≡◌, ◌⊎◌, ◌<◌, ◌≤◌, ◌^◌, ◌++◌, ℕ, List, length, max, string_bytes, IfOk, IfErr, Result, Vec}
+use Rattle.std.specs.Prelude.{◌≡◌, ◌⊎◌, ◌<◌, ◌≤◌, ◌^◌, ◌++◌, ℕ, List, length, max, string_bytes, IfOk, IfErr, Result}
+use Rattle.std.specs.Prelude.{Vec}
 use Rattle.std.specs.declared.alloc.Global.{Global}
 use Rattle.std.specs.declared.ops.Range.{Range}
 use Rattle.markdown_base.specs.declared.fault.Fault.TheVariants.{Memory}
@@ -55,7 +56,8 @@ pub record WritesEntry {A : Type 0} (old : Records) (ds : List DraftView) (resul
   pub refused : IfErr result (IsRefusal (records_source old) (sheet_of old) ds)
 
 -- where the text of a draft is, of which the pool has grown, or why it has no place
-pub record Places (old : Records) (wording : Wording) (result : Result SpotHeld RecordFault) (new : Records) : Type 0 where
+pub record Places (old : Records) (wording : Wording) (result : Result SpotHeld RecordFault)
+    (new : Records) : Type 0 where
   pub source : records_source new ≡ records_source old
   pub entries : entries_of new ≡ entries_of old
   pub count : (sheet_of new).count ≡ (sheet_of old).count

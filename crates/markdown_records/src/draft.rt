@@ -46,7 +46,8 @@ pub(crate) enum TextPlace<'x> {
     Number(u64),
     /// In the pool.
     Pooled(&'x str),
-    /// In the source, at the first offset or at the second one, if it stands there, and otherwise in the pool.
+    /// In the source, at the first offset or at the second one, if it stands there, and otherwise
+    /// in the pool.
     Sought {
         words: &'x str,
         first: usize,
@@ -76,7 +77,8 @@ pub(crate) struct Draft<'x> {
 impl<'x> Draft<'x> {
     /// Returns the draft of a record without parts.
     pub fn single(kind: u8, detail: u8, span: Span, text: TextPlace<'x>) -> Draft<'x>
-        ensures { draft_view result ∷ [] ≡ single kind detail (span_range span) (wording_of text.entry) }
+        ensures { draft_view result ∷ []
+            ≡ single kind detail (span_range span) (wording_of text.entry) }
     {
         Draft {
             kind,

@@ -4,7 +4,8 @@ ghost use Rattle.markdown_records.specs.Drafts.{pooled, single};
 ghost use Rattle.markdown_records.specs.Encoded.{blank, stands_at};
 ghost use Rattle.markdown_records.specs.RecordOf.{draft_view, span_range, spot_view, wording_of};
 ghost use Rattle.markdown_records.specs.RecordView.{in_source};
-ghost use Rattle.markdown_records.specs.RecordsOf.{Finishes, Places, Writes, entries_of, records_source, sheet_of};
+ghost use Rattle.markdown_records.specs.RecordsOf.{Finishes, Places, Writes, entries_of};
+ghost use Rattle.markdown_records.specs.RecordsOf.{records_source, sheet_of};
 
 use crate::draft::{Draft, Span, SpotHeld, TextPlace, small};
 use crate::fault::RecordFault;
@@ -77,7 +78,8 @@ impl<'t> Records<'t> {
     /// Returns where a text is: at an offset of the source.
     fn in_source(at: usize, words: &str) -> Result<SpotHeld, RecordFault>
         ensures { MatchResult result
-            (λ spot. spot_view spot ≡ record { place = in_source; at = at; length = length words.now })
+            (λ spot. spot_view spot
+            ≡ record { place = in_source; at = at; length = length words.now })
             (λ fault. (fault ≡ RecordFault.TooLong) × (2 ^ 32 ≤ max at (length words.now))) }
     {
         Ok(SpotHeld {
@@ -87,7 +89,8 @@ impl<'t> Records<'t> {
         })
     }
 
-    /// Returns where the text of a draft is, which is appended to the pool if it stands at neither offset of the source.
+    /// Returns where the text of a draft is, which is appended to the pool if it stands at neither
+    /// offset of the source.
     fn spot(&mut self, text: TextPlace<'_>) -> Result<SpotHeld, RecordFault>
         ensures { Places self.old (wording_of text.entry) result self.new }
     {
@@ -151,7 +154,8 @@ impl<'t> Records<'t> {
         span: Span,
         text: TextPlace<'_>,
     ) -> Result<(), RecordFault>
-        ensures { Writes self.old (single kind detail (span_range span) (wording_of text.entry)) result self.new }
+        ensures { Writes self.old (single kind detail (span_range span) (wording_of text.entry))
+            result self.new }
     {
         self.push(Draft::single(kind, detail, span, text))
     }
@@ -174,7 +178,8 @@ impl<'t> Records<'t> {
     ///
     /// # Errors
     ///
-    /// `TooLong` if the text or the pool has 2^32 bytes or more, and `Of(Fault::Memory)` if an allocation fails.
+    /// `TooLong` if the text or the pool has 2^32 bytes or more, and `Of(Fault::Memory)` if an
+    /// allocation fails.
     pub fn finish(self, alloc: Global) -> Result<Vec<u8>, RecordFault>
         ensures { Finishes self.entry result }
     {

@@ -1,10 +1,11 @@
-//! Events, questions, answers and definitions as records.
+//! Events, questions and definitions as records.
 ghost use Rattle.std.specs.Prelude.{◌≡◌, ◌+◌, ◌-◌, ℕ, List, length};
 ghost use Rattle.markdown_base.specs.BlockParts.{definition_view};
 ghost use Rattle.markdown_base.specs.CowText.{text_of};
 ghost use Rattle.markdown_base.specs.Event.{code, event_view};
-ghost use Rattle.markdown_records.specs.Drafts.{definition_drafts, definition_parts, event_drafts, no_text, part};
-ghost use Rattle.markdown_records.specs.Drafts.{question_drafts, single, sought, text_draft};
+ghost use Rattle.markdown_records.specs.Drafts.{definition_drafts, definition_parts, event_drafts};
+ghost use Rattle.markdown_records.specs.Drafts.{no_text, part, question_drafts, single, sought};
+ghost use Rattle.markdown_records.specs.Drafts.{text_draft};
 ghost use Rattle.markdown_records.specs.Numbers.{title_part};
 ghost use Rattle.markdown_records.specs.RecordOf.{span_range};
 ghost use Rattle.markdown_records.specs.RecordsOf.{Writes, WritesEntry};
@@ -21,8 +22,10 @@ use std::ops::Range;
 
 /// Returns how many parts a definition has: its destination, and its title.
 fn definition_part_count(definition: &LinkDef<'_>) -> usize
-    ensures { (label : List ℕ) → length (definition_parts (record { label = label; definition = definition_view definition.now }))
-        ≡ result }
+    ensures { (label : List ℕ) → length (definition_parts (record {
+      label = label;
+      definition = definition_view definition.now;
+    })) ≡ result }
 {
     match &definition.title {
         None => 1,
@@ -39,7 +42,8 @@ impl Records<'_> {
         at: usize,
         span: Span,
     ) -> Result<(), RecordFault>
-        ensures { Writes self.old (text_draft kind (span_range span) at (text_of text.now)) result self.new }
+        ensures { Writes self.old (text_draft kind (span_range span) at (text_of text.now))
+            result self.new }
     {
         let words = text.as_str();
         let text = TextPlace::Sought {
@@ -52,7 +56,8 @@ impl Records<'_> {
 
     /// Appends the record of a code span, whose text has as many bytes before it as after it.
     fn push_code(&mut self, text: &CowStr<'_>, span: Span) -> Result<(), RecordFault>
-        ensures { Writes self.old (event_drafts (span_range span) (code (text_of text.now))) result self.new }
+        ensures { Writes self.old (event_drafts (span_range span) (code (text_of text.now)))
+            result self.new }
     {
         let length = (span.end as usize).saturating_sub(span.start as usize);
         let margin = length.saturating_sub(text.as_str().len()) / 2;
@@ -68,7 +73,8 @@ impl Records<'_> {
 
     /// Appends the records of an event.
     fn push_any_event(&mut self, event: &Event<'_>, span: Span) -> Result<(), RecordFault>
-        ensures { Writes self.old (event_drafts (span_range span) (event_view event.now)) result self.new }
+        ensures { Writes self.old (event_drafts (span_range span) (event_view event.now))
+            result self.new }
     {
         let start = span.start as usize;
         match event {
@@ -105,10 +111,11 @@ impl Records<'_> {
     ///
     /// # Errors
     ///
-    /// `TooLong` if a number in these records is 2^32 or greater, and `Of(Fault::Memory)` if an allocation fails. The
-    /// records are then cut short, and of no use.
+    /// `TooLong` if a number in these records is 2^32 or greater, and `Of(Fault::Memory)` if an
+    /// allocation fails. The records are then cut short, and of no use.
     pub fn push_event(&mut self, event: &Event<'_>, range: &Range<usize>) -> Result<(), RecordFault>
-        ensures { WritesEntry self.old (event_drafts range.now (event_view event.now)) result self.new }
+        ensures { WritesEntry self.old (event_drafts range.now (event_view event.now))
+            result self.new }
     {
         let span = span_of(range)?;
         self.push_any_event(event, span)?;
@@ -116,7 +123,8 @@ impl Records<'_> {
         Ok(())
     }
 
-    /// Appends the record of a question to the callback: its range in bytes of the source, its form and its label.
+    /// Appends the record of a question to the callback: its range in bytes of the source, its form
+    /// and its label.
     ///
     /// # Errors
     ///
@@ -128,8 +136,11 @@ impl Records<'_> {
         label: &str,
     ) -> Result<(), RecordFault>
         ensures { WritesEntry self.old
-            (question_drafts (record { span = range.now; link_type = link_type; reference = label.now }))
-            result self.new }
+            (question_drafts (record {
+              span = range.now;
+              link_type = link_type;
+              reference = label.now;
+            })) result self.new }
     {
         let span = span_of(range)?;
         let last = (span.end as usize).saturating_sub(1);
@@ -153,8 +164,10 @@ impl Records<'_> {
         label: &str,
         definition: &LinkDef<'_>,
     ) -> Result<(), RecordFault>
-        ensures { Writes self.old (definition_drafts (record { label = label.now; definition = definition_view definition.now }))
-            result self.new }
+        ensures { Writes self.old (definition_drafts (record {
+          label = label.now;
+          definition = definition_view definition.now;
+        })) result self.new }
     {
         let span = span_of(&definition.span)?;
         let inside = span.start as usize + 1;
@@ -187,7 +200,8 @@ impl Records<'_> {
 
     /// Appends the title of a definition, which stands before its last byte.
     fn push_title(&mut self, words: &str, span: Span) -> Result<(), RecordFault>
-        ensures { Writes self.old (part title_part (sought ((span_range span).end - (length words.now + 1)) ((span_range span).end - (length words.now + 1)) words.now)) result self.new }
+        ensures { Writes self.old (part title_part (sought (span.end - (length words.now + 1))
+            (span.end - (length words.now + 1)) words.now)) result self.new }
     {
         let at = (span.end as usize)
             .saturating_sub(words.len())

@@ -3,8 +3,8 @@ ghost use Rattle.std.specs.Prelude.{◌≡◌, ◌+◌, ◌≤◌, ◌^◌, ℕ,
 ghost use Rattle.std.specs.Option.{option_map_or};
 ghost use Rattle.std.specs.declared.ops.Range.{Range};
 ghost use Rattle.markdown_base.specs.Event.{attribute_view, link_view};
-ghost use Rattle.markdown_records.specs.Drafts.{attribute_parts, destination_of, heading_parts, inline_end, link_parts};
-ghost use Rattle.markdown_records.specs.Drafts.{no_text, pooled};
+ghost use Rattle.markdown_records.specs.Drafts.{attribute_parts, destination_of, heading_parts};
+ghost use Rattle.markdown_records.specs.Drafts.{inline_end, link_parts, no_text, pooled};
 ghost use Rattle.markdown_records.specs.RecordOf.{heading_of, link_of, span_range, wording_of};
 
 use crate::draft::{Span, TextPlace};
@@ -42,7 +42,8 @@ impl<'x> Link<'x> {
 
     /// Returns how many parts the link has: its title and its label, unless they are empty.
     pub fn parts(&self) -> usize
-        ensures { (inside : ℕ) (range : Range ℕ) → length (link_parts inside range (link_of self.now)) ≡ result }
+        ensures { (inside : ℕ) (range : Range ℕ)
+            → length (link_parts inside range (link_of self.now)) ≡ result }
     {
         let title = if self.title.is_empty() { 0usize } else { 1 };
         let label = if self.label.is_empty() { 0 } else { 1 };
@@ -72,7 +73,8 @@ fn part_count(attribute: &(CowStr<'_>, Option<CowStr<'_>>)) -> usize
 impl Heading<'_, '_> {
     /// Returns the text of the heading's id.
     pub fn id_text(&self) -> TextPlace<'_>
-        ensures { wording_of result ≡ option_map_or (λ id. pooled id) (heading_of self.now).id no_text }
+        ensures { wording_of result
+            ≡ option_map_or (λ id. pooled id) (heading_of self.now).id no_text }
     {
         match self.id {
             None => TextPlace::Absent,

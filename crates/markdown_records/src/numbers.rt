@@ -1,7 +1,8 @@
 //! The numbers of kinds, levels and types in records.
 ghost use Rattle.std.specs.Prelude.{◌≡◌, ◌∷◌, []};
-ghost use Rattle.markdown_records.specs.Numbers.{alignment_letter, bool_number, closed_kind, end_detail, level_number};
-ghost use Rattle.markdown_records.specs.Numbers.{link_type_number, metadata_number, quote_number};
+ghost use Rattle.markdown_records.specs.Numbers.{alignment_letter, bool_number, closed_kind};
+ghost use Rattle.markdown_records.specs.Numbers.{end_detail, level_number, link_type_number};
+ghost use Rattle.markdown_records.specs.Numbers.{metadata_number, quote_number};
 
 use markdown_base::tag::{
     Alignment, BlockQuoteKind, HeadingLevel, LinkType, MetadataBlockKind, TagEnd,

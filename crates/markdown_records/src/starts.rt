@@ -2,8 +2,9 @@
 ghost use Rattle.std.specs.Prelude.{◌+◌, flat_map, map};
 ghost use Rattle.markdown_base.specs.CowText.{text_of};
 ghost use Rattle.markdown_base.specs.Event.{attribute_view, code_block_view, list, table, tag_view};
-ghost use Rattle.markdown_records.specs.Drafts.{attribute_parts, bare_start, class_part, heading_drafts, link_drafts};
-ghost use Rattle.markdown_records.specs.Drafts.{part_unless_empty, start_drafts};
+ghost use Rattle.markdown_records.specs.Drafts.{attribute_parts, bare_start, class_part};
+ghost use Rattle.markdown_records.specs.Drafts.{heading_drafts, link_drafts, part_unless_empty};
+ghost use Rattle.markdown_records.specs.Drafts.{start_drafts};
 ghost use Rattle.markdown_records.specs.RecordOf.{heading_of, link_of, span_range};
 ghost use Rattle.markdown_records.specs.RecordsOf.{Writes};
 
@@ -20,7 +21,8 @@ use markdown_base::tag::{Alignment, CodeBlockKind, Tag, TagEnd};
 impl Records<'_> {
     /// Appends the records of the Start of a heading.
     fn push_heading(&mut self, heading: Heading<'_, '_>, span: Span) -> Result<(), RecordFault>
-        ensures { Writes self.old (heading_drafts (span_range span) (heading_of heading.entry)) result self.new }
+        ensures { Writes self.old (heading_drafts (span_range span) (heading_of heading.entry))
+            result self.new }
     {
         let parts = heading.parts()?;
         self.push(Draft {
@@ -65,7 +67,8 @@ impl Records<'_> {
         &mut self,
         attributes: &[(CowStr<'_>, Option<CowStr<'_>>)],
     ) -> Result<(), RecordFault>
-        ensures { Writes self.old (flat_map attribute_parts (map attribute_view attributes.now)) result self.new }
+        ensures { Writes self.old (flat_map attribute_parts (map attribute_view attributes.now))
+            result self.new }
     {
         for attribute in attributes {
             self.push_attribute(attribute)?;
@@ -73,7 +76,8 @@ impl Records<'_> {
         Ok(())
     }
 
-    /// Appends the records of the Start of a link or an image, whose text begins so many bytes after its start.
+    /// Appends the records of the Start of a link or an image, whose text begins so many bytes
+    /// after its start.
     fn push_link(
         &mut self,
         kind: u8,
@@ -81,7 +85,9 @@ impl Records<'_> {
         link: Link<'_>,
         span: Span,
     ) -> Result<(), RecordFault>
-        ensures { Writes self.old (link_drafts kind (span.start + opening) (span_range span) (link_of link.entry)) result self.new }
+        ensures { Writes self.old
+            (link_drafts kind (span.start + opening) (span_range span) (link_of link.entry))
+            result self.new }
     {
         let inside = span.start as usize + opening as usize;
         let last = (span.end as usize).saturating_sub(1);
@@ -123,7 +129,8 @@ impl Records<'_> {
 
     /// Appends the records of a Start.
     pub(crate) fn push_start(&mut self, tag: &Tag<'_>, span: Span) -> Result<(), RecordFault>
-        ensures { Writes self.old (start_drafts (span_range span) (tag_view tag.now)) result self.new }
+        ensures { Writes self.old (start_drafts (span_range span) (tag_view tag.now))
+            result self.new }
     {
         match tag {
             Tag::Heading {
@@ -197,7 +204,8 @@ impl Records<'_> {
 
     /// Appends the record of the Start of a code block.
     fn push_code_block(&mut self, kind: &CodeBlockKind<'_>, span: Span) -> Result<(), RecordFault>
-        ensures { Writes self.old (start_drafts (span_range span) (code_block_view kind.now)) result self.new }
+        ensures { Writes self.old (start_drafts (span_range span) (code_block_view kind.now))
+            result self.new }
     {
         match kind {
             CodeBlockKind::Indented => {
@@ -226,7 +234,8 @@ impl Records<'_> {
 
     /// Appends the record of the Start of a table, whose text has a letter for each column.
     fn push_table(&mut self, alignments: &[Alignment], span: Span) -> Result<(), RecordFault>
-        ensures { Writes self.old (start_drafts (span_range span) (table alignments.now)) result self.new }
+        ensures { Writes self.old (start_drafts (span_range span) (table alignments.now))
+            result self.new }
     {
         let mut letters = String::new(self.alloc());
         for alignment in alignments {

@@ -5,4 +5,5 @@ use Rattle.markdown_records.proofs.WritesLemmas.{WrittenTo}
 use Rattle.markdown_records.proofs.encode.Records.push_attributes.Given as goal
 
 abbrev pub invariant-loop-attribute : goal.invariant-loop-attribute
-invariant-loop-attribute l = WrittenTo (λ x. attribute_parts (attribute_view x)) l.initial.self l.attributes l.attribute-index l.self
+invariant-loop-attribute l =
+    WrittenTo (λ x. attribute_parts (attribute_view x)) l.initial.self l.attributes l.attribute-index l.self

@@ -5,7 +5,7 @@ use Rattle.std.proofs.lemmas.List.Folds.{length-flat_map-take}
 use Rattle.markdown_base.specs.CowText.{text_of}
 use Rattle.markdown_base.specs.Event.{attribute_view}
 use Rattle.markdown_records.specs.Drafts.{attribute_parts}
-use Rattle.markdown_records.proofs.DraftLemmas.{heading_count}
+use Rattle.markdown_records.proofs.HeadingLemmas.{heading_count}
 use Rattle.markdown_records.proofs.link.Heading.parts.Goals as goal
 
 pub returns-in_default : goal.returns-in_default
