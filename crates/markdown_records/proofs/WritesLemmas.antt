@@ -18,23 +18,23 @@ use Rattle.markdown_records.specs.declared.encode.Records.{Records}
 use Rattle.markdown_records.specs.declared.fault.RecordFault.{RecordFault}
 use Rattle.markdown_records.specs.declared.fault.RecordFault.TheVariants.{Of, TooLong}
 
-then_both : (source : List ℕ) (sheet : Sheet) (ds es : List DraftView)
+pub then_both : (source : List ℕ) (sheet : Sheet) (ds es : List DraftView)
     → then_drafts source sheet (ds ++ es) ≡ then_drafts source (then_drafts source sheet ds) es
 then_both source sheet [] es = refl
 then_both source sheet (d ∷ ds) es = then_both source (then_draft source sheet d) ds es
 
-fit_first : (source : List ℕ) (sheet : Sheet) (ds es : List DraftView) → FitDrafts source sheet (ds ++ es)
+pub fit_first : (source : List ℕ) (sheet : Sheet) (ds es : List DraftView) → FitDrafts source sheet (ds ++ es)
     → FitDrafts source sheet ds
 fit_first source sheet [] es f = tt
 fit_first source sheet (d ∷ ds) es f = (f.0, fit_first source (then_draft source sheet d) ds es f.1)
 
-fit_later : (source : List ℕ) (sheet : Sheet) (ds es : List DraftView) → FitDrafts source sheet (ds ++ es)
+pub fit_later : (source : List ℕ) (sheet : Sheet) (ds es : List DraftView) → FitDrafts source sheet (ds ++ es)
     → FitDrafts source (then_drafts source sheet ds) es
 fit_later source sheet [] es f = f
 fit_later source sheet (d ∷ ds) es f = fit_later source (then_draft source sheet d) ds es f.1
 
 -- what is refused is refused also as a part of more
-refuses_less : (source other : List ℕ) (sheet next : Sheet) (ds es : List DraftView) (fault : RecordFault)
+pub refuses_less : (source other : List ℕ) (sheet next : Sheet) (ds es : List DraftView) (fault : RecordFault)
     → (FitDrafts source sheet ds → FitDrafts other next es) → IsRefusal other next es fault
     → IsRefusal source sheet ds fault
 refuses_less source other sheet next ds es fault fits =
