@@ -1,3 +1,4 @@
+use crate::Options;
 use markdown_inline_sys as sys;
 use std::ops::{BitOr, BitOrAssign};
 
@@ -69,6 +70,13 @@ impl Extensions {
 
     pub(crate) fn bits(self) -> u32 {
         self.0
+    }
+}
+
+/// What a parser with these options reads.
+impl From<Options> for Extensions {
+    fn from(options: Options) -> Extensions {
+        Extensions(options.library_bits())
     }
 }
 

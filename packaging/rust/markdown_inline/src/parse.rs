@@ -248,14 +248,16 @@ impl<'input, F: BrokenLinkCallback<'input>> Parser<'input, F> {
             link_type: link_type_of(question.detail()).expect(DAMAGED),
             reference: self.records.text(question, self.text).expect(DAMAGED),
         });
-        self.answers.push_answer(span, answer.as_ref().map(|it| (&*it.0, &*it.1)));
-        if answer.is_none() {
-            return;
+        let answer = answer.as_ref().map(|it| (&*it.0, &*it.1));
+        if answer.is_some() {
+            let mut table = self.answers.clone();
+            table.push_answer(span.clone(), answer);
+            let table = table.finish(self.text.len());
+            let again = or_panic(table.and_then(|table| read(self.text, self.options, &table)));
+            assert_eq!(again.get(self.next), Some(question), "what is before an answer does not depend on it");
+            self.records = again;
         }
-        let table = self.answers.clone().finish(self.text.len());
-        let again = or_panic(table.and_then(|table| read(self.text, self.options, &table)));
-        assert_eq!(again.get(self.next), Some(question), "what is before an answer does not depend on it");
-        self.records = again;
+        self.answers.push_answer(span, answer);
     }
 
     /// The number of the next event's record. Asks the questions before it.

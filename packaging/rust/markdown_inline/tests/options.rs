@@ -74,6 +74,7 @@ fn each_is_the_extension_of_its_name() {
         html::push_html(&mut html, Parser::new_ext(text, options));
         assert_eq!(to_html(text, extension).as_ref(), Ok(&html), "{options:?}");
         assert_ne!(to_html(text, Extensions::NONE), Ok(html), "{options:?}");
+        assert_eq!(Extensions::from(options), extension);
     }
 }
 
@@ -82,4 +83,6 @@ fn bits_that_mean_nothing_have_no_effect() {
     let events = |options| Parser::new_ext("a\n: b", options).count();
     assert_eq!(events(Options::from_bits_retain(u32::MAX)), events(Options::all()));
     assert_eq!(events(Options::ENABLE_DEFINITION_LIST), events(Options::empty()));
+    assert_eq!(Extensions::from(Options::from_bits_retain(u32::MAX)), Extensions::from(Options::all()));
+    assert_eq!(Extensions::from(Options::ENABLE_DEFINITION_LIST), Extensions::NONE);
 }
