@@ -1,7 +1,7 @@
 //! HTML of events, by the library's renderer.
 //!
-//! All events are taken from the iterator before anything is written. The HTML of a text whose events are not changed is made
-//! in about half the time by [`to_html`](crate::to_html) and [`to_safe_html`](crate::to_safe_html):
+//! All events are taken from the iterator before anything is written. The HTML of a text whose events are not changed is
+//! made faster by [`to_html`](crate::to_html) and [`to_safe_html`](crate::to_safe_html):
 //!
 //! ```
 //! use markdown_inline::{Options, Parser, html, to_html};

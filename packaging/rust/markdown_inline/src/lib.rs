@@ -54,7 +54,8 @@
 //! | [`Options`] | has the methods of `bitflags`, and not its traits | implements `bitflags::Flags` |
 //! | Features | `serde`, which copies the texts that it reads; `html`, `simd` and `getopts` change nothing | |
 //!
-//! The events are those of pulldown-cmark 0.13.6 but for faults of it that are mended. These are some:
+//! The rules for events are those of pulldown-cmark 0.13.6, but for faults of it that are mended. (The two were not run against
+//! each other.) Some of the faults:
 //!
 //! - a CRLF in a code span is one space, and not two;
 //! - `[a]\[b]` is one link and a text, though both are defined, since the second bracket is escaped;
