@@ -1,2 +1,3 @@
 pub mod DefinitionsLemmas
 pub mod AnsweringLemmas
+pub mod EntriesLemmas

@@ -5,3 +5,4 @@ pub mod RecordsHtml
 -- the terms of private clauses
 pub mod AnsweringView
 pub mod DefinitionsView
+pub mod RecordedEntries

@@ -1,6 +1,7 @@
 //! Finds the library `libmarkdown_inline`: in the folder `MARKDOWN_INLINE_LIB_DIR`, where that is set, and there the static
 //! one unless `MARKDOWN_INLINE_DYNAMIC` is set; otherwise in this crate, where it has the archive of the target, as those that
-//! are published have, unless the feature `system` is on; otherwise where `pkg-config` knows it.
+//! are published have, unless the feature `system` is on; otherwise where `pkg-config` knows it. Documentation needs none:
+//! where `DOCS_RS` is set, as docs.rs does, it looks for none.
 
 use std::env;
 use std::error::Error;
@@ -11,6 +12,10 @@ fn main() -> Result<(), Box<dyn Error>> {
     println!("cargo::rerun-if-env-changed=MARKDOWN_INLINE_LIB_DIR");
     println!("cargo::rerun-if-env-changed=MARKDOWN_INLINE_DYNAMIC");
     println!("cargo::rerun-if-env-changed=PKG_CONFIG_PATH");
+    println!("cargo::rerun-if-env-changed=DOCS_RS");
+    if env::var_os("DOCS_RS").is_some() {
+        return Ok(());
+    }
     if let Ok(folder) = env::var("MARKDOWN_INLINE_LIB_DIR") {
         let kind = if env::var_os("MARKDOWN_INLINE_DYNAMIC").is_some() { "dylib" } else { "static" };
         link(&folder, kind);

@@ -8,6 +8,8 @@ pub const MARKDOWN_NOT_UTF8: i64 = -1;
 pub const MARKDOWN_NO_MEMORY: i64 = -2;
 pub const MARKDOWN_TOO_DEEP: i64 = -3;
 pub const MARKDOWN_UNKNOWN_OPTION: i64 = -4;
+pub const MARKDOWN_NOT_RECORDS: i64 = -5;
+pub const MARKDOWN_TOO_LONG: i64 = -6;
 
 pub const MARKDOWN_DEFAULT: u32 = 0;
 pub const MARKDOWN_TABLES: u32 = 1 << 1;
@@ -70,6 +72,31 @@ unsafe extern "C" {
         options: u32,
         length: *mut i64,
     ) -> *mut c_char;
+    pub fn markdown_records_alloc(
+        text: *const c_char,
+        text_length: usize,
+        options: u32,
+        answers: *const u8,
+        answers_length: usize,
+        length: *mut i64,
+    ) -> *mut u8;
+    pub fn markdown_records_html_alloc(
+        text: *const c_char,
+        text_length: usize,
+        records: *const u8,
+        records_length: usize,
+        options: u32,
+        length: *mut i64,
+    ) -> *mut c_char;
+    pub fn markdown_records_safe_html_alloc(
+        text: *const c_char,
+        text_length: usize,
+        records: *const u8,
+        records_length: usize,
+        options: u32,
+        length: *mut i64,
+    ) -> *mut c_char;
+    pub fn markdown_fold_alloc(label: *const c_char, label_length: usize, length: *mut i64) -> *mut c_char;
     pub fn markdown_free(result: *mut c_void);
 
     pub fn markdown_version() -> *const c_char;
