@@ -13,7 +13,7 @@ use std::alloc::Global;
 /// reference definitions. Returns their length in bytes, and writes them to the front of `out`, if they fit; otherwise
 /// `out` is unchanged. `options` are as for `markdown_to_html`, but no links of bare addresses and no ids are added. `answers`
 /// are records of answers of this text: the k-th question gets the k-th answer, if that is to its range, and None otherwise.
-/// If there are no bytes of answers, nothing is asked.
+///
 ///
 /// # Errors
 ///

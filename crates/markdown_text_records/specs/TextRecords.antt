@@ -1,6 +1,6 @@
 -- What the records of a text say: the reading of the text, in which a table answers the questions of the callback, and its
 -- link reference definitions.
-use Rattle.std.specs.Prelude.{◌≡◌, ◌++◌, Bool, true, false, List, [], ◌∷◌, map, if◌then◌else◌, Option, Some, None}
+use Rattle.std.specs.Prelude.{◌≡◌, ◌++◌, Bool, true, ℕ, List, [], ◌∷◌, map, if◌then◌else◌, Option, Some, None}
 use Rattle.std.specs.List.{fold, list_any}
 use Rattle.markdown_base.specs.Questions.{Answers}
 use Rattle.markdown_base.specs.Source.{Source}
@@ -11,6 +11,7 @@ use Rattle.markdown_inline.specs.Elements.{Element, event, question, questions_o
 use Rattle.markdown_inline.specs.ReadingOfText.{reading_of_text, unlabelled}
 use Rattle.markdown_records.specs.EntryView as entry
 use Rattle.markdown_records.specs.EntryView.{Contents, EntryView, LabelledView}
+use Rattle.markdown_records.specs.Encoded.{encoded}
 use Rattle.markdown_text_records.specs.AnswerTable.{Table, answered}
 
 -- an element of a reading, as an entry
@@ -29,10 +30,10 @@ findable definitions = fold with_first [] definitions
 abbrev pub labelled : Definition → LabelledView
 labelled d = record { label = d.label; definition = unlabelled d }
 
--- what is said of a text for these answers, with or without a callback
-abbrev pub contents_of_text : Source → (asks : Bool) → Answers → Contents
-contents_of_text s asks answers = record {
-  entries = map entry_of (reading_of_text s asks answers);
+-- what is said of a text for these answers to its questions
+abbrev pub contents_of_text : Source → Answers → Contents
+contents_of_text s answers = record {
+  entries = map entry_of (reading_of_text s true answers);
   definitions = map labelled (findable (block_definitions s));
 }
 
@@ -40,7 +41,14 @@ contents_of_text s asks answers = record {
 abbrev pub AreAnswers : Source → Table → Answers → Type 0
 AreAnswers s table answers = answers ≡ answered table (questions_of (reading_of_text s true answers))
 
--- what is said of a text, whose questions a table answers; without a table nothing is asked
-abbrev pub AreContentsOf : Source → Option Table → Contents → Type 0
-AreContentsOf s None c = c ≡ contents_of_text s false []
-AreContentsOf s (Some table) c = (answers : Answers) × AreAnswers s table answers × (c ≡ contents_of_text s true answers)
+-- what is said of a text whose questions a table answers
+pub record AreContentsOf (s : Source) (table : Table) (c : Contents) : Type 0 where
+  pub answers : Answers
+  pub by_table : AreAnswers s table answers
+  pub are : c ≡ contents_of_text s answers
+
+-- the records of a text whose questions a table answers
+pub record AreRecordsOf (s : Source) (table : Table) (bytes : List ℕ) : Type 0 where
+  pub contents : Contents
+  pub of_text : AreContentsOf s table contents
+  pub are : bytes ≡ encoded s.text contents

@@ -1,12 +1,14 @@
 //! The records of a text.
-ghost use Rattle.std.specs.Prelude.{◌≡◌, MatchOption, map};
-ghost use Rattle.std.specs.Option.{option_map};
+ghost use Rattle.std.specs.Prelude.{IfErr, IfOk, map};
 ghost use Rattle.markdown_base.specs.Source.{source_as};
 ghost use Rattle.markdown_text_records.specs.AnsweringView.{given_view};
-ghost use Rattle.markdown_text_records.specs.TextRecords.{AreContentsOf};
+ghost use Rattle.markdown_text_records.specs.Recording.{asked_links, PushesAsked, PushesNext, PushesReading};
+ghost use Rattle.markdown_text_records.specs.TextRecords.{AreRecordsOf};
 
 use crate::answering::{Answering, GivenAnswer};
 use crate::definitions::push_definitions;
+use crate::questions::push_questions;
+use markdown_base::fault::Fault;
 use markdown_base::options::Options;
 use markdown_base::syntax::Syntax;
 use markdown_blocks::Blocks;
@@ -14,57 +16,60 @@ use markdown_inline::walk::{OffsetIter, Parser};
 use markdown_records::{RecordFault, Records};
 use std::alloc::Global;
 
-/// Appends the questions that were kept after so many, and returns how many there are.
-fn push_questions(
-    records: &mut Records<'_>,
-    callback: Option<&Answering<'_>>,
-    kept: usize,
-) -> Result<usize, RecordFault> {
-    let Some(callback) = callback else {
-        return Ok(kept);
-    };
-    if callback.is_refused {
-        return Err(RecordFault::Of(Fault::Memory));
+/// Returns how many questions a callback was asked.
+fn asked_count(callback: Option<&Answering<'_>>) -> usize {
+    match callback {
+        None => 0,
+        Some(callback) => callback.asked.len(),
     }
-    for asked in callback.asked.iter().skip(kept) {
-        records.push_question(&asked.span, asked.link_type, asked.reference.as_str())?;
-    }
-    Ok(callback.asked.len())
 }
 
-/// Appends the questions on the way to the next event, and the event. Returns how many questions were asked so far, or None
-/// at the end.
+/// Appends the records of the questions that a callback was asked after the first so many.
+fn push_asked(
+    records: &mut Records<'_>,
+    callback: Option<&Answering<'_>>,
+    first: usize,
+) -> Result<(), RecordFault> {
+    match callback {
+        None => Ok(()),
+        Some(callback) => {
+            if callback.is_refused {
+                return Err(RecordFault::Of(Fault::Memory));
+            }
+            push_questions(records, callback.asked.as_slice(), first)
+        }
+    }
+}
+
+/// Appends the records of the questions on the way to the next event, and those of the event. Returns false at the end.
 fn push_next<'a>(
     records: &mut Records<'_>,
     walk: &mut OffsetIter<'a, Answering<'a>>,
-    kept: usize,
-) -> Result<Option<usize>, RecordFault> {
+) -> Result<bool, RecordFault> {
+    let first = asked_count(walk.callback());
     let Some(item) = walk.next() else {
-        return Ok(None);
+        return Ok(false);
     };
     let (event, range) = item?;
-    let kept = push_questions(records, walk.callback(), kept)?;
-    let done = records.push_event(&event, &range);
+    push_asked(records, walk.callback(), first)?;
+    let pushed = records.push_event(&event, &range);
     drop(event);
-    done?;
-    Ok(Some(kept))
+    pushed?;
+    Ok(true)
 }
 
-/// Appends the events that are left, and before each the questions that were asked on the way to it.
+/// Appends the records of all events that are left, and of the questions on the way to each.
 fn push_reading<'a>(
     records: &mut Records<'_>,
     walk: &mut OffsetIter<'a, Answering<'a>>,
 ) -> Result<(), RecordFault> {
-    let mut kept = 0;
-    while let Some(more) = push_next(records, walk, kept)? {
-        kept = more;
-    }
+    'walk: while push_next(records, walk)? {}
     Ok(())
 }
 
-/// Returns the records of a text of which `syntax` is read: its events with their ranges, the questions that a callback is
-/// asked, and its link reference definitions. The k-th question gets the k-th answer, if that is to its range, and None
-/// otherwise. Without answers nothing is asked.
+/// Returns the records of a text of which `syntax` is read: its events with their ranges, the questions of a callback for
+/// broken links, and its link reference definitions. The k-th question gets the k-th answer, if that is to its range, and
+/// None otherwise.
 ///
 /// # Errors
 ///
@@ -73,14 +78,16 @@ pub fn records_source<'a>(
     alloc: Global,
     text: &'a str,
     syntax: Syntax,
-    answers: Option<Vec<GivenAnswer<'a>>>,
-) -> Result<Vec<u8>, RecordFault> {
+    answers: Vec<GivenAnswer<'a>>,
+) -> Result<Vec<u8>, RecordFault>
+    ensures { MatchResult result
+        (λ bytes. AreRecordsOf (source_as syntax text.entry.now) (map given_view answers.entry.items) bytes.items)
+        (IsRefusalOf (source_as syntax text.entry.now) (map given_view answers.entry.items)) }
+{
     let blocks = Blocks::of_source(alloc, text, Options::empty(), syntax)?;
-    let callback = match answers {
-        Some(table) => Some(Answering::of_table(alloc, table)),
-        None => None,
-    };
-    let mut walk = Parser::from_blocks(alloc, blocks, callback)?.into_offset_iter();
+    let callback = Answering::of_table(alloc, answers);
+    let parser = Parser::from_blocks(alloc, blocks, Some(callback))?;
+    let mut walk = parser.into_offset_iter();
     let mut records = Records::new(alloc, text);
     push_reading(&mut records, &mut walk)?;
     push_definitions(&mut records, walk.reference_definitions())?;
