@@ -1,14 +1,12 @@
 -- Contents of bytes, by definition: None unless each byte is as it has to be.
-use Rattle.std.specs.Prelude.{ℕ, ◌+◌, ◌-◌, ◌*◌, ◌^◌, Bool, true, false, not, List, [], ◌∷◌, ◌++◌, ◌&&◌, ◌==◌, nat_lt, nat_le}
+use Rattle.std.specs.Prelude.{ℕ, ◌+◌, ◌-◌, ◌*◌, ◌^◌, Bool, true, false, List, [], ◌∷◌, ◌++◌, ◌&&◌, ◌==◌, nat_lt, nat_le}
 use Rattle.std.specs.Prelude.{length, take, drop, slice_range, if◌then◌else◌, Option, None, Some}
-use Rattle.std.specs.Option.{option_map, option_zip}
+use Rattle.std.specs.Option.{option_map}
 use Rattle.std.specs.Str.{bytes_eq, is_utf8}
 use Rattle.std.specs.declared.ops.Range.{Range}
-use Rattle.markdown_base.specs.BlockParts.{DefinitionView}
 use Rattle.markdown_base.specs.Event as event
 use Rattle.markdown_base.specs.Event.{EventView, TagView, HeadingView, LinkView}
 use Rattle.markdown_base.specs.Questions.{Answer, Question}
-use Rattle.markdown_base.specs.declared.tag.Alignment.{Alignment}
 use Rattle.markdown_base.specs.declared.tag.TagEnd.{TagEnd}
 use Rattle.markdown_base.specs.declared.tag.TagEnd.TheVariants as closes
 use Rattle.markdown_records.specs.EntryView as entry

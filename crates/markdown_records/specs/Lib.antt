@@ -12,3 +12,14 @@ pub use Rattle.markdown_base.specs.Event
 -- the terms of private clauses
 pub mod RecordOf
 pub mod RecordsOf
+pub mod RecordTaken
+pub mod GroupOf
+pub mod ReadResult
+pub mod ReadOf
+pub mod EntryOf
+pub mod SaidBy
+pub mod FormOf
+pub mod RecordedContents
+pub mod RecordsLeft
+pub mod RecordEventsLaws
+pub mod AnswersLeft

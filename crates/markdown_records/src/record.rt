@@ -1,7 +1,8 @@
 //! A record, and its bytes.
-ghost use Rattle.std.specs.Prelude.{◌≡◌, ◌<◌, MatchOption, drop, length, take};
+ghost use Rattle.std.specs.Prelude.{◌≡◌, ◌+◌, ◌≤◌, length};
 ghost use Rattle.markdown_records.specs.RecordView.{number_at, record_bytes, record_in};
 ghost use Rattle.markdown_records.specs.RecordOf.{record_view};
+ghost use Rattle.markdown_records.specs.RecordTaken.{TakesRecord};
 
 /// The number of bytes of a record, and of the header.
 pub(crate) const SIZE: usize = 24;
@@ -70,4 +71,41 @@ impl Record {
             p[3],
         ]
     }
+}
+
+/// Returns the number in four bytes from an offset on.
+pub(crate) fn number_at(bytes: &[u8], at: usize) -> u32
+    requires { at + 4 ≤ length bytes.now }
+    ensures { result ≡ number_at bytes.now at }
+{
+    u32::from_le_bytes([bytes[at], bytes[at + 1], bytes[at + 2], bytes[at + 3]])
+}
+
+/// Returns the record in 24 bytes.
+fn record_in(bytes: &[u8]) -> Record
+    requires { 24 ≤ length bytes.now }
+    ensures { record_view result ≡ record_in bytes.now }
+{
+    Record {
+        kind: bytes[0],
+        detail: bytes[1],
+        place: bytes[2],
+        spare: bytes[3],
+        start: number_at(bytes, 4),
+        end: number_at(bytes, 8),
+        at: number_at(bytes, 12),
+        length: number_at(bytes, 16),
+        parts: number_at(bytes, 20),
+    }
+}
+
+/// Returns the first record, and the bytes after it; or None where there are too few bytes.
+pub(crate) fn take_record(bytes: &[u8]) -> Option<(Record, &[u8])>
+    ensures { TakesRecord bytes.now result }
+{
+    if bytes.len() < SIZE {
+        return None;
+    }
+    let (first, rest) = bytes.split_at(SIZE);
+    Some((record_in(first), rest))
 }
