@@ -2,8 +2,9 @@
 use Rattle.std.specs.Prelude.{ℕ, ◌&&◌, ◌==◌, Bool, List, [], ◌∷◌, if◌then◌else◌, Option, None}
 use Rattle.std.specs.declared.ops.Range.{Range}
 use Rattle.markdown_base.specs.Questions.{Answer, Answers, Question}
+use Rattle.markdown_records.specs.EntryView.{EntryView, answer, event, question}
 
--- a table of answers, each to a question with this range
+-- answers, each to a question with this range
 abbrev pub Table : Type 0
 Table = List (Range ℕ × Option Answer)
 
@@ -16,3 +17,10 @@ answered table [] = []
 answered [] (q ∷ questions) = None ∷ answered [] questions
 answered (a ∷ table) (q ∷ questions) =
     (if is_range a.0 q.span then a.1 else None) ∷ answered table questions
+
+-- the table of entries: the answers that come before all else
+abbrev pub table_of : List EntryView → Table
+table_of [] = []
+table_of (event e range ∷ entries) = []
+table_of (question q ∷ entries) = []
+table_of (answer range a ∷ entries) = (range, a) ∷ table_of entries

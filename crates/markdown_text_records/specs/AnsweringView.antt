@@ -1,25 +1,23 @@
--- A callback that answers from a table and keeps what it is asked. Only private clauses cite this.
-use Rattle.std.specs.Prelude.{◌≡◌, ◌++◌, ◌∷◌, [], ℕ, List, drop, false, map, Option, Some, None}
+-- A callback that answers from a table and keeps what it is asked. Only private fields are behind these names.
+use Rattle.std.specs.Prelude.{◌≡◌, ◌++◌, ◌∷◌, [], ℕ, List, drop, false, map, Option}
 use Rattle.std.specs.Borrow.{Bor}
-use Rattle.std.specs.Option.{option_map}
+use Rattle.std.specs.Option.{option_map, option_map_or}
 use Rattle.std.specs.declared.ops.Range.{Range}
 use Rattle.markdown_base.specs.Questions.{Answer, Question}
 use Rattle.markdown_defs.specs.CallbackViews.{question_of}
-use Rattle.markdown_text_records.specs.AnswerTable.{Table, answered}
+use Rattle.markdown_records.specs.AnswersLeft.{answer_entries_left}
+use Rattle.markdown_records.specs.EntryOf.{answer_view}
+use Rattle.markdown_records.specs.declared.record_answers.RecordAnswers.{RecordAnswers}
+use Rattle.markdown_text_records.specs.AnswerTable.{Table, answered, table_of}
 use Rattle.markdown_text_records.specs.declared.answering.Answering.{Answering}
-use Rattle.markdown_text_records.specs.declared.answering.GivenAnswer.{GivenAnswer}
 
--- a destination and a title, by their bytes
-abbrev pub link_answer : Bor (List ℕ) × Bor (List ℕ) → Answer
-link_answer given = record { destination = given.0.now; title = given.1.now }
-
--- an answer of a table
-abbrev pub given_view : GivenAnswer → Range ℕ × Option Answer
-given_view given = (given.span, option_map link_answer given.link)
+-- the table of the answers that are left
+abbrev pub table_in : Option RecordAnswers → Table
+table_in answers = option_map_or (λ a. table_of (answer_entries_left a)) answers []
 
 -- the answers of the table that no question has got yet
 abbrev pub table_left : Answering → Table
-table_left c = map given_view (drop c.count c.table.items)
+table_left c = table_in c.answers
 
 -- the answer is the next one of the table, and unless an allocation was refused, the question is kept after those before
 pub record Answers (old : Answering) (question : Question) (answer : Option Answer) (new : Answering) : Type 0 where
@@ -32,7 +30,7 @@ pub record Answers (old : Answering) (question : Question) (answer : Option Answ
 pub record GivesAnswer (old : Answering) (span : Range ℕ) (answer : Option (Bor (List ℕ) × Bor (List ℕ)))
     (new : Answering) : Type 0 where
   pub by_table : (q : Question) → q.span ≡ span
-      → option_map link_answer answer ∷ [] ≡ answered (table_left old) (q ∷ [])
+      → option_map answer_view answer ∷ [] ≡ answered (table_left old) (q ∷ [])
   pub left : table_left new ≡ drop 1 (table_left old)
   pub asked : new.asked ≡ old.asked
   pub refused : new.is_refused ≡ old.is_refused

@@ -1,37 +1,27 @@
 //! A callback that answers from a table, and keeps what it is asked.
-ghost use Rattle.std.specs.Prelude.{◌≡◌, ◌∷◌, [], drop, false, map};
-ghost use Rattle.std.specs.Option.{option_map};
+ghost use Rattle.std.specs.Prelude.{◌≡◌, [], false};
 ghost use Rattle.markdown_text_records.specs.AnswerTable.{is_range};
-ghost use Rattle.markdown_text_records.specs.AnsweringView.{GivesAnswer, given_view, link_answer, table_left};
+ghost use Rattle.markdown_text_records.specs.AnsweringView.{GivesAnswer, table_in, table_left};
 
 use markdown_base::cow_str::CowStr;
 use markdown_defs::{BrokenLink, BrokenLinkCallback};
+use markdown_records::{Answered, RecordAnswers};
 use std::alloc::Global;
 use std::ops::Range;
-
-/// An answer to a question with this range: None, or a destination and a title.
-#[derive(Drop)]
-pub struct GivenAnswer<'a> {
-    /// The range of the question in the source, in bytes.
-    pub span: Range<usize>,
-    /// Where the link leads, and its title.
-    pub link: Option<(&'a str, &'a str)>,
-}
 
 /// A callback that gives the k-th question the k-th answer of a table, if that is to its range, and None otherwise. It keeps
 /// the questions.
 #[derive(Drop)]
 pub(crate) struct Answering<'a> {
-    table: Vec<GivenAnswer<'a>>,
-    /// How many questions were asked.
-    count: usize,
+    /// The answers that no question has got yet.
+    answers: Option<RecordAnswers<'a>>,
     pub asked: Vec<BrokenLink<'a>>,
     /// Whether an allocation was refused, so that a question was not kept.
     pub is_refused: bool,
 }
 
-/// Returns whether an answer is to this range.
-fn is_to(given: &GivenAnswer<'_>, span: &Range<usize>) -> bool
+/// Returns whether an answer is to a question with this range.
+fn is_to(given: &Answered<'_>, span: &Range<usize>) -> bool
     ensures { result ≡ is_range given.now.span span.now }
 {
     given.span.start == span.start && given.span.end == span.end
@@ -39,14 +29,13 @@ fn is_to(given: &GivenAnswer<'_>, span: &Range<usize>) -> bool
 
 impl<'a> Answering<'a> {
     /// Returns a callback that was asked nothing.
-    pub fn of_table(alloc: Global, table: Vec<GivenAnswer<'a>>) -> Answering<'a>
-        ensures table { table_left result ≡ map given_view table.entry.items }
+    pub fn by(alloc: Global, answers: Option<RecordAnswers<'a>>) -> Answering<'a>
+        ensures table { table_left result ≡ table_in answers.entry }
         ensures asked { result.asked.items ≡ [] }
         ensures kept { result.is_refused ≡ false }
     {
         Answering {
-            table,
-            count: 0,
+            answers,
             asked: Vec::new(alloc),
             is_refused: false,
         }
@@ -56,9 +45,11 @@ impl<'a> Answering<'a> {
     fn next_answer(&mut self, span: &Range<usize>) -> Option<(&'a str, &'a str)>
         ensures { GivesAnswer self.old span.now result self.new }
     {
-        let given = self.table.get(self.count)?;
-        self.count += 1;
-        if is_to(given, span) { given.link } else { None }
+        let mut left = self.answers?;
+        let given = left.next();
+        self.answers = Some(left);
+        let given = given?;
+        if is_to(&given, span) { given.answer } else { None }
     }
 }
 

@@ -1,6 +1,7 @@
 //! The HTML of what records say.
 ghost use Rattle.std.specs.Prelude.{MatchResult, string_bytes};
-ghost use Rattle.markdown_text_records.specs.RecordsHtml.{IsHtmlFault, IsHtmlOf, IsSafeHtmlOf};
+ghost use Rattle.markdown_safe.specs.SafeEvents.{safe_events};
+ghost use Rattle.markdown_text_records.specs.RecordsHtml.{IsFaultOf, IsHtmlOf, IsSafeHtmlOf};
 
 use markdown_base::fault::Fault;
 use markdown_out::push_html;
@@ -16,7 +17,7 @@ use std::alloc::Global;
 /// and `Of(Fault::Depth)` where more than 2^64 - 1 Starts are open in one image.
 pub fn html_of_records(alloc: Global, text: &str, records: &[u8]) -> Result<String, RecordFault>
     ensures { MatchResult result (λ html. IsHtmlOf text.now records.now (string_bytes html))
-        (IsHtmlFault text.now records.now) }
+        (IsFaultOf (λ events. events) text.now records.now) }
 {
     let recorded = RecordedText::of_bytes(alloc, text, records)?;
     let mut html = String::new(alloc);
@@ -35,7 +36,7 @@ pub fn safe_html_of_records(
     records: &[u8],
 ) -> Result<String, RecordFault>
     ensures { MatchResult result (λ html. IsSafeHtmlOf text.now records.now (string_bytes html))
-        (IsSafeHtmlFault text.now records.now) }
+        (IsFaultOf safe_events text.now records.now) }
 {
     let recorded = RecordedText::of_bytes(alloc, text, records)?;
     let mut html = String::new(alloc);

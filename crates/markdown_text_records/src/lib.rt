@@ -4,8 +4,10 @@
 mod answering;
 mod definitions;
 mod fold;
+mod html;
+mod questions;
 mod reading;
 
-pub use answering::GivenAnswer;
 pub use fold::fold_label;
+pub use html::{html_of_records, safe_html_of_records};
 pub use reading::records_source;
