@@ -93,5 +93,5 @@ pub fn records_source<'a>(
     let mut records = Records::new(alloc, text);
     push_reading(&mut records, &mut walk)?;
     push_definitions(&mut records, walk.reference_definitions())?;
-    records.finish(alloc)
+    records.finish()
 }
