@@ -1,0 +1,2 @@
+-- The records of a text.
+pub mod AnswersInOrder
