@@ -2,7 +2,7 @@
 -- answers. While each question has got an answer in which both agree, they differ at most in the answers still to come
 -- (`InStep`); after that they have begun with the same questions (`Apart`), and questions are only added.
 use Rattle.std.proofs.Common.{◌≡◌, ◌∙◌, ◌+◌, ◌++◌, ◌≤◌, ℕ, zero, suc, ◌==◌, Bool, true, false, List, [], ◌∷◌}
-use Rattle.std.proofs.Common.{Option, Some, None, ap, arith, cond, length, map, nat_le, refl, subst, sym}
+use Rattle.std.proofs.Common.{Option, Some, None, ap, arith, cond, length, map, nat_le, refl, sym}
 use Rattle.std.proofs.lemmas.List.{append-nil, append_assoc, length-append}
 use Rattle.std.specs.declared.ops.Range.{Range}
 use Rattle.markdown_base.specs.BlockParts.{DefinitionView}
@@ -94,148 +94,137 @@ record Begins {A : Type 0} (first whole : List A) : Type 0 where
   pub rest : List A
   pub is : whole ≡ first ++ rest
 
-begins_whole : {A : Type 0} (l m : List A) → m ≡ l → Begins l m
-begins_whole l m e = record { rest = []; is = e ∙ sym (append-nil l) }
+begins_whole : {A : Type 0} {l m : List A} → m ≡ l → Begins l m
+begins_whole {A} {l} e = record { rest = []; is = e ∙ sym (append-nil l) }
 
 begins_twice : {A : Type 0} {l m k : List A} → Begins l m → Begins m k → Begins l k
 begins_twice {A} {l} a b =
     record { rest = a.rest ++ b.rest; is = b.is ∙ ap (λ m. m ++ b.rest) a.is ∙ append_assoc l a.rest b.rest }
 
 -- the same progress, with other answers to come
-abbrev given : {A : Type 0} → Answers → Progress A → Progress A
-given answers p = record p { state = with_answers answers p.state }
+abbrev with_others : {A : Type 0} → Answers → Progress A → Progress A
+with_others answers p = record p { state = with_answers answers p.state }
 
 -- what is read of a chain with two lists of answers, of which so many first ones agree
-data Pace {A : Type 0} (agreed : ℕ) (p q : Progress A) : Type 0 where
+data SameUntil {A : Type 0} (agreed : ℕ) (p q : Progress A) : Type 0 where
   in_step : (left : ℕ) (answers : Answers) → length p.asked + left ≡ agreed → Agree left p.state.answers answers
-      → q ≡ given answers p → Pace agreed p q
+      → q ≡ with_others answers p → SameUntil agreed p q
   apart : (first : List Question) → length first ≡ suc agreed → Begins first p.asked → Begins first q.asked
-      → Pace agreed p q
+      → SameUntil agreed p q
 
--- a step only adds questions, and keeps pace
-record KeepsPace {A : Type 0} (step : Step A) (p : Progress A) : Type 0 where
+-- a step only adds questions, and answers that agree have the same effect on it
+record AsksInOrder {A : Type 0} (step : Step A) (p : Progress A) : Type 0 where
   pub grows : Begins p.asked (step p).asked
-  pub goes : (left : ℕ) (answers : Answers) → Agree left p.state.answers answers
-      → Pace (length p.asked + left) (step p) (step (given answers p))
+  pub same : (agreed left : ℕ) (answers : Answers) → length p.asked + left ≡ agreed
+      → Agree left p.state.answers answers → SameUntil agreed (step p) (step (with_others answers p))
 
 -- a step that asks nothing
 quiet : {A : Type 0} (step : Step A) (p : Progress A) → (step p).asked ≡ p.asked
     → (step p).state.answers ≡ p.state.answers
-    → ((answers : Answers) → step (given answers p) ≡ given answers (step p)) → KeepsPace step p
+    → ((answers : Answers) → step (with_others answers p) ≡ with_others answers (step p)) → AsksInOrder step p
 quiet step p e f h = record {
-  grows = begins_whole p.asked (step p).asked e;
-  goes = λ left answers g.
-      in_step left answers (ap (λ (qs : List Question). length qs + left) e)
-      (subst (λ a. Agree left a answers) (sym f) g) (h answers);
+  grows = begins_whole e;
+  same = λ agreed left answers count g. in_step left answers (rw e count) (rw f g) (h answers);
 }
 
--- a step after two that kept pace
-both_step : {A : Type 0} (step : Step A) → ((p : Progress A) → KeepsPace step p) → (agreed : ℕ) (p q : Progress A)
-    → Pace agreed p q → Pace agreed (step p) (step q)
-both_step step h agreed p q (in_step left answers count g same) =
-    subst (λ q. Pace agreed (step p) (step q)) (sym same)
-    (subst (λ n. Pace n (step p) (step (given answers p))) count ((h p).goes left answers g))
-both_step step h agreed p q (apart first count here there) =
+-- a step in both readings
+step_both : {A : Type 0} (step : Step A) → ((p : Progress A) → AsksInOrder step p) → (agreed : ℕ) (p q : Progress A)
+    → SameUntil agreed p q → SameUntil agreed (step p) (step q)
+step_both step h agreed p q (in_step left answers count g same) =
+    rw same ((h p).same agreed left answers count g)
+step_both step h agreed p q (apart first count here there) =
     apart first count (begins_twice here (h p).grows) (begins_twice there (h q).grows)
 
 module _ {A : Type 0} (w : BracketContext) (c : Closing A) where
-  put_asked : (b : Becomes A) (p : Progress A) → (put w c b p).asked ≡ p.asked
-  put_asked a_text p = refl
-  put_asked other p = refl
-
-  put_answers : (b : Becomes A) (p : Progress A) → (put w c b p).state.answers ≡ p.state.answers
-  put_answers a_text p = refl
-  put_answers other p = refl
+  put_keeps : (b : Becomes A) (p : Progress A) → ((put w c b p).asked ≡ p.asked) × ((put w c b p).state ≡ p.state)
+  put_keeps a_text p = (refl, refl)
+  put_keeps other p = (refl, refl)
 
   put_given : (b : Becomes A) (answers : Answers) (p : Progress A)
-      → put w c b (given answers p) ≡ given answers (put w c b p)
+      → put w c b (with_others answers p) ≡ with_others answers (put w c b p)
   put_given a_text answers p = refl
   put_given other answers p = refl
 
   -- a look-up is carried out
-  abbrev looks : Split A → LinkReference → LookedUp → Progress A → Progress A
-  looks o r l p = put_decided w c (looked_up o r l p)
+  module _ (o : Split A) (r : LinkReference) where
+    abbrev looks : LookedUp → Step A
+    looks l p = put_decided w c (looked_up o r l p)
 
-  looks_asked : (o : Split A) (r : LinkReference) (l : LookedUp) (p : Progress A)
-      → (looks o r l p).asked ≡ p.asked ++ l.questions
-  looks_asked o r l p = put_asked (looked_up o r l p).becomes (looked_up o r l p).progress
+    looks_asked : (l : LookedUp) (p : Progress A) → (looks l p).asked ≡ p.asked ++ l.questions
+    looks_asked l p = (put_keeps (looked_up o r l p).becomes (looked_up o r l p).progress).0
 
-  looks_pace : (o : Split A) (r : LinkReference) (p : Progress A) (agreed : ℕ) (answers : Answers) (l m : LookedUp)
-      → LooksUp agreed (question_at o r) l m
-      → Pace (length p.asked + agreed) (looks o r l p) (looks o r m (given answers p))
-  looks_pace o r p agreed answers l m (alike left others count g same) =
-      let d : Decision A = looked_up o r l p in
-      let long : length (looks o r l p).asked ≡ length p.asked + length l.questions =
-      ap length (looks_asked o r l p) ∙ length-append p.asked l.questions in
-      in_step left others (omega (arith, long, count))
-      (subst (λ a. Agree left a others) (sym (put_answers d.becomes d.progress)) g)
-      (ap (λ (m : LookedUp). looks o r m (given answers p)) same ∙ put_given d.becomes others d.progress)
-  looks_pace o r p agreed answers l m (unlike none here there) =
-      let first : List Question = p.asked ++ question_at o r ∷ [] in
-      let long : length first ≡ length p.asked + 1 = length-append p.asked (question_at o r ∷ []) in
-      apart first (omega (arith, long, none))
-      (begins_whole first (looks o r l p).asked (looks_asked o r l p ∙ ap (λ qs. p.asked ++ qs) here))
-      (begins_whole first (looks o r m (given answers p)).asked
-      (looks_asked o r m (given answers p) ∙ ap (λ qs. p.asked ++ qs) there))
+    looks_same : (p : Progress A) (agreed left : ℕ) (answers : Answers) (l m : LookedUp)
+        → length p.asked + left ≡ agreed → LooksUp left (question_at o r) l m
+        → SameUntil agreed (looks l p) (looks m (with_others answers p))
+    looks_same p agreed left answers l m sum (alike after others count g same) =
+        let d : Decision A = looked_up o r l p in
+        let long : length (looks l p).asked ≡ length p.asked + length l.questions =
+        ap length (looks_asked l p) ∙ length-append p.asked l.questions in
+        in_step after others (omega (arith, long, sum, count)) (rw (put_keeps d.becomes d.progress).1 g)
+        (ap (λ (m : LookedUp). looks m (with_others answers p)) same ∙ put_given d.becomes others d.progress)
+    looks_same p agreed left answers l m sum (unlike none here there) =
+        apart (p.asked ++ question_at o r ∷ [])
+        (omega (arith, sum, none, length-append p.asked (question_at o r ∷ [])))
+        (begins_whole (rw (← here) (looks_asked l p)))
+        (begins_whole (rw (← there) (looks_asked m (with_others answers p))))
 
-  carried_pace : (x : Option (Written A)) (p : Progress A) → KeepsPace (λ q. put_decided w c (carried_out w x q)) p
-  carried_pace (Some (link_reference o r)) p =
+  carried_asks : (x : Option (Written A)) (p : Progress A) → AsksInOrder (λ q. put_decided w c (carried_out w x q)) p
+  carried_asks (Some (link_reference o r)) p =
       let q : Question = question_at o r in
       let rules = w.setting.rules in
       let l : Answers → LookedUp = λ answers. look_up rules.definitions rules.asks p.state.limit answers q in
       record {
         grows = record { rest = (l p.state.answers).questions; is = looks_asked o r (l p.state.answers) p };
-        goes = λ left answers g.
-            looks_pace o r p left answers (l p.state.answers) (l answers)
+        same = λ agreed left answers count g.
+            looks_same o r p agreed left answers (l p.state.answers) (l answers) count
             (look_up_alike (p.state.limit == 0) rules.asks p.state.limit left p.state.answers answers q
             (rules.definitions q.reference) g);
       }
-  carried_pace x p = quiet (λ q. put_decided w c (carried_out w x q)) p refl refl (λ answers. refl)
+  carried_asks x p = quiet (λ q. put_decided w c (carried_out w x q)) p refl refl (λ answers. refl)
 
-closed_pace : {A : Type 0} (w : BracketContext) (c : Closing A) (p : Progress A) → KeepsPace (closed w c) p
+closed_asks : {A : Type 0} (w : BracketContext) (c : Closing A) (p : Progress A) → AsksInOrder (closed w c) p
 unfolding closed decided
-closed_pace w c p =
+closed_asks w c p =
     let second = second_end w c.rest in
-    let r = carried_pace w c (found w c second p.left) (record p { left = bracket_taken (left_for_one second p.left) })
+    let r = carried_asks w c (found w c second p.left) (record p { left = bracket_taken (left_for_one second p.left) })
     in
-    record { grows = r.grows; goes = r.goes }
+    record { grows = r.grows; same = r.same }
 
 module _ {A : Type 0} (w : BracketContext) (others : Reader A)
     (rule : (a : TreeNode A) (below rest : Forest (TreeNode A)) (p : Progress A)
-    → KeepsPace (others a below rest) p) where
-  read_as_pace : (b : ItemBody) (a : TreeNode A) (below rest : Forest (TreeNode A)) (p : Progress A)
-      → KeepsPace (read_as w others b a below rest) p
-  read_as_pace body.MaybeLinkOpen a below rest p = quiet (opened w false a rest) p refl refl (λ answers. refl)
-  read_as_pace body.MaybeImage a below rest p = quiet (opened w true a rest) p refl refl (λ answers. refl)
-  read_as_pace (body.MaybeLinkClose could) a below rest p =
-      let r = closed_pace w (closing_of could a rest p) p in
-      record { grows = r.grows; goes = r.goes }
-  read_as_pace other a below rest p = rule a below rest p
+    → AsksInOrder (others a below rest) p) where
+  read_as_asks : (b : ItemBody) (a : TreeNode A) (below rest : Forest (TreeNode A)) (p : Progress A)
+      → AsksInOrder (read_as w others b a below rest) p
+  read_as_asks body.MaybeLinkOpen a below rest p = quiet (opened w false a rest) p refl refl (λ answers. refl)
+  read_as_asks body.MaybeImage a below rest p = quiet (opened w true a rest) p refl refl (λ answers. refl)
+  read_as_asks (body.MaybeLinkClose could) a below rest p =
+      let r = closed_asks w (closing_of could a rest p) p in
+      record { grows = r.grows; same = r.same }
+  read_as_asks other a below rest p = rule a below rest p
 
-  read_past_pace : (o : Option ℕ) (a : TreeNode A) (below rest : Forest (TreeNode A)) (p : Progress A)
-      → KeepsPace (read_past w others o a below rest) p
-  read_past_pace None a below rest p = read_as_pace (open_body a.part.shape) a below rest p
-  read_past_pace (Some i) a below rest p = by (nat_le (end_of a) i)
+  read_past_asks : (o : Option ℕ) (a : TreeNode A) (below rest : Forest (TreeNode A)) (p : Progress A)
+      → AsksInOrder (read_past w others o a below rest) p
+  read_past_asks None a below rest p = read_as_asks (open_body a.part.shape) a below rest p
+  read_past_asks (Some i) a below rest p = by (nat_le (end_of a) i)
     where
       by : (b : Bool)
-          → KeepsPace (λ p. cond b p (read w others (begun_at i a) below rest (record p { goes_on = None }))) p
+          → AsksInOrder (λ p. cond b p (read w others (begun_at i a) below rest (record p { goes_on = None }))) p
       by true = quiet (λ p. p) p refl refl (λ answers. refl)
       by false =
-          let r = read_as_pace (open_body (begun_at i a).part.shape) (begun_at i a) below rest
+          let r = read_as_asks (open_body (begun_at i a).part.shape) (begun_at i a) below rest
           (record p { goes_on = None }) in
-          record { grows = r.grows; goes = r.goes }
+          record { grows = r.grows; same = r.same }
 
-  chain_pace : (chain : Forest (TreeNode A)) (p : Progress A) → KeepsPace (read_chain w others chain) p
+  chain_asks : (chain : Forest (TreeNode A)) (p : Progress A) → AsksInOrder (read_chain w others chain) p
   unfolding read_chain
-  chain_pace nil p = quiet (λ p. p) p refl refl (λ answers. refl)
-  chain_pace (node a below rest) p =
-      let here = read_past_pace p.goes_on a below rest p in
+  chain_asks nil p = quiet (λ p. p) p refl refl (λ answers. refl)
+  chain_asks (node a below rest) p =
+      let here = read_past_asks p.goes_on a below rest p in
       record {
-        grows = begins_twice here.grows (chain_pace rest (read_past w others p.goes_on a below rest p)).grows;
-        goes = λ left answers g.
-            both_step (read_chain w others rest) (λ p. chain_pace rest p) (length p.asked + left)
-            (read_past w others p.goes_on a below rest p)
-            (read_past w others p.goes_on a below rest (given answers p)) (here.goes left answers g);
+        grows = begins_twice here.grows (chain_asks rest (read_past w others p.goes_on a below rest p)).grows;
+        same = λ agreed left answers count g.
+            step_both (read_chain w others rest) (λ p. chain_asks rest p) agreed _ _
+            (here.same agreed left answers count g);
       }
 
 -- a reading is the same up to and including the question after the answers that agree
@@ -287,37 +276,25 @@ module _ {A : Type 0} (s : Setting) (after : Reading) (h : InOrder after) where
   abbrev read_to : Progress A → List Element
   read_to p = then_resolved s (then_paired s (outcome p)) after
 
-  pace_in_order : (agreed : ℕ) (p q : Progress A) → Pace agreed p q
+  same_in_order : (agreed : ℕ) (p q : Progress A) → SameUntil agreed p q
       → until_question agreed (read_to p) ≡ until_question agreed (read_to q)
-  pace_in_order agreed p q (in_step left answers count g same) =
-      let f : Forest (TreeNode A) = all_paired s (then_paired s (outcome p)).forest in
-      let r : ReferenceState → List Element = λ state. (closed_reading f after state).elements in
-      rw same (until_past agreed left p.asked (r p.state) count
-      ∙ ap (λ (es : List Element). map question p.asked ++ es) (closed_in_order f after h left p.state answers g)
-      ∙ sym (until_past agreed left p.asked (r (with_answers answers p.state)) count))
-  pace_in_order agreed p q (apart first count here there) =
-      within p here ∙ sym (within q there)
+  same_in_order agreed p q (in_step left answers count g same) =
+      let rest = closed_in_order (all_paired s (then_paired s (outcome p)).forest) after h left p.state answers g in
+      rw same (until_past agreed left p.asked _ count ∙ ap (λ (es : List Element). map question p.asked ++ es) rest
+      ∙ sym (until_past agreed left p.asked _ count))
+  same_in_order agreed p q (apart first count here there) = within p here ∙ sym (within q there)
     where
       within : (p : Progress A) → Begins first p.asked → until_question agreed (read_to p) ≡ map question first
-      within p b =
-          let es : List Element =
-          (closed_reading (all_paired s (then_paired s (outcome p)).forest) after p.state).elements in
-          ap (λ (qs : List Question). until_question agreed (map question qs ++ es)) b.is
-          ∙ until_within agreed first b.rest es count
+      within p b = rw b.is (until_within agreed first b.rest _ count)
 
 chain_in_order : {A : Type 0} (s : Setting) (notes : Notes A) (above : EnclosingBlocks) (chain : Forest (TreeNode A))
     (after : Reading)
     → InOrder after → InOrder (chain_reading s notes above chain after)
 unfolding resolved pass_one
-chain_in_order {A} s notes above chain after h agreed state answers g =
-    let w = bracket_context s above in
-    let others = read_other s notes above in
-    let pace = (chain_pace w others (λ a below rest p. quiet (others a below rest) p refl refl (λ answers. refl)) chain
-    (begun state)).goes agreed answers g in
-    pace_in_order s after h agreed (read_chain w others chain (begun state))
-    (read_chain w others chain (begun (with_answers answers state)))
-    (subst (λ n. Pace n (read_chain w others chain (begun state))
-    (read_chain w others chain (begun (with_answers answers state)))) (omega arith) pace)
+chain_in_order s notes above chain after h agreed state answers g =
+    same_in_order s after h agreed _ _ ((chain_asks (bracket_context s above) (read_other s notes above)
+    (λ a below rest p. quiet (read_other s notes above a below rest) p refl refl (λ answers. refl)) chain
+    (begun state)).same agreed agreed answers (omega arith) g)
 
 reading_in_order : {A : Type 0} (s : Setting) (notes : Notes A) (above : EnclosingBlocks) (f : Forest (TreeNode A))
     (after : Reading)
