@@ -1,6 +1,7 @@
 -- Two readings of a text whose first answers agree: they are the same up to and including the question after those
 -- answers. While each question has got an answer in which both agree, they differ at most in the answers still to come
--- (`InStep`); after that they have begun with the same questions (`Apart`), and questions are only added.
+-- (`in_step`). From the next question on both have asked the same questions up to and including that one (`apart`), and
+-- later ones are only added.
 use Rattle.std.proofs.Common.{◌≡◌, ◌∙◌, ◌+◌, ◌++◌, ◌≤◌, ℕ, zero, suc, ◌==◌, Bool, true, false, List, [], ◌∷◌}
 use Rattle.std.proofs.Common.{Option, Some, None, ap, arith, cond, length, map, nat_le, refl, sym}
 use Rattle.std.proofs.lemmas.List.{append-nil, append_assoc, length-append}
@@ -47,8 +48,8 @@ abbrev Agree : ℕ → Answers → Answers → Type 0
 Agree zero answers others = Unit {0}
 Agree (suc n) answers others = (next answers ≡ next others) × Agree n (after_next answers) (after_next others)
 
--- a look-up for one question with two lists of answers, of which so many first ones agree: either the same is found,
--- and the answers left agree; or none agree, and both ask
+-- the look-ups for a question by two lists of answers, of which so many first ones agree: either the same is found, and
+-- the answers left agree; or none agree, and both ask it
 data LooksUp (agreed : ℕ) (q : Question) (one other : LookedUp) : Type 0 where
   alike : (left : ℕ) (answers : Answers) → length one.questions + left ≡ agreed → Agree left one.answers answers
       → other ≡ record one { answers = answers } → LooksUp agreed q one other
@@ -105,7 +106,7 @@ begins_twice {A} {l} a b =
 abbrev with_others : {A : Type 0} → Answers → Progress A → Progress A
 with_others answers p = record p { state = with_answers answers p.state }
 
--- what is read of a chain with two lists of answers, of which so many first ones agree
+-- two progresses through a chain for which so many first answers agreed at its start
 data SameUntil {A : Type 0} (agreed : ℕ) (p q : Progress A) : Type 0 where
   in_step : (left : ℕ) (answers : Answers) → length p.asked + left ≡ agreed → Agree left p.state.answers answers
       → q ≡ with_others answers p → SameUntil agreed p q
@@ -140,10 +141,10 @@ module _ {A : Type 0} (w : BracketContext) (c : Closing A) where
   put_keeps a_text p = (refl, refl)
   put_keeps other p = (refl, refl)
 
-  put_given : (b : Becomes A) (answers : Answers) (p : Progress A)
+  put_with_others : (b : Becomes A) (answers : Answers) (p : Progress A)
       → put w c b (with_others answers p) ≡ with_others answers (put w c b p)
-  put_given a_text answers p = refl
-  put_given other answers p = refl
+  put_with_others a_text answers p = refl
+  put_with_others other answers p = refl
 
   -- a look-up is carried out
   module _ (o : Split A) (r : LinkReference) where
@@ -161,7 +162,7 @@ module _ {A : Type 0} (w : BracketContext) (c : Closing A) where
         let long : length (looks l p).asked ≡ length p.asked + length l.questions =
         ap length (looks_asked l p) ∙ length-append p.asked l.questions in
         in_step after others (omega (arith, long, sum, count)) (rw (put_keeps d.becomes d.progress).1 g)
-        (ap (λ (m : LookedUp). looks m (with_others answers p)) same ∙ put_given d.becomes others d.progress)
+        (ap (λ (m : LookedUp). looks m (with_others answers p)) same ∙ put_with_others d.becomes others d.progress)
     looks_same p agreed left answers l m sum (unlike none here there) =
         apart (p.asked ++ question_at o r ∷ [])
         (omega (arith, sum, none, length-append p.asked (question_at o r ∷ [])))
