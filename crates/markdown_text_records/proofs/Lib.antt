@@ -5,3 +5,4 @@ pub mod AskedLemmas
 pub mod FindableLemmas
 pub mod RecordingLemmas
 pub mod TextRecordsLemmas
+pub mod AnswersInOrderLemmas
