@@ -1,9 +1,8 @@
 -- What a callback is asked between two states of it, and what it answers.
-use Rattle.std.proofs.Common.{◌≡◌, ◌∙◌, ◌++◌, ◌∷◌, ◌×◌, ℕ, List, [], Ok, Option, Some, None, ap, ap₂, drop, false, length, map}
+use Rattle.std.proofs.Common.{◌≡◌, ◌∙◌, ◌++◌, ◌∷◌, ℕ, List, [], Ok, Option, Some, None, ap, ap₂, drop, false, length, map}
 use Rattle.std.proofs.Common.{append-nil, append_assoc, refl, subst, sym, MatchOption}
 use Rattle.std.specs.Borrow.{Bor}
-use Rattle.std.proofs.lemmas.List.{drop-map}
-use Rattle.std.proofs.Common.{length-map}
+use Rattle.std.proofs.lemmas.List.{drop-map, length-map}
 use Rattle.std.proofs.Math.Seq.{drop-append_seam}
 use Rattle.markdown_base.specs.Questions.{Answer, Answers, Question}
 use Rattle.markdown_defs.specs.Callback.{Asks}
@@ -11,6 +10,7 @@ use Rattle.markdown_defs.specs.CallbackViews.{question_of}
 use Rattle.markdown_defs.specs.declared.callback.BrokenLink.{BrokenLink}
 use Rattle.markdown_text_records.specs.AnswerTable.{Table, answered}
 use Rattle.markdown_text_records.specs.AnsweringView.{Answers as ByTable, table_left}
+use Rattle.markdown_text_records.specs.Recording.{KeptAll, asked_by, asked_number}
 use Rattle.markdown_text_records.specs.declared.answering.Answering.{Answering}
 
 -- calls lead to a callback that keeps what was asked, and the answers are those of the table
@@ -57,42 +57,36 @@ asked_all old (q ∷ questions) (a ∷ answers) new (then, step, asked) =
 abbrev pub IsLent : Option (Bor Answering) → Option Answering → Type 0
 IsLent lent callback = MatchOption lent (callback ≡ None) (λ c. callback ≡ Some c.now)
 
--- these were asked, if all was kept
-abbrev pub WasAsked : Option (Bor Answering) → List BrokenLink → Type 0
-WasAsked None links = links ≡ []
-WasAsked (Some c) links = (c.now.is_refused ≡ false) × (links ≡ c.now.asked.items)
-
 -- without a callback nothing is asked
 asked_none : (old new : Option Answering) (questions : List Question) (answers : Answers) → old ≡ None
     → Asks ByTable old questions answers new → (questions ≡ []) × (new ≡ None)
 asked_none old new [] [] is asked = (refl, sym asked ∙ is)
-asked_none old new [] (a ∷ answers) is asked = absurd (rw is at asked)
-asked_none old new (q ∷ questions) [] is asked = absurd (rw is at asked)
+asked_none old new [] (a ∷ answers) is asked = absurd asked
+asked_none old new (q ∷ questions) [] is asked = absurd asked
 asked_none old new (q ∷ questions) (a ∷ answers) is asked = absurd (rw is at asked)
 
--- the questions between two states are those after the ones that were kept before
-pub asked_between : (before after : Option (Bor Answering)) (old new : Option Answering) (first links : List BrokenLink)
-    (questions : List Question) (answers : Answers) → IsLent before old → IsLent after new → WasAsked before first
-    → WasAsked after links → Asks ByTable old questions answers new
-    → map question_of (drop (length first) links) ≡ questions
-asked_between None None old new first links questions answers is was none all asked =
+-- the questions between two states are those after the ones that were asked before
+pub asked_between : (before after : Option (Bor Answering)) (old new : Option Answering) (questions : List Question)
+    (answers : Answers) → IsLent before old → IsLent after new → KeptAll after
+    → Asks ByTable old questions answers new
+    → map question_of (drop (asked_number before) (asked_by after)) ≡ questions
+asked_between None None old new questions answers is was all asked =
     let nothing = asked_none old new questions answers is asked in
-    rw (none, all, nothing.0) refl
-asked_between None (Some d) old new first links questions answers is was none all asked =
+    sym nothing.0
+asked_between None (Some d) old new questions answers is was all asked =
     let nothing = asked_none old new questions answers is asked in
     let gone = nothing.1 in
     absurd (cc (gone, was))
-asked_between (Some c) None old new first links questions answers is was kept all asked =
+asked_between (Some c) None old new questions answers is was all asked =
     let more = asked_all c.now questions answers new (rw is at asked) in
     let there = more.is in
     absurd (cc (there, was))
-asked_between (Some c) (Some d) old new first links questions answers is was kept all asked =
+asked_between (Some c) (Some d) old new questions answers is was all asked =
     let more = asked_all c.now questions answers new (rw is at asked) in
     let there = more.is in
     let same : more.last ≡ d.now = cc (there, was) in
     let whole = subst (λ (l : Answering). l.is_refused ≡ false → (c.now.is_refused ≡ false)
-    × (map question_of l.asked.items ≡ map question_of c.now.asked.items ++ questions)) same more.kept all.0 in
-    ap₂ (λ (before after : List BrokenLink). map question_of (drop (length before) after)) kept.1 all.1
-    ∙ sym (drop-map question_of (length c.now.asked.items) d.now.asked.items)
+    × (map question_of l.asked.items ≡ map question_of c.now.asked.items ++ questions)) same more.kept all in
+    sym (drop-map question_of (length c.now.asked.items) d.now.asked.items)
     ∙ ap₂ drop (sym (length-map question_of c.now.asked.items)) whole.1
     ∙ drop-append_seam (map question_of c.now.asked.items) questions

@@ -105,7 +105,7 @@ cut_later {r} {q} {s} {t} {fault} a why =
 
 -- ---- one item
 
-module _ {r : Records} {s t : Parser Answering} {item : Event × Range ℕ} (g : GivesItem ByTable IsPlacedOf s item t) where
+module _ {s t : Parser Answering} {item : Event × Range ℕ} (g : GivesItem ByTable IsPlacedOf s item t) where
   asked_of : questions_of (map question g.questions) ≡ g.questions
   asked_of = ap (λ es. questions_of es) (sym (append-nil (map question g.questions)))
       ∙ questions_of-questions g.questions [] ∙ append-nil g.questions
@@ -130,10 +130,10 @@ module _ {r : Records} {s t : Parser Answering} {item : Event × Range ℕ} (g :
       (append-nil (event_drafts g.placed.1 g.placed.0) ∙ ap₂ (λ range view. event_drafts range view) is.range e.view)
 
   -- all of it is written
-  pub records_item : {q m : Records} → parser_definitions t ≡ parser_definitions s
+  pub records_item : {r q m : Records} → parser_definitions t ≡ parser_definitions s
       → WritesEntries {A = ⊤} r (flat_map question_drafts g.questions) (Ok tt) q
       → WritesEntry {A = ⊤} q (event_drafts item.1 (event_view item.0)) (Ok tt) m → RecordsOn r s m t
-  records_item {m} same first then = record {
+  records_item {r} {m} same first then = record {
     first = step;
     answers = g.answers;
     asked = rw asked_of_step g.asked;
@@ -144,37 +144,43 @@ module _ {r : Records} {s t : Parser Answering} {item : Event × Range ℕ} (g :
   }
 
   -- the questions are not
-  pub cut_questions : {q : Records} {fault : RecordFault}
+  pub cut_questions : {r q : Records} {fault : RecordFault}
       → WritesEntries {A = ⊤} r (flat_map question_drafts g.questions) (Err fault) q → IsCut r s fault
-  cut_questions {fault} w =
+  cut_questions {r} {fault} w =
       ⊎_elim (λ (memory : fault ≡ Of Memory). inl memory) (λ (p : (fault ≡ TooLong) × (FitDrafts (records_source r)
-      (sheet_of r) (flat_map question_drafts g.questions) → ⊥)). inr (p.0, record {
-        first = map question g.questions;
-        callback = parser_callback t;
-        begin = record {
-          answers = g.answers;
-          asked = rw asked_of g.asked;
-          begins = λ later. (event g.placed ∷ elements t later, g.left later);
-        };
-        unfit = λ fit. p.1 (rw (drafts_of_questions g.questions) at fit);
-      })) w.refused
+      (sheet_of r) (flat_map question_drafts g.questions) → ⊥)). inr (
+        p.0,
+        record {
+          first = map question g.questions;
+          callback = parser_callback t;
+          begin = record {
+            answers = g.answers;
+            asked = rw asked_of g.asked;
+            begins = λ later. (event g.placed ∷ elements t later, g.left later);
+          };
+          unfit = λ fit. p.1 (rw (drafts_of_questions g.questions) at fit);
+        },
+      )) w.refused
 
   -- the event is not
-  pub cut_event : {q m : Records} {fault : RecordFault}
+  pub cut_event : {r q m : Records} {fault : RecordFault}
       → WritesEntries {A = ⊤} r (flat_map question_drafts g.questions) (Ok tt) q
       → WritesEntry {A = ⊤} q (event_drafts item.1 (event_view item.0)) (Err fault) m → IsCut r s fault
-  cut_event {m} {fault} first w =
+  cut_event {r} {m} {fault} first w =
       let both : WritesEntries {A = ⊤} r (element_drafts step) (Err fault) m =
       subst (λ ds. WritesEntries {A = ⊤} r ds (Err fault) m) (sym drafts_of_step)
       (entries_then (Err fault) first (entries_one w)) in
       ⊎_elim (λ (memory : fault ≡ Of Memory). inl memory) (λ (p : (fault ≡ TooLong) × (FitDrafts (records_source r)
-      (sheet_of r) (element_drafts step) → ⊥)). inr (p.0, record {
-        first = step;
-        callback = parser_callback t;
-        begin = record {
-          answers = g.answers;
-          asked = rw asked_of_step g.asked;
-          begins = λ later. (elements t later, left_of_step later);
-        };
-        unfit = p.1;
-      })) both.refused
+      (sheet_of r) (element_drafts step) → ⊥)). inr (
+        p.0,
+        record {
+          first = step;
+          callback = parser_callback t;
+          begin = record {
+            answers = g.answers;
+            asked = rw asked_of_step g.asked;
+            begins = λ later. (elements t later, left_of_step later);
+          };
+          unfit = p.1;
+        },
+      )) both.refused
