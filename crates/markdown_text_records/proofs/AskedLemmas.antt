@@ -88,5 +88,5 @@ asked_between (Some c) (Some d) old new questions answers is was all asked =
     let whole = subst (λ (l : Answering). l.is_refused ≡ false → (c.now.is_refused ≡ false)
     × (map question_of l.asked.items ≡ map question_of c.now.asked.items ++ questions)) same more.kept all in
     sym (drop-map question_of (length c.now.asked.items) d.now.asked.items)
-    ∙ ap₂ drop (sym (length-map question_of c.now.asked.items)) whole.1
+    ∙ ap₂ drop (sym (length-map c.now.asked.items question_of)) whole.1
     ∙ drop-append_seam (map question_of c.now.asked.items) questions

@@ -18,12 +18,14 @@ use Rattle.markdown_text_records.specs.TextRecords.{findable, labelled, with_fir
 kept_already : (label : List ℕ) (kept : List Labelled) → is_some (first_at (case_folding label) kept)
     ≡ list_any (λ (other : Definition). is_match label other.label) (map stored_definition kept)
 kept_already label [] = refl
-kept_already label (d ∷ kept) = by (has_folding (case_folding label) d)
+kept_already label (d ∷ kept) = by (has_folding (case_folding label) d) (kept_already label kept)
   where
-    by : (b : Bool) → is_some (cond b (Some d) (first_at (case_folding label) kept))
+    by : (b : Bool) → is_some (first_at (case_folding label) kept)
+        ≡ list_any (λ (other : Definition). is_match label other.label) (map stored_definition kept)
+        → is_some (cond b (Some d) (first_at (case_folding label) kept))
         ≡ (b || list_any (λ (other : Definition). is_match label other.label) (map stored_definition kept))
-    by true = refl
-    by false = kept_already label kept
+    by true rest = refl
+    by false rest = rest
 
 one_more : (kept : List Labelled) (d : Labelled)
     → map stored_definition (add_first kept d) ≡ with_first (map stored_definition kept) (stored_definition d)

@@ -6,6 +6,8 @@ use Rattle.std.specs.Borrow.{Bor}
 use Rattle.std.specs.List.{flat_map}
 use Rattle.std.proofs.lemmas.List.{map-append}
 use Rattle.std.proofs.lemmas.List.Concat.{flat_map-append}
+use Rattle.std.specs.Result.{IsErrAnd}
+use Rattle.std.proofs.lemmas.Result.{err_from_is_err_and}
 use Rattle.markdown_base.specs.Questions.{Answers, Question}
 use Rattle.markdown_base.specs.declared.fault.Fault.TheVariants.{Memory}
 use Rattle.markdown_defs.specs.Callback.{Asks}
@@ -16,7 +18,7 @@ use Rattle.std.specs.declared.ops.Range.{Range}
 use Rattle.markdown_base.specs.Event.{event_view}
 use Rattle.markdown_base.specs.declared.event.Event.{Event}
 use Rattle.markdown_inline.specs.Elements.{Element, event, question, questions_of}
-use Rattle.markdown_inline.specs.NextGives.{GivesItem, IsPlacedOf}
+use Rattle.markdown_inline.specs.NextGives.{GivesItem, IsPlacedOf, NextGives}
 use Rattle.markdown_inline.specs.ParserLeft.{elements, parser_callback, parser_definitions}
 use Rattle.markdown_inline.proofs.RunLemmas.{questions_of-questions}
 use Rattle.markdown_inline.specs.declared.walk.Parser.{Parser}
@@ -28,11 +30,13 @@ use Rattle.markdown_records.specs.declared.fault.RecordFault.{RecordFault}
 use Rattle.markdown_records.specs.declared.fault.RecordFault.TheVariants.{Of, TooLong}
 use Rattle.markdown_text_records.specs.AnsweringView.{Answers as ByTable}
 use Rattle.markdown_text_records.specs.RecordedEntries.{WritesEntries}
-use Rattle.markdown_text_records.specs.Recording.{BeginsTooLong, BeginsWith, IsCut, RecordsOn, element_drafts}
+use Rattle.markdown_text_records.specs.Recording.{BeginsTooLong, IsCut, KeptAll, PushesAsked, PushesPlaced, RecordsOn}
+use Rattle.markdown_text_records.specs.Recording.{asked_by, asked_number, element_drafts}
+use Rattle.markdown_text_records.proofs.AskedLemmas.{IsLent, asked_between}
 use Rattle.markdown_text_records.specs.TextRecords.{entry_of}
 use Rattle.markdown_text_records.specs.declared.answering.Answering.{Answering}
 use Rattle.markdown_records.proofs.WritesLemmas.{fit_later}
-use Rattle.markdown_text_records.proofs.EntriesLemmas.{entries_none, entries_one, entries_then}
+use Rattle.markdown_text_records.proofs.EntriesLemmas.{entries_none, entries_one, entries_refused, entries_then}
 
 questions_of_both : (es fs : List Element) → questions_of (es ++ fs) ≡ questions_of es ++ questions_of fs
 questions_of_both [] fs = refl
@@ -106,10 +110,6 @@ cut_later {r} {q} {s} {t} {fault} a why =
 -- ---- one item
 
 module _ {s t : Parser Answering} {item : Event × Range ℕ} (g : GivesItem ByTable IsPlacedOf s item t) where
-  asked_of : questions_of (map question g.questions) ≡ g.questions
-  asked_of = ap (λ es. questions_of es) (sym (append-nil (map question g.questions)))
-      ∙ questions_of-questions g.questions [] ∙ append-nil g.questions
-
   -- the questions on the way to it, and its event
   abbrev step : List Element
   step = map question g.questions ++ event g.placed ∷ []
@@ -130,46 +130,24 @@ module _ {s t : Parser Answering} {item : Event × Range ℕ} (g : GivesItem ByT
       (append-nil (event_drafts g.placed.1 g.placed.0) ∙ ap₂ (λ range view. event_drafts range view) is.range e.view)
 
   -- all of it is written
-  pub records_item : {r q m : Records} → parser_definitions t ≡ parser_definitions s
-      → WritesEntries {A = ⊤} r (flat_map question_drafts g.questions) (Ok tt) q
-      → WritesEntry {A = ⊤} q (event_drafts item.1 (event_view item.0)) (Ok tt) m → RecordsOn r s m t
-  records_item {r} {m} same first then = record {
+  pub records_item : {r m : Records} → parser_definitions t ≡ parser_definitions s
+      → WritesEntries {A = ⊤} r (flat_map question_drafts g.questions ++ event_drafts item.1 (event_view item.0)) (Ok tt) m
+      → RecordsOn r s m t
+  records_item {r} {m} same writes = record {
     first = step;
     answers = g.answers;
     asked = rw asked_of_step g.asked;
     left = left_of_step;
     definitions = same;
-    writes = subst (λ ds. WritesEntries {A = ⊤} r ds (Ok tt) m) (sym drafts_of_step)
-        (entries_then (Ok tt) first (entries_one then));
+    writes = subst (λ ds. WritesEntries {A = ⊤} r ds (Ok tt) m) (sym drafts_of_step) writes;
   }
 
-  -- the questions are not
-  pub cut_questions : {r q : Records} {fault : RecordFault}
-      → WritesEntries {A = ⊤} r (flat_map question_drafts g.questions) (Err fault) q → IsCut r s fault
-  cut_questions {r} {fault} w =
-      ⊎_elim (λ (memory : fault ≡ Of Memory). inl memory) (λ (p : (fault ≡ TooLong) × (FitDrafts (records_source r)
-      (sheet_of r) (flat_map question_drafts g.questions) → ⊥)). inr (
-        p.0,
-        record {
-          first = map question g.questions;
-          callback = parser_callback t;
-          begin = record {
-            answers = g.answers;
-            asked = rw asked_of g.asked;
-            begins = λ later. (event g.placed ∷ elements t later, g.left later);
-          };
-          unfit = λ fit. p.1 (rw (drafts_of_questions g.questions) at fit);
-        },
-      )) w.refused
-
-  -- the event is not
-  pub cut_event : {r q m : Records} {fault : RecordFault}
-      → WritesEntries {A = ⊤} r (flat_map question_drafts g.questions) (Ok tt) q
-      → WritesEntry {A = ⊤} q (event_drafts item.1 (event_view item.0)) (Err fault) m → IsCut r s fault
-  cut_event {r} {m} {fault} first w =
-      let both : WritesEntries {A = ⊤} r (element_drafts step) (Err fault) m =
-      subst (λ ds. WritesEntries {A = ⊤} r ds (Err fault) m) (sym drafts_of_step)
-      (entries_then (Err fault) first (entries_one w)) in
+  -- not all of it is
+  pub cut_item : {r m : Records} {fault : RecordFault} → WritesEntries {A = ⊤} r
+      (flat_map question_drafts g.questions ++ event_drafts item.1 (event_view item.0)) (Err fault) m → IsCut r s fault
+  cut_item {r} {m} {fault} w =
+      let all : WritesEntries {A = ⊤} r (element_drafts step) (Err fault) m =
+      subst (λ ds. WritesEntries {A = ⊤} r ds (Err fault) m) (sym drafts_of_step) w in
       ⊎_elim (λ (memory : fault ≡ Of Memory). inl memory) (λ (p : (fault ≡ TooLong) × (FitDrafts (records_source r)
       (sheet_of r) (element_drafts step) → ⊥)). inr (
         p.0,
@@ -183,4 +161,72 @@ module _ {s t : Parser Answering} {item : Event × Range ℕ} (g : GivesItem ByT
           };
           unfit = p.1;
         },
-      )) both.refused
+      )) all.refused
+
+-- ---- a call of `next`, and what is then written
+
+-- at the end nothing is
+pub records_end : {r : Records} {s t : Parser Answering} → NextGives ByTable IsPlacedOf s None t
+    → RecordsOn r s r t × ((answers : Answers) → elements t answers ≡ [])
+records_end h =
+    let g = h.gives in
+    let over = g.over in (
+      record {
+        first = [];
+        answers = [];
+        asked = sym g.callback;
+        left = λ later. g.none_left later ∙ sym (over.left later);
+        definitions = h.definitions;
+        writes = entries_none;
+      },
+      over.left,
+    )
+
+module _ {s t : Parser Answering} (e : Event) (range : Range ℕ)
+    (h : NextGives ByTable IsPlacedOf s (Some (Ok (e, range))) t) (before after : Option (Bor Answering))
+    (was : IsLent before (parser_callback s)) (is : IsLent after (parser_callback t)) (first : ℕ)
+    (so : first ≡ asked_number before) where
+  -- the questions on the way to it are those that are written
+  drafts_are : KeptAll after → flat_map question_drafts (map question_of (drop first (asked_by after)))
+      ++ event_drafts range (event_view e)
+      ≡ flat_map question_drafts h.gives.questions ++ event_drafts range (event_view e)
+  drafts_are kept =
+      let g = h.gives in
+      ap (λ (n : ℕ). flat_map question_drafts (map question_of (drop n (asked_by after)))
+      ++ event_drafts range (event_view e)) so
+      ∙ ap (λ qs. flat_map question_drafts qs ++ event_drafts range (event_view e)) (asked_between before after
+      (parser_callback s) (parser_callback t) g.questions g.answers was is kept g.asked)
+
+  pub item_cut : {r m : Records} {fault : RecordFault} → PushesPlaced r after first e range (Err fault) m
+      → IsCut r s fault
+  item_cut {r} {m} {fault} w =
+      ⊎_elim (λ (p : KeptAll after × WritesEntries r (flat_map question_drafts (map question_of (drop first
+      (asked_by after))) ++ event_drafts range (event_view e)) (Err fault) m). cut_item h.gives
+      (subst (λ ds. WritesEntries {A = ⊤} r ds (Err fault) m) (drafts_are p.0) p.1))
+      (λ (p : Err fault ≡ Err (Of Memory)). inl (cc (p))) w
+
+  pub item_written : {r m : Records} → PushesPlaced r after first e range (Ok (tt {0})) m → RecordsOn r s m t
+  item_written {r} {m} w =
+      ⊎_elim (λ (p : KeptAll after × WritesEntries r (flat_map question_drafts (map question_of (drop first
+      (asked_by after))) ++ event_drafts range (event_view e)) (Ok (tt {0})) m). records_item h.gives h.definitions
+      (subst (λ ds. WritesEntries {A = ⊤} r ds (Ok (tt {0})) m) (drafts_are p.0) p.1))
+      (λ (p : Ok (tt {0}) ≡ Err (Of Memory)). absurd (cc (p))) w
+
+-- ---- the questions, and then the event
+
+pub placed_cut : {r q : Records} {e : Event} {range : Range ℕ} {fault : RecordFault} {result : Result ⊤ RecordFault}
+    (after : Option (Bor Answering)) (first : ℕ) → IsErrAnd result (λ y. y ≡ fault)
+    → PushesAsked r after first (Err fault) q → PushesPlaced r after first e range result q
+placed_cut {r} {q} {e} {range} {fault} {result} after first is w =
+    let p = err_from_is_err_and result is in
+    ⊎_elim (λ (p : KeptAll after × WritesEntries r (flat_map question_drafts (map question_of (drop first
+    (asked_by after)))) (Err fault) q). inl (p.0, entries_refused (event_drafts range (event_view e)) is p.1))
+    (λ (memory : Err fault ≡ Err (Of Memory)). inr (rw (p.1, p.2) memory)) w
+
+pub placed_then : {r q m : Records} {e : Event} {range : Range ℕ} (after : Option (Bor Answering)) (first : ℕ)
+    (result : Result ⊤ RecordFault) → PushesAsked r after first (Ok (tt {0})) q
+    → WritesEntry q (event_drafts range (event_view e)) result m → PushesPlaced r after first e range result m
+placed_then {r} {q} {e} {range} after first result w v =
+    ⊎_elim (λ (p : KeptAll after × WritesEntries r (flat_map question_drafts (map question_of (drop first
+    (asked_by after)))) (Ok (tt {0})) q). inl (p.0, entries_then result p.1 (entries_one v)))
+    (λ (p : Ok (tt {0}) ≡ Err (Of Memory)). absurd (cc (p))) w

@@ -3,7 +3,10 @@ use Rattle.std.specs.Prelude.{◌≡◌, ◌⊎◌, ◌++◌, ◌∷◌, [], ℕ
 use Rattle.std.specs.Prelude.{Option, Some, None, ⊤}
 use Rattle.std.specs.Borrow.{Bor}
 use Rattle.std.specs.List.{flat_map}
+use Rattle.std.specs.declared.ops.Range.{Range}
+use Rattle.markdown_base.specs.Event.{event_view}
 use Rattle.markdown_base.specs.Questions.{Answers}
+use Rattle.markdown_base.specs.declared.event.Event.{Event}
 use Rattle.markdown_base.specs.declared.fault.Fault.TheVariants.{Memory}
 use Rattle.markdown_defs.specs.Callback.{Asks}
 use Rattle.markdown_defs.specs.CallbackViews.{question_of}
@@ -11,7 +14,7 @@ use Rattle.markdown_defs.specs.declared.callback.BrokenLink.{BrokenLink}
 use Rattle.markdown_inline.specs.Elements.{Element, questions_of}
 use Rattle.markdown_inline.specs.ParserLeft.{elements, parser_callback, parser_definitions}
 use Rattle.markdown_inline.specs.declared.walk.Parser.{Parser}
-use Rattle.markdown_records.specs.Drafts.{DraftView, entry_drafts, question_drafts}
+use Rattle.markdown_records.specs.Drafts.{DraftView, entry_drafts, event_drafts, question_drafts}
 use Rattle.markdown_records.specs.Encoded.{FitDrafts}
 use Rattle.markdown_records.specs.RecordsOf.{records_source, sheet_of}
 use Rattle.markdown_records.specs.declared.encode.Records.{Records}
@@ -40,6 +43,14 @@ abbrev pub PushesAsked : (old : Records) → Option (Bor Answering) → (first :
     → Type 0
 PushesAsked old callback first result new = (KeptAll callback
     × WritesEntries old (flat_map question_drafts (map question_of (drop first (asked_by callback)))) result new)
+    ⊎ (result ≡ Err (Of Memory))
+
+-- and then an event is
+abbrev pub PushesPlaced : (old : Records) → Option (Bor Answering) → (first : ℕ) → Event → Range ℕ
+    → Result ⊤ RecordFault → (new : Records) → Type 0
+PushesPlaced old callback first e range result new = (KeptAll callback
+    × WritesEntries old (flat_map question_drafts (map question_of (drop first (asked_by callback)))
+    ++ event_drafts range (event_view e)) result new)
     ⊎ (result ≡ Err (Of Memory))
 
 -- the drafts of elements

@@ -3,12 +3,13 @@ ghost use Rattle.std.specs.Prelude.{◌≡◌, ◌<◌, IfOk, IsTrue, MatchResul
 ghost use Rattle.markdown_base.specs.Source.{source_as};
 ghost use Rattle.markdown_inline.specs.ParserLeft.{offset_parser, parser_steps};
 ghost use Rattle.markdown_text_records.specs.AnsweringView.{table_in};
-ghost use Rattle.markdown_text_records.specs.Recording.{PushesAsked, PushesNext, PushesReading, asked_number};
+ghost use Rattle.markdown_text_records.specs.Recording.{PushesAsked, PushesNext, PushesPlaced, PushesReading, asked_number};
 ghost use Rattle.markdown_text_records.specs.TextRecords.{AreRecordsOf, IsFaultOfText};
 
 use crate::answering::Answering;
 use crate::definitions::push_definitions;
 use crate::questions::push_questions;
+use markdown_base::event::Event;
 use markdown_base::fault::Fault;
 use markdown_base::options::Options;
 use markdown_base::syntax::Syntax;
@@ -16,6 +17,7 @@ use markdown_blocks::Blocks;
 use markdown_inline::walk::{OffsetIter, Parser};
 use markdown_records::{RecordAnswers, RecordFault, Records};
 use std::alloc::Global;
+use std::ops::Range;
 
 /// Returns how many questions a callback was asked.
 fn asked_count(callback: Option<&Answering<'_>>) -> usize
@@ -46,6 +48,20 @@ fn push_asked(
     }
 }
 
+/// Appends the records of the questions that a callback was asked after the first so many, and then those of an event.
+fn push_placed(
+    records: &mut Records<'_>,
+    callback: Option<&Answering<'_>>,
+    first: usize,
+    event: &Event<'_>,
+    range: &Range<usize>,
+) -> Result<(), RecordFault>
+    ensures { PushesPlaced records.old callback.entry first event.now range.now result records.new }
+{
+    push_asked(records, callback, first)?;
+    records.push_event(event, range)
+}
+
 /// Appends the records of the questions on the way to the next event, and those of the event. Returns false at the end.
 fn push_next<'a>(
     records: &mut Records<'_>,
@@ -61,8 +77,7 @@ fn push_next<'a>(
         return Ok(false);
     };
     let (event, range) = item?;
-    push_asked(records, walk.callback(), first)?;
-    let pushed = records.push_event(&event, &range);
+    let pushed = push_placed(records, walk.callback(), first, &event, &range);
     drop(event);
     pushed?;
     Ok(true)
