@@ -1,3 +1,4 @@
 pub mod DefinitionsLemmas
 pub mod AnsweringLemmas
 pub mod EntriesLemmas
+pub mod RecordsHtmlLemmas
