@@ -1,5 +1,6 @@
 -- Entries that are answers, and others.
-use Rattle.std.proofs.Common.{◌≡◌, ℕ, Bool, true, false, ◌==◌, if◌then◌else◌, List, ◌∷◌, refl, sym, ◌∙◌, Option, None, Some, is_some}
+use Rattle.std.proofs.Common.{◌≡◌, ℕ, Bool, true, false, ◌==◌, if◌then◌else◌, List, ◌∷◌, refl, sym, ◌∙◌, Option, None}
+use Rattle.std.proofs.Common.{Some, is_some}
 use Rattle.std.specs.Option.{option_map}
 use Rattle.std.proofs.lemmas.Bool.{ne_eqb}
 use Rattle.markdown_base.specs.Event.{EventView}
@@ -22,14 +23,16 @@ same_value : {A : Type 0} (a b : A) → Some a ≡ Some b → a ≡ b
 same_value a b e = cc
 
 -- what is read of an answer is an answer
-pub answer_first : (source pool : List ℕ) (g : Group) (v : EntryView) (a : Option Answer) → entry_in source pool g ≡ Some v
-    → g.head.kind ≡ 97 → answer_in source pool g ≡ Some a → v ≡ entry.answer (range_of source pool g.head) a
+pub answer_first : (source pool : List ℕ) (g : Group) (v : EntryView) (a : Option Answer)
+    → entry_in source pool g ≡ Some v → g.head.kind ≡ 97 → answer_in source pool g ≡ Some a
+    → v ≡ entry.answer (range_of source pool g.head) a
 answer_first source pool g v a e kind given = sym (same_value _ _ (sym found ∙ there))
   where
     there : (if g.head.kind == 96 then option_map (λ q. entry.question q) (question_in source pool g)
         else if g.head.kind == 97
         then option_map (λ (o : Option Answer). entry.answer (range_of source pool g.head) o) (answer_in source pool g)
-        else option_map (λ (x : EventView). entry.event x (range_of source pool g.head)) (event_in source pool g)) ≡ Some v
+        else option_map (λ (x : EventView). entry.event x (range_of source pool g.head)) (event_in source pool g))
+        ≡ Some v
     there = if_sound (is_sound g) _ v e
 
     found : (if g.head.kind == 96 then option_map (λ q. entry.question q) (question_in source pool g)
@@ -42,19 +45,22 @@ answer_first source pool g v a e kind given = sym (same_value _ _ (sym found ∙
 -- what is read of another record is none
 pub no_answer : (source pool : List ℕ) (g : Group) (v : EntryView) → entry_in source pool g ≡ Some v
     → (g.head.kind ≡ 97 → ⊥) → is_answer v ≡ false
-no_answer source pool g v e kind = by_kind (g.head.kind == 96) (rw (ne_eqb g.head.kind 97 kind) at (if_sound (is_sound g) _ v e))
+no_answer source pool g v e kind = by_kind (g.head.kind == 96)
+    (rw (ne_eqb g.head.kind 97 kind) at (if_sound (is_sound g) _ v e))
   where
     from_question : (o : Option Question) → option_map (λ q. entry.question q) o ≡ Some v → is_answer v ≡ false
     from_question None is = absurd (none_some v is)
     from_question (Some q) is = rw (← same_value (entry.question q) v is) refl
 
-    from_event : (o : Option EventView) → option_map (λ (x : EventView). entry.event x (range_of source pool g.head)) o ≡ Some v
+    from_event : (o : Option EventView) → option_map (λ (x : EventView). entry.event x (range_of source pool g.head)) o
+        ≡ Some v
         → is_answer v ≡ false
     from_event None is = absurd (none_some v is)
     from_event (Some x) is = rw (← same_value (entry.event x (range_of source pool g.head)) v is) refl
 
     by_kind : (question : Bool) → (if question then option_map (λ q. entry.question q) (question_in source pool g)
-        else option_map (λ (x : EventView). entry.event x (range_of source pool g.head)) (event_in source pool g)) ≡ Some v
+        else option_map (λ (x : EventView). entry.event x (range_of source pool g.head)) (event_in source pool g))
+        ≡ Some v
         → is_answer v ≡ false
     by_kind true is = from_question (question_in source pool g) is
     by_kind false is = from_event (event_in source pool g) is

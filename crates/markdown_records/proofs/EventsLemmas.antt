@@ -1,5 +1,6 @@
 -- Events among entries, and what an iterator over them returns.
-use Rattle.std.proofs.Common.{◌≡◌, false, true, is_some, List, [], ◌∷◌, ◌++◌, map, refl, sym, ap, ◌∙◌, Option, None, Some, Ok, Err}
+use Rattle.std.proofs.Common.{◌≡◌, false, true, is_some, List, [], ◌∷◌, ◌++◌, map, refl, sym, ap, ◌∙◌, Option, None}
+use Rattle.std.proofs.Common.{Some, Ok, Err}
 use Rattle.std.proofs.lemmas.List.{append-nil}
 use Rattle.std.specs.Iterator.{Yields}
 use Rattle.std.specs.Option.{option_map}
@@ -49,7 +50,8 @@ until_error m (e ∷ given) t fault y = until_error y.0 given t fault y.2
 
 pub returns_left : (m : RecordEvents) → ReturnsEventsLeft m
 returns_left m = record {
-  all = λ given d. sym (first_events m given d.1.0 d.1.1 ∙ ap (λ (es : List EventView). map event_view given ++ es) d.1.2.0 ∙ append-nil (map event_view given));
+  all = λ given d. sym (first_events m given d.1.0 d.1.1
+      ∙ ap (λ (es : List EventView). map event_view given ++ es) d.1.2.0 ∙ append-nil (map event_view given));
   first = λ given t y. first_events m given t y;
   error = λ given t fault y. until_error m given t fault y;
 }

@@ -1,5 +1,6 @@
 -- Bytes with a header that is right, and bytes without.
-use Rattle.std.proofs.Common.{◌≡◌, ◌<◌, ◌≤◌, ◌+◌, ◌*◌, ℕ, Bool, true, false, ◌&&◌, ◌==◌, nat_le, List, length, drop, take, refl, sym, ap, ◌∙◌, arith, None}
+use Rattle.std.proofs.Common.{◌≡◌, ◌<◌, ◌≤◌, ◌+◌, ◌*◌, ℕ, Bool, true, false, ◌&&◌, ◌==◌, nat_le, List, length, drop}
+use Rattle.std.proofs.Common.{take, refl, sym, ap, ◌∙◌, arith, None}
 use Rattle.std.specs.Str.{IsUtf8, bytes_eq, is_utf8}
 use Rattle.std.proofs.lemmas.Bool.{eqb-true, false_from_ne_true, leb-true, le-leb}
 use Rattle.std.proofs.lemmas.List.{length-drop, length-take, drop-take}
@@ -34,7 +35,7 @@ without_form source bytes e = rw e refl
 pub too_short : (source bytes : List ℕ) → length bytes < 24 → decoded source bytes ≡ None
 too_short source bytes few =
     let short : nat_le 24 (length bytes) ≡ false =
-        false_from_ne_true (nat_le 24 (length bytes)) (λ e. omega (arith, leb-true 24 (length bytes) e)) in
+    false_from_ne_true (nat_le 24 (length bytes)) (λ e. omega (arith, leb-true 24 (length bytes) e)) in
     without_form source bytes (form_of_header source bytes ∙ rw short refl)
 
 -- bytes with a wrong header
@@ -54,8 +55,8 @@ pub wrong_pool : (source bytes : List ℕ) → (IsUtf8 (drop (24 + 24 * number_a
     → decoded source bytes ≡ None
 wrong_pool source bytes wrong =
     let no_text : is_utf8 (pool_of (number_at bytes 8) bytes) ≡ false =
-        false_from_ne_true (is_utf8 (pool_of (number_at bytes 8) bytes))
-        (λ e. wrong (IsUtf8-from_is_utf8 (pool_of (number_at bytes 8) bytes) e)) in
+    false_from_ne_true (is_utf8 (pool_of (number_at bytes 8) bytes))
+    (λ e. wrong (IsUtf8-from_is_utf8 (pool_of (number_at bytes 8) bytes) e)) in
     without_form source bytes
     (form_of_header source bytes
     ∙ ap (λ (f : Bool). (nat_le 24 (length bytes) && has_header source bytes) && f) no_text
@@ -91,14 +92,20 @@ right_form source bytes enough header text =
     let records : List ℕ = drop 24 (take (24 + 24 * count) bytes) in
     let facts = header_facts source bytes header in
     let form : has_form source bytes count ≡ true =
-        form_of_header source bytes ∙ rw (le-leb 24 (length bytes) enough, header) (is_utf8-from_IsUtf8 (drop (24 + 24 * count) bytes) text) in
+    form_of_header source bytes ∙ rw (le-leb 24 (length bytes) enough, header)
+    (is_utf8-from_IsUtf8 (drop (24 + 24 * count) bytes) text) in
     let same : records_bytes_of count bytes ≡ records =
-        ap (λ (n : ℕ). take n (drop 24 bytes)) (omega arith) ∙ sym (drop-take 24 (24 * count) bytes) in
+    ap (λ (n : ℕ). take n (drop 24 bytes)) (omega arith) ∙ sym (drop-take 24 (24 * count) bytes) in
     let within : 24 * entries ≤ length records =
-        omega (arith, facts, length-drop 24 (take (24 + 24 * count) bytes), length-take (24 + 24 * count) bytes) in
+    omega (arith, facts, length-drop 24 (take (24 + 24 * count) bytes), length-take (24 + 24 * count) bytes) in
     let said : contents_in source (pool_of count bytes) entries (records_in records)
-        ≡ said_contents source (drop (24 + 24 * count) bytes) (take (24 * entries) records) (drop (24 * entries) records) =
-        rw (first_records entries (24 * entries) records refl within, last_records entries (24 * entries) records refl within) refl in
+    ≡ said_contents source (drop (24 + 24 * count) bytes) (take (24 * entries) records)
+    (drop (24 * entries) records) =
+    rw (
+      first_records entries (24 * entries) records refl within,
+      last_records entries (24 * entries) records refl
+          within,
+    ) refl in
     rw form refl ∙ ap (λ (bs : List ℕ). contents_in source (pool_of count bytes) entries (records_in bs)) same ∙ said
 
 -- the same of parts that are those
@@ -109,7 +116,9 @@ pub parts_say : (source bytes pool entries definitions : List ℕ) → 24 ≤ le
     → decoded source bytes ≡ said_contents source pool entries definitions
 parts_say source bytes pool entries definitions enough header text p e d =
     right_form source bytes enough header text
-    ∙ ap (λ (xs : List ℕ). said_contents source xs (take (24 * number_at bytes 12) (drop 24 (take (24 + 24 * number_at bytes 8) bytes)))
+    ∙ ap (λ (xs : List ℕ). said_contents source xs (take (24 * number_at bytes 12)
+    (drop 24 (take (24 + 24 * number_at bytes 8) bytes)))
     (drop (24 * number_at bytes 12) (drop 24 (take (24 + 24 * number_at bytes 8) bytes)))) (sym p)
-    ∙ ap (λ (xs : List ℕ). said_contents source pool xs (drop (24 * number_at bytes 12) (drop 24 (take (24 + 24 * number_at bytes 8) bytes)))) (sym e)
+    ∙ ap (λ (xs : List ℕ). said_contents source pool xs
+    (drop (24 * number_at bytes 12) (drop 24 (take (24 + 24 * number_at bytes 8) bytes)))) (sym e)
     ∙ ap (λ (xs : List ℕ). said_contents source pool entries xs) (sym d)

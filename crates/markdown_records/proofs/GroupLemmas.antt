@@ -1,5 +1,6 @@
 -- Groups of records in bytes.
-use Rattle.std.proofs.Common.{◌≡◌, ◌<◌, ◌≤◌, ◌+◌, ◌*◌, ℕ, nat_le, List, [], ◌∷◌, ◌++◌, refl, sym, ap, ◌∙◌, length, drop, take, arith, append_assoc, ⊎_elim}
+use Rattle.std.proofs.Common.{◌≡◌, ◌<◌, ◌≤◌, ◌+◌, ◌*◌, ℕ, nat_le, List, [], ◌∷◌, ◌++◌, refl, sym, ap, ◌∙◌, length, drop}
+use Rattle.std.proofs.Common.{take, arith, append_assoc, ⊎_elim}
 use Rattle.std.proofs.lemmas.Bool.{cases_lt, le-leb, leb-true, false_from_ne_true}
 use Rattle.std.proofs.lemmas.List.{length-drop, length-take, append-nil, drop-drop}
 use Rattle.markdown_records.specs.Decoded as whole
@@ -27,7 +28,8 @@ grouped_head r rest low =
 pub begins_low : (r : RecordView) (rest : List RecordView) → (grouped (r ∷ rest)).0 ≡ [] → r.kind < 128
 begins_low r rest none = ⊎_elim (λ (low : r.kind < 128). low)
     (λ (high : 128 ≤ r.kind).
-    let nonempty : r ∷ (grouped rest).0 ≡ [] = sym (ap (λ (g : List RecordView × List whole.Group). g.0) (grouped_part r rest high)) ∙ none in
+    let nonempty : r ∷ (grouped rest).0 ≡ [] = sym (ap (λ (g : List RecordView × List whole.Group). g.0)
+    (grouped_part r rest high)) ∙ none in
     absurd (omega (arith, ap (λ (xs : List RecordView). length xs) nonempty)))
     (cases_lt r.kind 128)
 
@@ -52,13 +54,18 @@ none_parted bytes = record {
 pub one_parted : {bytes left rest : List ℕ} {end : ℕ} {r : Record} → Parted bytes left end → IsFirstRecord left r rest
     → 128 ≤ r.kind → Parted bytes rest (end + 24)
 one_parted {bytes} {left} {rest} {end} {r} p first high =
-    let records : grouped (records_in left) ≡ (record_view r ∷ (grouped (records_in rest)).0, (grouped (records_in rest)).1) =
-        ap (λ (rs : List RecordView). grouped rs) first.records ∙ grouped_part (record_view r) (records_in rest) high in
+    let records : grouped (records_in left) ≡ (
+      record_view r ∷ (grouped (records_in rest)).0,
+      (grouped (records_in rest)).1,
+    ) =
+    ap (λ (rs : List RecordView). grouped rs) first.records ∙ grouped_part (record_view r) (records_in rest) high in
     let more : records_in (take (end + 24) bytes) ≡ records_in (take end bytes) ++ record_view r ∷ [] =
-        one_more p.count.0 end bytes left p.count.1 p.left_is first.size (omega (arith, p.size, first.size)) first.records in
+    one_more p.count.0 end bytes left p.count.1 p.left_is first.size (omega (arith, p.size, first.size))
+    first.records in
     record {
       left_is = first.rest ∙ ap (λ (xs : List ℕ). drop 24 xs) p.left_is ∙ drop-drop 24 end bytes;
-      parts = p.parts ∙ rw (more, records) (sym (append_assoc (records_in (take end bytes)) (record_view r ∷ []) (grouped (records_in rest)).0));
+      parts = p.parts ∙ rw (more, records) (sym (append_assoc (records_in (take end bytes)) (record_view r ∷ [])
+          (grouped (records_in rest)).0));
       groups = p.groups ∙ ap (λ (g : List RecordView × List whole.Group). g.1) records;
       size = omega (arith, p.size, first.size, ap (λ (xs : List ℕ). length xs) first.rest, length-drop 24 left);
       count = (p.count.0 + 1, omega (arith, p.count.1));
@@ -79,18 +86,20 @@ no_records bytes none = rw none refl
 
 pub low_record : (bytes : List ℕ) {r : RecordView} {rest : List RecordView} → records_in bytes ≡ r ∷ rest → r.kind < 128
     → (grouped (records_in bytes)).0 ≡ []
-low_record bytes {r} {rest} is low = rw is (ap (λ (g : List RecordView × List whole.Group). g.0) (grouped_head r rest low))
+low_record bytes {r} {rest} is low = rw is (ap (λ (g : List RecordView × List whole.Group). g.0)
+    (grouped_head r rest low))
 
 -- the first record with the parts after it is the first group
 pub first_group : {bytes rest others : List ℕ} (g : Group) → IsWhole bytes → IsFirstRecord bytes g.head rest
     → SplitsParts rest g.parts.now others → IsFirstGroup bytes g others
 first_group {bytes} {rest} {others} g none first split =
     let low : g.head.kind < 128 = begins_low (record_view g.head) (records_in rest)
-        (ap (λ (rs : List RecordView). (grouped rs).0) (sym first.records) ∙ none) in
+    (ap (λ (rs : List RecordView). (grouped rs).0) (sym first.records) ∙ none) in
     record {
       groups =
           ap (λ (rs : List RecordView). (grouped rs).1) first.records
-          ∙ ap (λ (h : List RecordView × List whole.Group). h.1) (grouped_head (record_view g.head) (records_in rest) low)
+          ∙ ap (λ (h : List RecordView × List whole.Group). h.1)
+          (grouped_head (record_view g.head) (records_in rest) low)
           ∙ rw (split.parts_are, split.groups) refl;
       whole = split.whole;
       size = omega (arith, split.size, first.size, ap (λ (xs : List ℕ). length xs) first.rest, length-drop 24 bytes);

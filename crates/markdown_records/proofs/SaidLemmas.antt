@@ -1,5 +1,6 @@
 -- What the groups of bytes say, one after another.
-use Rattle.std.proofs.Common.{◌≡◌, ℕ, suc, arith, true, false, ◌==◌, if◌then◌else◌, List, [], ◌∷◌, length, refl, sym, ap, ◌∙◌, inl, inr, ⊎_elim, Option, None, Some, is_some}
+use Rattle.std.proofs.Common.{◌≡◌, ℕ, suc, arith, true, false, ◌==◌, if◌then◌else◌, List, [], ◌∷◌, length, refl, sym}
+use Rattle.std.proofs.Common.{ap, ◌∙◌, inl, inr, ⊎_elim, Option, None, Some, is_some}
 use Rattle.std.proofs.lemmas.Bool.{ne_eqb}
 use Rattle.std.specs.Option.{option_map}
 use Rattle.markdown_records.specs.Decoded as whole
@@ -38,7 +39,6 @@ module _ {A : Type 0} (source pool : List ℕ) (read : whole.Group → Option A)
       first ([], groups) e = refl
       first (r ∷ rs, groups) e = absurd (apart (rw (ne_eqb (suc (length rs)) 0 (omega arith)) at e))
 
-
   pub said_not_whole : (bytes : List ℕ) → (length (grouped (records_in bytes)).0 == 0) ≡ false
       → said_by source pool read (records_in bytes) ≡ None
   said_not_whole bytes is = rw is refl
@@ -49,7 +49,8 @@ module _ {A : Type 0} (source pool : List ℕ) (read : whole.Group → Option A)
 
   pub said_first : {bytes rest : List ℕ} {g : Group} (v : A) → IsWhole bytes → IsFirstGroup bytes g rest
       → read (group_view g) ≡ Some v
-      → said_by source pool read (records_in bytes) ≡ option_map (λ vs. v ∷ vs) (said_by source pool read (records_in rest))
+      → said_by source pool read (records_in bytes) ≡ option_map (λ vs. v ∷ vs)
+      (said_by source pool read (records_in rest))
   said_first {bytes} {rest} {g} v is first e =
       said_groups bytes is ∙ rw (first.groups, e, said_groups rest first.whole) refl
 
@@ -79,7 +80,8 @@ module _ {A : Type 0} (source pool : List ℕ) (read : whole.Group → Option A)
       → IsWhole bytes → IsFirstGroup bytes g rest → IsNotRead (read (group_view g)) fault
       → IsNotRead (said_by source pool read (records_in all)) fault
   said_refused all same is first why =
-      ⊎_elim (λ no. inl (no.0, none_there _ (same ∙ is_none_there _ (said_wrong is first no.1)))) (λ memory. inr memory) why
+      ⊎_elim (λ no. inl (no.0, none_there _ (same ∙ is_none_there _ (said_wrong is first no.1)))) (λ memory. inr memory)
+      why
 
   -- what the first group says, and the others
   pub record FirstSaid (bytes rest : List ℕ) (g : Group) : Type 0 where
@@ -110,7 +112,8 @@ contents_without_entries source pool entries definitions none = rw none refl
 
 pub contents_without_definitions : (source pool entries definitions : List ℕ)
     → said_definitions source pool definitions ≡ None → said_contents source pool entries definitions ≡ None
-contents_without_definitions source pool entries definitions none = rw none (by_entries (said_entries source pool entries))
+contents_without_definitions source pool entries definitions none =
+    rw none (by_entries (said_entries source pool entries))
   where
     by_entries : (es : Option (List EntryView))
         → then_option {B = Contents} es (λ e. None) ≡ None
@@ -126,7 +129,7 @@ contents_with_both source pool entries definitions first last =
   where
     by_both : (es : Option (List EntryView)) (ds : Option (List LabelledView)) → is_some es ≡ true → is_some ds ≡ true
         → is_some {T = Contents} (then_option es (λ (e : List EntryView). option_map
-            (λ (d : List LabelledView). record { entries = e; definitions = d }) ds)) ≡ true
+        (λ (d : List LabelledView). record { entries = e; definitions = d }) ds)) ≡ true
     by_both None ds e d = absurd (cc)
     by_both (Some es) None e d = absurd (cc)
     by_both (Some es) (Some ds) e d = refl

@@ -1,5 +1,6 @@
 -- Headings with the parts read so far, and the alignments of columns.
-use Rattle.std.proofs.Common.{◌≡◌, ℕ, List, [], ◌∷◌, ◌++◌, map, refl, sym, ap, ◌∙◌, inl, inr, ⊎_elim, append_assoc, Option, None, Some}
+use Rattle.std.proofs.Common.{◌≡◌, ℕ, List, [], ◌∷◌, ◌++◌, map, refl, sym, ap, ◌∙◌, inl, inr, ⊎_elim, append_assoc}
+use Rattle.std.proofs.Common.{Option, None, Some}
 use Rattle.std.specs.Option.{option_map}
 use Rattle.std.proofs.lemmas.List.{append-nil, map-append}
 use Rattle.markdown_base.specs.CowText.{text_of}
@@ -42,7 +43,14 @@ pub value_set : (source pool value : List ℕ) (old popped new : List (CowStr ×
     → old ≡ popped ++ (name, None) ∷ [] → new ≡ popped ++ (name, Some text) ∷ [] → text_of text ≡ value
     → with_value source pool value (map attribute_view old) ≡ Some (map attribute_view new)
 value_set source pool value old popped new name text before after same =
-    rw (before, after, map-append attribute_view popped ((name, None) ∷ []), map-append attribute_view popped ((name, Some text) ∷ []), same)
+    rw (
+      before,
+      after,
+      map-append attribute_view popped ((name, None) ∷ []),
+      map-append attribute_view popped
+          ((name, Some text) ∷ []),
+      same,
+    )
     (last_gets source pool value (map attribute_view popped) (text_of name))
 
 -- the last attribute has a value
@@ -58,7 +66,8 @@ pub one_read : {A B : Type 0} (read : A → Option B) (whole left rest : List A)
     → each_of read whole ≡ option_map (λ later. (xs ++ b ∷ []) ++ later) (each_of read rest)
 one_read {B = B} read whole left rest xs a b so_far is found = so_far ∙ rw (is, found) (longer (each_of read rest))
   where
-    longer : (later : Option (List B)) → option_map (λ (bs : List B). xs ++ bs) (option_map (λ (bs : List B). b ∷ bs) later)
+    longer : (later : Option (List B)) → option_map (λ (bs : List B). xs ++ bs)
+        (option_map (λ (bs : List B). b ∷ bs) later)
         ≡ option_map (λ (bs : List B). (xs ++ b ∷ []) ++ bs) later
     longer None = refl
     longer (Some bs) = ap (λ (l : List B). Some l) (sym (append_assoc xs (b ∷ []) bs))
@@ -75,14 +84,16 @@ pub all_read : {A B : Type 0} (read : A → Option B) (whole left : List A) (xs 
 all_read {B = B} read whole left xs so_far none = so_far ∙ rw none (ap (λ (l : List B). Some l) (append-nil xs))
 
 -- a part comes to a heading, or it cannot
-pub part_added : (source pool : List ℕ) (h more : HeadingView) {r : RecordView} {all rest : List RecordView} {text : List ℕ}
+pub part_added : (source pool : List ℕ) (h more : HeadingView) {r : RecordView} {all rest : List RecordView}
+    {text : List ℕ}
     → all ≡ r ∷ rest → text_in source pool r ≡ Some text → with_part source pool h r.kind text ≡ Some more
     → with_parts source pool h all ≡ with_parts source pool more rest
 part_added source pool h more is found made = rw (is, found, made) refl
 
 pub part_refused : (source pool : List ℕ) (begun h : HeadingView) (whole : List RecordView) {r : RecordView}
     {left rest : List RecordView} {text : List ℕ} {fault : RecordFault}
-    → with_parts source pool begun whole ≡ with_parts source pool h left → left ≡ r ∷ rest → text_in source pool r ≡ Some text
-    → IsNotRead (with_part source pool h r.kind text) fault → IsNotRead (with_parts source pool begun whole) fault
+    → with_parts source pool begun whole ≡ with_parts source pool h left → left ≡ r ∷ rest
+    → text_in source pool r ≡ Some text → IsNotRead (with_part source pool h r.kind text) fault
+    → IsNotRead (with_parts source pool begun whole) fault
 part_refused source pool begun h whole same is found why =
     ⊎_elim (λ no. inl (no.0, same ∙ rw (is, found, no.1) refl)) (λ memory. inr memory) why

@@ -14,7 +14,8 @@ use Rattle.markdown_records.specs.EntryView.{Contents, EntryView, LabelledView}
 use Rattle.markdown_records.specs.Numbers as number
 use Rattle.markdown_records.specs.Numbers.{end_bit, first_part_kind}
 use Rattle.markdown_records.specs.NumbersRead.{alignment_of, bool_of, end_of, level_of, link_type_of}
-use Rattle.markdown_records.specs.RecordView.{RecordView, a_number, format_bytes, in_pool, in_source, nowhere, number_at}
+use Rattle.markdown_records.specs.RecordView.{RecordView, a_number, format_bytes, in_pool, in_source, nowhere}
+use Rattle.markdown_records.specs.RecordView.{number_at}
 use Rattle.markdown_records.specs.RecordView.{record_size, records_in, slice_of}
 
 -- the second of two values, if there is a first one
@@ -58,7 +59,8 @@ are_parts (r ∷ rest) = is_part r && are_parts rest
 
 -- the range is none that ends before it begins, and as many parts follow as are announced
 abbrev pub is_sound : Group → Bool
-is_sound g = (g.head.spare == 0) && nat_le g.head.start g.head.end && (g.head.parts == length g.parts) && are_parts g.parts
+is_sound g = (g.head.spare == 0) && nat_le g.head.start g.head.end && (g.head.parts == length g.parts)
+    && are_parts g.parts
 
 module _ (source pool : List ℕ) where
   -- the text of a record
@@ -111,7 +113,8 @@ module _ (source pool : List ℕ) where
   with_part h kind text =
       if kind == number.class_part then (if length h.attributes == 0 then Some (with_class h text) else None)
       else if kind == number.name_part then Some (with_attributes h (h.attributes ++ (text, None) ∷ []))
-      else if kind == number.value_part then option_map (λ attributes. with_attributes h attributes) (with_value text h.attributes)
+      else if kind == number.value_part
+      then option_map (λ attributes. with_attributes h attributes) (with_value text h.attributes)
       else None
 
   abbrev pub with_parts : HeadingView → List RecordView → Option HeadingView
@@ -174,7 +177,8 @@ module _ (source pool : List ℕ) where
   abbrev pub code_block_in : Group → Option TagView
   code_block_in g =
       if g.head.detail == 0 then if_bare g (Some event.indented_code)
-      else if g.head.detail == 1 then (if g.head.parts == 0 then option_map (λ info. event.fenced_code info) (text_in g.head) else None)
+      else if g.head.detail == 1
+      then (if g.head.parts == 0 then option_map (λ info. event.fenced_code info) (text_in g.head) else None)
       else None
 
   -- a list, which has a number if it is ordered
@@ -182,7 +186,8 @@ module _ (source pool : List ℕ) where
   list_in g =
       if g.head.detail == 0 then if_bare g (Some (event.list None))
       else if g.head.detail == 1 then (if g.head.place == a_number
-      then (if g.head.parts == 0 then Some (event.list (Some (g.head.at + g.head.length * 2 ^ 32))) else None) else None)
+      then (if g.head.parts == 0
+      then Some (event.list (Some (g.head.at + g.head.length * 2 ^ 32))) else None) else None)
       else None
 
   -- a table, whose text has a letter for each column
@@ -246,8 +251,9 @@ module _ (source pool : List ℕ) where
   abbrev pub answer_in : Group → Option (Option Answer)
   answer_in g =
       if g.head.detail == 0 then if_bare g (Some None)
-      else if g.head.detail == 1 then then_option (text_in g.head) (λ destination. then_option (first_part number.title_part g.parts)
-      (λ title. if length title.1 == 0 then Some (Some (record { destination = destination; title = title.0 })) else None))
+      else if g.head.detail == 1 then then_option (text_in g.head)
+      (λ destination. then_option (first_part number.title_part g.parts) (λ title. if length title.1 == 0
+      then Some (Some (record { destination = destination; title = title.0 })) else None))
       else None
 
   abbrev pub entry_in : Group → Option EntryView
@@ -297,7 +303,8 @@ pool_of count bytes = drop (record_size + record_size * count) bytes
 abbrev pub records_bytes_of : (count : ℕ) → List ℕ → List ℕ
 records_bytes_of count bytes = slice_range bytes record_size (record_size + record_size * count)
 
--- whether the bytes are as long as their header says, name this format and the length of the source, and end with a text
+-- whether the bytes are as long as their header says, name this format and the length of the source, and end with a
+-- text
 abbrev pub has_form : (source bytes : List ℕ) → (count : ℕ) → Bool
 has_form source bytes count = nat_le record_size (length bytes)
     && (length bytes == record_size + record_size * count + number_at bytes 16)

@@ -1,5 +1,6 @@
 -- A record of the code with the parts after it, and the groups of bytes. Only private clauses cite this.
-use Rattle.std.specs.Prelude.{◌≡◌, ◌≤◌, ◌+◌, ℕ, List, [], ◌∷◌, Option, MatchOption, Result, MatchResult, true, false, length, ◌==◌}
+use Rattle.std.specs.Prelude.{◌≡◌, ◌≤◌, ◌+◌, ℕ, List, [], ◌∷◌, Option, MatchOption, Result, MatchResult, true, false}
+use Rattle.std.specs.Prelude.{length, ◌==◌}
 use Rattle.std.specs.Borrow.{Bor}
 use Rattle.markdown_records.specs.Decoded as whole
 use Rattle.markdown_records.specs.Decoded.{are_parts, grouped}

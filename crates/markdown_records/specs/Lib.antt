@@ -7,6 +7,15 @@ pub mod Drafts
 pub mod Encoded
 pub mod Decoded
 pub mod ReadsBack
+-- What is read of records, as views, and what an iterator over it has left.
+pub mod ReadResult
+pub mod EntryOf
+pub mod SaidBy
+pub mod RecordedContents
+pub mod RecordsLeft
+pub mod RecordEventsLaws
+pub mod AnswersLeft
+pub mod DefinitionsLeft
 -- Definitions of other crates that the clauses cite.
 pub use Rattle.markdown_base.specs.Event
 -- the terms of private clauses
@@ -14,12 +23,5 @@ pub mod RecordOf
 pub mod RecordsOf
 pub mod RecordTaken
 pub mod GroupOf
-pub mod ReadResult
 pub mod ReadOf
-pub mod EntryOf
-pub mod SaidBy
 pub mod FormOf
-pub mod RecordedContents
-pub mod RecordsLeft
-pub mod RecordEventsLaws
-pub mod AnswersLeft

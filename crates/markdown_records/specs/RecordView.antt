@@ -1,11 +1,12 @@
 -- A record, and its 24 bytes; the header before the records, and the whole. Numbers are little-endian.
-use Rattle.std.specs.Prelude.{ℕ, ◌+◌, ◌/◌, Bool, true, List, [], ◌∷◌, ◌++◌, ◌&&◌, nat_le, not, zero, suc, length, take, drop}
+use Rattle.std.specs.Prelude.{ℕ, ◌+◌, ◌/◌, Bool, true, List, [], ◌∷◌, ◌++◌, ◌&&◌, nat_le, not, zero, suc, length}
+use Rattle.std.specs.Prelude.{take, drop}
 use Rattle.std.specs.Prelude.{slice_get, slice_index, slice_range, codes, if◌then◌else◌, Option, None, Some}
 use Rattle.std.specs.Int.{w32, to_le_bytes, from_le_bytes}
 use Rattle.std.specs.Option.{option_map_or}
 
--- what a record holds: a kind and a detail, numbers of Numbers; a range of the source in bytes; where its text is; how many
--- parts follow it; and a byte that is 0
+-- what a record holds: a kind and a detail, numbers of Numbers; a range of the source in bytes; where its text is; how
+-- many parts follow it; and a byte that is 0
 pub record RecordView : Type 0 where
   pub kind : ℕ
   pub detail : ℕ
@@ -17,8 +18,8 @@ pub record RecordView : Type 0 where
   pub length : ℕ
   pub parts : ℕ
 
--- the places of a text: none; a slice of the source; a slice of the pool, both by offset and length in bytes; and instead of
--- a text a number, of which `at` is the low half and `length` the high one
+-- the places of a text: none; a slice of the source; a slice of the pool, both by offset and length in bytes; and instead
+-- of a text a number, of which `at` is the low half and `length` the high one
 abbrev pub nowhere : ℕ
 nowhere = 0
 
@@ -74,8 +75,8 @@ records_in bytes = records_from (length bytes / record_size) bytes
 abbrev pub format_bytes : List ℕ
 format_bytes = codes "MDR1" ++ 1 ∷ 0 ∷ 24 ∷ 0 ∷ []
 
--- the header: how many records there are, and how many of them come before the definitions; and how long the pool and the
--- source are
+-- the header: how many records there are, and how many of them come before the definitions; and how long the pool and
+-- the source are
 abbrev pub header_bytes : (count entries pool source : ℕ) → List ℕ
 header_bytes count entries pool source =
     format_bytes ++ number_bytes count ++ number_bytes entries ++ number_bytes pool ++ number_bytes source

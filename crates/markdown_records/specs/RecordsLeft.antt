@@ -32,7 +32,8 @@ abbrev pub GivesEntry : (old : RecordEvents) → Option (Result Entry Fault) →
 GivesEntry old None new = (entries_left old ≡ Some []) × (new ≡ old)
 GivesEntry old (Some (Ok e)) new = (entries_left old ≡ option_map (λ others. entry_view e ∷ others) (entries_left new))
     × (bytes_left new < bytes_left old)
-GivesEntry old (Some (Err fault)) new = (fault ≡ Memory) × (entries_left new ≡ Some []) × (bytes_left new < bytes_left old)
+GivesEntry old (Some (Err fault)) new = (fault ≡ Memory) × (entries_left new ≡ Some [])
+    × (bytes_left new < bytes_left old)
 
 -- an event was the first of those left, or there was none; or an allocation failed, and nothing is left
 abbrev pub GivesEvent : (left : List EventView) → Option (Result Event Fault) → (later : List EventView) → Type 0

@@ -24,7 +24,8 @@ fn check_first(bytes: &[u8]) -> Result<(), RecordFault>
 impl<'a> Texts<'a> {
     /// Reads an entry, and returns an error where there is none.
     fn check_entry(&self, alloc: Global, group: &Group<'a>) -> Result<(), RecordFault>
-        ensures { CanRead (entry_in self.now.source.now self.now.pool.now (group_view group.now)) result }
+        ensures { CanRead (entry_in self.now.source.now self.now.pool.now (group_view group.now))
+            result }
     {
         let entry = self.entry_of(alloc, group)?;
         drop(entry);
@@ -33,7 +34,8 @@ impl<'a> Texts<'a> {
 
     /// Reads a definition, and returns an error where there is none.
     fn check_definition(&self, group: &Group<'a>) -> Result<(), RecordFault>
-        ensures { CanRead (definition_in self.now.source.now self.now.pool.now (group_view group.now)) result }
+        ensures { CanRead (definition_in self.now.source.now self.now.pool.now
+            (group_view group.now)) result }
     {
         let definition = self.definition_of(group).ok_or(RecordFault::NotRecords)?;
         drop(definition);
@@ -42,7 +44,8 @@ impl<'a> Texts<'a> {
 
     /// Reads the entries of bytes, and returns an error where one is wrong.
     pub fn check_entries(&self, alloc: Global, bytes: &'a [u8]) -> Result<(), RecordFault>
-        ensures { CanRead (said_entries self.now.source.now self.now.pool.now bytes.entry.now) result }
+        ensures { CanRead (said_entries self.now.source.now self.now.pool.now bytes.entry.now)
+            result }
     {
         check_first(bytes)?;
         let mut left = bytes;
@@ -57,7 +60,8 @@ impl<'a> Texts<'a> {
 
     /// Reads the definitions of bytes, and returns an error where one is wrong.
     pub fn check_definitions(&self, bytes: &'a [u8]) -> Result<(), RecordFault>
-        ensures { CanRead (said_definitions self.now.source.now self.now.pool.now bytes.entry.now) result }
+        ensures { CanRead (said_definitions self.now.source.now self.now.pool.now bytes.entry.now)
+            result }
     {
         check_first(bytes)?;
         let mut left = bytes;

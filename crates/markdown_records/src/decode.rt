@@ -5,6 +5,7 @@ ghost use Rattle.markdown_records.specs.SaidBy.{said_contents};
 use crate::fault::RecordFault;
 use crate::form::form_of;
 use crate::record_answers::RecordAnswers;
+use crate::record_definitions::RecordDefinitions;
 use crate::record_events::RecordEvents;
 use crate::texts::Texts;
 use std::alloc::Global;
@@ -28,6 +29,7 @@ impl<'a> RecordedText<'a> {
     ghost use Rattle.markdown_records.specs.Decoded.{decoded};
     ghost use Rattle.markdown_records.specs.ReadResult.{Reads};
     ghost use Rattle.markdown_records.specs.AnswersLeft.{answer_entries_left};
+    ghost use Rattle.markdown_records.specs.DefinitionsLeft.{definitions_left};
     ghost use Rattle.markdown_records.specs.RecordedContents.{contents_of};
     ghost use Rattle.markdown_records.specs.RecordsLeft.{CanReadOn, events_left};
     ghost use Rattle.markdown_records.specs.SaidBy.{events_among};
@@ -36,7 +38,8 @@ impl<'a> RecordedText<'a> {
     ///
     /// # Errors
     ///
-    /// `NotRecords` if the bytes are no records of this text, and `Of(Fault::Memory)` if an allocation fails.
+    /// `NotRecords` if the bytes are no records of this text, and `Of(Fault::Memory)` if an
+    /// allocation fails.
     pub fn of_bytes(
         alloc: Global,
         text: &'a str,
@@ -72,6 +75,13 @@ impl<'a> RecordedText<'a> {
         ensures { answer_entries_left result ≡ (contents_of self.now).entries }
     {
         RecordAnswers::new(self.texts(), self.entries)
+    }
+
+    /// Returns the link reference definitions, one after another.
+    pub fn definitions(&self) -> RecordDefinitions<'a>
+        ensures { definitions_left result ≡ (contents_of self.now).definitions }
+    {
+        RecordDefinitions::new(self.texts(), self.definitions)
     }
 
     /// Returns what the texts of the records are slices of.

@@ -21,7 +21,7 @@ use std::alloc::Global;
 ///     let (event, range) = item?;
 ///     records.push_event(&event, &range)?;
 /// }
-/// let bytes = records.finish(alloc)?;
+/// let bytes = records.finish()?;
 /// ```
 #[derive(Drop)]
 pub struct Records<'t> {
@@ -180,12 +180,12 @@ impl<'t> Records<'t> {
     ///
     /// `TooLong` if the text or the pool has 2^32 bytes or more, and `Of(Fault::Memory)` if an
     /// allocation fails.
-    pub fn finish(self, alloc: Global) -> Result<Vec<u8>, RecordFault>
+    pub fn finish(self) -> Result<Vec<u8>, RecordFault>
         ensures { Finishes self.entry result }
     {
         let pool = small(self.pool.len())?;
         let source = small(self.source.len())?;
-        let mut whole = Vec::new(alloc);
+        let mut whole = Vec::new(self.alloc);
         whole.extend_from_slice(&[b'M', b'D', b'R', b'1', 1, 0, 24, 0])?;
         whole.extend_from_slice(&self.count.to_le_bytes())?;
         whole.extend_from_slice(&self.entries.to_le_bytes())?;

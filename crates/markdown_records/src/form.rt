@@ -24,8 +24,8 @@ fn names_format(bytes: &[u8]) -> bool
     name == [b'M', b'D', b'R', b'1', 1, 0, 24, 0].as_slice()
 }
 
-/// Returns whether the header names this format and the lengths of the bytes and of the source, and not more entries than
-/// records.
+/// Returns whether the header names this format and the lengths of the bytes and of the source, and
+/// not more entries than records.
 fn has_header(source: &str, bytes: &[u8]) -> bool
     requires { 24 ≤ length bytes.now }
     ensures { result ≡ has_header source.now bytes.now }

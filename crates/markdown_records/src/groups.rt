@@ -1,7 +1,8 @@
 //! Records with the parts after them.
 ghost use Rattle.std.specs.Prelude.{◌≡◌, length};
 ghost use Rattle.markdown_records.specs.Decoded.{are_parts, has_no_text, is_part, is_sound};
-ghost use Rattle.markdown_records.specs.GroupOf.{CountsParts, IsWhole, SplitsParts, TakesGroup, group_view};
+ghost use Rattle.markdown_records.specs.GroupOf.{CountsParts, IsWhole, SplitsParts, TakesGroup};
+ghost use Rattle.markdown_records.specs.GroupOf.{group_view};
 ghost use Rattle.markdown_records.specs.RecordOf.{record_view};
 ghost use Rattle.markdown_records.specs.RecordView.{records_in};
 
@@ -81,7 +82,8 @@ pub(crate) fn split_parts(bytes: &[u8]) -> (&[u8], &[u8])
     bytes.split_at(end)
 }
 
-/// Returns the first group of bytes that begin with no part, and the bytes after it; or None where there is none.
+/// Returns the first group of bytes that begin with no part, and the bytes after it; or None where
+/// there is none.
 pub(crate) fn take_group(bytes: &[u8]) -> Option<(Group<'_>, &[u8])>
     requires { IsWhole bytes.now }
     ensures { TakesGroup bytes.now result }

@@ -9,8 +9,9 @@ pub fn records_read_back()
     ensures { ReadsBack }
 {}
 
-/// States what an iterator over records returns: up to its first None the events that are left, at any time the first of
-/// them, and no error but that memory is refused, after which nothing is left.
+/// States what an iterator over records returns: up to its first None the events that are left, at
+/// any time the first of them, and no error but that memory is refused, after which nothing is
+/// left.
 pub fn the_events_left_are_returned(events: &RecordEvents<'_>)
     ensures { ReturnsEventsLeft events.now }
 {}

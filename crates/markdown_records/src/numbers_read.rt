@@ -1,6 +1,7 @@
 //! Kinds, levels and types by their numbers in records.
 ghost use Rattle.std.specs.Prelude.{◌≡◌};
-ghost use Rattle.markdown_records.specs.NumbersRead.{alignment_of, bare_end_of, bool_of, end_of, level_of, link_type_of};
+ghost use Rattle.markdown_records.specs.NumbersRead.{alignment_of, bare_end_of, bool_of, end_of};
+ghost use Rattle.markdown_records.specs.NumbersRead.{level_of, link_type_of};
 ghost use Rattle.markdown_records.specs.NumbersRead.{metadata_of, quote_of};
 
 use markdown_base::tag::{

@@ -2,9 +2,11 @@
 ghost use Rattle.std.specs.Prelude.{◌≡◌};
 ghost use Rattle.std.specs.Option.{option_map};
 ghost use Rattle.markdown_base.specs.CowText.{text_of};
-ghost use Rattle.markdown_records.specs.Decoded.{answer_in, definition_in, definition_title, entry_in, question_in};
+ghost use Rattle.markdown_records.specs.Decoded.{answer_in, definition_in, definition_title};
+ghost use Rattle.markdown_records.specs.Decoded.{entry_in, question_in};
 ghost use Rattle.markdown_records.specs.Decoded.{range_of};
-ghost use Rattle.markdown_records.specs.EntryOf.{answer_view, entry_view, given_answer, labelled_view};
+ghost use Rattle.markdown_records.specs.EntryOf.{answer_view, entry_view, given_answer};
+ghost use Rattle.markdown_records.specs.EntryOf.{labelled_view};
 ghost use Rattle.markdown_records.specs.EntryView as said;
 ghost use Rattle.markdown_records.specs.GroupOf.{group_view};
 ghost use Rattle.markdown_records.specs.ReadResult.{Finds, Reads};
@@ -120,7 +122,8 @@ impl<'a> Texts<'a> {
     /// Returns an answer, as an entry.
     fn answer_entry_of(&self, group: &Group<'a>) -> Option<Entry<'a>>
         ensures { Finds entry_view
-            (option_map (λ a. said.answer (range_of self.now.source.now self.now.pool.now (group_view group.now).head) a)
+            (option_map (λ a. said.answer (range_of self.now.source.now self.now.pool.now
+            (group_view group.now).head) a)
             (answer_in self.now.source.now self.now.pool.now (group_view group.now))) result }
     {
         let answer = self.answer_of(group)?;
@@ -151,7 +154,8 @@ impl<'a> Texts<'a> {
     /// Returns the title of a definition, which may be missing.
     fn definition_title(&self, parts: &'a [u8]) -> Option<Option<CowStr<'a>>>
         ensures { Finds (option_map text_of)
-            (definition_title self.now.source.now self.now.pool.now (records_in parts.entry.now)) result }
+            (definition_title self.now.source.now self.now.pool.now (records_in parts.entry.now))
+            result }
     {
         let Some((part, rest)) = take_record(parts) else {
             return Some(None);

@@ -34,7 +34,8 @@ impl<'a> Texts<'a> {
     /// Returns the text of a group without parts whose detail is 0.
     pub fn lone_text(&self, group: &Group<'a>) -> Option<CowStr<'a>>
         ensures { Finds text_of
-            (of_text self.now.source.now self.now.pool.now (group_view group.now) (λ text. text)) result }
+            (of_text self.now.source.now self.now.pool.now (group_view group.now) (λ text. text))
+            result }
     {
         if !group.is_lone() {
             return None;
@@ -42,10 +43,12 @@ impl<'a> Texts<'a> {
         self.cow_of(&group.head)
     }
 
-    /// Returns the text of the first part, if it is of this kind, or else an empty one; and the parts after it.
+    /// Returns the text of the first part, if it is of this kind, or else an empty one; and the
+    /// parts after it.
     pub fn first_part(&self, kind: u8, parts: &'a [u8]) -> Option<(&'a str, &'a [u8])>
         ensures { Finds part_and_rest
-            (first_part self.now.source.now self.now.pool.now kind (records_in parts.entry.now)) result }
+            (first_part self.now.source.now self.now.pool.now kind (records_in parts.entry.now))
+            result }
     {
         match take_record(parts) {
             Some((part, rest)) if part.kind == kind => Some((self.text_of(&part)?, rest)),
@@ -56,7 +59,8 @@ impl<'a> Texts<'a> {
     /// Returns a title and a label, each of which may be missing.
     pub fn title_and_label(&self, parts: &'a [u8]) -> Option<(&'a str, &'a str)>
         ensures { Finds both_words
-            (title_and_label self.now.source.now self.now.pool.now (records_in parts.entry.now)) result }
+            (title_and_label self.now.source.now self.now.pool.now (records_in parts.entry.now))
+            result }
     {
         let (title, others) = self.first_part(numbers::TITLE, parts)?;
         let (label, rest) = self.first_part(numbers::LABEL, others)?;

@@ -3,8 +3,10 @@ ghost use Rattle.std.specs.Prelude.{ℕ, List, vec_items};
 ghost use Rattle.std.specs.Option.{option_map};
 ghost use Rattle.markdown_base.specs.Event.{tag_view};
 ghost use Rattle.markdown_base.specs.Event as event;
-ghost use Rattle.markdown_records.specs.Decoded.{bare_start_of, code_block_in, each_of, heading_in, if_bare, link_in};
-ghost use Rattle.markdown_records.specs.Decoded.{list_in, of_text, table_in, tag_in, then_option, with_attributes, with_part};
+ghost use Rattle.markdown_records.specs.Decoded.{bare_start_of, code_block_in, each_of, heading_in};
+ghost use Rattle.markdown_records.specs.Decoded.{if_bare, link_in};
+ghost use Rattle.markdown_records.specs.Decoded.{list_in, of_text, table_in, tag_in, then_option};
+ghost use Rattle.markdown_records.specs.Decoded.{with_attributes, with_part};
 ghost use Rattle.markdown_records.specs.Decoded.{with_parts, with_value};
 ghost use Rattle.markdown_records.specs.GroupOf.{group_view};
 ghost use Rattle.markdown_records.specs.NumbersRead.{alignment_of, end_of};
@@ -44,8 +46,10 @@ impl<'a> HeadingRead<'a> {
     /// Gives the last attribute this value, if it has none yet.
     fn set_value(&mut self, value: &'a str) -> Result<(), RecordFault>
         ensures { (source pool : List ℕ) → Makes heading_read
-            (option_map (λ attributes. with_attributes source pool (heading_read self.old) attributes)
-            (with_value source pool value.entry.now (heading_read self.old).attributes)) result self.new }
+            (option_map (λ attributes. with_attributes source pool (heading_read self.old)
+            attributes)
+            (with_value source pool value.entry.now (heading_read self.old).attributes)) result
+            self.new }
     {
         match self.attributes.pop() {
             None => Err(RecordFault::NotRecords),
@@ -59,7 +63,8 @@ impl<'a> HeadingRead<'a> {
         }
     }
 
-    /// Adds a part with this text: a class before all attributes, the name of an attribute, or the value of the last one.
+    /// Adds a part with this text: a class before all attributes, the name of an attribute, or the
+    /// value of the last one.
     fn push_part(&mut self, kind: u8, text: &'a str) -> Result<(), RecordFault>
         ensures { (source pool : List ℕ) → Makes heading_read
             (with_part source pool (heading_read self.old) kind text.entry.now) result self.new }
@@ -121,11 +126,7 @@ fn bare_start_of<'a>(end: TagEnd) -> Option<Tag<'a>>
 
 impl<'a> Texts<'a> {
     /// Adds parts to a heading.
-    fn push_parts(
-        &self,
-        heading: &mut HeadingRead<'a>,
-        parts: &[u8],
-    ) -> Result<(), RecordFault>
+    fn push_parts(&self, heading: &mut HeadingRead<'a>, parts: &[u8]) -> Result<(), RecordFault>
         ensures { Makes heading_read (with_parts self.now.source.now self.now.pool.now
             (heading_read heading.old) (records_in parts.now)) result heading.new }
     {
@@ -146,7 +147,9 @@ impl<'a> Texts<'a> {
             (heading_in self.now.source.now self.now.pool.now (group_view group.now))) result }
     {
         let level = level_of(group.head.detail).ok_or(RecordFault::NotRecords)?;
-        let id = self.optional_text_of(&group.head).ok_or(RecordFault::NotRecords)?;
+        let id = self
+            .optional_text_of(&group.head)
+            .ok_or(RecordFault::NotRecords)?;
         let mut heading = HeadingRead {
             level,
             id,
@@ -164,7 +167,8 @@ impl<'a> Texts<'a> {
 
     /// Returns the fields of a link or an image.
     fn link_of(&self, group: &Group<'a>) -> Option<LinkRead<'a>>
-        ensures { Finds link_read (link_in self.now.source.now self.now.pool.now (group_view group.now)) result }
+        ensures { Finds link_read (link_in self.now.source.now self.now.pool.now
+            (group_view group.now)) result }
     {
         let link_type = link_type_of(group.head.detail)?;
         let destination = self.text_of(&group.head)?;
@@ -194,7 +198,8 @@ impl<'a> Texts<'a> {
 
     /// Returns the Start of a list.
     fn list_of(group: &Group<'a>) -> Option<Tag<'a>>
-        ensures { (source pool : List ℕ) → Finds tag_view (list_in source pool (group_view group.now)) result }
+        ensures { (source pool : List ℕ) → Finds tag_view
+            (list_in source pool (group_view group.now)) result }
     {
         match group.head.detail {
             0 if group.is_bare() => Some(Tag::List(None)),
@@ -221,8 +226,10 @@ impl<'a> Texts<'a> {
 
     /// Returns a Start that holds no more than its End tells.
     fn bare_tag_of(group: &Group<'a>) -> Option<Tag<'a>>
-        ensures { (source pool : List ℕ) → Finds tag_view (if_bare source pool (group_view group.now)
-            (then_option (end_of group.now.head.kind group.now.head.detail) (bare_start_of source pool))) result }
+        ensures { (source pool : List ℕ) → Finds tag_view
+            (if_bare source pool (group_view group.now)
+            (then_option (end_of group.now.head.kind group.now.head.detail)
+            (bare_start_of source pool))) result }
     {
         if !group.is_bare() {
             return None;
@@ -260,7 +267,8 @@ impl<'a> Texts<'a> {
 
     /// Returns the Start of a footnote definition.
     fn footnote_of(&self, group: &Group<'a>) -> Option<Tag<'a>>
-        ensures { Finds tag_view (of_text self.now.source.now self.now.pool.now (group_view group.now)
+        ensures { Finds tag_view (of_text self.now.source.now self.now.pool.now
+            (group_view group.now)
             (λ name. event.footnote_definition name)) result }
     {
         Some(Tag::FootnoteDefinition(self.lone_text(group)?))

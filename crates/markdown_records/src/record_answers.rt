@@ -32,7 +32,8 @@ impl<'a> RecordAnswers<'a> {
     pub(crate) fn new(texts: Texts<'a>, bytes: &'a [u8]) -> RecordAnswers<'a>
         requires { is_some (said_entries texts.source.now texts.pool.now bytes.now) ≡ true }
         ensures { answer_entries_left result
-            ≡ list_or_none (said_entries texts.entry.source.now texts.entry.pool.now bytes.entry.now) }
+            ≡ list_or_none (said_entries texts.entry.source.now texts.entry.pool.now
+            bytes.entry.now) }
     {
         RecordAnswers {
             source: texts.source,
@@ -52,7 +53,8 @@ impl<'a> Iterator for RecordAnswers<'a> {
 
     ghost remaining = { λ a. at_most (answer_bytes_left a) };
 
-    /// Returns the next answer, or None at the end and where another entry comes. Allocates no memory.
+    /// Returns the next answer, or None at the end and where another entry comes. Allocates no
+    /// memory.
     fn next(&mut self) -> Option<Answered<'a>> {
         let (group, rest) = take_group(self.left)?;
         if group.head.kind != numbers::ANSWER {

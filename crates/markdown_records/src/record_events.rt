@@ -9,7 +9,8 @@ use markdown_base::fault::Fault;
 use std::alloc::Global;
 use std::iter::FusedIterator;
 
-/// The events among the entries of records, in order. The only error is `Fault::Memory`, and after it comes None.
+/// The events among the entries of records, in order. The only error is `Fault::Memory`, and after
+/// it comes None.
 #[derive(Drop)]
 pub struct RecordEvents<'a> {
     alloc: Global,
@@ -26,7 +27,8 @@ impl<'a> RecordEvents<'a> {
 
     /// Returns the events among the records of these bytes.
     pub(crate) fn new(alloc: Global, texts: Texts<'a>, bytes: &'a [u8]) -> RecordEvents<'a>
-        ensures { entries_left result ≡ said_entries texts.entry.source.now texts.entry.pool.now bytes.entry.now }
+        ensures { entries_left result ≡ said_entries texts.entry.source.now texts.entry.pool.now
+            bytes.entry.now }
     {
         RecordEvents {
             alloc,

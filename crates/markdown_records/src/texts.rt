@@ -19,7 +19,8 @@ pub(crate) struct Texts<'a> {
 impl<'a> Texts<'a> {
     /// Returns the text of a record, or None where it has none.
     pub fn text_of(&self, record: &Record) -> Option<&'a str>
-        ensures { Finds words (text_in self.now.source.now self.now.pool.now (record_view record.now)) result }
+        ensures { Finds words (text_in self.now.source.now self.now.pool.now
+            (record_view record.now)) result }
     {
         match record.place {
             IN_SOURCE => slice_of(self.source, record.at as usize, record.length as usize),
@@ -30,7 +31,8 @@ impl<'a> Texts<'a> {
 
     /// Returns the text of a record, or None where it has none.
     pub fn cow_of(&self, record: &Record) -> Option<CowStr<'a>>
-        ensures { Finds text_of (text_in self.now.source.now self.now.pool.now (record_view record.now)) result }
+        ensures { Finds text_of (text_in self.now.source.now self.now.pool.now
+            (record_view record.now)) result }
     {
         Some(CowStr::Borrowed(self.text_of(record)?))
     }
@@ -38,7 +40,8 @@ impl<'a> Texts<'a> {
     /// Returns the text of a record, if there is to be one, or None where the record is wrong.
     pub fn optional_text_of(&self, record: &Record) -> Option<Option<CowStr<'a>>>
         ensures { Finds (option_map text_of)
-            (optional_text_in self.now.source.now self.now.pool.now (record_view record.now)) result }
+            (optional_text_in self.now.source.now self.now.pool.now (record_view record.now))
+            result }
     {
         if record.has_no_text() {
             return Some(None);

@@ -6,3 +6,4 @@ pub mod RecordsHtml
 pub mod AnsweringView
 pub mod DefinitionsView
 pub mod RecordedEntries
+pub mod Recording

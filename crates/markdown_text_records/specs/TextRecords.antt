@@ -1,9 +1,10 @@
 -- What the records of a text say: the reading of the text, in which a table answers the questions of the callback, and its
 -- link reference definitions.
-use Rattle.std.specs.Prelude.{◌≡◌, ◌++◌, Bool, true, ℕ, List, [], ◌∷◌, map, if◌then◌else◌, Option, Some, None}
+use Rattle.std.specs.Prelude.{◌≡◌, ◌⊎◌, ◌≤◌, ◌^◌, ◌++◌, max, length, true, ℕ, List, [], ◌∷◌, map, if◌then◌else◌, Option, Some, None}
 use Rattle.std.specs.List.{fold, list_any}
 use Rattle.markdown_base.specs.Questions.{Answers}
 use Rattle.markdown_base.specs.Source.{Source}
+use Rattle.markdown_base.specs.declared.fault.Fault.TheVariants.{Memory}
 use Rattle.markdown_block_rules.specs.BlockRules.{block_definitions}
 use Rattle.markdown_builder.specs.BuilderView.{Definition}
 use Rattle.markdown_defs.specs.Folding.{is_match}
@@ -11,7 +12,10 @@ use Rattle.markdown_inline.specs.Elements.{Element, event, question, questions_o
 use Rattle.markdown_inline.specs.ReadingOfText.{reading_of_text, unlabelled}
 use Rattle.markdown_records.specs.EntryView as entry
 use Rattle.markdown_records.specs.EntryView.{Contents, EntryView, LabelledView}
-use Rattle.markdown_records.specs.Encoded.{encoded}
+use Rattle.markdown_records.specs.Encoded.{FitDrafts, blank, encoded, whole_sheet}
+use Rattle.markdown_records.specs.ReadsBack.{drafts_of}
+use Rattle.markdown_records.specs.declared.fault.RecordFault.{RecordFault}
+use Rattle.markdown_records.specs.declared.fault.RecordFault.TheVariants.{Of, TooLong}
 use Rattle.markdown_text_records.specs.AnswerTable.{Table, answered}
 
 -- an element of a reading, as an entry
@@ -52,3 +56,21 @@ pub record AreRecordsOf (s : Source) (table : Table) (bytes : List ℕ) : Type 0
   pub contents : Contents
   pub of_text : AreContentsOf s table contents
   pub are : bytes ≡ encoded s.text contents
+
+-- contents have no records: a number in them, or the length of the text or of the pool, would be 2^32 or more
+abbrev pub AreTooLong : (source : List ℕ) → Contents → Type 0
+AreTooLong source c = (FitDrafts source blank (drafts_of c) → ⊥)
+    ⊎ (2 ^ 32 ≤ max (length source) (length (whole_sheet source c).pool))
+
+-- first elements of a text have no records, whatever answers follow those before them; or they have none with the definitions
+pub record BeginsTooLong (s : Source) : Type 0 where
+  pub answers : Answers
+  pub first : List Element
+  pub begins : (later : Answers) → (others : List Element) × (reading_of_text s true (answers ++ later) ≡ first ++ others)
+  pub definitions : List LabelledView
+  pub none_or_all : (definitions ≡ []) ⊎ (definitions ≡ map labelled (findable (block_definitions s)))
+  pub too_long : AreTooLong s.text (record { entries = map entry_of first; definitions = definitions })
+
+-- this is why a text has no records: an allocation failed, or they would be too long
+abbrev pub IsFaultOfText : Source → RecordFault → Type 0
+IsFaultOfText s fault = (fault ≡ Of Memory) ⊎ ((fault ≡ TooLong) × BeginsTooLong s)

@@ -49,7 +49,11 @@ impl<'a> Answering<'a> {
         let given = left.next();
         self.answers = Some(left);
         let given = given?;
-        if is_to(&given, span) { given.answer } else { None }
+        if is_to(&given, span) {
+            given.answer
+        } else {
+            None
+        }
     }
 }
 

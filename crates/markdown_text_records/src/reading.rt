@@ -1,42 +1,36 @@
 //! The records of a text.
-ghost use Rattle.std.specs.Prelude.{IfErr, IfOk, map};
+ghost use Rattle.std.specs.Prelude.{◌<◌, IfOk, IsTrue, MatchResult};
 ghost use Rattle.markdown_base.specs.Source.{source_as};
-ghost use Rattle.markdown_text_records.specs.AnsweringView.{given_view};
-ghost use Rattle.markdown_text_records.specs.Recording.{asked_links, PushesAsked, PushesNext, PushesReading};
-ghost use Rattle.markdown_text_records.specs.TextRecords.{AreRecordsOf};
+ghost use Rattle.markdown_inline.specs.ParserLeft.{offset_parser, parser_steps};
+ghost use Rattle.markdown_text_records.specs.AnsweringView.{table_in};
+ghost use Rattle.markdown_text_records.specs.Recording.{IsAsked, PushesNext, PushesReading};
+ghost use Rattle.markdown_text_records.specs.TextRecords.{AreRecordsOf, IsFaultOfText};
 
-use crate::answering::{Answering, GivenAnswer};
+use crate::answering::Answering;
 use crate::definitions::push_definitions;
 use crate::questions::push_questions;
 use markdown_base::fault::Fault;
 use markdown_base::options::Options;
 use markdown_base::syntax::Syntax;
 use markdown_blocks::Blocks;
+use markdown_defs::BrokenLink;
 use markdown_inline::walk::{OffsetIter, Parser};
-use markdown_records::{RecordFault, Records};
+use markdown_records::{RecordAnswers, RecordFault, Records};
 use std::alloc::Global;
 
-/// Returns how many questions a callback was asked.
-fn asked_count(callback: Option<&Answering<'_>>) -> usize {
+/// Returns what a callback was asked, or the error if that was not kept.
+fn asked_links<'x, 'a>(
+    callback: Option<&'x Answering<'a>>,
+) -> Result<&'x [BrokenLink<'a>], RecordFault>
+    ensures { IsAsked callback.entry result }
+{
     match callback {
-        None => 0,
-        Some(callback) => callback.asked.len(),
-    }
-}
-
-/// Appends the records of the questions that a callback was asked after the first so many.
-fn push_asked(
-    records: &mut Records<'_>,
-    callback: Option<&Answering<'_>>,
-    first: usize,
-) -> Result<(), RecordFault> {
-    match callback {
-        None => Ok(()),
+        None => Ok(&[]),
         Some(callback) => {
             if callback.is_refused {
                 return Err(RecordFault::Of(Fault::Memory));
             }
-            push_questions(records, callback.asked.as_slice(), first)
+            Ok(callback.asked.as_slice())
         }
     }
 }
@@ -45,13 +39,18 @@ fn push_asked(
 fn push_next<'a>(
     records: &mut Records<'_>,
     walk: &mut OffsetIter<'a, Answering<'a>>,
-) -> Result<bool, RecordFault> {
-    let first = asked_count(walk.callback());
+) -> Result<bool, RecordFault>
+    ensures pushes { PushesNext records.old (offset_parser walk.old) result records.new
+        (offset_parser walk.new) }
+    ensures falls { IfOk result (λ more. IsTrue more
+        → parser_steps (offset_parser walk.new) < parser_steps (offset_parser walk.old)) }
+{
+    let first = asked_links(walk.callback())?.len();
     let Some(item) = walk.next() else {
         return Ok(false);
     };
     let (event, range) = item?;
-    push_asked(records, walk.callback(), first)?;
+    push_questions(records, asked_links(walk.callback())?, first)?;
     let pushed = records.push_event(&event, &range);
     drop(event);
     pushed?;
@@ -62,7 +61,10 @@ fn push_next<'a>(
 fn push_reading<'a>(
     records: &mut Records<'_>,
     walk: &mut OffsetIter<'a, Answering<'a>>,
-) -> Result<(), RecordFault> {
+) -> Result<(), RecordFault>
+    ensures { PushesReading records.old (offset_parser walk.old) result records.new
+        (offset_parser walk.new) }
+{
     'walk: while push_next(records, walk)? {}
     Ok(())
 }
@@ -78,18 +80,18 @@ pub fn records_source<'a>(
     alloc: Global,
     text: &'a str,
     syntax: Syntax,
-    answers: Vec<GivenAnswer<'a>>,
+    answers: Option<RecordAnswers<'a>>,
 ) -> Result<Vec<u8>, RecordFault>
     ensures { MatchResult result
-        (λ bytes. AreRecordsOf (source_as syntax text.entry.now) (map given_view answers.entry.items) bytes.items)
-        (IsRefusalOf (source_as syntax text.entry.now) (map given_view answers.entry.items)) }
+        (λ bytes. AreRecordsOf (source_as syntax text.entry.now) (table_in answers.entry) bytes.items)
+        (IsFaultOfText (source_as syntax text.entry.now)) }
 {
     let blocks = Blocks::of_source(alloc, text, Options::empty(), syntax)?;
-    let callback = Answering::of_table(alloc, answers);
+    let callback = Answering::by(alloc, answers);
     let parser = Parser::from_blocks(alloc, blocks, Some(callback))?;
     let mut walk = parser.into_offset_iter();
     let mut records = Records::new(alloc, text);
     push_reading(&mut records, &mut walk)?;
     push_definitions(&mut records, walk.reference_definitions())?;
-    records.finish(alloc)
+    records.finish()
 }

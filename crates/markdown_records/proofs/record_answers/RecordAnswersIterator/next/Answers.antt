@@ -22,9 +22,11 @@ pub returns-then-group-ne-ANSWER-clause-steps : goal.returns-then-group-ne-ANSWE
 returns-then-group-ne-ANSWER-clause-steps c =
     let s = c.args.self.now.source.now in
     let p = c.args.self.now.pool.now in
-    let f = first_said s p (entry_in s p) c.args.self.now.reads c.in_ok-group.ensures in
-    (begins_as _ _ f.first f.all f.on
-    ∙ no_answer s p (group_view c.in_ok-group.group) f.first f.is c.if-group-ne-ANSWER.true, refl)
+    let f = first_said s p (entry_in s p) c.args.self.now.reads c.in_ok-group.ensures in (
+      begins_as _ _ f.first f.all f.on
+          ∙ no_answer s p (group_view c.in_ok-group.group) f.first f.is c.if-group-ne-ANSWER.true,
+      refl,
+    )
 
 pub returns-clause-steps : goal.returns-clause-steps
 returns-clause-steps c =
@@ -35,5 +37,6 @@ returns-clause-steps c =
     let given = option_map answer_view c.in_ok-answer.answer in
     goes_on _ _ f.first f.all f.on
     ∙ ap (λ (v : EntryView). v ∷ rest)
-    (answer_first s p (group_view c.in_ok-group.group) f.first given f.is c.if-group-ne-ANSWER.false (sym c.in_ok-answer.ensures))
+    (answer_first s p (group_view c.in_ok-group.group) f.first given f.is c.if-group-ne-ANSWER.false
+    (sym c.in_ok-answer.ensures))
     ∙ ap (λ (r : Range ℕ). entry.answer r given ∷ rest) (sym c.span.ensures)

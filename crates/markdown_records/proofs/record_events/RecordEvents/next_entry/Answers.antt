@@ -6,5 +6,10 @@ use Rattle.markdown_records.proofs.RecordsLemmas.{too_few}
 use Rattle.markdown_records.proofs.record_events.RecordEvents.next_entry.Goals as goal
 
 pub returns-in-Err : goal.returns-in-Err
-returns-in-Err c = (refl, ap (λ (rs : List RecordView). said_by c.args.self.now.source.now c.args.self.now.pool.now
-    (entry_in c.args.self.now.source.now c.args.self.now.pool.now) rs) (too_few [] (omega arith)), omega (arith, c.in_ok-group.ensures.size))
+returns-in-Err c = (
+  refl,
+  ap (λ (rs : List RecordView). said_by c.args.self.now.source.now c.args.self.now.pool.now
+      (entry_in c.args.self.now.source.now c.args.self.now.pool.now) rs) (too_few [] (omega arith)),
+  omega
+      (arith, c.in_ok-group.ensures.size),
+)

@@ -11,8 +11,9 @@ returns-in_err-check_definition c =
     let s = c.args.self.now.source.now in
     let p = c.args.self.now.pool.now in
     let why : IsNotRead (said_definitions s p c.args.bytes.now) c.in_err-check_definition.field-0.0 =
-        said_refused s p (definition_in s p) c.args.bytes.now c.definitions.invariant.same c.definitions.invariant.whole c.in-Some.ensures
-        c.in_err-check_definition.ensures in
+    said_refused s p (definition_in s p) c.args.bytes.now c.definitions.invariant.same c.definitions.invariant.whole
+    c.in-Some.ensures
+    c.in_err-check_definition.ensures in
     search rules
 
 pub definitions-preserved : goal.definitions-preserved
@@ -22,5 +23,6 @@ definitions-preserved c =
     record {
       whole = c.in-Some.ensures.whole;
       same = c.definitions.invariant.same
-          ∙ said_more s p (definition_in s p) c.definitions.invariant.whole c.in-Some.ensures c.in_ok-check_definition.ensures;
+          ∙ said_more s p (definition_in s p) c.definitions.invariant.whole c.in-Some.ensures
+          c.in_ok-check_definition.ensures;
     }

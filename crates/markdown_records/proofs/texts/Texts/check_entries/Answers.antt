@@ -11,8 +11,9 @@ returns-in_err-check_entry c =
     let s = c.args.self.now.source.now in
     let p = c.args.self.now.pool.now in
     let why : IsNotRead (said_entries s p c.args.bytes.now) c.in_err-check_entry.field-0.0 =
-        said_refused s p (entry_in s p) c.args.bytes.now c.entries.invariant.same c.entries.invariant.whole c.in-Some.ensures
-        c.in_err-check_entry.ensures in
+    said_refused s p (entry_in s p) c.args.bytes.now c.entries.invariant.same c.entries.invariant.whole
+    c.in-Some.ensures
+    c.in_err-check_entry.ensures in
     search rules
 
 pub entries-preserved : goal.entries-preserved

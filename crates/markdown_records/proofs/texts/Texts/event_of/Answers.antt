@@ -9,6 +9,6 @@ pub returns-then-group-lt-END : goal.returns-then-group-lt-END
 returns-then-group-lt-END c =
     found_reads event_view c.leaf_of.result
     (c.leaf_of.ensures
-    ∙ sym (leaf_event c.args.self.now.source.now c.args.self.now.pool.now (group_view c.args.group.now) c.if-group-lt-TEXT.false
-    c.if-group-lt-END.true))
+    ∙ sym (leaf_event c.args.self.now.source.now c.args.self.now.pool.now (group_view c.args.group.now)
+    c.if-group-lt-TEXT.false c.if-group-lt-END.true))
     c.ok_or.ensures.value

@@ -13,11 +13,12 @@ pub returns-in_err-push_part : goal.returns-in_err-push_part
 returns-in_err-push_part c =
     let s = c.args.self.now.source.now in
     let p = c.args.self.now.pool.now in
-    let why : IsNotRead (with_parts s p (heading_read c.args.heading.now) (records_in c.args.parts.now)) c.in_err-push_part.field-0.0 =
-        part_refused s p (heading_read c.args.heading.now) (heading_read c.parts.heading) (records_in c.args.parts.now)
-        c.parts.invariant c.in-Some.ensures.records
-        (sym c.text_of.ensures ∙ ap (λ (t : Option (Bor (List ℕ))). option_map words t) c.in_ok-text.ensures.ok_part)
-        (c.in_err-push_part.ensures s p) in
+    let why : IsNotRead (with_parts s p (heading_read c.args.heading.now) (records_in c.args.parts.now))
+    c.in_err-push_part.field-0.0 =
+    part_refused s p (heading_read c.args.heading.now) (heading_read c.parts.heading) (records_in c.args.parts.now)
+    c.parts.invariant c.in-Some.ensures.records
+    (sym c.text_of.ensures ∙ ap (λ (t : Option (Bor (List ℕ))). option_map words t) c.in_ok-text.ensures.ok_part)
+    (c.in_err-push_part.ensures s p) in
     search rules
 
 pub parts-preserved : goal.parts-preserved

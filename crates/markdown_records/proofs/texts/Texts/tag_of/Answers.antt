@@ -9,7 +9,8 @@ pub returns-in-6 : goal.returns-in-6
 returns-in-6 c =
     let s = c.args.self.now.source.now in
     let p = c.args.self.now.pool.now in
-    found_reads tag_view c.list_of.result (c.list_of.ensures s p ∙ sym (list_tag s p (group_view c.args.group.now) c.in-6.is))
+    found_reads tag_view c.list_of.result (c.list_of.ensures s p
+    ∙ sym (list_tag s p (group_view c.args.group.now) c.in-6.is))
     c.ok_or-in-6.ensures.value
 
 pub returns-in_default : goal.returns-in_default
@@ -18,6 +19,7 @@ returns-in_default c =
     let p = c.args.self.now.pool.now in
     found_reads tag_view c.bare_tag_of.result
     (c.bare_tag_of.ensures s p
-    ∙ sym (bare_tag s p (group_view c.args.group.now) (omega arith) (omega arith) (omega arith) (omega arith) (omega arith)
+    ∙ sym (bare_tag s p (group_view c.args.group.now) (omega arith) (omega arith) (omega arith) (omega arith)
+    (omega arith)
     (omega arith) (omega arith)))
     c.ok_or-in_default.ensures.value

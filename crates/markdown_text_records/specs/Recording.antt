@@ -1,0 +1,71 @@
+-- How the reading of a text is written, event by event. Only private clauses cite this.
+use Rattle.std.specs.Prelude.{◌≡◌, ◌⊎◌, ◌++◌, ◌∷◌, [], false, true, Bool, List, map, MatchResult, Ok, Err, Result}
+use Rattle.std.specs.Prelude.{Option, Some, None, ⊤}
+use Rattle.std.specs.Borrow.{Bor}
+use Rattle.std.specs.List.{flat_map}
+use Rattle.markdown_base.specs.Questions.{Answers}
+use Rattle.markdown_base.specs.declared.fault.Fault.TheVariants.{Memory}
+use Rattle.markdown_defs.specs.Callback.{Asks}
+use Rattle.markdown_defs.specs.declared.callback.BrokenLink.{BrokenLink}
+use Rattle.markdown_inline.specs.Elements.{Element, questions_of}
+use Rattle.markdown_inline.specs.ParserLeft.{elements, parser_callback, parser_definitions}
+use Rattle.markdown_inline.specs.declared.walk.Parser.{Parser}
+use Rattle.markdown_records.specs.Drafts.{DraftView, entry_drafts}
+use Rattle.markdown_records.specs.Encoded.{FitDrafts}
+use Rattle.markdown_records.specs.RecordsOf.{records_source, sheet_of}
+use Rattle.markdown_records.specs.declared.encode.Records.{Records}
+use Rattle.markdown_records.specs.declared.fault.RecordFault.{RecordFault}
+use Rattle.markdown_records.specs.declared.fault.RecordFault.TheVariants.{Of, TooLong}
+use Rattle.markdown_text_records.specs.AnsweringView.{Answers as ByTable}
+use Rattle.markdown_text_records.specs.RecordedEntries.{WritesEntries}
+use Rattle.markdown_text_records.specs.TextRecords.{entry_of}
+use Rattle.markdown_text_records.specs.declared.answering.Answering.{Answering}
+
+-- what a callback was asked, if there is one, and all was kept; or memory was refused for it
+abbrev pub IsAsked : Option (Bor Answering) → Result (Bor (List BrokenLink)) RecordFault → Type 0
+IsAsked None result = MatchResult result (λ links. links.now ≡ []) (λ fault. fault ≡ Of Memory)
+IsAsked (Some c) result = MatchResult result (λ links. (c.now.is_refused ≡ false) × (links.now ≡ c.now.asked.items))
+    (λ fault. fault ≡ Of Memory)
+
+-- the drafts of elements
+abbrev pub element_drafts : List Element → List DraftView
+element_drafts es = flat_map entry_drafts (map entry_of es)
+
+-- first elements of what was left of a parser, for all answers that follow these
+pub record BeginsWith (s : Parser Answering) (first : List Element) (callback : Option Answering) : Type 0 where
+  pub answers : Answers
+  pub asked : Asks ByTable (parser_callback s) (questions_of first) answers callback
+  pub begins : (later : Answers) → (others : List Element) × (elements s (answers ++ later) ≡ first ++ others)
+
+-- among the drafts of first elements is a number of 2^32 or more
+pub record BeginsTooLong (old : Records) (s : Parser Answering) : Type 0 where
+  pub first : List Element
+  pub callback : Option Answering
+  pub begin : BeginsWith s first callback
+  pub unfit : FitDrafts (records_source old) (sheet_of old) (element_drafts first) → ⊥
+
+-- nothing more is written for this reason
+abbrev pub IsCut : (old : Records) → Parser Answering → RecordFault → Type 0
+IsCut old s fault = (fault ≡ Of Memory) ⊎ ((fault ≡ TooLong) × BeginsTooLong old s)
+
+-- from one parser to another these were the first elements, whatever answers follow, and they are written
+pub record RecordsOn (old : Records) (s : Parser Answering) (new : Records) (t : Parser Answering) : Type 0 where
+  pub first : List Element
+  pub answers : Answers
+  pub asked : Asks ByTable (parser_callback s) (questions_of first) answers (parser_callback t)
+  pub left : (later : Answers) → elements s (answers ++ later) ≡ first ++ elements t later
+  pub definitions : parser_definitions t ≡ parser_definitions s
+  pub writes : WritesEntries {A = ⊤} old (element_drafts first) (Ok tt) new
+
+-- the next elements are written; or nothing was left, and nothing is written; or nothing more is
+abbrev pub PushesNext : (old : Records) → Parser Answering → Result Bool RecordFault → (new : Records)
+    → Parser Answering → Type 0
+PushesNext old s (Ok true) new t = RecordsOn old s new t
+PushesNext old s (Ok false) new t = RecordsOn old s new t × ((answers : Answers) → elements t answers ≡ [])
+PushesNext old s (Err fault) new t = IsCut old s fault
+
+-- all that was left is written, or nothing more is
+abbrev pub PushesReading : (old : Records) → Parser Answering → Result ⊤ RecordFault → (new : Records)
+    → Parser Answering → Type 0
+PushesReading old s (Ok done) new t = RecordsOn old s new t × ((answers : Answers) → elements t answers ≡ [])
+PushesReading old s (Err fault) new t = IsCut old s fault
