@@ -26,28 +26,14 @@ use Rattle.markdown_safe.proofs.SafeEventsLemmas.{html_is_safe}
 use Rattle.markdown_safe.proofs.SafeItemsLemmas.{all_safe, first_safe}
 use Rattle.markdown_text_records.specs.RecordsHtml.{BeginsTooDeep, IsFaultOf, IsHtmlOf, IsSafeHtmlOf}
 
--- records that are not read are no records of the text, or an allocation failed
-pub not_read : (as_written : List EventView → List EventView) (source bytes : List ℕ) (fault : RecordFault)
-    → IsNotRead (decoded source bytes) fault → IsFaultOf as_written source bytes fault
-not_read as_written source bytes fault (inl none) = rw none.0 none.1
-not_read as_written source bytes fault (inr memory) = rw memory tt
-
 -- an iterator over the records of a text, of which nothing has been read
 pub record BeginsRecords (source bytes : List ℕ) (m : RecordEvents) : Type 0 where
-  contents : Contents
-  said : decoded source bytes ≡ Some contents
-  left : events_left m ≡ events_among contents.entries
-  gives : ReturnsEventsLeft m
+  pub contents : Contents
+  pub said : decoded source bytes ≡ Some contents
+  pub left : events_left m ≡ events_among contents.entries
+  pub gives : ReturnsEventsLeft m
 
 module _ {source bytes : List ℕ} {m : RecordEvents} (b : BeginsRecords source bytes m) where
-  pub html_written : (old new : List ℕ) → old ≡ [] → IsRendered event_steps m old new → IsHtmlOf source bytes new
-  html_written old new empty r = record {
-    contents = b.contents;
-    said = b.said;
-    is = r.stands ∙ ap (λ bytes. bytes ++ html_of (map event_view r.events)) empty
-        ∙ ap html_of (b.gives.all r.events r.read ∙ b.left);
-  }
-
   deep : (old new : List ℕ) → GoesTooDeep event_steps m old new → BeginsTooDeep (λ events. events) source bytes
   deep old new d = record {
     contents = b.contents;
