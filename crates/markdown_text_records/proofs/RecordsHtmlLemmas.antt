@@ -1,8 +1,8 @@
 -- What is written of an iterator over records that has all events of a text left.
-use Rattle.std.proofs.Common.{◌≡◌, ◌⊎◌, ◌∷◌, ◌++◌, ℕ, List, [], map, Ok, Err, Option, Result, Some, ap, sym, subst, ◌∙◌}
+use Rattle.std.proofs.Common.{◌≡◌, ◌⊎◌, ◌∷◌, ◌++◌, ℕ, List, [], map, Ok, Err, Result, Some, ap, sym, subst, ◌∙◌}
 use Rattle.std.proofs.Common.{inl, inr}
 use Rattle.std.specs.Iterator.{Yields}
-use Rattle.markdown_base.specs.Event.{EventView, event_view}
+use Rattle.markdown_base.specs.Event.{event_view}
 use Rattle.markdown_base.specs.declared.event.Event.{Event}
 use Rattle.markdown_base.specs.declared.fault.Fault.{Fault}
 use Rattle.markdown_base.specs.declared.fault.Fault.TheVariants.{Blocks, Depth, Memory}
@@ -11,12 +11,10 @@ use Rattle.markdown_out.specs.HtmlCorrect.{GoesTooDeep, IsOwnFault, IsRendered, 
 use Rattle.markdown_out.specs.LookBacks.{IsTooDeep}
 use Rattle.markdown_records.specs.Decoded.{decoded}
 use Rattle.markdown_records.specs.EntryView.{Contents}
-use Rattle.markdown_records.specs.ReadResult.{IsNotRead}
 use Rattle.markdown_records.specs.RecordEventsLaws.{ReturnsEventsLeft}
 use Rattle.markdown_records.specs.RecordsLeft.{event_steps, events_left}
 use Rattle.markdown_records.specs.SaidBy.{events_among}
-use Rattle.markdown_records.specs.declared.fault.RecordFault.{RecordFault}
-use Rattle.markdown_records.specs.declared.fault.RecordFault.TheVariants.{NotRecords, Of}
+use Rattle.markdown_records.specs.declared.fault.RecordFault.TheVariants.{Of}
 use Rattle.markdown_records.specs.declared.record_events.RecordEvents.{RecordEvents}
 use Rattle.markdown_safe.specs.SafeEvents.{safe_events}
 use Rattle.markdown_safe.specs.SafeItems.{IsSafeItem}
@@ -24,7 +22,7 @@ use Rattle.markdown_safe.specs.SafeSource.{safe_source, safe_steps}
 use Rattle.markdown_safe.specs.declared.adapter.Safe.{Safe}
 use Rattle.markdown_safe.proofs.SafeEventsLemmas.{html_is_safe}
 use Rattle.markdown_safe.proofs.SafeItemsLemmas.{all_safe, first_safe}
-use Rattle.markdown_text_records.specs.RecordsHtml.{BeginsTooDeep, IsFaultOf, IsHtmlOf, IsSafeHtmlOf}
+use Rattle.markdown_text_records.specs.RecordsHtml.{BeginsTooDeep, IsFaultOf, IsSafeHtmlOf}
 
 -- an iterator over the records of a text, of which nothing has been read
 pub record BeginsRecords (source bytes : List ℕ) (m : RecordEvents) : Type 0 where
@@ -70,19 +68,24 @@ memory_safe m t [] fault (j, h, y) = by_item h.0 h.1 h.2
         let same : fault ≡ other = cc made in same ∙ step.0
 memory_safe m t (e ∷ given) fault (j, h, y) = memory_safe j t given fault y
 
-module _ {source bytes : List ℕ} {n : Safe RecordEvents} (b : BeginsRecords source bytes (safe_source n)) where
+-- an iterator over records, of which nothing has been read, made safe
+module _ {source bytes : List ℕ} {m : RecordEvents} (begins : BeginsRecords source bytes m) (n : Safe RecordEvents)
+    (of : safe_source n ≡ m) where
+  here : BeginsRecords source bytes (safe_source n)
+  here = subst (λ (x : RecordEvents). BeginsRecords source bytes x) (sym of) begins
+
   pub safe_html_written : (old new : List ℕ) → old ≡ [] → IsRendered (safe_steps event_steps) n old new
       → IsSafeHtmlOf source bytes new
   safe_html_written old new empty r =
       let a = all_safe event_steps safe_source n r.events r.read in
-      let is : new ≡ html_of (safe_events (events_among b.contents.entries)) =
-          r.stands ∙ ap (λ bytes. bytes ++ html_of (map event_view r.events)) empty
-          ∙ ap html_of (a.2 ∙ ap safe_events (b.gives.all a.0 a.1 ∙ b.left)) in
+      let is : new ≡ html_of (safe_events (events_among here.contents.entries)) =
+      r.stands ∙ ap (λ bytes. bytes ++ html_of (map event_view r.events)) empty
+      ∙ ap html_of (a.2 ∙ ap safe_events (here.gives.all a.0 a.1 ∙ here.left)) in
       record {
-        contents = b.contents;
-        said = b.said;
+        contents = here.contents;
+        said = here.said;
         is = is;
-        safe = rw is (html_is_safe (events_among b.contents.entries));
+        safe = rw is (html_is_safe (events_among here.contents.entries));
       }
 
   safe_deep : (old new : List ℕ) → GoesTooDeep (safe_steps event_steps) n old new
@@ -90,11 +93,11 @@ module _ {source bytes : List ℕ} {n : Safe RecordEvents} (b : BeginsRecords so
   safe_deep old new d =
       let a = first_safe event_steps safe_source n d.left d.events d.read in
       record {
-        contents = b.contents;
-        said = b.said;
+        contents = here.contents;
+        said = here.said;
         first = map event_view a.0;
         others = events_left (safe_source d.left);
-        begin = sym b.left ∙ b.gives.first a.0 (safe_source d.left) a.1;
+        begin = sym here.left ∙ here.gives.first a.0 (safe_source d.left) a.1;
         deep = subst IsTooDeep a.2 d.deep;
       }
 
