@@ -1,6 +1,6 @@
 //! Records with the parts after them.
-ghost use Rattle.std.specs.Prelude.{◌≡◌, length};
-ghost use Rattle.markdown_records.specs.Decoded.{are_parts, has_no_text, is_part, is_sound};
+ghost use Rattle.std.specs.Prelude.{◌≡◌, ◌==◌, ◌&&◌};
+ghost use Rattle.markdown_records.specs.Decoded.{has_no_text, is_part, is_sound};
 ghost use Rattle.markdown_records.specs.GroupOf.{CountsParts, IsWhole, SplitsParts, TakesGroup};
 ghost use Rattle.markdown_records.specs.GroupOf.{group_view};
 ghost use Rattle.markdown_records.specs.RecordOf.{record_view};
@@ -61,6 +61,20 @@ impl Group<'_> {
         self.head.spare == 0
             && self.head.start <= self.head.end
             && self.head.parts as usize == count
+    }
+
+    /// Returns whether there are neither parts nor a text.
+    pub fn is_bare(&self) -> bool
+        ensures { result ≡ (has_no_text (record_view self.now.head) && (self.now.head.parts == 0)) }
+    {
+        self.head.has_no_text() && self.head.parts == 0
+    }
+
+    /// Returns whether there are no parts, and the detail is 0.
+    pub fn is_lone(&self) -> bool
+        ensures { result ≡ ((self.now.head.detail == 0) && (self.now.head.parts == 0)) }
+    {
+        self.head.detail == 0 && self.head.parts == 0
     }
 }
 

@@ -1,11 +1,9 @@
 //! The texts of groups and of their parts.
-ghost use Rattle.std.specs.Prelude.{◌≡◌, ◌==◌, ◌&&◌};
 ghost use Rattle.markdown_base.specs.CowText.{text_of};
-ghost use Rattle.markdown_records.specs.Decoded.{first_part, has_no_text, of_text, title_and_label};
+ghost use Rattle.markdown_records.specs.Decoded.{first_part, of_text, title_and_label};
 ghost use Rattle.markdown_records.specs.GroupOf.{group_view};
 ghost use Rattle.markdown_records.specs.ReadOf.{both_words, part_and_rest};
 ghost use Rattle.markdown_records.specs.ReadResult.{Finds};
-ghost use Rattle.markdown_records.specs.RecordOf.{record_view};
 ghost use Rattle.markdown_records.specs.RecordView.{records_in};
 
 use crate::groups::Group;
@@ -13,22 +11,6 @@ use crate::numbers;
 use crate::record::take_record;
 use crate::texts::Texts;
 use markdown_base::cow_str::CowStr;
-
-impl Group<'_> {
-    /// Returns whether there are neither parts nor a text.
-    pub fn is_bare(&self) -> bool
-        ensures { result ≡ (has_no_text (record_view self.now.head) && (self.now.head.parts == 0)) }
-    {
-        self.head.has_no_text() && self.head.parts == 0
-    }
-
-    /// Returns whether there are no parts, and the detail is 0.
-    pub fn is_lone(&self) -> bool
-        ensures { result ≡ ((self.now.head.detail == 0) && (self.now.head.parts == 0)) }
-    {
-        self.head.detail == 0 && self.head.parts == 0
-    }
-}
 
 impl<'a> Texts<'a> {
     /// Returns the text of a group without parts whose detail is 0.

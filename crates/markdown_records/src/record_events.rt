@@ -38,10 +38,11 @@ impl<'a> RecordEvents<'a> {
         }
     }
 
-    /// Returns the next entry.
-    fn next_entry(&mut self) -> Option<Result<Entry<'a>, Fault>>
+    /// Returns the next entry: an event, or a question or an answer, which `next` passes over.
+    pub fn next_entry(&mut self) -> Option<Result<Entry<'a>, Fault>>
         requires { CanReadOn self.old }
-        ensures { GivesEntry self.old result self.new }
+        ensures gives { GivesEntry self.old result self.new }
+        ensures can { CanReadOn self.new }
     {
         let texts = Texts {
             source: self.source,

@@ -11,12 +11,18 @@ use Rattle.markdown_base.specs.declared.fault.Fault.TheVariants.{Memory}
 use Rattle.markdown_defs.specs.Callback.{Asks}
 use Rattle.markdown_defs.specs.CallbackViews.{question_of}
 use Rattle.markdown_document.proofs.CallbackLemmas.{Asks-append}
+use Rattle.std.proofs.Common.{ap₂}
+use Rattle.std.specs.declared.ops.Range.{Range}
+use Rattle.markdown_base.specs.Event.{event_view}
+use Rattle.markdown_base.specs.declared.event.Event.{Event}
 use Rattle.markdown_inline.specs.Elements.{Element, event, question, questions_of}
-use Rattle.markdown_inline.specs.ParserLeft.{elements, parser_callback}
+use Rattle.markdown_inline.specs.NextGives.{GivesItem, IsPlacedOf}
+use Rattle.markdown_inline.specs.ParserLeft.{elements, parser_callback, parser_definitions}
+use Rattle.markdown_inline.proofs.RunLemmas.{questions_of-questions}
 use Rattle.markdown_inline.specs.declared.walk.Parser.{Parser}
-use Rattle.markdown_records.specs.Drafts.{DraftView, entry_drafts, question_drafts}
+use Rattle.markdown_records.specs.Drafts.{DraftView, entry_drafts, event_drafts, question_drafts}
 use Rattle.markdown_records.specs.Encoded.{FitDrafts}
-use Rattle.markdown_records.specs.RecordsOf.{IsRefusal, records_source, sheet_of}
+use Rattle.markdown_records.specs.RecordsOf.{WritesEntry, records_source, sheet_of}
 use Rattle.markdown_records.specs.declared.encode.Records.{Records}
 use Rattle.markdown_records.specs.declared.fault.RecordFault.{RecordFault}
 use Rattle.markdown_records.specs.declared.fault.RecordFault.TheVariants.{Of, TooLong}
@@ -96,3 +102,85 @@ cut_later {r} {q} {s} {t} {fault} a why =
               (fit_later (records_source r) (sheet_of r) (element_drafts a.first) (element_drafts b.first)
               (rw (drafts_of_both a.first b.first) at fit)));
         }
+
+-- ---- one item
+
+module _ {s t : Parser Answering} {item : Event × Range ℕ} (g : GivesItem ByTable IsPlacedOf s item t) where
+  asked_of : questions_of (map question g.questions) ≡ g.questions
+  asked_of = ap (λ es. questions_of es) (sym (append-nil (map question g.questions)))
+      ∙ questions_of-questions g.questions [] ∙ append-nil g.questions
+
+  -- the questions on the way to it, and its event
+  abbrev step : List Element
+  step = map question g.questions ++ event g.placed ∷ []
+
+  asked_of_step : questions_of step ≡ g.questions
+  asked_of_step = questions_of-questions g.questions (event g.placed ∷ []) ∙ append-nil g.questions
+
+  left_of_step : (later : Answers) → elements s (g.answers ++ later) ≡ step ++ elements t later
+  left_of_step later = g.left later ∙ sym (append_assoc (map question g.questions) (event g.placed ∷ []) (elements t later))
+
+  drafts_of_step : element_drafts step
+      ≡ flat_map question_drafts g.questions ++ event_drafts item.1 (event_view item.0)
+  drafts_of_step =
+      let is = g.is_item in
+      let e = is.is_event in
+      drafts_of_both (map question g.questions) (event g.placed ∷ [])
+      ∙ ap₂ (λ xs ys. xs ++ ys) (drafts_of_questions g.questions)
+      (append-nil (event_drafts g.placed.1 g.placed.0) ∙ ap₂ (λ range view. event_drafts range view) is.range e.view)
+
+  -- all of it is written
+  pub records_item : {r q m : Records} → parser_definitions t ≡ parser_definitions s
+      → WritesEntries {A = ⊤} r (flat_map question_drafts g.questions) (Ok tt) q
+      → WritesEntry {A = ⊤} q (event_drafts item.1 (event_view item.0)) (Ok tt) m → RecordsOn r s m t
+  records_item {r} {m} same first then = record {
+    first = step;
+    answers = g.answers;
+    asked = rw asked_of_step g.asked;
+    left = left_of_step;
+    definitions = same;
+    writes = subst (λ ds. WritesEntries {A = ⊤} r ds (Ok tt) m) (sym drafts_of_step)
+        (entries_then (Ok tt) first (entries_one then));
+  }
+
+  -- the questions are not
+  pub cut_questions : {r q : Records} {fault : RecordFault}
+      → WritesEntries {A = ⊤} r (flat_map question_drafts g.questions) (Err fault) q → IsCut r s fault
+  cut_questions {r} {fault} w =
+      ⊎_elim (λ (memory : fault ≡ Of Memory). inl memory) (λ (p : (fault ≡ TooLong) × (FitDrafts (records_source r)
+      (sheet_of r) (flat_map question_drafts g.questions) → ⊥)). inr (
+        p.0,
+        record {
+          first = map question g.questions;
+          callback = parser_callback t;
+          begin = record {
+            answers = g.answers;
+            asked = rw asked_of g.asked;
+            begins = λ later. (event g.placed ∷ elements t later, g.left later);
+          };
+          unfit = λ fit. p.1 (rw (drafts_of_questions g.questions) at fit);
+        },
+      )) w.refused
+
+  -- the event is not
+  pub cut_event : {r q m : Records} {fault : RecordFault}
+      → WritesEntries {A = ⊤} r (flat_map question_drafts g.questions) (Ok tt) q
+      → WritesEntry {A = ⊤} q (event_drafts item.1 (event_view item.0)) (Err fault) m → IsCut r s fault
+  cut_event {r} {m} {fault} first w =
+      let both : WritesEntries {A = ⊤} r (element_drafts step) (Err fault) m =
+      subst (λ ds. WritesEntries {A = ⊤} r ds (Err fault) m) (sym drafts_of_step)
+      (entries_then (Err fault) first (entries_one w)) in
+      ⊎_elim (λ (memory : fault ≡ Of Memory). inl memory) (λ (p : (fault ≡ TooLong) × (FitDrafts (records_source r)
+      (sheet_of r) (element_drafts step) → ⊥)). inr (
+        p.0,
+        record {
+          first = step;
+          callback = parser_callback t;
+          begin = record {
+            answers = g.answers;
+            asked = rw asked_of_step g.asked;
+            begins = λ later. (elements t later, left_of_step later);
+          };
+          unfit = p.1;
+        },
+      )) both.refused

@@ -2,6 +2,7 @@
 pub mod AnswerTable
 pub mod TextRecords
 pub mod RecordsHtml
+pub mod AnswersInOrder
 -- the terms of private clauses
 pub mod AnsweringView
 pub mod DefinitionsView

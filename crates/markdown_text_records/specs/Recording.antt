@@ -1,16 +1,17 @@
 -- How the reading of a text is written, event by event. Only private clauses cite this.
-use Rattle.std.specs.Prelude.{◌≡◌, ◌⊎◌, ◌++◌, ◌∷◌, [], false, true, Bool, List, map, MatchResult, Ok, Err, Result}
+use Rattle.std.specs.Prelude.{◌≡◌, ◌⊎◌, ◌++◌, ◌∷◌, [], ℕ, false, true, Bool, List, drop, length, map, Ok, Err, Result}
 use Rattle.std.specs.Prelude.{Option, Some, None, ⊤}
 use Rattle.std.specs.Borrow.{Bor}
 use Rattle.std.specs.List.{flat_map}
 use Rattle.markdown_base.specs.Questions.{Answers}
 use Rattle.markdown_base.specs.declared.fault.Fault.TheVariants.{Memory}
 use Rattle.markdown_defs.specs.Callback.{Asks}
+use Rattle.markdown_defs.specs.CallbackViews.{question_of}
 use Rattle.markdown_defs.specs.declared.callback.BrokenLink.{BrokenLink}
 use Rattle.markdown_inline.specs.Elements.{Element, questions_of}
 use Rattle.markdown_inline.specs.ParserLeft.{elements, parser_callback, parser_definitions}
 use Rattle.markdown_inline.specs.declared.walk.Parser.{Parser}
-use Rattle.markdown_records.specs.Drafts.{DraftView, entry_drafts}
+use Rattle.markdown_records.specs.Drafts.{DraftView, entry_drafts, question_drafts}
 use Rattle.markdown_records.specs.Encoded.{FitDrafts}
 use Rattle.markdown_records.specs.RecordsOf.{records_source, sheet_of}
 use Rattle.markdown_records.specs.declared.encode.Records.{Records}
@@ -21,11 +22,25 @@ use Rattle.markdown_text_records.specs.RecordedEntries.{WritesEntries}
 use Rattle.markdown_text_records.specs.TextRecords.{entry_of}
 use Rattle.markdown_text_records.specs.declared.answering.Answering.{Answering}
 
--- what a callback was asked, if there is one, and all was kept; or memory was refused for it
-abbrev pub IsAsked : Option (Bor Answering) → Result (Bor (List BrokenLink)) RecordFault → Type 0
-IsAsked None result = MatchResult result (λ links. links.now ≡ []) (λ fault. fault ≡ Of Memory)
-IsAsked (Some c) result = MatchResult result (λ links. (c.now.is_refused ≡ false) × (links.now ≡ c.now.asked.items))
-    (λ fault. fault ≡ Of Memory)
+-- what a callback was asked, if there is one, and how much that is
+abbrev pub asked_by : Option (Bor Answering) → List BrokenLink
+asked_by None = []
+asked_by (Some c) = c.now.asked.items
+
+abbrev pub asked_number : Option (Bor Answering) → ℕ
+asked_number callback = length (asked_by callback)
+
+-- no allocation was refused for it
+abbrev pub KeptAll : Option (Bor Answering) → Type 0
+KeptAll None = Unit {0}
+KeptAll (Some c) = c.now.is_refused ≡ false
+
+-- what a callback was asked after the first so many questions is written; or an allocation was refused
+abbrev pub PushesAsked : (old : Records) → Option (Bor Answering) → (first : ℕ) → Result ⊤ RecordFault → (new : Records)
+    → Type 0
+PushesAsked old callback first result new = (KeptAll callback
+    × WritesEntries old (flat_map question_drafts (map question_of (drop first (asked_by callback)))) result new)
+    ⊎ (result ≡ Err (Of Memory))
 
 -- the drafts of elements
 abbrev pub element_drafts : List Element → List DraftView

@@ -5,6 +5,7 @@ mod answering;
 mod definitions;
 mod fold;
 mod html;
+pub mod laws;
 mod questions;
 mod reading;
 

@@ -1,9 +1,9 @@
 //! The records of a text.
-ghost use Rattle.std.specs.Prelude.{◌<◌, IfOk, IsTrue, MatchResult};
+ghost use Rattle.std.specs.Prelude.{◌≡◌, ◌<◌, IfOk, IsTrue, MatchResult};
 ghost use Rattle.markdown_base.specs.Source.{source_as};
 ghost use Rattle.markdown_inline.specs.ParserLeft.{offset_parser, parser_steps};
 ghost use Rattle.markdown_text_records.specs.AnsweringView.{table_in};
-ghost use Rattle.markdown_text_records.specs.Recording.{IsAsked, PushesNext, PushesReading};
+ghost use Rattle.markdown_text_records.specs.Recording.{PushesAsked, PushesNext, PushesReading, asked_number};
 ghost use Rattle.markdown_text_records.specs.TextRecords.{AreRecordsOf, IsFaultOfText};
 
 use crate::answering::Answering;
@@ -13,24 +13,35 @@ use markdown_base::fault::Fault;
 use markdown_base::options::Options;
 use markdown_base::syntax::Syntax;
 use markdown_blocks::Blocks;
-use markdown_defs::BrokenLink;
 use markdown_inline::walk::{OffsetIter, Parser};
 use markdown_records::{RecordAnswers, RecordFault, Records};
 use std::alloc::Global;
 
-/// Returns what a callback was asked, or the error if that was not kept.
-fn asked_links<'x, 'a>(
-    callback: Option<&'x Answering<'a>>,
-) -> Result<&'x [BrokenLink<'a>], RecordFault>
-    ensures { IsAsked callback.entry result }
+/// Returns how many questions a callback was asked.
+fn asked_count(callback: Option<&Answering<'_>>) -> usize
+    ensures { result ≡ asked_number callback.entry }
 {
     match callback {
-        None => Ok(&[]),
+        None => 0,
+        Some(callback) => callback.asked.len(),
+    }
+}
+
+/// Appends the records of the questions that a callback was asked after the first so many.
+fn push_asked(
+    records: &mut Records<'_>,
+    callback: Option<&Answering<'_>>,
+    first: usize,
+) -> Result<(), RecordFault>
+    ensures { PushesAsked records.old callback.entry first result records.new }
+{
+    match callback {
+        None => Ok(()),
         Some(callback) => {
             if callback.is_refused {
                 return Err(RecordFault::Of(Fault::Memory));
             }
-            Ok(callback.asked.as_slice())
+            push_questions(records, callback.asked.as_slice(), first)
         }
     }
 }
@@ -45,12 +56,12 @@ fn push_next<'a>(
     ensures falls { IfOk result (λ more. IsTrue more
         → parser_steps (offset_parser walk.new) < parser_steps (offset_parser walk.old)) }
 {
-    let first = asked_links(walk.callback())?.len();
+    let first = asked_count(walk.callback());
     let Some(item) = walk.next() else {
         return Ok(false);
     };
     let (event, range) = item?;
-    push_questions(records, asked_links(walk.callback())?, first)?;
+    push_asked(records, walk.callback(), first)?;
     let pushed = records.push_event(&event, &range);
     drop(event);
     pushed?;

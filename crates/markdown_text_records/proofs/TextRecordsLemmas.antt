@@ -1,0 +1,130 @@
+-- The records of a text, from what is written of its reading and of its definitions.
+use Rattle.std.proofs.Common.{◌≡◌, ◌∙◌, ◌++◌, ◌⊎◌, ℕ, List, [], Err, Ok, Result, Option, Some, None, ap, ap₂, inl, inr, is_some}
+use Rattle.std.proofs.Common.{append-nil, length, map, max, refl, subst, sym, true, ⊎_elim, Vec, Global}
+use Rattle.std.specs.Prelude.{⊤}
+use Rattle.std.specs.List.{flat_map}
+use Rattle.markdown_base.specs.Questions.{Answers}
+use Rattle.markdown_base.specs.Source.{Source}
+use Rattle.markdown_base.specs.declared.fault.Fault.TheVariants.{Memory}
+use Rattle.markdown_block_rules.specs.BlockRules.{block_definitions}
+use Rattle.markdown_defs.specs.Callback.{Asks}
+use Rattle.markdown_inline.specs.Elements.{Element, questions_of}
+use Rattle.markdown_inline.specs.ParserLeft.{ReadsText, elements, parser_callback, parser_definitions}
+use Rattle.markdown_inline.specs.ReadingOfText.{reading_of_text}
+use Rattle.markdown_inline.specs.declared.walk.Parser.{Parser}
+use Rattle.markdown_records.specs.Drafts.{DraftView, definition_drafts, entry_drafts}
+use Rattle.markdown_records.specs.Encoded.{FitDrafts, Sheet, blank, encoded, entries_sheet, sheet_bytes, then_drafts, whole_sheet}
+use Rattle.markdown_records.specs.EntryView.{Contents, LabelledView}
+use Rattle.markdown_records.specs.RecordsOf.{Finishes, IsRefusal, Writes, entries_of, records_source, sheet_of}
+use Rattle.markdown_records.specs.declared.encode.Records.{Records}
+use Rattle.markdown_records.specs.declared.fault.RecordFault.{RecordFault}
+use Rattle.markdown_records.specs.declared.fault.RecordFault.TheVariants.{Of, TooLong}
+use Rattle.markdown_records.proofs.WritesLemmas.{fit_later, then_both}
+use Rattle.markdown_text_records.specs.AnswerTable.{Table, answered}
+use Rattle.markdown_text_records.specs.AnsweringView.{Answers as ByTable, table_left}
+use Rattle.markdown_text_records.specs.Recording.{BeginsTooLong as BeginsLong, IsCut, RecordsOn, element_drafts}
+use Rattle.markdown_text_records.specs.DefinitionsView.{labelled_view}
+use Rattle.markdown_text_records.specs.RecordedEntries.{IsMarked}
+use Rattle.markdown_text_records.specs.TextRecords.{AreRecordsOf, BeginsTooLong, IsFaultOfText, contents_of_text, entry_of}
+use Rattle.markdown_text_records.specs.TextRecords.{findable, labelled}
+use Rattle.markdown_text_records.specs.declared.answering.Answering.{Answering}
+use Rattle.markdown_text_records.proofs.AskedLemmas.{asked_all}
+
+-- a parser of a source, with a callback that answers from a table, before anything is written
+pub record Starts (s : Source) (table : Table) (p : Parser Answering) (r : Records) : Type 0 where
+  pub reads : ReadsText s p
+  pub first : Answering
+  pub callback : parser_callback p ≡ Some first
+  pub by_table : table_left first ≡ table
+  pub definitions : map labelled_view (parser_definitions p) ≡ map labelled (findable (block_definitions s))
+  pub source : records_source r ≡ s.text
+  pub sheet : sheet_of r ≡ blank
+  pub entries : entries_of r ≡ 0
+
+-- the drafts of the definitions of a source
+abbrev all_definitions : Source → List LabelledView
+all_definitions s = map labelled (findable (block_definitions s))
+
+module _ (s : Source) (table : Table) (p : Parser Answering) (r : Records) (start : Starts s table p r) where
+  reading_is : (answers : Answers) → elements p answers ≡ reading_of_text s true answers
+  reading_is answers =
+      let reads = start.reads in
+      reads.left answers
+      ∙ ap (λ (c : Option Answering). reading_of_text s (is_some c) answers) start.callback
+
+  -- nothing more is written of the reading
+  pub text_cut : (fault : RecordFault) → IsCut r p fault → IsFaultOfText s fault
+  text_cut fault why =
+      ⊎_elim (λ (memory : fault ≡ Of Memory). inl memory) (λ (c : (fault ≡ TooLong) × BeginsLong r p).
+      inr (c.0, too_long c.1)) why
+    where
+      too_long : BeginsLong r p → BeginsTooLong s
+      too_long b =
+          let begin = b.begin in
+          record {
+            answers = begin.answers;
+            first = b.first;
+            begins = λ later.
+                let rest = begin.begins later in (rest.0, sym (reading_is (begin.answers ++ later)) ∙ rest.1);
+            definitions = [];
+            none_or_all = inl refl;
+            too_long = inl (λ fit. b.unfit (rw (start.source, start.sheet)
+                (rw (append-nil (element_drafts b.first)) at fit)));
+          }
+
+  -- all of the reading is written
+  module _ (t : Parser Answering) (q : Records) (read : RecordsOn r p q t)
+      (none : (answers : Answers) → elements t answers ≡ []) where
+    whole_reading : reading_of_text s true read.answers ≡ read.first
+    whole_reading =
+        sym (reading_is read.answers) ∙ ap (elements p) (sym (append-nil read.answers)) ∙ read.left []
+        ∙ ap (λ es. read.first ++ es) (none []) ∙ append-nil read.first
+
+    abbrev contents : Contents
+    contents = contents_of_text s read.answers
+
+    first_sheet : sheet_of q ≡ entries_sheet s.text contents
+    first_sheet =
+        let writes = read.writes in
+        writes.written
+        ∙ ap₂ (λ source sheet. then_drafts source sheet (element_drafts read.first)) start.source start.sheet
+        ∙ ap (λ es. then_drafts s.text blank (element_drafts es)) (sym whole_reading)
+
+    same_source : records_source q ≡ s.text
+    same_source =
+        let writes = read.writes in
+        writes.source ∙ start.source
+
+    marked : entries_of q ≡ (entries_sheet s.text contents).count
+    marked =
+        let writes = read.writes in
+        let m = writes.marked (record { is = start.entries ∙ sym (ap (λ (sheet : Sheet). sheet.count) start.sheet) }) in
+        m.is ∙ ap (λ (sheet : Sheet). sheet.count) first_sheet
+
+    by_table : read.answers ≡ answered table (questions_of (reading_of_text s true read.answers))
+    by_table =
+        let all = asked_all start.first (questions_of read.first) read.answers (parser_callback t)
+        (rw start.callback at read.asked) in
+        all.by_table ∙ ap₂ (λ left es. answered left (questions_of es)) start.by_table (sym whole_reading)
+
+    definitions_are : map labelled_view (parser_definitions t) ≡ all_definitions s
+    definitions_are = ap (map labelled_view) read.definitions ∙ start.definitions
+
+    abbrev definition_part : List DraftView
+    definition_part = flat_map definition_drafts (map labelled_view (parser_definitions t))
+
+    later_sheet : then_drafts (records_source q) (sheet_of q) definition_part ≡ whole_sheet s.text contents
+    later_sheet =
+        ap₂ (λ source sheet. then_drafts source sheet definition_part) same_source first_sheet
+        ∙ ap (λ ds. then_drafts s.text (entries_sheet s.text contents) (flat_map definition_drafts ds)) definitions_are
+
+    -- and then the definitions are, and the whole
+    module _ (m : Records) (writes : Writes {A = ⊤} q definition_part (Ok tt) m) where
+      pub text_written : (bytes : Vec ℕ Global) → Finishes m (Ok bytes) → AreRecordsOf s table bytes.items
+      text_written bytes finish = record {
+        contents = contents;
+        of_text = record { answers = read.answers; by_table = by_table; are = refl };
+        are = finish.whole ∙ ap (λ source. sheet_bytes source (entries_of m) (sheet_of m)) (writes.source ∙ same_source)
+            ∙ ap₂ (λ entries sheet. sheet_bytes s.text entries sheet) (writes.entries ∙ marked)
+            (writes.written ∙ later_sheet);
+      }
