@@ -6,3 +6,4 @@ pub mod FindableLemmas
 pub mod RecordingLemmas
 pub mod TextRecordsLemmas
 pub mod AnswersInOrderLemmas
+pub mod RecordsHtmlLemmas

@@ -25,7 +25,8 @@ pub record IsSafeHtmlOf (source bytes html : List ℕ) : Type 0 where
   pub is : html ≡ html_of (safe_events (events_among contents.entries))
   pub safe : IsSafeHtml html
 
--- among the first of the events that records say, as they are written, more Starts are open in an image than can be counted
+-- among the first of the events that records say, as they are written, more Starts are open in an image than can be
+-- counted
 pub record BeginsTooDeep (as_written : List EventView → List EventView) (source bytes : List ℕ) : Type 0 where
   pub contents : Contents
   pub said : decoded source bytes ≡ Some contents

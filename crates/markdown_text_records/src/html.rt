@@ -5,6 +5,7 @@ ghost use Rattle.markdown_text_records.specs.RecordsHtml.{IsFaultOf, IsHtmlOf, I
 
 use markdown_base::fault::Fault;
 use markdown_out::push_html;
+use markdown_records::laws::the_events_left_are_returned;
 use markdown_records::{RecordFault, RecordedText};
 use markdown_safe::Safe;
 use std::alloc::Global;
@@ -20,8 +21,10 @@ pub fn html_of_records(alloc: Global, text: &str, records: &[u8]) -> Result<Stri
         (IsFaultOf (λ events. events) text.now records.now) }
 {
     let recorded = RecordedText::of_bytes(alloc, text, records)?;
+    let events = recorded.events(alloc);
+    the_events_left_are_returned(&events);
     let mut html = String::new(alloc);
-    push_html(alloc, &mut html, recorded.events(alloc))?;
+    push_html(alloc, &mut html, events)?;
     Ok(html)
 }
 
@@ -39,7 +42,10 @@ pub fn safe_html_of_records(
         (IsFaultOf safe_events text.now records.now) }
 {
     let recorded = RecordedText::of_bytes(alloc, text, records)?;
+    let events = recorded.events(alloc);
+    the_events_left_are_returned(&events);
+    let safe = Safe::new(alloc, events);
     let mut html = String::new(alloc);
-    push_html(alloc, &mut html, Safe::new(alloc, recorded.events(alloc)))?;
+    push_html(alloc, &mut html, safe)?;
     Ok(html)
 }
