@@ -1,4 +1,4 @@
--- What is read of records, and why nothing is. Only private clauses cite this.
+-- What is read of records, and why nothing is.
 use Rattle.std.specs.Prelude.{◌≡◌, ◌⊎◌, ℕ, List, Option, None, Some, is_some, true, Result, MatchResult}
 use Rattle.std.specs.Option.{option_map}
 use Rattle.std.specs.Borrow.{Bor}

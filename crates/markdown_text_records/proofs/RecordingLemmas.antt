@@ -214,19 +214,19 @@ module _ {s t : Parser Answering} (e : Event) (range : Range ℕ)
 
 -- ---- the questions, and then the event
 
-pub placed_cut : {r q : Records} {e : Event} {range : Range ℕ} {fault : RecordFault} {result : Result ⊤ RecordFault}
+pub placed_cut : {r q : Records} {fault : RecordFault} {result : Result ⊤ RecordFault} (e : Event) (range : Range ℕ)
     (after : Option (Bor Answering)) (first : ℕ) → IsErrAnd result (λ y. y ≡ fault)
     → PushesAsked r after first (Err fault) q → PushesPlaced r after first e range result q
-placed_cut {r} {q} {e} {range} {fault} {result} after first is w =
+placed_cut {r} {q} {fault} {result} e range after first is w =
     let p = err_from_is_err_and result is in
     ⊎_elim (λ (p : KeptAll after × WritesEntries r (flat_map question_drafts (map question_of (drop first
     (asked_by after)))) (Err fault) q). inl (p.0, entries_refused (event_drafts range (event_view e)) is p.1))
     (λ (memory : Err fault ≡ Err (Of Memory)). inr (rw (p.1, p.2) memory)) w
 
-pub placed_then : {r q m : Records} {e : Event} {range : Range ℕ} (after : Option (Bor Answering)) (first : ℕ)
+pub placed_then : {r q m : Records} (e : Event) (range : Range ℕ) (after : Option (Bor Answering)) (first : ℕ)
     (result : Result ⊤ RecordFault) → PushesAsked r after first (Ok (tt {0})) q
     → WritesEntry q (event_drafts range (event_view e)) result m → PushesPlaced r after first e range result m
-placed_then {r} {q} {e} {range} after first result w v =
+placed_then {r} {q} e range after first result w v =
     ⊎_elim (λ (p : KeptAll after × WritesEntries r (flat_map question_drafts (map question_of (drop first
     (asked_by after)))) (Ok (tt {0})) q). inl (p.0, entries_then result p.1 (entries_one v)))
     (λ (p : Ok (tt {0}) ≡ Err (Of Memory)). absurd (cc (p))) w

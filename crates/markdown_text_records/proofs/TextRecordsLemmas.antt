@@ -1,7 +1,7 @@
 -- The records of a text, from what is written of its reading and of its definitions.
 use Rattle.std.proofs.Common.{◌≡◌, ◌∙◌, ◌++◌, ◌⊎◌, ℕ, List, [], Err, Ok, Result, Option, Some, None, ap, ap₂, inl, inr, is_some}
-use Rattle.std.proofs.Common.{append-nil, length, map, max, refl, subst, sym, true, ⊎_elim, Vec, Global}
-use Rattle.std.specs.Prelude.{⊤}
+use Rattle.std.proofs.Common.{◌≤◌, ◌^◌, append-nil, length, map, max, refl, subst, sym, true, ⊎_elim, Vec, Global}
+use Rattle.std.specs.Prelude.{MatchResult, ⊤}
 use Rattle.std.specs.List.{flat_map}
 use Rattle.markdown_base.specs.Questions.{Answers}
 use Rattle.markdown_base.specs.Source.{Source}
@@ -9,7 +9,12 @@ use Rattle.markdown_base.specs.declared.fault.Fault.TheVariants.{Memory}
 use Rattle.markdown_block_rules.specs.BlockRules.{block_definitions}
 use Rattle.markdown_defs.specs.Callback.{Asks}
 use Rattle.markdown_inline.specs.Elements.{Element, questions_of}
-use Rattle.markdown_inline.specs.ParserLeft.{ReadsText, elements, parser_callback, parser_definitions}
+use Rattle.markdown_blocks.specs.Blocks.{IsBlocksOf}
+use Rattle.markdown_blocks.specs.declared.blocks.Blocks.{Blocks}
+use Rattle.markdown_inline.specs.ParserLeft.{ReadsBlocks, elements, findable_definitions, parser_callback}
+use Rattle.markdown_inline.specs.ParserLeft.{parser_definitions}
+use Rattle.markdown_inline.proofs.StartLemmas.{of_some_text}
+use Rattle.markdown_text_records.proofs.FindableLemmas.{definitions_of_text}
 use Rattle.markdown_inline.specs.ReadingOfText.{reading_of_text}
 use Rattle.markdown_inline.specs.declared.walk.Parser.{Parser}
 use Rattle.markdown_records.specs.Drafts.{DraftView, definition_drafts, entry_drafts}
@@ -22,24 +27,13 @@ use Rattle.markdown_records.specs.declared.fault.RecordFault.TheVariants.{Of, To
 use Rattle.markdown_records.proofs.WritesLemmas.{fit_later, then_both}
 use Rattle.markdown_text_records.specs.AnswerTable.{Table, answered}
 use Rattle.markdown_text_records.specs.AnsweringView.{Answers as ByTable, table_left}
-use Rattle.markdown_text_records.specs.Recording.{BeginsTooLong as BeginsLong, IsCut, RecordsOn, element_drafts}
+use Rattle.markdown_text_records.specs.Recording.{BeginsTooLong as BeginsLong, IsCut, RecordsOn, Starts, element_drafts}
 use Rattle.markdown_text_records.specs.DefinitionsView.{labelled_view}
 use Rattle.markdown_text_records.specs.RecordedEntries.{IsMarked}
-use Rattle.markdown_text_records.specs.TextRecords.{AreRecordsOf, BeginsTooLong, IsFaultOfText, contents_of_text, entry_of}
-use Rattle.markdown_text_records.specs.TextRecords.{findable, labelled}
+use Rattle.markdown_text_records.specs.TextRecords.{AreRecordsOf, AreTooLong, BeginsTooLong, IsFaultOfText, contents_of_text}
+use Rattle.markdown_text_records.specs.TextRecords.{entry_of, findable, labelled}
 use Rattle.markdown_text_records.specs.declared.answering.Answering.{Answering}
 use Rattle.markdown_text_records.proofs.AskedLemmas.{asked_all}
-
--- a parser of a source, with a callback that answers from a table, before anything is written
-pub record Starts (s : Source) (table : Table) (p : Parser Answering) (r : Records) : Type 0 where
-  pub reads : ReadsText s p
-  pub first : Answering
-  pub callback : parser_callback p ≡ Some first
-  pub by_table : table_left first ≡ table
-  pub definitions : map labelled_view (parser_definitions p) ≡ map labelled (findable (block_definitions s))
-  pub source : records_source r ≡ s.text
-  pub sheet : sheet_of r ≡ blank
-  pub entries : entries_of r ≡ 0
 
 -- the drafts of the definitions of a source
 abbrev all_definitions : Source → List LabelledView
@@ -128,3 +122,63 @@ module _ (s : Source) (table : Table) (p : Parser Answering) (r : Records) (star
             ∙ ap₂ (λ entries sheet. sheet_bytes s.text entries sheet) (writes.entries ∙ marked)
             (writes.written ∙ later_sheet);
       }
+
+    -- where they are not, or the whole is too long, all has been read
+    whole_begins : AreTooLong s.text contents → BeginsTooLong s
+    whole_begins long = record {
+      answers = read.answers;
+      first = read.first;
+      begins = λ later. (elements t later, sym (reading_is (read.answers ++ later)) ∙ read.left later);
+      definitions = all_definitions s;
+      none_or_all = inr refl;
+      too_long = subst (λ es. AreTooLong s.text (record { entries = map entry_of es; definitions = all_definitions s }))
+          whole_reading long;
+    }
+
+    pub definitions_cut : (fault : RecordFault) → IsRefusal (records_source q) (sheet_of q) definition_part fault
+        → IsFaultOfText s fault
+    definitions_cut fault why =
+        ⊎_elim (λ (memory : fault ≡ Of Memory). inl memory) (λ (p : (fault ≡ TooLong)
+        × (FitDrafts (records_source q) (sheet_of q) definition_part → ⊥)). inr (
+          p.0,
+          whole_begins (inl (λ fit. p.1
+              (subst (λ ds. FitDrafts (records_source q) (sheet_of q) (flat_map definition_drafts ds)) (sym definitions_are)
+              (rw (same_source, first_sheet) (fit_later s.text blank (flat_map entry_drafts contents.entries)
+              (flat_map definition_drafts contents.definitions) fit))))),
+        )) why
+
+    pub finish_cut : (m : Records) → Writes {A = ⊤} q definition_part (Ok tt) m → (fault : RecordFault)
+        → (fault ≡ Of Memory) ⊎ ((fault ≡ TooLong)
+        × (2 ^ 32 ≤ max (length (records_source m)) (length (sheet_of m).pool)))
+        → IsFaultOfText s fault
+    finish_cut m writes fault why =
+        ⊎_elim (λ (memory : fault ≡ Of Memory). inl memory) (λ (p : (fault ≡ TooLong)
+        × (2 ^ 32 ≤ max (length (records_source m)) (length (sheet_of m).pool))). inr (
+          p.0,
+          whole_begins
+              (inr (subst (λ (n : ℕ). 2 ^ 32 ≤ n) (ap₂ (λ (source : List ℕ) (sheet : Sheet). max (length source)
+              (length sheet.pool)) (writes.source ∙ same_source) (writes.written ∙ later_sheet)) p.1)),
+        )) why
+
+    pub text_finished : (m : Records) → Writes {A = ⊤} q definition_part (Ok tt) m
+        → (result : Result (Vec ℕ Global) RecordFault) → Finishes m result
+        → MatchResult result (λ bytes. AreRecordsOf s table bytes.items) (IsFaultOfText s)
+    text_finished m writes (Ok bytes) finish = text_written m writes bytes finish
+    text_finished m writes (Err fault) finish = finish_cut m writes fault finish.refused
+
+-- ---- a parser of a block result of the source
+
+pub starts : (s : Source) (table : Table) (blocks : Blocks) (p : Parser Answering) (first : Answering) (r : Records)
+    → IsBlocksOf s blocks → ReadsBlocks blocks p → parser_definitions p ≡ findable_definitions blocks
+    → parser_callback p ≡ Some first → table_left first ≡ table → records_source r ≡ s.text → sheet_of r ≡ blank
+    → entries_of r ≡ 0 → Starts s table p r
+starts s table blocks p first r of left found callback by source sheet entries = record {
+  reads = of_some_text s blocks (Ok p) of left found;
+  first = first;
+  callback = callback;
+  by_table = by;
+  definitions = ap (map labelled_view) found ∙ definitions_of_text s blocks of;
+  source = source;
+  sheet = sheet;
+  entries = entries;
+}

@@ -1,28 +1,33 @@
 -- How the reading of a text is written, event by event. Only private clauses cite this.
 use Rattle.std.specs.Prelude.{◌≡◌, ◌⊎◌, ◌++◌, ◌∷◌, [], ℕ, false, true, Bool, List, drop, length, map, Ok, Err, Result}
-use Rattle.std.specs.Prelude.{Option, Some, None, ⊤}
+use Rattle.std.specs.Prelude.{MatchResult, Option, Some, None, Vec, ⊤}
+use Rattle.std.specs.Global.{Global}
 use Rattle.std.specs.Borrow.{Bor}
 use Rattle.std.specs.List.{flat_map}
 use Rattle.std.specs.declared.ops.Range.{Range}
 use Rattle.markdown_base.specs.Event.{event_view}
 use Rattle.markdown_base.specs.Questions.{Answers}
+use Rattle.markdown_base.specs.Source.{Source}
 use Rattle.markdown_base.specs.declared.event.Event.{Event}
 use Rattle.markdown_base.specs.declared.fault.Fault.TheVariants.{Memory}
+use Rattle.markdown_block_rules.specs.BlockRules.{block_definitions}
 use Rattle.markdown_defs.specs.Callback.{Asks}
 use Rattle.markdown_defs.specs.CallbackViews.{question_of}
 use Rattle.markdown_defs.specs.declared.callback.BrokenLink.{BrokenLink}
 use Rattle.markdown_inline.specs.Elements.{Element, questions_of}
-use Rattle.markdown_inline.specs.ParserLeft.{elements, parser_callback, parser_definitions}
+use Rattle.markdown_inline.specs.ParserLeft.{ReadsText, elements, parser_callback, parser_definitions}
 use Rattle.markdown_inline.specs.declared.walk.Parser.{Parser}
 use Rattle.markdown_records.specs.Drafts.{DraftView, entry_drafts, event_drafts, question_drafts}
-use Rattle.markdown_records.specs.Encoded.{FitDrafts}
-use Rattle.markdown_records.specs.RecordsOf.{records_source, sheet_of}
+use Rattle.markdown_records.specs.Encoded.{FitDrafts, blank}
+use Rattle.markdown_records.specs.RecordsOf.{entries_of, records_source, sheet_of}
 use Rattle.markdown_records.specs.declared.encode.Records.{Records}
 use Rattle.markdown_records.specs.declared.fault.RecordFault.{RecordFault}
 use Rattle.markdown_records.specs.declared.fault.RecordFault.TheVariants.{Of, TooLong}
-use Rattle.markdown_text_records.specs.AnsweringView.{Answers as ByTable}
+use Rattle.markdown_text_records.specs.AnsweringView.{Answers as ByTable, table_left}
 use Rattle.markdown_text_records.specs.RecordedEntries.{WritesEntries}
-use Rattle.markdown_text_records.specs.TextRecords.{entry_of}
+use Rattle.markdown_text_records.specs.AnswerTable.{Table}
+use Rattle.markdown_text_records.specs.DefinitionsView.{labelled_view}
+use Rattle.markdown_text_records.specs.TextRecords.{AreRecordsOf, IsFaultOfText, entry_of, findable, labelled}
 use Rattle.markdown_text_records.specs.declared.answering.Answering.{Answering}
 
 -- what a callback was asked, if there is one, and how much that is
@@ -95,3 +100,19 @@ abbrev pub PushesReading : (old : Records) → Parser Answering → Result ⊤ R
     → Parser Answering → Type 0
 PushesReading old s (Ok done) new t = RecordsOn old s new t × ((answers : Answers) → elements t answers ≡ [])
 PushesReading old s (Err fault) new t = IsCut old s fault
+
+-- a parser of a source, with a callback that answers from a table, before anything is written
+pub record Starts (s : Source) (table : Table) (p : Parser Answering) (r : Records) : Type 0 where
+  pub reads : ReadsText s p
+  pub first : Answering
+  pub callback : parser_callback p ≡ Some first
+  pub by_table : table_left first ≡ table
+  pub definitions : map labelled_view (parser_definitions p) ≡ map labelled (findable (block_definitions s))
+  pub source : records_source r ≡ s.text
+  pub sheet : sheet_of r ≡ blank
+  pub entries : entries_of r ≡ 0
+
+-- from there all of the text is written, or this is why it is not
+abbrev pub WritesText : Records → Parser Answering → Result (Vec ℕ Global) RecordFault → Type 0
+WritesText r p result = (s : Source) (table : Table) → Starts s table p r
+    → MatchResult result (λ bytes. AreRecordsOf s table bytes.items) (IsFaultOfText s)

@@ -3,7 +3,8 @@ ghost use Rattle.std.specs.Prelude.{◌≡◌, ◌<◌, IfOk, IsTrue, MatchResul
 ghost use Rattle.markdown_base.specs.Source.{source_as};
 ghost use Rattle.markdown_inline.specs.ParserLeft.{offset_parser, parser_steps};
 ghost use Rattle.markdown_text_records.specs.AnsweringView.{table_in};
-ghost use Rattle.markdown_text_records.specs.Recording.{PushesAsked, PushesNext, PushesPlaced, PushesReading, asked_number};
+ghost use Rattle.markdown_text_records.specs.Recording.{PushesAsked, PushesNext, PushesPlaced, PushesReading};
+ghost use Rattle.markdown_text_records.specs.Recording.{WritesText, asked_number};
 ghost use Rattle.markdown_text_records.specs.TextRecords.{AreRecordsOf, IsFaultOfText};
 
 use crate::answering::Answering;
@@ -95,6 +96,19 @@ fn push_reading<'a>(
     Ok(())
 }
 
+/// Returns the records of all events that are left, of the questions on the way to each, and of the definitions.
+fn written<'a>(
+    records: Records<'_>,
+    walk: &mut OffsetIter<'a, Answering<'a>>,
+) -> Result<Vec<u8>, RecordFault>
+    ensures { WritesText records.entry (offset_parser walk.old) result }
+{
+    let mut records = records;
+    push_reading(&mut records, walk)?;
+    push_definitions(&mut records, walk.reference_definitions())?;
+    records.finish()
+}
+
 /// Returns the records of a text of which `syntax` is read: its events with their ranges, the questions of a callback for
 /// broken links, and its link reference definitions. The k-th question gets the k-th answer, if that is to its range, and
 /// None otherwise.
@@ -116,8 +130,5 @@ pub fn records_source<'a>(
     let callback = Answering::by(alloc, answers);
     let parser = Parser::from_blocks(alloc, blocks, Some(callback))?;
     let mut walk = parser.into_offset_iter();
-    let mut records = Records::new(alloc, text);
-    push_reading(&mut records, &mut walk)?;
-    push_definitions(&mut records, walk.reference_definitions())?;
-    records.finish()
+    written(Records::new(alloc, text), &mut walk)
 }
