@@ -1,2 +1,3 @@
 -- What a call from C returns, and what it leaves in the buffer.
 pub mod CallsFromC
+pub mod RecordCalls

@@ -2,7 +2,8 @@
 //! is not passed.
 ghost use Rattle.std.specs.Prelude.{◌≡◌, ℕ, List, Result};
 ghost use Rattle.markdown_c.specs.CallsFromC.{returned_number, buffer_after};
-ghost use Rattle.markdown_c.specs.RecordCalls.{IsFoldOutcome, IsRecordsHtmlOutcome, IsRecordsOutcome, IsRecordsSafeHtmlOutcome};
+ghost use Rattle.markdown_c.specs.RecordCalls.{IsFoldOutcome, IsRecordsHtmlOutcome, IsRecordsOutcome};
+ghost use Rattle.markdown_c.specs.RecordCalls.{IsRecordsSafeHtmlOutcome};
 ghost use Rattle.markdown_c.specs.declared.readings.Refusal.{Refusal};
 
 use crate::buffer::{answer, answer_bytes};
@@ -13,7 +14,6 @@ use std::alloc::Global;
 /// reference definitions. Returns their length in bytes, and writes them to the front of `out`, if they fit; otherwise
 /// `out` is unchanged. `options` are as for `markdown_to_html`, but no links of bare addresses and no ids are added. `answers`
 /// are records of answers of this text: the k-th question gets the k-th answer, if that is to its range, and None otherwise.
-///
 ///
 /// # Errors
 ///

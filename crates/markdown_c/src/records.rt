@@ -1,12 +1,16 @@
 //! The outcomes of the calls that write and read records.
+ghost use Rattle.std.specs.Prelude.{◌≡◌, ◌≢◌, ◌⊎◌, [], None, MatchResult};
+ghost use Rattle.markdown_base.specs.declared.fault.Fault.TheVariants.{Memory};
 ghost use Rattle.markdown_c.specs.CallsFromC.{bytes_of, items_of};
-ghost use Rattle.markdown_c.specs.RecordCalls.{IsFoldOutcome, IsRecordsHtmlOutcome, IsRecordsOutcome, IsRecordsSafeHtmlOutcome};
+ghost use Rattle.markdown_c.specs.RecordCalls.{IsFoldOutcome, IsRecordsHtmlOutcome, IsRecordsOutcome};
+ghost use Rattle.markdown_c.specs.RecordCalls.{IsRecordsSafeHtmlOutcome, IsTable};
+ghost use Rattle.markdown_records.specs.Decoded.{decoded};
+ghost use Rattle.markdown_records.specs.declared.fault.RecordFault.TheVariants.{NotRecords, Of};
+ghost use Rattle.markdown_text_records.specs.AnsweringView.{table_in};
 
 use crate::readings::{Refusal, syntax_of, text_of};
-use markdown_records::RecordFault;
-use markdown_text_records::{
-    answers_of, fold_label, html_of_records, records_source, safe_html_of_records,
-};
+use markdown_records::{RecordAnswers, RecordFault, RecordedText};
+use markdown_text_records::{fold_label, html_of_records, records_source, safe_html_of_records};
 use std::alloc::Global;
 
 /// Converts an error of records.
@@ -25,7 +29,25 @@ impl From<RecordFault> for Refusal {
     }
 }
 
-/// Returns the records of a text, whose questions these answers answer; if there are none, nothing is asked.
+/// Returns the answers in bytes that are records of a text, or None if there are no bytes.
+fn answers_in<'a>(
+    alloc: Global,
+    text: &'a str,
+    bytes: &'a [u8],
+) -> Result<Option<RecordAnswers<'a>>, RecordFault>
+    ensures { MatchResult result
+        (λ answers. IsTable text.entry.now bytes.entry.now (table_in answers))
+        (λ fault. ((fault ≡ NotRecords) × ((bytes.entry.now ≢ []) × (decoded text.entry.now bytes.entry.now ≡ None)))
+        ⊎ (fault ≡ Of Memory)) }
+{
+    if bytes.is_empty() {
+        return Ok(None);
+    }
+    let recorded = RecordedText::of_bytes(alloc, text, bytes)?;
+    Ok(Some(recorded.answers()))
+}
+
+/// Returns the records of a text, whose questions these answers answer.
 pub(crate) fn records_of(
     alloc: Global,
     bytes: &[u8],
@@ -36,12 +58,8 @@ pub(crate) fn records_of(
 {
     let syntax = syntax_of(bits)?;
     let text = text_of(bytes)?;
-    let table = if answers.is_empty() {
-        None
-    } else {
-        Some(answers_of(alloc, text, answers)?)
-    };
-    Ok(records_source(alloc, text, syntax, table)?)
+    let answers = answers_in(alloc, text, answers)?;
+    Ok(records_source(alloc, text, syntax, answers)?)
 }
 
 /// Returns the HTML of the events that records say of a text.
