@@ -229,10 +229,10 @@ int64_t markdown_to_outline(const uint8_t *text, size_t text_length, uint32_t op
 /** Writes the events of `text` as records. `MARKDOWN_AUTOLINKS` and `MARKDOWN_HEADING_IDS` change nothing here: the
  * records are those of the text, without what these two add to its HTML.
  *
- * `answers` are records too: what is to become of references without a definition. If `answers_length` is 0, nothing is
- * asked. Otherwise a question, a record with the label, stands where each such reference is met, and the first question
- * gets the first answer, the second the second, and so on, if both have the same range. Those after the last answer stay
- * text. To have questions with no answers yet, pass a header alone, which says 0 records and the length of the text.
+ * A question, a record with the label, stands directly before the event at which a reference without a definition is met.
+ * `answers` are records too, and say what is to become of these references: the first question gets the first answer, the
+ * second the second, and so on, if both have the same range. Those without an answer stay text, as all do if
+ * `answers_length` is 0. What comes before a question depends on the answers before it alone.
  *
  * Returns the length of the records in bytes, and writes them to the front of `out`, if they fit; otherwise `out` is
  * unchanged. On an error it returns `MARKDOWN_NOT_UTF8`, `MARKDOWN_NO_MEMORY`, `MARKDOWN_UNKNOWN_OPTION`,

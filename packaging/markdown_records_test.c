@@ -218,9 +218,11 @@ static void test_answers(void) {
     markdown_free(html);
     markdown_free(opened.bytes);
     opened = open_text(text, NULL, 0);
+    uint32_t questions = 0;
     for (uint32_t number = 0; number < opened.records.count; number++) {
-        check(markdown_records_get(&opened.records, number).kind != MARKDOWN_KIND_QUESTION, "something is asked");
+        questions += markdown_records_get(&opened.records, number).kind == MARKDOWN_KIND_QUESTION;
     }
+    check(questions == 6, "not all is asked");
     markdown_free(opened.bytes);
 }
 

@@ -122,7 +122,7 @@ def result_of(call: str, text: bytes, extensions: Iterable[str]) -> bytes:
 
 
 def records_of(text: bytes, bits: int, answers: bytes = b"") -> bytes:
-    """Returns the records of a text. They have questions if `answers`, records of answers, are not empty."""
+    """Returns the records of a text, whose questions get these answers, which are records too."""
     types = [*_BYTES, ctypes.c_uint32, *_BYTES]
     return _called("records", types, text, len(text), bits, answers, len(answers))
 

@@ -12,21 +12,16 @@ from ._writer import Writer
 AnswerBrokenLink = Callable[[BrokenLink], Union[None, str, Tuple[str, str]]]
 
 
-def asked_records(text: bytes, bits: int) -> Records:
-    """Returns the records of a text with its questions, none of which is answered."""
-    return Records(text, records_of(text, bits, Writer(len(text)).written()))
-
-
 def answered_records(text: bytes, bits: int, ask: Optional[AnswerBrokenLink]) -> bytes:
     """Returns the records of a text. Each question is asked where it is met, and the text read with its answer.
 
     What comes before a question depends on the answers before it alone. So after an answer that makes a link, the question
     has the same number in the records that are read next.
     """
+    read = records_of(text, bits)
     if ask is None:
-        return records_of(text, bits)
+        return read
     answers = Writer(len(text))
-    read = records_of(text, bits, answers.written())
     records = Records(text, read)
     number = records.kinds.find(QUESTION)
     while number >= 0:

@@ -5,7 +5,6 @@ import json
 from typing import Any, Dict, Iterable, Iterator, List, NamedTuple, Optional, Sequence, Union
 
 from ._library import bits_of, encoded, folding_of, records_of, result_of
-from ._questions import asked_records
 from ._records import BrokenLink, Columns, Definition, Records, characters_of
 
 
@@ -84,7 +83,8 @@ def columns(text: str, extensions: Iterable[str] = ()) -> Columns:
 
 def broken(text: str, extensions: Iterable[str] = ()) -> List[BrokenLink]:
     """Returns the references that have no definition, of which the text would have links: `[a]`, `[a][]` and `[b][a]`."""
-    return asked_records(encoded(text), bits_of(extensions)).broken_links()
+    of_text = encoded(text)
+    return Records(of_text, records_of(of_text, bits_of(extensions))).broken_links()
 
 
 def definitions(text: str, extensions: Iterable[str] = ()) -> List[Definition]:
