@@ -2,6 +2,7 @@
 use Rattle.std.specs.Prelude.{◌≡◌, ℕ, ◌+◌, ℤ, Bool, true, false, not, ◌&&◌, ◌==◌, pos, negsuc, nat_le, ◌++◌, List}
 use Rattle.std.specs.Prelude.{length, drop, flat_map, if◌then◌else◌}
 use Rattle.std.specs.Prelude.{Result, Ok, Err, String, Vec, string_bytes, map}
+use Rattle.std.specs.Global.{Global}
 use Rattle.std.specs.Int.RustNames.{bit_and}
 use Rattle.std.specs.Str.{IsUtf8}
 use Rattle.markdown_additions.specs.Additions.{AdditionsView, AreFirstAdded, adds_ids, adds_no_ids}
@@ -35,7 +36,7 @@ bytes_of (Ok whole) = Ok (string_bytes whole)
 bytes_of (Err refusal) = Err refusal
 
 -- the same of an outcome that is bytes
-abbrev pub items_of : {A : Type 0} → Result (Vec ℕ) A → Result (List ℕ) A
+abbrev pub items_of : {A : Type 0} → Result (Vec ℕ Global) A → Result (List ℕ) A
 items_of (Ok bytes) = Ok bytes.items
 items_of (Err refusal) = Err refusal
 

@@ -1,4 +1,5 @@
-//! The library for C and for everything that calls C: the HTML, the events and the headings of a text.
+//! The library for C and for everything that calls C: the HTML, the events, the headings and the
+//! records of a text.
 //! include/markdown.h declares its functions.
 #![tactic(auto)]
 
