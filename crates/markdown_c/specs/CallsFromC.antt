@@ -36,9 +36,9 @@ bytes_of (Ok whole) = Ok (string_bytes whole)
 bytes_of (Err refusal) = Err refusal
 
 -- the same of an outcome that is bytes
-abbrev pub items_of : {A : Type 0} → Result (Vec ℕ Global) A → Result (List ℕ) A
-items_of (Ok bytes) = Ok bytes.items
-items_of (Err refusal) = Err refusal
+abbrev pub vec_bytes : {A : Type 0} → Result (Vec ℕ Global) A → Result (List ℕ) A
+vec_bytes (Ok bytes) = Ok bytes.items
+vec_bytes (Err refusal) = Err refusal
 
 -- the bits that enable extensions of the syntax, those from 1 to 11 and from 13 to 15
 abbrev pub extension_flags : ℕ

@@ -9,12 +9,12 @@ use Rattle.markdown_c.specs.declared.readings.Refusal.TheVariants.{NotUtf8, Memo
 use Rattle.markdown_c.specs.declared.readings.Refusal.TheVariants.{TooLong}
 use Rattle.markdown_defs.specs.Folding.{folded_text}
 use Rattle.markdown_records.specs.Decoded.{decoded}
-use Rattle.markdown_records.specs.EntryView.{Contents}
+use Rattle.markdown_records.specs.RecordEntry.{Contents}
 use Rattle.markdown_records.specs.declared.fault.RecordFault.{RecordFault}
 use Rattle.markdown_records.specs.declared.fault.RecordFault.TheVariants as fault
 use Rattle.markdown_safe.specs.SafeEvents.{safe_events}
 use Rattle.markdown_text_records.specs.AnswerTable.{Table, table_of}
-use Rattle.markdown_text_records.specs.RecordsHtml.{BeginsTooDeep, IsHtmlOf, IsSafeHtmlOf}
+use Rattle.markdown_text_records.specs.RecordsHtml.{ReadsTooDeep, IsHtmlOfRecords, IsSafeHtmlOfRecords}
 use Rattle.markdown_text_records.specs.TextRecords.{AreRecordsOf, BeginsTooLong}
 
 -- the refusal for an error of records
@@ -23,8 +23,8 @@ refusal_of_records (fault.Of f) = refusal_of f
 refusal_of_records fault.TooLong = TooLong
 refusal_of_records fault.NotRecords = NotRecords
 
--- bytes are this table of answers to the questions of a text: the answers that the records of it begin with; no bytes are no
--- answers
+-- bytes are this table of answers to the questions of a text: the answers that the records of it begin with; no bytes
+-- are no answers
 abbrev pub IsTable : (text bytes : List ℕ) → Table → Type 0
 IsTable text bytes table = ((bytes ≡ []) × (table ≡ []))
     ⊎ ((c : Contents) × (decoded text bytes ≡ Some c) × (table ≡ table_of c.entries))
@@ -41,23 +41,24 @@ IsRecordsOutcome bits text answers (Err NotRecords) = (answers ≢ []) × (decod
 IsRecordsOutcome bits text answers (Err TooLong) = BeginsTooLong (source_as (syntax_by_bits bits) text)
 
 -- the HTML of the events that records say of a text, or why there is none
-abbrev pub IsReadOutcome : (IsOf : (text records html : List ℕ) → Type 0) → (as_written : List EventView → List EventView)
+abbrev pub IsReadOutcome : (IsOf : (text records html : List ℕ) → Type 0) → (as_written : List EventView
+    → List EventView)
     → (bits : ℕ) → (text records : List ℕ) → Result (List ℕ) Refusal → Type 0
 IsReadOutcome IsOf as_written bits text records (Ok html) =
     (are_known bits ≡ true) × IsUtf8 text × IsOf text records html
 IsReadOutcome IsOf as_written bits text records (Err UnknownOption) = are_known bits ≡ false
 IsReadOutcome IsOf as_written bits text records (Err NotUtf8) = IsUtf8 text → ⊥
 IsReadOutcome IsOf as_written bits text records (Err Memory) = Unit {0}
-IsReadOutcome IsOf as_written bits text records (Err Depth) = BeginsTooDeep as_written text records
+IsReadOutcome IsOf as_written bits text records (Err Depth) = ReadsTooDeep as_written text records
 IsReadOutcome IsOf as_written bits text records (Err NotRecords) = decoded text records ≡ None
 IsReadOutcome IsOf as_written bits text records (Err TooLong) = ⊥
 
 abbrev pub IsRecordsHtmlOutcome : (bits : ℕ) → (text records : List ℕ) → Result (List ℕ) Refusal → Type 0
-IsRecordsHtmlOutcome = IsReadOutcome IsHtmlOf (λ events. events)
+IsRecordsHtmlOutcome = IsReadOutcome IsHtmlOfRecords (λ events. events)
 
 -- the same, made safe
 abbrev pub IsRecordsSafeHtmlOutcome : (bits : ℕ) → (text records : List ℕ) → Result (List ℕ) Refusal → Type 0
-IsRecordsSafeHtmlOutcome = IsReadOutcome IsSafeHtmlOf safe_events
+IsRecordsSafeHtmlOutcome = IsReadOutcome IsSafeHtmlOfRecords safe_events
 
 -- the case folding of a label
 abbrev pub IsFoldOutcome : (label : List ℕ) → Result (List ℕ) Refusal → Type 0

@@ -1,6 +1,6 @@
 //! The result of a call: what is written to the caller's buffer, and the number that is returned.
 ghost use Rattle.std.specs.Prelude.{◌≡◌, Ok, pos, length};
-ghost use Rattle.markdown_c.specs.CallsFromC.{bytes_of, items_of, returned_number, buffer_after, refusal_status};
+ghost use Rattle.markdown_c.specs.CallsFromC.{bytes_of, vec_bytes, returned_number, buffer_after, refusal_status};
 
 use crate::readings::Refusal;
 
@@ -42,8 +42,8 @@ pub(crate) fn answer(outcome: Result<String, Refusal>, out: &mut [u8]) -> i64
 
 /// Returns the number for an outcome that is bytes, and writes them as `answer` does.
 pub(crate) fn answer_bytes(outcome: Result<Vec<u8>, Refusal>, out: &mut [u8]) -> i64
-    ensures number { result ≡ returned_number (items_of outcome) }
-    ensures buffer { out.new ≡ buffer_after out.old (items_of outcome) }
+    ensures number { result ≡ returned_number (vec_bytes outcome) }
+    ensures buffer { out.new ≡ buffer_after out.old (vec_bytes outcome) }
 {
     match outcome {
         Ok(bytes) => fill(bytes.as_slice(), out),

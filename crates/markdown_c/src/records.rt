@@ -1,7 +1,7 @@
 //! The outcomes of the calls that write and read records.
 ghost use Rattle.std.specs.Prelude.{◌≡◌, ◌≢◌, ◌⊎◌, [], None, MatchResult};
 ghost use Rattle.markdown_base.specs.declared.fault.Fault.TheVariants.{Memory};
-ghost use Rattle.markdown_c.specs.CallsFromC.{bytes_of, items_of};
+ghost use Rattle.markdown_c.specs.CallsFromC.{bytes_of, vec_bytes};
 ghost use Rattle.markdown_c.specs.RecordCalls.{IsFoldOutcome, IsRecordsHtmlOutcome, IsRecordsOutcome};
 ghost use Rattle.markdown_c.specs.RecordCalls.{IsRecordsSafeHtmlOutcome, IsTable};
 ghost use Rattle.markdown_records.specs.Decoded.{decoded};
@@ -37,7 +37,8 @@ fn answers_in<'a>(
 ) -> Result<Option<RecordAnswers<'a>>, RecordFault>
     ensures { MatchResult result
         (λ answers. IsTable text.entry.now bytes.entry.now (table_in answers))
-        (λ fault. ((fault ≡ NotRecords) × ((bytes.entry.now ≢ []) × (decoded text.entry.now bytes.entry.now ≡ None)))
+        (λ fault. ((fault ≡ NotRecords) × ((bytes.entry.now ≢ []) ×
+        (decoded text.entry.now bytes.entry.now ≡ None)))
         ⊎ (fault ≡ Of Memory)) }
 {
     if bytes.is_empty() {
@@ -54,7 +55,7 @@ pub(crate) fn records_of(
     bits: u32,
     answers: &[u8],
 ) -> Result<Vec<u8>, Refusal>
-    ensures { IsRecordsOutcome bits bytes.now answers.now (items_of result) }
+    ensures { IsRecordsOutcome bits bytes.now answers.now (vec_bytes result) }
 {
     let syntax = syntax_of(bits)?;
     let text = text_of(bytes)?;

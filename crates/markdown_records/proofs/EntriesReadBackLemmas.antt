@@ -4,21 +4,21 @@ use Rattle.std.specs.declared.ops.Range.{Range}
 use Rattle.markdown_records.specs.Decoded.{definition_in, entry_in}
 use Rattle.markdown_records.specs.Drafts.{definition_drafts, entry_drafts}
 use Rattle.markdown_records.specs.Encoded.{Sheet}
-use Rattle.markdown_records.specs.EntryView as entry
-use Rattle.markdown_records.specs.EntryView.{EntryView, LabelledView}
+use Rattle.markdown_records.specs.RecordEntry as entry
+use Rattle.markdown_records.specs.RecordEntry.{RecordEntry, LabelledView}
 use Rattle.markdown_records.proofs.EventsReadBackLemmas.{event_back, lone, ordered}
 use Rattle.markdown_records.proofs.GroupsReadBackLemmas.{ReadsOne}
 use Rattle.markdown_records.proofs.NumbersReadBackLemmas.{link_type_back}
 use Rattle.markdown_records.proofs.SheetsReadBackLemmas.{records_of}
 use Rattle.markdown_records.proofs.TextsReadBackLemmas.{AllRead}
 
-pub entry_back : (source pool : List ℕ) (e : EntryView) (sheet : Sheet) → AllRead source pool sheet (entry_drafts e)
+pub entry_back : (source pool : List ℕ) (e : RecordEntry) (sheet : Sheet) → AllRead source pool sheet (entry_drafts e)
     → ReadsOne (entry_in source pool) (records_of source sheet (entry_drafts e)) e
-entry_back source pool (entry.event e range) sheet reads = event_back source pool sheet range e reads
-entry_back source pool (entry.question q) sheet reads =
+entry_back source pool (entry.event_entry e range) sheet reads = event_back source pool sheet range e reads
+entry_back source pool (entry.question_entry q) sheet reads =
     lone refl (rw (ordered reads.0, link_type_back q.link_type, reads.0.said) refl)
-entry_back source pool (entry.answer range None) sheet reads = lone refl (rw (ordered reads.0) refl)
-entry_back source pool (entry.answer range (Some a)) sheet reads = record {
+entry_back source pool (entry.answer_entry range None) sheet reads = lone refl (rw (ordered reads.0) refl)
+entry_back source pool (entry.answer_entry range (Some a)) sheet reads = record {
   head = _;
   parts = _;
   is = refl;

@@ -8,30 +8,30 @@ use Rattle.markdown_base.specs.Event.{EventView, event_view}
 use Rattle.markdown_base.specs.declared.event.Event.{Event}
 use Rattle.markdown_base.specs.declared.fault.Fault.{Fault}
 use Rattle.markdown_base.specs.declared.fault.Fault.TheVariants.{Memory}
-use Rattle.markdown_records.specs.EntryView.{EntryView}
+use Rattle.markdown_records.specs.RecordEntry.{RecordEntry}
 use Rattle.markdown_records.specs.RecordEventsLaws.{ReturnsEventsLeft}
 use Rattle.markdown_records.specs.RecordsLeft.{event_steps, events_left}
 use Rattle.markdown_records.specs.SaidBy.{event_of, events_among, list_or_none}
 use Rattle.markdown_records.specs.declared.record_events.RecordEvents.{RecordEvents}
 
 -- after an entry that could be read the others can be read
-pub reads_on : (all others : Option (List EntryView)) (v : EntryView) → all ≡ option_map (λ vs. v ∷ vs) others
+pub reads_on : (all others : Option (List RecordEntry)) (v : RecordEntry) → all ≡ option_map (λ vs. v ∷ vs) others
     → is_some all ≡ true → is_some others ≡ true
-reads_on all None v is there = sym (ap (λ (o : Option (List EntryView)). is_some o) is) ∙ there
+reads_on all None v is there = sym (ap (λ (o : Option (List RecordEntry)). is_some o) is) ∙ there
 reads_on all (Some vs) v is there = refl
 
 apart : false ≡ true → ⊥
 apart e = cc
 
 -- an entry that is an event is the first of the events
-pub event_first : (all others : Option (List EntryView)) (v : EntryView) (e : EventView)
+pub event_first : (all others : Option (List RecordEntry)) (v : RecordEntry) (e : EventView)
     → all ≡ option_map (λ vs. v ∷ vs) others → is_some others ≡ true → event_of v ≡ Some e
     → events_among (list_or_none all) ≡ e ∷ events_among (list_or_none others)
 event_first all None v e is there found = absurd (apart there)
 event_first all (Some vs) v e is there found = rw (is, found) refl
 
 -- another entry is none of them
-pub event_skipped : (all others : Option (List EntryView)) (v : EntryView)
+pub event_skipped : (all others : Option (List RecordEntry)) (v : RecordEntry)
     → all ≡ option_map (λ vs. v ∷ vs) others → event_of v ≡ None
     → events_among (list_or_none all) ≡ events_among (list_or_none others)
 event_skipped all None v is found = rw is refl

@@ -10,10 +10,10 @@ use Rattle.markdown_base.specs.declared.tag.TagEnd.{TagEnd}
 use Rattle.markdown_base.specs.declared.tag.TagEnd.TheVariants as closes
 use Rattle.markdown_records.specs.Decoded.{Group, entry_in, link_in, tag_in}
 use Rattle.markdown_records.specs.Drafts.{DraftView, destination_of, event_drafts, heading_drafts, link_drafts}
-use Rattle.markdown_records.specs.Drafts.{link_parts, start_drafts}
+use Rattle.markdown_records.specs.Drafts.{parts_of_link, start_drafts}
 use Rattle.markdown_records.specs.Encoded.{Sheet, placed, then_draft}
-use Rattle.markdown_records.specs.EntryView as entry
-use Rattle.markdown_records.specs.EntryView.{EntryView}
+use Rattle.markdown_records.specs.RecordEntry as entry
+use Rattle.markdown_records.specs.RecordEntry.{RecordEntry}
 use Rattle.markdown_records.specs.Numbers.{answer_kind, first_part_kind, image_kind, link_kind, link_type_number}
 use Rattle.markdown_records.specs.Numbers.{question_kind, text_kind}
 use Rattle.markdown_records.specs.RecordView.{RecordView}
@@ -40,7 +40,7 @@ module _ (source pool : List ℕ) where
   -- an event is read of its records
   abbrev pub EventReads : Sheet → Range ℕ → List DraftView → EventView → Type 0
   EventReads sheet range drafts e = AllRead source pool sheet drafts
-      → ReadsOne (entry_in source pool) (records_of source sheet drafts) (entry.event e range)
+      → ReadsOne (entry_in source pool) (records_of source sheet drafts) (entry.event_entry e range)
 
   end_back : (sheet : Sheet) (range : Range ℕ) (e : TagEnd)
       → EventReads sheet range (event_drafts range (event.end e)) (event.end e)
@@ -58,7 +58,8 @@ module _ (source pool : List ℕ) where
         head = placed source (length sheet.pool) d;
         parts = records_of source (then_draft source sheet d) parts;
       }) ≡ Some tag
-      → ReadsOne (entry_in source pool) (records_of source sheet (d ∷ parts)) (entry.event (event.start tag) d.range)
+      → ReadsOne (entry_in source pool) (records_of source sheet (d ∷ parts)) (entry.event_entry
+      (event.start tag) d.range)
   start_of_group sheet d parts tag reads count are low is = record {
     head = placed source (length sheet.pool) d;
     parts = records_of source (then_draft source sheet d) parts;
@@ -96,14 +97,15 @@ module _ (source pool : List ℕ) where
     detail = link_type_number l.kind;
     range = range;
     wording = destination_of l.kind inside range l;
-    parts = length (link_parts inside range l);
+    parts = length (parts_of_link inside range l);
   }
 
   link_back : (sheet : Sheet) (kind inside : ℕ) (range : Range ℕ) (l : LinkView)
       → AllRead source pool sheet (link_drafts kind inside range l)
       → link_in source pool (record {
         head = placed source (length sheet.pool) (link_head kind inside range l);
-        parts = records_of source (then_draft source sheet (link_head kind inside range l)) (link_parts inside range l);
+        parts = records_of source (then_draft source sheet (link_head kind inside range l))
+            (parts_of_link inside range l);
       }) ≡ Some l
   link_back sheet kind inside range l reads = rw (
     link_type_back l.kind,

@@ -13,9 +13,10 @@ use Rattle.markdown_base.specs.declared.tag.MetadataBlockKind.TheVariants as fen
 use Rattle.markdown_records.specs.Decoded.{each_of}
 use Rattle.markdown_records.specs.Numbers.{alignment_letter, bool_number, level_number, link_type_number}
 use Rattle.markdown_records.specs.Numbers.{metadata_number, quote_number}
-use Rattle.markdown_records.specs.NumbersRead.{alignment_of, bool_of, level_of, link_type_of, metadata_of, quote_of}
+use Rattle.markdown_records.specs.NumbersRead.{alignment_of, bool_of, level_numbered, link_type_of, metadata_of}
+use Rattle.markdown_records.specs.NumbersRead.{quote_numbered}
 
-pub level_back : (l : HeadingLevel) → level_of (level_number l) ≡ Some l
+pub level_back : (l : HeadingLevel) → level_numbered (level_number l) ≡ Some l
 level_back level.H1 = refl
 level_back level.H2 = refl
 level_back level.H3 = refl
@@ -23,7 +24,7 @@ level_back level.H4 = refl
 level_back level.H5 = refl
 level_back level.H6 = refl
 
-pub quote_back : (k : Option BlockQuoteKind) → quote_of (quote_number k) ≡ Some k
+pub quote_back : (k : Option BlockQuoteKind) → quote_numbered (quote_number k) ≡ Some k
 quote_back None = refl
 quote_back (Some quote.Note) = refl
 quote_back (Some quote.Tip) = refl

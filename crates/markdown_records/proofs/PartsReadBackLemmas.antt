@@ -7,7 +7,7 @@ use Rattle.markdown_base.specs.declared.tag.HeadingLevel.{HeadingLevel}
 use Rattle.markdown_base.specs.declared.tag.LinkType.{LinkType}
 use Rattle.markdown_base.specs.declared.tag.LinkType.TheVariants as written
 use Rattle.markdown_records.specs.Decoded.{title_and_label, with_parts, with_value}
-use Rattle.markdown_records.specs.Drafts.{DraftView, attribute_parts, class_part, destination_of, part_unless_empty}
+use Rattle.markdown_records.specs.Drafts.{DraftView, attribute_parts, class_parts, destination_of, part_unless_empty}
 use Rattle.markdown_records.specs.Encoded.{Sheet, spot_of}
 use Rattle.markdown_records.specs.Numbers as number
 use Rattle.markdown_records.proofs.GroupsReadBackLemmas.{ArePartDrafts, is_part_draft}
@@ -84,9 +84,9 @@ attributes_back source pool level id classes before ((name, Some value) ∷ attr
 -- the classes of a heading after others, and then its attributes
 pub heading_parts_back : (source pool : List ℕ) (level : HeadingLevel) (id : Option (List ℕ))
     → (before classes : List (List ℕ)) (attributes : List (List ℕ × Option (List ℕ))) (sheet : Sheet)
-    → AllRead source pool sheet (flat_map class_part classes ++ flat_map attribute_parts attributes)
+    → AllRead source pool sheet (flat_map class_parts classes ++ flat_map attribute_parts attributes)
     → with_parts source pool (record { level = level; id = id; classes = before; attributes = [] })
-    (records_of source sheet (flat_map class_part classes ++ flat_map attribute_parts attributes))
+    (records_of source sheet (flat_map class_parts classes ++ flat_map attribute_parts attributes))
     ≡ Some (record { level = level; id = id; classes = before ++ classes; attributes = attributes })
 heading_parts_back source pool level id before [] attributes sheet reads =
     rw (append-nil before) (attributes_back source pool level id before [] attributes sheet reads)
@@ -105,6 +105,6 @@ attribute_part_drafts ((name, Some value) ∷ attributes) =
     (is_part_draft refl, (is_part_draft refl, attribute_part_drafts attributes))
 
 pub heading_part_drafts : (classes : List (List ℕ)) (attributes : List (List ℕ × Option (List ℕ)))
-    → ArePartDrafts (flat_map class_part classes ++ flat_map attribute_parts attributes)
+    → ArePartDrafts (flat_map class_parts classes ++ flat_map attribute_parts attributes)
 heading_part_drafts [] attributes = attribute_part_drafts attributes
 heading_part_drafts (class ∷ classes) attributes = (is_part_draft refl, heading_part_drafts classes attributes)

@@ -6,7 +6,7 @@ use Rattle.std.proofs.lemmas.Bool.{le-ltb, lt-ltb, ne_eqb}
 use Rattle.markdown_base.specs.Event as event
 use Rattle.markdown_records.specs.Decoded.{Group, bare_start_of, event_in, if_bare, leaf_in, list_in, tag_in}
 use Rattle.markdown_records.specs.Decoded.{then_option}
-use Rattle.markdown_records.specs.NumbersRead.{end_of}
+use Rattle.markdown_records.specs.NumbersRead.{end_numbered}
 use Rattle.markdown_records.specs.ReadOf.{bare_leaf_in}
 use Rattle.markdown_records.specs.ReadResult.{Finds, Reads}
 use Rattle.markdown_records.specs.declared.fault.RecordFault.{RecordFault}
@@ -30,7 +30,7 @@ leaf_event source pool g low high =
 -- the kinds after them are those of Ends
 pub end_event : (source pool : List ℕ) (g : Group) → 64 ≤ g.head.kind
     → event_in source pool g ≡ if_bare source pool g (option_map (λ e. event.end e)
-    (end_of (g.head.kind - 64) g.head.detail))
+    (end_numbered (g.head.kind - 64) g.head.detail))
 end_event source pool g high =
     let start : nat_lt g.head.kind 32 ≡ false =
     le-ltb g.head.kind 32 (omega arith) in
@@ -62,7 +62,7 @@ pub bare_tag : (source pool : List ℕ) (g : Group) → (g.head.kind ≡ 2 → �
     → (g.head.kind ≡ 6 → ⊥) → (g.head.kind ≡ 8 → ⊥) → (g.head.kind ≡ 12 → ⊥)
     → (g.head.kind ≡ 21 → ⊥) → (g.head.kind ≡ 22 → ⊥)
     → tag_in source pool g
-    ≡ if_bare source pool g (then_option (end_of g.head.kind g.head.detail) (bare_start_of source pool))
+    ≡ if_bare source pool g (then_option (end_numbered g.head.kind g.head.detail) (bare_start_of source pool))
 bare_tag source pool g a b c d e f h =
     rw (
       ne_eqb g.head.kind 2 a,

@@ -10,7 +10,7 @@ use Rattle.markdown_records.specs.Decoded.{contents_in, decoded, definition_in, 
 use Rattle.markdown_records.specs.Decoded.{records_bytes_of}
 use Rattle.markdown_records.specs.Drafts.{definition_drafts, entry_drafts}
 use Rattle.markdown_records.specs.Encoded.{Sheet, blank, encoded, entries_sheet, sheet_bytes, then_drafts, whole_sheet}
-use Rattle.markdown_records.specs.EntryView.{Contents}
+use Rattle.markdown_records.specs.RecordEntry.{Contents}
 use Rattle.markdown_records.specs.ReadsBack.{IsRecordable, drafts_of}
 use Rattle.markdown_records.specs.RecordView.{header_bytes, number_at, record_size, records_in}
 use Rattle.markdown_records.proofs.BytesReadBackLemmas.{length_records, records_read_back}

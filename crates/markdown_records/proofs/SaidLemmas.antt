@@ -7,7 +7,7 @@ use Rattle.markdown_records.specs.Decoded as whole
 use Rattle.markdown_records.specs.Decoded.{each_of, grouped, said_by, then_option}
 use Rattle.markdown_records.specs.GroupOf.{IsFirstGroup, IsWhole, group_view, groups_of}
 use Rattle.markdown_records.specs.RecordView.{RecordView, records_in}
-use Rattle.markdown_records.specs.EntryView.{Contents, EntryView, LabelledView}
+use Rattle.markdown_records.specs.RecordEntry.{Contents, RecordEntry, LabelledView}
 use Rattle.markdown_records.specs.ReadResult.{IsNotRead}
 use Rattle.markdown_records.specs.SaidBy.{contents_or_none, said_contents, said_definitions, said_entries}
 use Rattle.markdown_records.specs.declared.fault.RecordFault.{RecordFault}
@@ -115,7 +115,7 @@ pub contents_without_definitions : (source pool entries definitions : List ℕ)
 contents_without_definitions source pool entries definitions none =
     rw none (by_entries (said_entries source pool entries))
   where
-    by_entries : (es : Option (List EntryView))
+    by_entries : (es : Option (List RecordEntry))
         → then_option {B = Contents} es (λ e. None) ≡ None
     by_entries None = refl
     by_entries (Some es) = refl
@@ -127,8 +127,8 @@ pub contents_with_both : (source pool entries definitions : List ℕ) → is_som
 contents_with_both source pool entries definitions first last =
     by_both (said_entries source pool entries) (said_definitions source pool definitions) first last
   where
-    by_both : (es : Option (List EntryView)) (ds : Option (List LabelledView)) → is_some es ≡ true → is_some ds ≡ true
-        → is_some {T = Contents} (then_option es (λ (e : List EntryView). option_map
+    by_both : (es : Option (List RecordEntry)) (ds : Option (List LabelledView)) → is_some es ≡ true → is_some ds ≡ true
+        → is_some {T = Contents} (then_option es (λ (e : List RecordEntry). option_map
         (λ (d : List LabelledView). record { entries = e; definitions = d }) ds)) ≡ true
     by_both None ds e d = absurd (cc)
     by_both (Some es) None e d = absurd (cc)

@@ -8,8 +8,8 @@ use Rattle.std.proofs.lemmas.Str.{IsCharBoundary-at_seam, IsUtf8-append, IsUtf8-
 use Rattle.std.proofs.lemmas.Bool.Decides.{nat_tests}
 use Rattle.std.proofs.lemmas.Slice.Eq.{bytes_eq-Decides}
 use Rattle.std.proofs.Math.Seq.{drop-append_seam, take-append_seam}
-use Rattle.markdown_records.specs.Drafts.{DraftView, Wording, no_text, numbered, pooled, sought}
-use Rattle.markdown_records.specs.Encoded.{Sheet, Spot, pooled_bytes, spot_of, stands_at, then_draft, then_drafts}
+use Rattle.markdown_records.specs.Drafts.{DraftView, Wording, no_text, number_instead, pooled, sought}
+use Rattle.markdown_records.specs.Encoded.{Sheet, Spot, pooled_bytes, spot_of, is_found_at, then_draft, then_drafts}
 use Rattle.markdown_records.specs.ReadsBack.{AreSound, IsWording}
 use Rattle.markdown_records.specs.RecordView.{is_boundary, slice_of, in_pool, in_source}
 use Rattle.markdown_records.proofs.SheetsReadBackLemmas.{pooled_by}
@@ -37,7 +37,7 @@ slice_between before text after utf8 rest =
     rw (begin, end, count, drop-append_seam before (text ++ after), take-append_seam text after) refl
 
 -- what stands at an offset of the source is its slice there
-stands_there : (source : List ℕ) (at : ℕ) (text : List ℕ) → stands_at source at text ≡ true
+stands_there : (source : List ℕ) (at : ℕ) (text : List ℕ) → is_found_at source at text ≡ true
     → slice_of source at (length text) ≡ Some text
 stands_there source at text stands = by_slice (slice_of source at (length text)) stands
   where
@@ -56,7 +56,7 @@ text_at source pool spot =
 -- the text of a draft, if it has one, is at its place, with so many bytes in the pool before it
 abbrev pub Said : (source pool : List ℕ) → (at : ℕ) → Wording → Type 0
 Said source pool at no_text = Unit {0}
-Said source pool at (numbered n) = Unit {0}
+Said source pool at (number_instead n) = Unit {0}
 Said source pool at (pooled text) = text_at source pool (spot_of source at (pooled text)) ≡ Some text
 Said source pool at (sought first second text) =
     text_at source pool (spot_of source at (sought first second text)) ≡ Some text
@@ -64,12 +64,12 @@ Said source pool at (sought first second text) =
 said : (source before after : List ℕ) (w : Wording) → IsWording w → IsUtf8 after
     → Said source (before ++ (pooled_bytes source w ++ after)) (length before) w
 said source before after no_text is rest = tt
-said source before after (numbered n) is rest = tt
+said source before after (number_instead n) is rest = tt
 said source before after (pooled text) is rest = slice_between before text after is rest
 said source before after (sought first second text) is rest =
-    by_test (stands_at source first text) (stands_at source second text) refl refl
+    by_test (is_found_at source first text) (is_found_at source second text) refl refl
   where
-    by_test : (here there : Bool) → stands_at source first text ≡ here → stands_at source second text ≡ there
+    by_test : (here there : Bool) → is_found_at source first text ≡ here → is_found_at source second text ≡ there
         → Said source (before ++ (pooled_bytes source (sought first second text) ++ after)) (length before)
         (sought first second text)
     by_test true there e f = rw (e, stands_there source first text e) refl
@@ -95,9 +95,9 @@ pooled_utf8 source (d ∷ ds) sound =
   where
     by_wording : (w : Wording) → IsWording w → IsUtf8 (pooled_bytes source w)
     by_wording no_text is = IsUtf8-nil
-    by_wording (numbered n) is = IsUtf8-nil
+    by_wording (number_instead n) is = IsUtf8-nil
     by_wording (pooled text) is = is
-    by_wording (sought first second text) is = by_test (stands_at source first text) (stands_at source second text)
+    by_wording (sought first second text) is = by_test (is_found_at source first text) (is_found_at source second text)
       where
         by_test : (here there : Bool) → IsUtf8 (if here then [] else if there then [] else text)
         by_test true there = IsUtf8-nil

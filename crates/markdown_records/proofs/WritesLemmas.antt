@@ -12,7 +12,7 @@ use Rattle.markdown_records.specs.Drafts.{DraftView}
 use Rattle.markdown_records.specs.Encoded.{FitDrafts, Sheet, Spot, placed, record_at, then_draft, then_drafts}
 use Rattle.markdown_records.specs.RecordOf.{spot_view}
 use Rattle.markdown_records.specs.RecordView.{record_bytes}
-use Rattle.markdown_records.specs.RecordsOf.{IsRefusal, Places, Writes, entries_of, records_source, sheet_of}
+use Rattle.markdown_records.specs.RecordsOf.{IsRecordRefusal, Places, Writes, marked_entries, records_source, sheet_of}
 use Rattle.markdown_records.specs.declared.draft.SpotHeld.{SpotHeld}
 use Rattle.markdown_records.specs.declared.encode.Records.{Records}
 use Rattle.markdown_records.specs.declared.fault.RecordFault.{RecordFault}
@@ -35,8 +35,8 @@ fit_later source sheet (d ∷ ds) es f = fit_later source (then_draft source she
 
 -- what is refused is refused also as a part of more
 pub refuses_less : (source other : List ℕ) (sheet next : Sheet) (ds es : List DraftView) (fault : RecordFault)
-    → (FitDrafts source sheet ds → FitDrafts other next es) → IsRefusal other next es fault
-    → IsRefusal source sheet ds fault
+    → (FitDrafts source sheet ds → FitDrafts other next es) → IsRecordRefusal other next es fault
+    → IsRecordRefusal source sheet ds fault
 refuses_less source other sheet next ds es fault fits =
     ⊎_elim (λ (memory : fault ≡ Of Memory). inl memory) (λ (p : (fault ≡ TooLong) × (FitDrafts other next es → ⊥)).
     inr (p.0, λ f. p.1 (fits f)))
@@ -118,7 +118,7 @@ same_sheet count records pool = cc
 
 -- the text has a place, and the record follows the others
 pub writes_draft : {old middle new : Records} {spot : SpotHeld} (d : DraftView) → Places old d.wording (Ok spot) middle
-    → records_source new ≡ records_source middle → entries_of new ≡ entries_of middle
+    → records_source new ≡ records_source middle → marked_entries new ≡ marked_entries middle
     → (sheet_of new).count ≡ (sheet_of middle).count + 1
     → (sheet_of new).records ≡ (sheet_of middle).records ++ record_bytes (record_at (spot_view spot) d)
     → (sheet_of new).pool ≡ (sheet_of middle).pool → Writes {A = ⊤} old (d ∷ []) (Ok tt) new

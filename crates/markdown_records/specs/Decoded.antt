@@ -9,12 +9,12 @@ use Rattle.markdown_base.specs.Event.{EventView, TagView, HeadingView, LinkView}
 use Rattle.markdown_base.specs.Questions.{Answer, Question}
 use Rattle.markdown_base.specs.declared.tag.TagEnd.{TagEnd}
 use Rattle.markdown_base.specs.declared.tag.TagEnd.TheVariants as closes
-use Rattle.markdown_records.specs.EntryView as entry
-use Rattle.markdown_records.specs.EntryView.{Contents, EntryView, LabelledView}
+use Rattle.markdown_records.specs.RecordEntry as entry
+use Rattle.markdown_records.specs.RecordEntry.{Contents, RecordEntry, LabelledView}
 use Rattle.markdown_records.specs.Numbers as number
 use Rattle.markdown_records.specs.Numbers.{end_bit, first_part_kind}
-use Rattle.markdown_records.specs.NumbersRead.{alignment_of, bool_of, end_of, level_of, link_type_of}
-use Rattle.markdown_records.specs.RecordView.{RecordView, a_number, format_bytes, in_pool, in_source, nowhere}
+use Rattle.markdown_records.specs.NumbersRead.{alignment_of, bool_of, end_numbered, level_numbered, link_type_of}
+use Rattle.markdown_records.specs.RecordView.{RecordView, a_number, format_bytes, in_pool, in_source, no_place}
 use Rattle.markdown_records.specs.RecordView.{number_at}
 use Rattle.markdown_records.specs.RecordView.{record_size, records_in, slice_of}
 
@@ -47,7 +47,7 @@ grouped (r ∷ rest) =
 
 -- there is no text and no number
 abbrev pub has_no_text : RecordView → Bool
-has_no_text r = (r.place == nowhere) && (r.at == 0) && (r.length == 0)
+has_no_text r = (r.place == no_place) && (r.at == 0) && (r.length == 0)
 
 -- a part has a range of 0..0, a detail of 0 and no parts
 abbrev pub is_part : RecordView → Bool
@@ -123,7 +123,7 @@ module _ (source pool : List ℕ) where
       then_option (text_in r) (λ text. then_option (with_part h r.kind text) (λ longer. with_parts longer rest))
 
   abbrev pub heading_in : Group → Option HeadingView
-  heading_in g = then_option (level_of g.head.detail) (λ level. then_option (optional_text_in g.head)
+  heading_in g = then_option (level_numbered g.head.detail) (λ level. then_option (optional_text_in g.head)
       (λ id. with_parts (record { level = level; id = id; classes = []; attributes = [] }) g.parts))
 
   -- the text of the first part, if it is of this kind, or else an empty one; and the parts after it
@@ -206,7 +206,7 @@ module _ (source pool : List ℕ) where
       else if g.head.kind == number.table_kind then table_in g
       else if g.head.kind == number.link_kind then option_map (λ l. event.link l) (link_in g)
       else if g.head.kind == number.image_kind then option_map (λ l. event.image l) (link_in g)
-      else if_bare g (then_option (end_of g.head.kind g.head.detail) bare_start_of)
+      else if_bare g (then_option (end_numbered g.head.kind g.head.detail) bare_start_of)
 
   -- an event without a text, whose detail is 0
   abbrev pub plain : Group → EventView → Option EventView
@@ -234,7 +234,7 @@ module _ (source pool : List ℕ) where
   event_in g =
       if nat_lt g.head.kind number.text_kind then option_map (λ tag. event.start tag) (tag_in g)
       else if nat_lt g.head.kind end_bit then leaf_in g
-      else if_bare g (option_map (λ e. event.end e) (end_of (g.head.kind - end_bit) g.head.detail))
+      else if_bare g (option_map (λ e. event.end e) (end_numbered (g.head.kind - end_bit) g.head.detail))
 
   abbrev pub range_of : RecordView → Range ℕ
   range_of r = record { start = r.start; end = r.end }
@@ -256,12 +256,13 @@ module _ (source pool : List ℕ) where
       then Some (Some (record { destination = destination; title = title.0 })) else None))
       else None
 
-  abbrev pub entry_in : Group → Option EntryView
+  abbrev pub entry_in : Group → Option RecordEntry
   entry_in g =
       if is_sound g then (
-      if g.head.kind == number.question_kind then option_map (λ q. entry.question q) (question_in g)
-      else if g.head.kind == number.answer_kind then option_map (λ a. entry.answer (range_of g.head) a) (answer_in g)
-      else option_map (λ e. entry.event e (range_of g.head)) (event_in g))
+      if g.head.kind == number.question_kind then option_map (λ q. entry.question_entry q) (question_in g)
+      else if g.head.kind == number.answer_kind then option_map (λ a. entry.answer_entry (range_of g.head) a)
+      (answer_in g)
+      else option_map (λ e. entry.event_entry e (range_of g.head)) (event_in g))
       else None
 
   -- the title of a definition, which may be missing
@@ -293,7 +294,8 @@ module _ (source pool : List ℕ) where
   -- what records say of which so many come before the definitions
   abbrev pub contents_in : (entries : ℕ) → List RecordView → Option Contents
   contents_in entries records = then_option (said_by entry_in (take entries records))
-      (λ es. option_map (λ ds. record { entries = es; definitions = ds }) (said_by definition_in (drop entries records)))
+      (λ es. option_map (λ ds. record { entries = es; definitions = ds }) (said_by definition_in
+      (drop entries records)))
 
 -- the pool of bytes whose header says that there are so many records
 abbrev pub pool_of : (count : ℕ) → List ℕ → List ℕ

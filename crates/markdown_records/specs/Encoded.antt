@@ -3,10 +3,10 @@ use Rattle.std.specs.Prelude.{ℕ, ◌+◌, ◌/◌, ◌%◌, ◌^◌, ◌<◌, 
 use Rattle.std.specs.List.{flat_map}
 use Rattle.std.specs.Option.{option_map_or}
 use Rattle.std.specs.Str.{bytes_eq}
-use Rattle.markdown_records.specs.Drafts.{DraftView, Wording, no_text, numbered, pooled, sought}
+use Rattle.markdown_records.specs.Drafts.{DraftView, Wording, no_text, number_instead, pooled, sought}
 use Rattle.markdown_records.specs.Drafts.{definition_drafts, entry_drafts}
-use Rattle.markdown_records.specs.EntryView.{Contents}
-use Rattle.markdown_records.specs.RecordView.{RecordView, a_number, header_bytes, in_pool, in_source, nowhere}
+use Rattle.markdown_records.specs.RecordEntry.{Contents}
+use Rattle.markdown_records.specs.RecordView.{RecordView, a_number, header_bytes, in_pool, in_source, no_place}
 use Rattle.markdown_records.specs.RecordView.{record_bytes, slice_of}
 
 -- where a text is
@@ -16,26 +16,26 @@ pub record Spot : Type 0 where
   pub length : ℕ
 
 -- whether a text stands at this offset of the source
-abbrev pub stands_at : (source : List ℕ) → (at : ℕ) → List ℕ → Bool
-stands_at source at text = option_map_or (λ slice. bytes_eq slice text) (slice_of source at (length text)) false
+abbrev pub is_found_at : (source : List ℕ) → (at : ℕ) → List ℕ → Bool
+is_found_at source at text = option_map_or (λ slice. bytes_eq slice text) (slice_of source at (length text)) false
 
 -- where the text of a draft is, with so many bytes in the pool before it
 abbrev pub spot_of : (source : List ℕ) → (pool : ℕ) → Wording → Spot
-spot_of source pool no_text = record { place = nowhere; at = 0; length = 0 }
-spot_of source pool (numbered n) = record { place = a_number; at = n % 2 ^ 32; length = n / 2 ^ 32 }
+spot_of source pool no_text = record { place = no_place; at = 0; length = 0 }
+spot_of source pool (number_instead n) = record { place = a_number; at = n % 2 ^ 32; length = n / 2 ^ 32 }
 spot_of source pool (pooled text) = record { place = in_pool; at = pool; length = length text }
 spot_of source pool (sought first second text) =
-    if stands_at source first text then record { place = in_source; at = first; length = length text }
-    else if stands_at source second text then record { place = in_source; at = second; length = length text }
+    if is_found_at source first text then record { place = in_source; at = first; length = length text }
+    else if is_found_at source second text then record { place = in_source; at = second; length = length text }
     else record { place = in_pool; at = pool; length = length text }
 
 -- what a draft adds to the pool
 abbrev pub pooled_bytes : (source : List ℕ) → Wording → List ℕ
 pooled_bytes source no_text = []
-pooled_bytes source (numbered n) = []
+pooled_bytes source (number_instead n) = []
 pooled_bytes source (pooled text) = text
 pooled_bytes source (sought first second text) =
-    if stands_at source first text then [] else if stands_at source second text then [] else text
+    if is_found_at source first text then [] else if is_found_at source second text then [] else text
 
 -- the record of a draft whose text is here
 abbrev pub record_at : Spot → DraftView → RecordView

@@ -5,8 +5,8 @@ use Rattle.std.specs.Borrow.{Bor}
 use Rattle.markdown_base.specs.BlockParts.{definition_view}
 use Rattle.markdown_base.specs.Event.{event_view}
 use Rattle.markdown_base.specs.Questions.{Answer}
-use Rattle.markdown_records.specs.EntryView as entry
-use Rattle.markdown_records.specs.EntryView.{EntryView, LabelledView}
+use Rattle.markdown_records.specs.RecordEntry as entry
+use Rattle.markdown_records.specs.RecordEntry.{RecordEntry, LabelledView}
 use Rattle.markdown_records.specs.declared.read_entries.Entry.{Entry}
 use Rattle.markdown_records.specs.declared.read_entries.Entry.TheVariants as held
 use Rattle.markdown_records.specs.declared.read_entries.Labelled.{Labelled}
@@ -20,11 +20,11 @@ abbrev pub given_answer : Bor (List ℕ) × Bor (List ℕ) → Option Answer
 given_answer texts = Some (answer_view texts)
 
 -- an entry, by its texts
-abbrev pub entry_view : Entry → EntryView
-entry_view (held.Event e range) = entry.event (event_view e) range
-entry_view (held.Question span link_type label) =
-    entry.question (record { span = span; link_type = link_type; reference = label.now })
-entry_view (held.Answer span given) = entry.answer span (option_map answer_view given)
+abbrev pub entry_said : Entry → RecordEntry
+entry_said (held.Event e range) = entry.event_entry (event_view e) range
+entry_said (held.Question span link_type label) =
+    entry.question_entry (record { span = span; link_type = link_type; reference = label.now })
+entry_said (held.Answer span given) = entry.answer_entry span (option_map answer_view given)
 
 -- a definition with its label, by their texts
 abbrev pub labelled_view : Labelled → LabelledView

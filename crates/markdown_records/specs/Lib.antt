@@ -1,5 +1,5 @@
 -- Events as records: what records hold, contents as records, and records as contents.
-pub mod EntryView
+pub mod RecordEntry
 pub mod Numbers
 pub mod NumbersRead
 pub mod RecordView
@@ -15,7 +15,7 @@ pub mod RecordedContents
 pub mod RecordsLeft
 pub mod RecordEventsLaws
 pub mod AnswersLeft
-pub mod DefinitionsLeft
+pub mod RecordedDefinitionsLeft
 -- Definitions of other crates that the clauses cite.
 pub use Rattle.markdown_base.specs.Event
 -- the terms of private clauses

@@ -14,8 +14,8 @@ use Rattle.markdown_base.specs.declared.tag.MetadataBlockKind.TheVariants as fen
 use Rattle.markdown_base.specs.declared.tag.TagEnd.{TagEnd}
 use Rattle.markdown_base.specs.declared.tag.TagEnd.TheVariants as closes
 
-abbrev pub level_of : ℕ → Option HeadingLevel
-level_of n =
+abbrev pub level_numbered : ℕ → Option HeadingLevel
+level_numbered n =
     if n == 1 then Some level.H1
     else if n == 2 then Some level.H2
     else if n == 3 then Some level.H3
@@ -24,8 +24,8 @@ level_of n =
     else if n == 6 then Some level.H6
     else None
 
-abbrev pub quote_of : ℕ → Option (Option BlockQuoteKind)
-quote_of n =
+abbrev pub quote_numbered : ℕ → Option (Option BlockQuoteKind)
+quote_numbered n =
     if n == 0 then Some None
     else if n == 1 then Some (Some quote.Note)
     else if n == 2 then Some (Some quote.Tip)
@@ -94,10 +94,10 @@ bare_end_of kind =
     else None
 
 -- an End by the kind of its Start, and its detail
-abbrev pub end_of : (kind detail : ℕ) → Option TagEnd
-end_of kind detail =
-    if kind == 0x02 then option_map (λ level. closes.Heading level) (level_of detail)
-    else if kind == 0x03 then option_map (λ quote. closes.BlockQuote quote) (quote_of detail)
+abbrev pub end_numbered : (kind detail : ℕ) → Option TagEnd
+end_numbered kind detail =
+    if kind == 0x02 then option_map (λ level. closes.Heading level) (level_numbered detail)
+    else if kind == 0x03 then option_map (λ quote. closes.BlockQuote quote) (quote_numbered detail)
     else if kind == 0x06 then option_map (λ ordered. closes.List ordered) (bool_of detail)
     else if kind == 0x17 then option_map (λ fence. closes.MetadataBlock fence) (metadata_of detail)
     else if detail == 0 then bare_end_of kind

@@ -27,5 +27,5 @@ abbrev pub Makes : {A B C : Type 0} → (A → B) → (defined : Option B) → R
 Makes view defined result new = MatchResult result (λ _. defined ≡ Some (view new)) (λ fault. IsNotRead defined fault)
 
 -- there is what is defined, or nothing is read
-abbrev pub CanRead : {B C : Type 0} → (defined : Option B) → Result C RecordFault → Type 0
-CanRead defined result = MatchResult result (λ _. is_some defined ≡ true) (λ fault. IsNotRead defined fault)
+abbrev pub CanBeRead : {B C : Type 0} → (defined : Option B) → Result C RecordFault → Type 0
+CanBeRead defined result = MatchResult result (λ _. is_some defined ≡ true) (λ fault. IsNotRead defined fault)

@@ -2,16 +2,16 @@
 use Rattle.std.specs.Prelude.{◌≡◌, ◌≤◌, ◌<◌, ◌^◌, ◌++◌, ℕ, List, [], ◌∷◌, length, Some}
 use Rattle.std.specs.List.{flat_map}
 use Rattle.std.specs.Str.{IsUtf8}
-use Rattle.markdown_records.specs.Drafts.{DraftView, Wording, no_text, numbered, pooled, sought}
+use Rattle.markdown_records.specs.Drafts.{DraftView, Wording, no_text, number_instead, pooled, sought}
 use Rattle.markdown_records.specs.Drafts.{definition_drafts, entry_drafts}
 use Rattle.markdown_records.specs.Decoded.{decoded}
 use Rattle.markdown_records.specs.Encoded.{FitDrafts, blank, encoded, whole_sheet}
-use Rattle.markdown_records.specs.EntryView.{Contents}
+use Rattle.markdown_records.specs.RecordEntry.{Contents}
 
 -- a text is UTF-8
 abbrev pub IsWording : Wording → Type 0
 IsWording no_text = Unit {0}
-IsWording (numbered n) = Unit {0}
+IsWording (number_instead n) = Unit {0}
 IsWording (pooled text) = IsUtf8 text
 IsWording (sought first second text) = IsUtf8 text
 
@@ -32,6 +32,6 @@ pub record IsRecordable (source : List ℕ) (c : Contents) : Type 0 where
   pub pool_fits : length (whole_sheet source c).pool < 2 ^ 32
 
 -- they read back
-abbrev pub ReadsBack : Type 0
-ReadsBack = (source : List ℕ) (c : Contents) → IsRecordable source c
+abbrev pub RecordsReadBack : Type 0
+RecordsReadBack = (source : List ℕ) (c : Contents) → IsRecordable source c
     → decoded source (encoded source c) ≡ Some c

@@ -4,7 +4,7 @@ use Rattle.std.specs.Option.{option_map}
 use Rattle.std.specs.declared.ops.Range.{Range}
 use Rattle.markdown_base.specs.CowText.{text_of}
 use Rattle.markdown_base.specs.Event.{HeadingView, LinkView, attribute_view}
-use Rattle.markdown_records.specs.Drafts.{DraftView, Wording, no_text, numbered, pooled, sought}
+use Rattle.markdown_records.specs.Drafts.{DraftView, Wording, no_text, number_instead, pooled, sought}
 use Rattle.markdown_records.specs.RecordView.{RecordView}
 use Rattle.markdown_records.specs.Encoded.{Spot}
 use Rattle.markdown_records.specs.declared.draft.Draft.{Draft}
@@ -31,7 +31,7 @@ record_view r = record {
 
 abbrev pub wording_of : TextPlace → Wording
 wording_of text.Absent = no_text
-wording_of (text.Number n) = numbered n
+wording_of (text.Number n) = number_instead n
 wording_of (text.Pooled words) = pooled words.now
 wording_of (text.Sought words first second) = sought first second words.now
 

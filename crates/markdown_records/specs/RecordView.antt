@@ -18,10 +18,10 @@ pub record RecordView : Type 0 where
   pub length : ℕ
   pub parts : ℕ
 
--- the places of a text: none; a slice of the source; a slice of the pool, both by offset and length in bytes; and instead
--- of a text a number, of which `at` is the low half and `length` the high one
-abbrev pub nowhere : ℕ
-nowhere = 0
+-- the places of a text: none; a slice of the source; a slice of the pool, both by offset and length in bytes; and
+-- instead of a text a number, of which `at` is the low half and `length` the high one
+abbrev pub no_place : ℕ
+no_place = 0
 
 abbrev pub in_source : ℕ
 in_source = 1

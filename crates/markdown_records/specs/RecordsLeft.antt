@@ -5,19 +5,19 @@ use Rattle.markdown_base.specs.Event.{EventView, event_view}
 use Rattle.markdown_base.specs.declared.event.Event.{Event}
 use Rattle.markdown_base.specs.declared.fault.Fault.{Fault}
 use Rattle.markdown_base.specs.declared.fault.Fault.TheVariants.{Memory}
-use Rattle.markdown_records.specs.EntryOf.{entry_view}
-use Rattle.markdown_records.specs.EntryView.{EntryView}
+use Rattle.markdown_records.specs.EntryOf.{entry_said}
+use Rattle.markdown_records.specs.RecordEntry.{RecordEntry}
 use Rattle.markdown_records.specs.SaidBy.{events_among, list_or_none, said_entries}
 use Rattle.markdown_records.specs.declared.read_entries.Entry.{Entry}
 use Rattle.markdown_records.specs.declared.record_events.RecordEvents.{RecordEvents}
 
 -- the entries that are left, if each can be read
-abbrev pub entries_left : RecordEvents → Option (List EntryView)
+abbrev pub entries_left : RecordEvents → Option (List RecordEntry)
 entries_left e = said_entries e.source.now e.pool.now e.left.now
 
 -- each entry that is left can be read
-abbrev pub CanReadOn : RecordEvents → Type 0
-CanReadOn e = is_some (entries_left e) ≡ true
+abbrev pub EntriesCanBeRead : RecordEvents → Type 0
+EntriesCanBeRead e = is_some (entries_left e) ≡ true
 
 -- the events that are left
 abbrev pub events_left : RecordEvents → List EventView
@@ -30,7 +30,7 @@ bytes_left e = length e.left.now
 -- an entry was the first of those left, or there was none; or an allocation failed, and nothing is left
 abbrev pub GivesEntry : (old : RecordEvents) → Option (Result Entry Fault) → (new : RecordEvents) → Type 0
 GivesEntry old None new = (entries_left old ≡ Some []) × (new ≡ old)
-GivesEntry old (Some (Ok e)) new = (entries_left old ≡ option_map (λ others. entry_view e ∷ others) (entries_left new))
+GivesEntry old (Some (Ok e)) new = (entries_left old ≡ option_map (λ others. entry_said e ∷ others) (entries_left new))
     × (bytes_left new < bytes_left old)
 GivesEntry old (Some (Err fault)) new = (fault ≡ Memory) × (entries_left new ≡ Some [])
     × (bytes_left new < bytes_left old)

@@ -21,12 +21,12 @@ abbrev pub sheet_of : Records → Sheet
 sheet_of r = record { count = r.count; records = r.records.items; pool = string_bytes r.pool }
 
 -- how many of the records come before the definitions
-abbrev pub entries_of : Records → ℕ
-entries_of r = r.entries
+abbrev pub marked_entries : Records → ℕ
+marked_entries r = r.entries
 
 -- drafts are not written for this reason: an allocation failed, or a number among them is 2^32 or greater
-abbrev pub IsRefusal : (source : List ℕ) → Sheet → List DraftView → RecordFault → Type 0
-IsRefusal source sheet ds fault =
+abbrev pub IsRecordRefusal : (source : List ℕ) → Sheet → List DraftView → RecordFault → Type 0
+IsRecordRefusal source sheet ds fault =
     (fault ≡ Of Memory) ⊎ ((fault ≡ TooLong) × (FitDrafts source sheet ds → ⊥))
 
 -- a text has no place for this reason: an allocation failed, or its offset or its length is 2^32 or greater
@@ -43,23 +43,23 @@ pub record IsShortRange (range : Range ℕ) : Type 0 where
 pub record Writes {A : Type 0} (old : Records) (ds : List DraftView) (result : Result A RecordFault)
     (new : Records) : Type 0 where
   pub source : records_source new ≡ records_source old
-  pub entries : entries_of new ≡ entries_of old
+  pub entries : marked_entries new ≡ marked_entries old
   pub written : IfOk result (λ _. sheet_of new ≡ then_drafts (records_source old) (sheet_of old) ds)
-  pub refused : IfErr result (IsRefusal (records_source old) (sheet_of old) ds)
+  pub refused : IfErr result (IsRecordRefusal (records_source old) (sheet_of old) ds)
 
 -- the same for drafts of what comes before the definitions
 pub record WritesEntry {A : Type 0} (old : Records) (ds : List DraftView) (result : Result A RecordFault)
     (new : Records) : Type 0 where
   pub source : records_source new ≡ records_source old
-  pub entries : IfOk result (λ _. entries_of new ≡ (sheet_of new).count)
+  pub entries : IfOk result (λ _. marked_entries new ≡ (sheet_of new).count)
   pub written : IfOk result (λ _. sheet_of new ≡ then_drafts (records_source old) (sheet_of old) ds)
-  pub refused : IfErr result (IsRefusal (records_source old) (sheet_of old) ds)
+  pub refused : IfErr result (IsRecordRefusal (records_source old) (sheet_of old) ds)
 
 -- where the text of a draft is, of which the pool has grown, or why it has no place
 pub record Places (old : Records) (wording : Wording) (result : Result SpotHeld RecordFault)
     (new : Records) : Type 0 where
   pub source : records_source new ≡ records_source old
-  pub entries : entries_of new ≡ entries_of old
+  pub entries : marked_entries new ≡ marked_entries old
   pub count : (sheet_of new).count ≡ (sheet_of old).count
   pub records : (sheet_of new).records ≡ (sheet_of old).records
   pub pool : IfOk result (λ _. (sheet_of new).pool ≡ (sheet_of old).pool ++ pooled_bytes (records_source old) wording)
@@ -68,6 +68,6 @@ pub record Places (old : Records) (wording : Wording) (result : Result SpotHeld 
 
 -- the whole is the bytes of the sheet, or there are none: an allocation failed, or the text or the pool is too long
 pub record Finishes (old : Records) (result : Result (Vec ℕ Global) RecordFault) : Type 0 where
-  pub whole : IfOk result (λ bytes. bytes.items ≡ sheet_bytes (records_source old) (entries_of old) (sheet_of old))
+  pub whole : IfOk result (λ bytes. bytes.items ≡ sheet_bytes (records_source old) (marked_entries old) (sheet_of old))
   pub refused : IfErr result (λ fault. (fault ≡ Of Memory)
       ⊎ ((fault ≡ TooLong) × (2 ^ 32 ≤ max (length (records_source old)) (length (sheet_of old).pool))))

@@ -1,7 +1,7 @@
 //! Whether all records can be read.
 ghost use Rattle.markdown_records.specs.Decoded.{definition_in, entry_in};
 ghost use Rattle.markdown_records.specs.GroupOf.{BeginsWhole, group_view};
-ghost use Rattle.markdown_records.specs.ReadResult.{CanRead};
+ghost use Rattle.markdown_records.specs.ReadResult.{CanBeRead};
 ghost use Rattle.markdown_records.specs.SaidBy.{said_definitions, said_entries};
 
 use crate::fault::RecordFault;
@@ -24,7 +24,7 @@ fn check_first(bytes: &[u8]) -> Result<(), RecordFault>
 impl<'a> Texts<'a> {
     /// Reads an entry, and returns an error where there is none.
     fn check_entry(&self, alloc: Global, group: &Group<'a>) -> Result<(), RecordFault>
-        ensures { CanRead (entry_in self.now.source.now self.now.pool.now (group_view group.now))
+        ensures { CanBeRead (entry_in self.now.source.now self.now.pool.now (group_view group.now))
             result }
     {
         let entry = self.entry_of(alloc, group)?;
@@ -34,7 +34,7 @@ impl<'a> Texts<'a> {
 
     /// Reads a definition, and returns an error where there is none.
     fn check_definition(&self, group: &Group<'a>) -> Result<(), RecordFault>
-        ensures { CanRead (definition_in self.now.source.now self.now.pool.now
+        ensures { CanBeRead (definition_in self.now.source.now self.now.pool.now
             (group_view group.now)) result }
     {
         let definition = self.definition_of(group).ok_or(RecordFault::NotRecords)?;
@@ -44,7 +44,7 @@ impl<'a> Texts<'a> {
 
     /// Reads the entries of bytes, and returns an error where one is wrong.
     pub fn check_entries(&self, alloc: Global, bytes: &'a [u8]) -> Result<(), RecordFault>
-        ensures { CanRead (said_entries self.now.source.now self.now.pool.now bytes.entry.now)
+        ensures { CanBeRead (said_entries self.now.source.now self.now.pool.now bytes.entry.now)
             result }
     {
         check_first(bytes)?;
@@ -60,7 +60,7 @@ impl<'a> Texts<'a> {
 
     /// Reads the definitions of bytes, and returns an error where one is wrong.
     pub fn check_definitions(&self, bytes: &'a [u8]) -> Result<(), RecordFault>
-        ensures { CanRead (said_definitions self.now.source.now self.now.pool.now bytes.entry.now)
+        ensures { CanBeRead (said_definitions self.now.source.now self.now.pool.now bytes.entry.now)
             result }
     {
         check_first(bytes)?;

@@ -29,9 +29,9 @@ impl<'a> RecordedText<'a> {
     ghost use Rattle.markdown_records.specs.Decoded.{decoded};
     ghost use Rattle.markdown_records.specs.ReadResult.{Reads};
     ghost use Rattle.markdown_records.specs.AnswersLeft.{answer_entries_left};
-    ghost use Rattle.markdown_records.specs.DefinitionsLeft.{definitions_left};
-    ghost use Rattle.markdown_records.specs.RecordedContents.{contents_of};
-    ghost use Rattle.markdown_records.specs.RecordsLeft.{CanReadOn, events_left};
+    ghost use Rattle.markdown_records.specs.RecordedDefinitionsLeft.{recorded_definitions_left};
+    ghost use Rattle.markdown_records.specs.RecordedContents.{contents_said};
+    ghost use Rattle.markdown_records.specs.RecordsLeft.{EntriesCanBeRead, events_left};
     ghost use Rattle.markdown_records.specs.SaidBy.{events_among};
 
     /// Returns what bytes say of a text. Each record is read once, and nothing is kept of it.
@@ -45,7 +45,7 @@ impl<'a> RecordedText<'a> {
         text: &'a str,
         bytes: &'a [u8],
     ) -> Result<RecordedText<'a>, RecordFault>
-        ensures { Reads contents_of (decoded text.entry.now bytes.entry.now) result }
+        ensures { Reads contents_said (decoded text.entry.now bytes.entry.now) result }
     {
         let form = form_of(text, bytes).ok_or(RecordFault::NotRecords)?;
         let texts = Texts {
@@ -64,22 +64,22 @@ impl<'a> RecordedText<'a> {
 
     /// Returns the events, one after another.
     pub fn events(&self, alloc: Global) -> RecordEvents<'a>
-        ensures can { CanReadOn result }
-        ensures events { events_left result ≡ events_among (contents_of self.now).entries }
+        ensures can { EntriesCanBeRead result }
+        ensures events { events_left result ≡ events_among (contents_said self.now).entries }
     {
         RecordEvents::new(alloc, self.texts(), self.entries)
     }
 
     /// Returns the answers that come before all else, one after another.
     pub fn answers(&self) -> RecordAnswers<'a>
-        ensures { answer_entries_left result ≡ (contents_of self.now).entries }
+        ensures { answer_entries_left result ≡ (contents_said self.now).entries }
     {
         RecordAnswers::new(self.texts(), self.entries)
     }
 
     /// Returns the link reference definitions, one after another.
     pub fn definitions(&self) -> RecordDefinitions<'a>
-        ensures { definitions_left result ≡ (contents_of self.now).definitions }
+        ensures { recorded_definitions_left result ≡ (contents_said self.now).definitions }
     {
         RecordDefinitions::new(self.texts(), self.definitions)
     }

@@ -1,6 +1,6 @@
 //! A record whose text has no place yet.
 ghost use Rattle.std.specs.Prelude.{◌≡◌, ◌∷◌, [], ◌<◌, ◌≤◌, ◌^◌, MatchResult};
-ghost use Rattle.markdown_records.specs.Drafts.{part, single};
+ghost use Rattle.markdown_records.specs.Drafts.{part, single_draft};
 ghost use Rattle.markdown_records.specs.RecordOf.{draft_view, span_range, wording_of};
 ghost use Rattle.markdown_records.specs.RecordsOf.{IsShortRange};
 
@@ -78,7 +78,7 @@ impl<'x> Draft<'x> {
     /// Returns the draft of a record without parts.
     pub fn single(kind: u8, detail: u8, span: Span, text: TextPlace<'x>) -> Draft<'x>
         ensures { draft_view result ∷ []
-            ≡ single kind detail (span_range span) (wording_of text.entry) }
+            ≡ single_draft kind detail (span_range span) (wording_of text.entry) }
     {
         Draft {
             kind,

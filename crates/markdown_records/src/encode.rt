@@ -1,10 +1,10 @@
 //! `Records`, which writes events, questions and definitions as records.
 ghost use Rattle.std.specs.Prelude.{◌≡◌, ◌∷◌, [], ◌≤◌, ◌^◌, MatchResult, length, max};
-ghost use Rattle.markdown_records.specs.Drafts.{pooled, single};
-ghost use Rattle.markdown_records.specs.Encoded.{blank, stands_at};
+ghost use Rattle.markdown_records.specs.Drafts.{pooled, single_draft};
+ghost use Rattle.markdown_records.specs.Encoded.{blank, is_found_at};
 ghost use Rattle.markdown_records.specs.RecordOf.{draft_view, span_range, spot_view, wording_of};
 ghost use Rattle.markdown_records.specs.RecordView.{in_source};
-ghost use Rattle.markdown_records.specs.RecordsOf.{Finishes, Places, Writes, entries_of};
+ghost use Rattle.markdown_records.specs.RecordsOf.{Finishes, Places, Writes, marked_entries};
 ghost use Rattle.markdown_records.specs.RecordsOf.{records_source, sheet_of};
 
 use crate::draft::{Draft, Span, SpotHeld, TextPlace, small};
@@ -35,8 +35,8 @@ pub struct Records<'t> {
 }
 
 /// Returns whether a text stands at this offset of the source.
-fn stands_at(source: &str, at: usize, text: &str) -> bool
-    ensures { result ≡ stands_at source.now at text.now }
+fn is_found_at(source: &str, at: usize, text: &str) -> bool
+    ensures { result ≡ is_found_at source.now at text.now }
 {
     match slice_of(source, at, text.len()) {
         Some(slice) => slice == text,
@@ -49,7 +49,7 @@ impl<'t> Records<'t> {
     pub fn new(alloc: Global, text: &'t str) -> Records<'t>
         ensures source { records_source result ≡ text.entry.now }
         ensures blank { sheet_of result ≡ blank }
-        ensures entries { entries_of result ≡ 0 }
+        ensures entries { marked_entries result ≡ 0 }
     {
         Records {
             alloc,
@@ -111,9 +111,9 @@ impl<'t> Records<'t> {
                 first,
                 second,
             } => {
-                if stands_at(self.source, first, words) {
+                if is_found_at(self.source, first, words) {
                     Records::in_source(first, words)
-                } else if stands_at(self.source, second, words) {
+                } else if is_found_at(self.source, second, words) {
                     Records::in_source(second, words)
                 } else {
                     self.in_pool(words)
@@ -154,7 +154,8 @@ impl<'t> Records<'t> {
         span: Span,
         text: TextPlace<'_>,
     ) -> Result<(), RecordFault>
-        ensures { Writes self.old (single kind detail (span_range span) (wording_of text.entry))
+        ensures { Writes self.old (single_draft kind detail (span_range span)
+            (wording_of text.entry))
             result self.new }
     {
         self.push(Draft::single(kind, detail, span, text))
@@ -169,7 +170,7 @@ impl<'t> Records<'t> {
     pub(crate) fn mark_entries(&mut self)
         ensures source { records_source self.new ≡ records_source self.old }
         ensures sheet { sheet_of self.new ≡ sheet_of self.old }
-        ensures entries { entries_of self.new ≡ (sheet_of self.old).count }
+        ensures entries { marked_entries self.new ≡ (sheet_of self.old).count }
     {
         self.entries = self.count;
     }

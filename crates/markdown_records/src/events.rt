@@ -3,8 +3,8 @@ ghost use Rattle.std.specs.Prelude.{◌≡◌, ◌+◌, ◌-◌, ℕ, List, leng
 ghost use Rattle.markdown_base.specs.BlockParts.{definition_view};
 ghost use Rattle.markdown_base.specs.CowText.{text_of};
 ghost use Rattle.markdown_base.specs.Event.{code, event_view};
-ghost use Rattle.markdown_records.specs.Drafts.{definition_drafts, definition_parts, event_drafts};
-ghost use Rattle.markdown_records.specs.Drafts.{no_text, part, question_drafts, single, sought};
+ghost use Rattle.markdown_records.specs.Drafts.{definition_drafts, parts_of_definition, event_drafts};
+ghost use Rattle.markdown_records.specs.Drafts.{no_text, part, question_drafts, single_draft, sought};
 ghost use Rattle.markdown_records.specs.Drafts.{text_draft};
 ghost use Rattle.markdown_records.specs.Numbers.{title_part};
 ghost use Rattle.markdown_records.specs.RecordOf.{span_range};
@@ -22,7 +22,7 @@ use std::ops::Range;
 
 /// Returns how many parts a definition has: its destination, and its title.
 fn definition_part_count(definition: &LinkDef<'_>) -> usize
-    ensures { (label : List ℕ) → length (definition_parts (record {
+    ensures { (label : List ℕ) → length (parts_of_definition (record {
       label = label;
       definition = definition_view definition.now;
     })) ≡ result }
@@ -66,7 +66,8 @@ impl Records<'_> {
 
     /// Appends the record of an event without a text.
     fn push_bare(&mut self, kind: u8, detail: u8, span: Span) -> Result<(), RecordFault>
-        ensures { Writes self.old (single kind detail (span_range span) no_text) result self.new }
+        ensures { Writes self.old (single_draft kind detail (span_range span) no_text)
+            result self.new }
     {
         self.push_single(kind, detail, span, TextPlace::Absent)
     }

@@ -3,8 +3,8 @@ ghost use Rattle.std.specs.Prelude.{◌≡◌, ◌+◌, ◌≤◌, ◌^◌, ℕ,
 ghost use Rattle.std.specs.Option.{option_map_or};
 ghost use Rattle.std.specs.declared.ops.Range.{Range};
 ghost use Rattle.markdown_base.specs.Event.{attribute_view, link_view};
-ghost use Rattle.markdown_records.specs.Drafts.{attribute_parts, destination_of, heading_parts};
-ghost use Rattle.markdown_records.specs.Drafts.{inline_end, link_parts, no_text, pooled};
+ghost use Rattle.markdown_records.specs.Drafts.{attribute_parts, destination_of, parts_of_heading};
+ghost use Rattle.markdown_records.specs.Drafts.{inline_end, parts_of_link, no_text, pooled};
 ghost use Rattle.markdown_records.specs.RecordOf.{heading_of, link_of, span_range, wording_of};
 
 use crate::draft::{Span, TextPlace};
@@ -43,7 +43,7 @@ impl<'x> Link<'x> {
     /// Returns how many parts the link has: its title and its label, unless they are empty.
     pub fn parts(&self) -> usize
         ensures { (inside : ℕ) (range : Range ℕ)
-            → length (link_parts inside range (link_of self.now)) ≡ result }
+            → length (parts_of_link inside range (link_of self.now)) ≡ result }
     {
         let title = if self.title.is_empty() { 0usize } else { 1 };
         let label = if self.label.is_empty() { 0 } else { 1 };
@@ -84,9 +84,10 @@ impl Heading<'_, '_> {
 
     /// Returns how many parts the heading has.
     pub fn parts(&self) -> Result<usize, RecordFault>
-        ensures { MatchResult result (λ parts. parts ≡ length (heading_parts (heading_of self.now)))
+        ensures { MatchResult result (λ parts. parts ≡ length (parts_of_heading
+            (heading_of self.now)))
             (λ fault. (fault ≡ RecordFault.TooLong)
-            × (2 ^ 32 ≤ length (heading_parts (heading_of self.now)))) }
+            × (2 ^ 32 ≤ length (parts_of_heading (heading_of self.now)))) }
     {
         let mut parts = self.classes.len();
         for attribute in self.attributes {

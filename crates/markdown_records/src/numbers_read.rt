@@ -1,15 +1,15 @@
 //! Kinds, levels and types by their numbers in records.
 ghost use Rattle.std.specs.Prelude.{◌≡◌};
-ghost use Rattle.markdown_records.specs.NumbersRead.{alignment_of, bare_end_of, bool_of, end_of};
-ghost use Rattle.markdown_records.specs.NumbersRead.{level_of, link_type_of};
-ghost use Rattle.markdown_records.specs.NumbersRead.{metadata_of, quote_of};
+ghost use Rattle.markdown_records.specs.NumbersRead.{alignment_of, bare_end_of, bool_of, end_numbered};
+ghost use Rattle.markdown_records.specs.NumbersRead.{level_numbered, link_type_of};
+ghost use Rattle.markdown_records.specs.NumbersRead.{metadata_of, quote_numbered};
 
 use markdown_base::tag::{
     Alignment, BlockQuoteKind, HeadingLevel, LinkType, MetadataBlockKind, TagEnd,
 };
 
-pub(crate) fn level_of(number: u8) -> Option<HeadingLevel>
-    ensures { result ≡ level_of number }
+pub(crate) fn level_numbered(number: u8) -> Option<HeadingLevel>
+    ensures { result ≡ level_numbered number }
 {
     match number {
         1 => Some(HeadingLevel::H1),
@@ -22,8 +22,8 @@ pub(crate) fn level_of(number: u8) -> Option<HeadingLevel>
     }
 }
 
-fn quote_of(number: u8) -> Option<Option<BlockQuoteKind>>
-    ensures { result ≡ quote_of number }
+fn quote_numbered(number: u8) -> Option<Option<BlockQuoteKind>>
+    ensures { result ≡ quote_numbered number }
 {
     match number {
         0 => Some(None),
@@ -116,12 +116,12 @@ fn bare_end_of(kind: u8) -> Option<TagEnd>
 }
 
 /// Returns the End that closes a Start of this kind, with this detail.
-pub(crate) fn end_of(kind: u8, detail: u8) -> Option<TagEnd>
-    ensures { result ≡ end_of kind detail }
+pub(crate) fn end_numbered(kind: u8, detail: u8) -> Option<TagEnd>
+    ensures { result ≡ end_numbered kind detail }
 {
     match kind {
-        0x02 => Some(TagEnd::Heading(level_of(detail)?)),
-        0x03 => Some(TagEnd::BlockQuote(quote_of(detail)?)),
+        0x02 => Some(TagEnd::Heading(level_numbered(detail)?)),
+        0x03 => Some(TagEnd::BlockQuote(quote_numbered(detail)?)),
         0x06 => Some(TagEnd::List(bool_of(detail)?)),
         0x17 => Some(TagEnd::MetadataBlock(metadata_of(detail)?)),
         _ if detail == 0 => bare_end_of(kind),

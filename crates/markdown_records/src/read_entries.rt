@@ -5,9 +5,9 @@ ghost use Rattle.markdown_base.specs.CowText.{text_of};
 ghost use Rattle.markdown_records.specs.Decoded.{answer_in, definition_in, definition_title};
 ghost use Rattle.markdown_records.specs.Decoded.{entry_in, question_in};
 ghost use Rattle.markdown_records.specs.Decoded.{range_of};
-ghost use Rattle.markdown_records.specs.EntryOf.{answer_view, entry_view, given_answer};
+ghost use Rattle.markdown_records.specs.EntryOf.{answer_view, entry_said, given_answer};
 ghost use Rattle.markdown_records.specs.EntryOf.{labelled_view};
-ghost use Rattle.markdown_records.specs.EntryView as said;
+ghost use Rattle.markdown_records.specs.RecordEntry as said;
 ghost use Rattle.markdown_records.specs.GroupOf.{group_view};
 ghost use Rattle.markdown_records.specs.ReadResult.{Finds, Reads};
 ghost use Rattle.markdown_records.specs.RecordView.{records_in};
@@ -45,12 +45,12 @@ pub enum Entry<'a> {
 
 impl<'a> Entry<'a> {
     ghost use Rattle.markdown_base.specs.Event.{event_view};
-    ghost use Rattle.markdown_records.specs.EntryOf.{entry_view};
+    ghost use Rattle.markdown_records.specs.EntryOf.{entry_said};
     ghost use Rattle.markdown_records.specs.SaidBy.{event_of};
 
     /// Returns the event, or None for a question or an answer.
     pub fn into_event(self) -> Option<Event<'a>>
-        ensures { Finds event_view (event_of (entry_view self.entry)) result }
+        ensures { Finds event_view (event_of (entry_said self.entry)) result }
     {
         match self {
             Entry::Event(event, _) => Some(event),
@@ -78,7 +78,7 @@ impl Record {
 impl<'a> Texts<'a> {
     /// Returns a question.
     fn question_of(&self, group: &Group<'a>) -> Option<Entry<'a>>
-        ensures { Finds entry_view (option_map (λ q. said.question q)
+        ensures { Finds entry_said (option_map (λ q. said.question_entry q)
             (question_in self.now.source.now self.now.pool.now (group_view group.now))) result }
     {
         if group.head.parts != 0 {
@@ -121,8 +121,8 @@ impl<'a> Texts<'a> {
 
     /// Returns an answer, as an entry.
     fn answer_entry_of(&self, group: &Group<'a>) -> Option<Entry<'a>>
-        ensures { Finds entry_view
-            (option_map (λ a. said.answer (range_of self.now.source.now self.now.pool.now
+        ensures { Finds entry_said
+            (option_map (λ a. said.answer_entry (range_of self.now.source.now self.now.pool.now
             (group_view group.now).head) a)
             (answer_in self.now.source.now self.now.pool.now (group_view group.now))) result }
     {
@@ -135,7 +135,7 @@ impl<'a> Texts<'a> {
 
     /// Returns an entry.
     pub fn entry_of(&self, alloc: Global, group: &Group<'a>) -> Result<Entry<'a>, RecordFault>
-        ensures { Reads entry_view
+        ensures { Reads entry_said
             (entry_in self.now.source.now self.now.pool.now (group_view group.now)) result }
     {
         if !group.is_sound() {

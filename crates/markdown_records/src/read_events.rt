@@ -9,7 +9,7 @@ ghost use Rattle.markdown_records.specs.ReadResult.{Finds, Reads};
 use crate::fault::RecordFault;
 use crate::groups::Group;
 use crate::numbers;
-use crate::numbers_read::{bool_of, end_of};
+use crate::numbers_read::{bool_of, end_numbered};
 use crate::texts::Texts;
 use markdown_base::event::Event;
 use std::alloc::Global;
@@ -68,7 +68,7 @@ impl<'a> Texts<'a> {
         if !group.is_bare() {
             return Err(RecordFault::NotRecords);
         }
-        match end_of(group.head.kind - numbers::END, group.head.detail) {
+        match end_numbered(group.head.kind - numbers::END, group.head.detail) {
             Some(end) => Ok(Event::End(end)),
             None => Err(RecordFault::NotRecords),
         }

@@ -9,7 +9,7 @@ ghost use Rattle.markdown_records.specs.Decoded.{list_in, of_text, table_in, tag
 ghost use Rattle.markdown_records.specs.Decoded.{with_attributes, with_part};
 ghost use Rattle.markdown_records.specs.Decoded.{with_parts, with_value};
 ghost use Rattle.markdown_records.specs.GroupOf.{group_view};
-ghost use Rattle.markdown_records.specs.NumbersRead.{alignment_of, end_of};
+ghost use Rattle.markdown_records.specs.NumbersRead.{alignment_of, end_numbered};
 ghost use Rattle.markdown_records.specs.ReadOf.{heading_read, link_read};
 ghost use Rattle.markdown_records.specs.ReadResult.{Finds, Makes, Reads};
 ghost use Rattle.markdown_records.specs.RecordView.{records_in};
@@ -17,7 +17,7 @@ ghost use Rattle.markdown_records.specs.RecordView.{records_in};
 use crate::fault::RecordFault;
 use crate::groups::Group;
 use crate::numbers;
-use crate::numbers_read::{alignment_of, end_of, level_of, link_type_of};
+use crate::numbers_read::{alignment_of, end_numbered, level_numbered, link_type_of};
 use crate::record::{A_NUMBER, take_record};
 use crate::texts::Texts;
 use markdown_base::cow_str::CowStr;
@@ -146,7 +146,7 @@ impl<'a> Texts<'a> {
         ensures { Reads tag_view (option_map (λ h. event.heading h)
             (heading_in self.now.source.now self.now.pool.now (group_view group.now))) result }
     {
-        let level = level_of(group.head.detail).ok_or(RecordFault::NotRecords)?;
+        let level = level_numbered(group.head.detail).ok_or(RecordFault::NotRecords)?;
         let id = self
             .optional_text_of(&group.head)
             .ok_or(RecordFault::NotRecords)?;
@@ -228,13 +228,13 @@ impl<'a> Texts<'a> {
     fn bare_tag_of(group: &Group<'a>) -> Option<Tag<'a>>
         ensures { (source pool : List ℕ) → Finds tag_view
             (if_bare source pool (group_view group.now)
-            (then_option (end_of group.now.head.kind group.now.head.detail)
+            (then_option (end_numbered group.now.head.kind group.now.head.detail)
             (bare_start_of source pool))) result }
     {
         if !group.is_bare() {
             return None;
         }
-        bare_start_of(end_of(group.head.kind, group.head.detail)?)
+        bare_start_of(end_numbered(group.head.kind, group.head.detail)?)
     }
 
     /// Returns the Start of a link.

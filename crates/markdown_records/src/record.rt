@@ -20,7 +20,7 @@ pub(crate) const A_NUMBER: u8 = 3;
 pub(crate) struct Record {
     pub kind: u8,
     pub detail: u8,
-    /// Where the text is: nowhere, in the source, in the pool; or that there is a number.
+    /// Where the text is: no_place, in the source, in the pool; or that there is a number.
     pub place: u8,
     /// A byte that is 0.
     pub spare: u8,

@@ -18,13 +18,13 @@ pub struct RecordDefinitions<'a> {
 }
 
 impl<'a> RecordDefinitions<'a> {
-    ghost use Rattle.markdown_records.specs.DefinitionsLeft.{definitions_left};
+    ghost use Rattle.markdown_records.specs.RecordedDefinitionsLeft.{recorded_definitions_left};
     ghost use Rattle.markdown_records.specs.SaidBy.{list_or_none};
 
     /// Returns the definitions among the records of these bytes, of which each can be read.
     pub(crate) fn new(texts: Texts<'a>, bytes: &'a [u8]) -> RecordDefinitions<'a>
         requires { is_some (said_definitions texts.source.now texts.pool.now bytes.now) ≡ true }
-        ensures { definitions_left result
+        ensures { recorded_definitions_left result
             ≡ list_or_none (said_definitions texts.entry.source.now texts.entry.pool.now
             bytes.entry.now) }
     {
@@ -38,8 +38,8 @@ impl<'a> RecordDefinitions<'a> {
 
 impl<'a> Iterator for RecordDefinitions<'a> {
     ghost use Rattle.std.specs.Iterator.{at_most};
-    ghost use Rattle.markdown_records.specs.DefinitionsLeft.{definition_bytes_left};
-    ghost use Rattle.markdown_records.specs.DefinitionsLeft.{definition_steps};
+    ghost use Rattle.markdown_records.specs.RecordedDefinitionsLeft.{definition_bytes_left};
+    ghost use Rattle.markdown_records.specs.RecordedDefinitionsLeft.{definition_steps};
 
     type Item = Labelled<'a>;
 

@@ -1,5 +1,5 @@
 //! `RecordEvents`, the events of records one after another.
-ghost use Rattle.markdown_records.specs.RecordsLeft.{CanReadOn, GivesEntry};
+ghost use Rattle.markdown_records.specs.RecordsLeft.{EntriesCanBeRead, GivesEntry};
 
 use crate::groups::take_group;
 use crate::read_entries::Entry;
@@ -40,9 +40,9 @@ impl<'a> RecordEvents<'a> {
 
     /// Returns the next entry: an event, or a question or an answer, which `next` passes over.
     pub fn next_entry(&mut self) -> Option<Result<Entry<'a>, Fault>>
-        requires { CanReadOn self.old }
+        requires { EntriesCanBeRead self.old }
         ensures gives { GivesEntry self.old result self.new }
-        ensures can { CanReadOn self.new }
+        ensures can { EntriesCanBeRead self.new }
     {
         let texts = Texts {
             source: self.source,
@@ -64,11 +64,11 @@ impl<'a> RecordEvents<'a> {
 
 impl<'a> Iterator for RecordEvents<'a> {
     ghost use Rattle.std.specs.Iterator.{at_most};
-    ghost use Rattle.markdown_records.specs.RecordsLeft.{CanReadOn, bytes_left, event_steps};
+    ghost use Rattle.markdown_records.specs.RecordsLeft.{EntriesCanBeRead, bytes_left, event_steps};
 
     type Item = Result<Event<'a>, Fault>;
 
-    ghost can_next = { CanReadOn };
+    ghost can_next = { EntriesCanBeRead };
 
     ghost next_gives = { event_steps };
 

@@ -2,7 +2,7 @@
 ghost use Rattle.std.specs.Prelude.{◌+◌, flat_map, map};
 ghost use Rattle.markdown_base.specs.CowText.{text_of};
 ghost use Rattle.markdown_base.specs.Event.{attribute_view, code_block_view, list, table, tag_view};
-ghost use Rattle.markdown_records.specs.Drafts.{attribute_parts, bare_start, class_part};
+ghost use Rattle.markdown_records.specs.Drafts.{attribute_parts, bare_start, class_parts};
 ghost use Rattle.markdown_records.specs.Drafts.{heading_drafts, link_drafts, part_unless_empty};
 ghost use Rattle.markdown_records.specs.Drafts.{start_drafts};
 ghost use Rattle.markdown_records.specs.RecordOf.{heading_of, link_of, span_range};
@@ -38,7 +38,7 @@ impl Records<'_> {
 
     /// Appends a part for each class.
     fn push_classes(&mut self, classes: &[CowStr<'_>]) -> Result<(), RecordFault>
-        ensures { Writes self.old (flat_map class_part (map text_of classes.now)) result self.new }
+        ensures { Writes self.old (flat_map class_parts (map text_of classes.now)) result self.new }
     {
         for class in classes {
             self.push(Draft::part(numbers::CLASS, TextPlace::Pooled(class.as_str())))?;

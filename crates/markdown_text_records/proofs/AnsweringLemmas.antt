@@ -7,11 +7,11 @@ use Rattle.std.specs.declared.ops.Range.{Range}
 use Rattle.markdown_base.specs.Questions.{Answer, Question}
 use Rattle.markdown_records.specs.AnswersLeft.{answer_entries_left, answer_steps, begins_with_answer}
 use Rattle.markdown_records.specs.EntryOf.{answer_view}
-use Rattle.markdown_records.specs.EntryView.{EntryView, answer, event, question}
+use Rattle.markdown_records.specs.RecordEntry.{RecordEntry, answer_entry, event_entry, question_entry}
 use Rattle.markdown_records.specs.declared.record_answers.Answered.{Answered}
 use Rattle.markdown_records.specs.declared.record_answers.RecordAnswers.{RecordAnswers}
-use Rattle.markdown_text_records.specs.AnswerTable.{answered, is_range, table_of}
-use Rattle.markdown_text_records.specs.AnsweringView.{GivesAnswer, table_in, table_left}
+use Rattle.markdown_text_records.specs.AnswerTable.{answers_by, is_range, table_of}
+use Rattle.markdown_text_records.specs.AnsweringView.{AnswersNext, table_in, table_left}
 use Rattle.markdown_text_records.specs.declared.answering.Answering.{Answering}
 
 -- where a link leads, by the table
@@ -27,13 +27,13 @@ with_answers c left = record { answers = Some left; asked = c.asked; is_refused 
 -- the next answer of the table is given, if it is to this range
 pub gives_next : (c : Answering) (span : Range ℕ) (old new : RecordAnswers) (given : Answered) → c.answers ≡ Some old
     → answer_steps old (Some given) new → (b : Bool) → is_range given.span span ≡ b
-    → GivesAnswer c span (if b then given.answer else None) (with_answers c new)
+    → AnswersNext c span (if b then given.answer else None) (with_answers c new)
 gives_next c span old new given is step b to =
     let more : table_left c ≡ (given.span, option_map answer_view given.answer) ∷ table_of (answer_entries_left new) =
     ap (λ (o : Option RecordAnswers). table_in o) is ∙ ap table_of step in
     record {
       by_table = λ q e. subst (λ table. option_map answer_view (if b then given.answer else None) ∷ []
-          ≡ answered table (q ∷ [])) (sym more) (ap (λ a. a ∷ []) (answer_for given b
+          ≡ answers_by table (q ∷ [])) (sym more) (ap (λ a. a ∷ []) (answer_for given b
           ∙ ap (λ (b : Bool). if b then option_map answer_view given.answer else None)
           (sym to ∙ ap (is_range given.span) (sym e))));
       left = ap (drop 1) (sym more);
@@ -42,19 +42,19 @@ gives_next c span old new given is step b to =
     }
 
 -- without a first answer there is no table
-no_table : (entries : List EntryView) → begins_with_answer entries ≡ false → table_of entries ≡ []
+no_table : (entries : List RecordEntry) → begins_with_answer entries ≡ false → table_of entries ≡ []
 no_table [] is = refl
-no_table (event e range ∷ entries) is = refl
-no_table (question q ∷ entries) is = refl
-no_table (answer range a ∷ entries) is = cc (is)
+no_table (event_entry e range ∷ entries) is = refl
+no_table (question_entry q ∷ entries) is = refl
+no_table (answer_entry range a ∷ entries) is = cc (is)
 
 -- no answer is left
 pub gives_none : (c : Answering) (span : Range ℕ) (old new : RecordAnswers) → c.answers ≡ Some old
-    → answer_steps old None new → GivesAnswer c span None (with_answers c new)
+    → answer_steps old None new → AnswersNext c span None (with_answers c new)
 gives_none c span old new is step =
     let none : table_left c ≡ [] = ap (λ (o : Option RecordAnswers). table_in o) is ∙ no_table _ step.0 in
     record {
-      by_table = λ q e. subst (λ table. None ∷ [] ≡ answered table (q ∷ [])) (sym none) refl;
+      by_table = λ q e. subst (λ table. None ∷ [] ≡ answers_by table (q ∷ [])) (sym none) refl;
       left = ap table_of step.1 ∙ no_table _ step.0 ∙ ap (drop 1) (sym none);
       asked = refl;
       refused = refl;

@@ -1,5 +1,6 @@
 -- What a callback is asked between two states of it, and what it answers.
-use Rattle.std.proofs.Common.{◌≡◌, ◌∙◌, ◌++◌, ◌∷◌, ℕ, List, [], Ok, Option, Some, None, ap, ap₂, drop, false, length, map}
+use Rattle.std.proofs.Common.{◌≡◌, ◌∙◌, ◌++◌, ◌∷◌, ℕ, List, [], Ok, Option, Some, None, ap, ap₂, drop, false, length}
+use Rattle.std.proofs.Common.{map}
 use Rattle.std.proofs.Common.{append-nil, append_assoc, refl, subst, sym, MatchOption}
 use Rattle.std.specs.Borrow.{Bor}
 use Rattle.std.proofs.lemmas.List.{drop-map, length-map}
@@ -8,26 +9,27 @@ use Rattle.markdown_base.specs.Questions.{Answer, Answers, Question}
 use Rattle.markdown_defs.specs.Callback.{Asks}
 use Rattle.markdown_defs.specs.CallbackViews.{question_of}
 use Rattle.markdown_defs.specs.declared.callback.BrokenLink.{BrokenLink}
-use Rattle.markdown_text_records.specs.AnswerTable.{Table, answered}
-use Rattle.markdown_text_records.specs.AnsweringView.{Answers as ByTable, table_left}
+use Rattle.markdown_text_records.specs.AnswerTable.{Table, answers_by}
+use Rattle.markdown_text_records.specs.AnsweringView.{AnswersByTable, table_left}
 use Rattle.markdown_text_records.specs.Recording.{KeptAll, asked_by, asked_number}
 use Rattle.markdown_text_records.specs.declared.answering.Answering.{Answering}
 
 -- calls lead to a callback that keeps what was asked, and the answers are those of the table
-pub record AskedAll (old : Answering) (questions : List Question) (answers : Answers) (new : Option Answering) : Type 0 where
+pub record AskedAll (old : Answering) (questions : List Question) (answers : Answers)
+    (new : Option Answering) : Type 0 where
   pub last : Answering
   pub is : new ≡ Some last
-  pub by_table : answers ≡ answered (table_left old) questions
+  pub by_table : answers ≡ answers_by (table_left old) questions
   pub kept : last.is_refused ≡ false → (old.is_refused ≡ false)
       × (map question_of last.asked.items ≡ map question_of old.asked.items ++ questions)
 
 answered_more : (table : Table) (q : Question) (questions : List Question)
-    → answered table (q ∷ questions) ≡ answered table (q ∷ []) ++ answered (drop 1 table) questions
+    → answers_by table (q ∷ questions) ≡ answers_by table (q ∷ []) ++ answers_by (drop 1 table) questions
 answered_more [] q questions = refl
 answered_more (a ∷ table) q questions = refl
 
 pub asked_all : (old : Answering) (questions : List Question) (answers : Answers) (new : Option Answering)
-    → Asks ByTable (Some old) questions answers new → AskedAll old questions answers new
+    → Asks AnswersByTable (Some old) questions answers new → AskedAll old questions answers new
 asked_all old [] [] new asked = record {
   last = old;
   is = sym asked;
@@ -42,7 +44,7 @@ asked_all old (q ∷ questions) (a ∷ answers) new (then, step, asked) =
       last = rest.last;
       is = rest.is;
       by_table = ap₂ (λ xs ys. xs ++ ys) step.by_table (rest.by_table
-          ∙ ap (λ table. answered table questions) step.left)
+          ∙ ap (λ table. answers_by table questions) step.left)
           ∙ sym (answered_more (table_left old) q questions);
       kept = λ whole.
           let later = rest.kept whole in
@@ -59,7 +61,7 @@ IsLent lent callback = MatchOption lent (callback ≡ None) (λ c. callback ≡ 
 
 -- without a callback nothing is asked
 asked_none : (old new : Option Answering) (questions : List Question) (answers : Answers) → old ≡ None
-    → Asks ByTable old questions answers new → (questions ≡ []) × (new ≡ None)
+    → Asks AnswersByTable old questions answers new → (questions ≡ []) × (new ≡ None)
 asked_none old new [] [] is asked = (refl, sym asked ∙ is)
 asked_none old new [] (a ∷ answers) is asked = absurd asked
 asked_none old new (q ∷ questions) [] is asked = absurd asked
@@ -68,7 +70,7 @@ asked_none old new (q ∷ questions) (a ∷ answers) is asked = absurd (rw is at
 -- the questions between two states are those after the ones that were asked before
 pub asked_between : (before after : Option (Bor Answering)) (old new : Option Answering) (questions : List Question)
     (answers : Answers) → IsLent before old → IsLent after new → KeptAll after
-    → Asks ByTable old questions answers new
+    → Asks AnswersByTable old questions answers new
     → map question_of (drop (asked_number before) (asked_by after)) ≡ questions
 asked_between None None old new questions answers is was all asked =
     let nothing = asked_none old new questions answers is asked in

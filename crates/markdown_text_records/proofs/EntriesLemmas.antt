@@ -9,7 +9,7 @@ use Rattle.std.proofs.lemmas.List.Concat.{flat_map-append}
 use Rattle.std.proofs.lemmas.Result.{err_from_is_err_and}
 use Rattle.markdown_records.specs.Drafts.{DraftView}
 use Rattle.markdown_records.specs.Encoded.{then_drafts}
-use Rattle.markdown_records.specs.RecordsOf.{WritesEntry, entries_of, records_source, sheet_of}
+use Rattle.markdown_records.specs.RecordsOf.{WritesEntry, marked_entries, records_source, sheet_of}
 use Rattle.markdown_records.specs.declared.encode.Records.{Records}
 use Rattle.markdown_records.specs.declared.fault.RecordFault.{RecordFault}
 use Rattle.markdown_records.proofs.WritesLemmas.{fit_first, fit_later, refuses_less, then_both}
@@ -29,7 +29,7 @@ entries_one {old} {new} {ds} {result} w = record {
   refused = w.refused;
 }
   where
-    by : {A : Type 0} (r : Result A RecordFault) → IfOk r (λ _. entries_of new ≡ (sheet_of new).count)
+    by : {A : Type 0} (r : Result A RecordFault) → IfOk r (λ _. marked_entries new ≡ (sheet_of new).count)
         → IfOk r (λ _. IsMarked new)
     by (Ok a) is = record { is = is }
     by (Err fault) is = tt

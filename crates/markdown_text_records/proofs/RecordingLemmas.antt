@@ -1,5 +1,6 @@
 -- Elements are written one after another, as a parser gives them.
-use Rattle.std.proofs.Common.{◌≡◌, ◌∙◌, ◌++◌, ◌∷◌, ◌⊎◌, ℕ, List, [], Err, Ok, Result, Option, Some, None, ap, drop, false}
+use Rattle.std.proofs.Common.{◌≡◌, ◌∙◌, ◌++◌, ◌∷◌, ◌⊎◌, ℕ, List, [], Err, Ok, Result, Option, Some, None, ap, drop}
+use Rattle.std.proofs.Common.{false}
 use Rattle.std.proofs.Common.{append-nil, append_assoc, inl, inr, length, map, refl, subst, sym, ⊎_elim}
 use Rattle.std.specs.Prelude.{⊤}
 use Rattle.std.specs.Borrow.{Bor}
@@ -28,7 +29,7 @@ use Rattle.markdown_records.specs.RecordsOf.{WritesEntry, records_source, sheet_
 use Rattle.markdown_records.specs.declared.encode.Records.{Records}
 use Rattle.markdown_records.specs.declared.fault.RecordFault.{RecordFault}
 use Rattle.markdown_records.specs.declared.fault.RecordFault.TheVariants.{Of, TooLong}
-use Rattle.markdown_text_records.specs.AnsweringView.{Answers as ByTable}
+use Rattle.markdown_text_records.specs.AnsweringView.{AnswersByTable}
 use Rattle.markdown_text_records.specs.RecordedEntries.{WritesEntries}
 use Rattle.markdown_text_records.specs.Recording.{BeginsTooLong, IsCut, KeptAll, PushesAsked, PushesPlaced, RecordsOn}
 use Rattle.markdown_text_records.specs.Recording.{asked_by, asked_number, element_drafts}
@@ -69,7 +70,7 @@ pub records_then : {r q m : Records} {s t u : Parser Answering} → RecordsOn r 
 records_then {r} {m} {s} {t} {u} a b = record {
   first = a.first ++ b.first;
   answers = a.answers ++ b.answers;
-  asked = rw (questions_of_both a.first b.first) (Asks-append ByTable (parser_callback s) (parser_callback t)
+  asked = rw (questions_of_both a.first b.first) (Asks-append AnswersByTable (parser_callback s) (parser_callback t)
       (parser_callback u) (questions_of a.first) (questions_of b.first) a.answers b.answers a.asked b.asked);
   left = λ later. ap (elements s) (append_assoc a.answers b.answers later) ∙ a.left (b.answers ++ later)
       ∙ ap (λ es. a.first ++ es) (b.left later) ∙ sym (append_assoc a.first b.first (elements u later));
@@ -93,7 +94,8 @@ cut_later {r} {q} {s} {t} {fault} a why =
           callback = b.callback;
           begin = record {
             answers = a.answers ++ begin.answers;
-            asked = rw (questions_of_both a.first b.first) (Asks-append ByTable (parser_callback s) (parser_callback t)
+            asked = rw (questions_of_both a.first b.first) (Asks-append AnswersByTable (parser_callback s)
+                (parser_callback t)
                 b.callback (questions_of a.first) (questions_of b.first) a.answers begin.answers a.asked begin.asked);
             begins = λ more.
                 let rest = begin.begins more in (
@@ -109,7 +111,7 @@ cut_later {r} {q} {s} {t} {fault} a why =
 
 -- ---- one item
 
-module _ {s t : Parser Answering} {item : Event × Range ℕ} (g : GivesItem ByTable IsPlacedOf s item t) where
+module _ {s t : Parser Answering} {item : Event × Range ℕ} (g : GivesItem AnswersByTable IsPlacedOf s item t) where
   -- the questions on the way to it, and its event
   abbrev step : List Element
   step = map question g.questions ++ event g.placed ∷ []
@@ -118,7 +120,8 @@ module _ {s t : Parser Answering} {item : Event × Range ℕ} (g : GivesItem ByT
   asked_of_step = questions_of-questions g.questions (event g.placed ∷ []) ∙ append-nil g.questions
 
   left_of_step : (later : Answers) → elements s (g.answers ++ later) ≡ step ++ elements t later
-  left_of_step later = g.left later ∙ sym (append_assoc (map question g.questions) (event g.placed ∷ []) (elements t later))
+  left_of_step later = g.left later ∙ sym (append_assoc (map question g.questions) (event g.placed ∷ [])
+      (elements t later))
 
   drafts_of_step : element_drafts step
       ≡ flat_map question_drafts g.questions ++ event_drafts item.1 (event_view item.0)
@@ -131,7 +134,8 @@ module _ {s t : Parser Answering} {item : Event × Range ℕ} (g : GivesItem ByT
 
   -- all of it is written
   pub records_item : {r m : Records} → parser_definitions t ≡ parser_definitions s
-      → WritesEntries {A = ⊤} r (flat_map question_drafts g.questions ++ event_drafts item.1 (event_view item.0)) (Ok tt) m
+      → WritesEntries {A = ⊤} r (flat_map question_drafts g.questions ++ event_drafts item.1 (event_view item.0))
+      (Ok tt) m
       → RecordsOn r s m t
   records_item {r} {m} same writes = record {
     first = step;
@@ -166,7 +170,7 @@ module _ {s t : Parser Answering} {item : Event × Range ℕ} (g : GivesItem ByT
 -- ---- a call of `next`, and what is then written
 
 -- at the end nothing is
-pub records_end : {r : Records} {s t : Parser Answering} → NextGives ByTable IsPlacedOf s None t
+pub records_end : {r : Records} {s t : Parser Answering} → NextGives AnswersByTable IsPlacedOf s None t
     → RecordsOn r s r t × ((answers : Answers) → elements t answers ≡ [])
 records_end h =
     let g = h.gives in
@@ -183,7 +187,7 @@ records_end h =
     )
 
 module _ {s t : Parser Answering} (e : Event) (range : Range ℕ)
-    (h : NextGives ByTable IsPlacedOf s (Some (Ok (e, range))) t) (before after : Option (Bor Answering))
+    (h : NextGives AnswersByTable IsPlacedOf s (Some (Ok (e, range))) t) (before after : Option (Bor Answering))
     (was : IsLent before (parser_callback s)) (is : IsLent after (parser_callback t)) (first : ℕ)
     (so : first ≡ asked_number before) where
   -- the questions on the way to it are those that are written

@@ -10,7 +10,7 @@ use Rattle.markdown_out.specs.EventHtml.{html_of}
 use Rattle.markdown_out.specs.HtmlCorrect.{GoesTooDeep, IsOwnFault, IsRendered, StopsAtError, items}
 use Rattle.markdown_out.specs.LookBacks.{IsTooDeep}
 use Rattle.markdown_records.specs.Decoded.{decoded}
-use Rattle.markdown_records.specs.EntryView.{Contents}
+use Rattle.markdown_records.specs.RecordEntry.{Contents}
 use Rattle.markdown_records.specs.RecordEventsLaws.{ReturnsEventsLeft}
 use Rattle.markdown_records.specs.RecordsLeft.{event_steps, events_left}
 use Rattle.markdown_records.specs.SaidBy.{events_among}
@@ -22,7 +22,7 @@ use Rattle.markdown_safe.specs.SafeSource.{safe_source, safe_steps}
 use Rattle.markdown_safe.specs.declared.adapter.Safe.{Safe}
 use Rattle.markdown_safe.proofs.SafeEventsLemmas.{html_is_safe}
 use Rattle.markdown_safe.proofs.SafeItemsLemmas.{all_safe, first_safe}
-use Rattle.markdown_text_records.specs.RecordsHtml.{BeginsTooDeep, IsFaultOf, IsSafeHtmlOf}
+use Rattle.markdown_text_records.specs.RecordsHtml.{ReadsTooDeep, IsFaultOf, IsSafeHtmlOfRecords}
 
 -- an iterator over the records of a text, of which nothing has been read
 pub record BeginsRecords (source bytes : List ℕ) (m : RecordEvents) : Type 0 where
@@ -32,7 +32,7 @@ pub record BeginsRecords (source bytes : List ℕ) (m : RecordEvents) : Type 0 w
   pub gives : ReturnsEventsLeft m
 
 module _ {source bytes : List ℕ} {m : RecordEvents} (b : BeginsRecords source bytes m) where
-  deep : (old new : List ℕ) → GoesTooDeep event_steps m old new → BeginsTooDeep (λ events. events) source bytes
+  deep : (old new : List ℕ) → GoesTooDeep event_steps m old new → ReadsTooDeep (λ events. events) source bytes
   deep old new d = record {
     contents = b.contents;
     said = b.said;
@@ -75,7 +75,7 @@ module _ {source bytes : List ℕ} {m : RecordEvents} (begins : BeginsRecords so
   here = subst (λ (x : RecordEvents). BeginsRecords source bytes x) (sym of) begins
 
   pub safe_html_written : (old new : List ℕ) → old ≡ [] → IsRendered (safe_steps event_steps) n old new
-      → IsSafeHtmlOf source bytes new
+      → IsSafeHtmlOfRecords source bytes new
   safe_html_written old new empty r =
       let a = all_safe event_steps safe_source n r.events r.read in
       let is : new ≡ html_of (safe_events (events_among here.contents.entries)) =
@@ -89,7 +89,7 @@ module _ {source bytes : List ℕ} {m : RecordEvents} (begins : BeginsRecords so
       }
 
   safe_deep : (old new : List ℕ) → GoesTooDeep (safe_steps event_steps) n old new
-      → BeginsTooDeep safe_events source bytes
+      → ReadsTooDeep safe_events source bytes
   safe_deep old new d =
       let a = first_safe event_steps safe_source n d.left d.events d.read in
       record {

@@ -1,5 +1,6 @@
 -- The records of a text, from what is written of its reading and of its definitions.
-use Rattle.std.proofs.Common.{◌≡◌, ◌∙◌, ◌++◌, ◌⊎◌, ℕ, List, [], Err, Ok, Result, Option, Some, None, ap, ap₂, inl, inr, is_some}
+use Rattle.std.proofs.Common.{◌≡◌, ◌∙◌, ◌++◌, ◌⊎◌, ℕ, List, [], Err, Ok, Result, Option, Some, None, ap, ap₂, inl, inr}
+use Rattle.std.proofs.Common.{is_some}
 use Rattle.std.proofs.Common.{◌≤◌, ◌^◌, append-nil, length, map, max, refl, subst, sym, true, ⊎_elim, Vec, Global}
 use Rattle.std.specs.Prelude.{MatchResult, ⊤}
 use Rattle.std.specs.List.{flat_map}
@@ -18,19 +19,22 @@ use Rattle.markdown_text_records.proofs.FindableLemmas.{definitions_of_text}
 use Rattle.markdown_inline.specs.ReadingOfText.{reading_of_text}
 use Rattle.markdown_inline.specs.declared.walk.Parser.{Parser}
 use Rattle.markdown_records.specs.Drafts.{DraftView, definition_drafts, entry_drafts}
-use Rattle.markdown_records.specs.Encoded.{FitDrafts, Sheet, blank, encoded, entries_sheet, sheet_bytes, then_drafts, whole_sheet}
-use Rattle.markdown_records.specs.EntryView.{Contents, LabelledView}
-use Rattle.markdown_records.specs.RecordsOf.{Finishes, IsRefusal, Writes, entries_of, records_source, sheet_of}
+use Rattle.markdown_records.specs.Encoded.{FitDrafts, Sheet, blank, encoded, entries_sheet, sheet_bytes, then_drafts}
+use Rattle.markdown_records.specs.Encoded.{whole_sheet}
+use Rattle.markdown_records.specs.RecordEntry.{Contents, LabelledView}
+use Rattle.markdown_records.specs.RecordsOf.{Finishes, IsRecordRefusal, Writes, marked_entries, records_source}
+use Rattle.markdown_records.specs.RecordsOf.{sheet_of}
 use Rattle.markdown_records.specs.declared.encode.Records.{Records}
 use Rattle.markdown_records.specs.declared.fault.RecordFault.{RecordFault}
 use Rattle.markdown_records.specs.declared.fault.RecordFault.TheVariants.{Of, TooLong}
 use Rattle.markdown_records.proofs.WritesLemmas.{fit_later, then_both}
-use Rattle.markdown_text_records.specs.AnswerTable.{Table, answered}
-use Rattle.markdown_text_records.specs.AnsweringView.{Answers as ByTable, table_left}
+use Rattle.markdown_text_records.specs.AnswerTable.{Table, answers_by}
+use Rattle.markdown_text_records.specs.AnsweringView.{AnswersByTable, table_left}
 use Rattle.markdown_text_records.specs.Recording.{BeginsTooLong as BeginsLong, IsCut, RecordsOn, Starts, element_drafts}
 use Rattle.markdown_text_records.specs.DefinitionsView.{labelled_view}
 use Rattle.markdown_text_records.specs.RecordedEntries.{IsMarked}
-use Rattle.markdown_text_records.specs.TextRecords.{AreRecordsOf, AreTooLong, BeginsTooLong, IsFaultOfText, contents_of_text}
+use Rattle.markdown_text_records.specs.TextRecords.{AreRecordsOf, AreTooLong, BeginsTooLong, IsFaultOfText}
+use Rattle.markdown_text_records.specs.TextRecords.{contents_of_text}
 use Rattle.markdown_text_records.specs.TextRecords.{entry_of, findable, labelled}
 use Rattle.markdown_text_records.specs.declared.answering.Answering.{Answering}
 use Rattle.markdown_text_records.proofs.AskedLemmas.{asked_all}
@@ -89,17 +93,17 @@ module _ (s : Source) (table : Table) (p : Parser Answering) (r : Records) (star
         let writes = read.writes in
         writes.source ∙ start.source
 
-    marked : entries_of q ≡ (entries_sheet s.text contents).count
+    marked : marked_entries q ≡ (entries_sheet s.text contents).count
     marked =
         let writes = read.writes in
         let m = writes.marked (record { is = start.entries ∙ sym (ap (λ (sheet : Sheet). sheet.count) start.sheet) }) in
         m.is ∙ ap (λ (sheet : Sheet). sheet.count) first_sheet
 
-    by_table : read.answers ≡ answered table (questions_of (reading_of_text s true read.answers))
+    by_table : read.answers ≡ answers_by table (questions_of (reading_of_text s true read.answers))
     by_table =
         let all = asked_all start.first (questions_of read.first) read.answers (parser_callback t)
         (rw start.callback at read.asked) in
-        all.by_table ∙ ap₂ (λ left es. answered left (questions_of es)) start.by_table (sym whole_reading)
+        all.by_table ∙ ap₂ (λ left es. answers_by left (questions_of es)) start.by_table (sym whole_reading)
 
     definitions_are : map labelled_view (parser_definitions t) ≡ all_definitions s
     definitions_are = ap (map labelled_view) read.definitions ∙ start.definitions
@@ -118,7 +122,8 @@ module _ (s : Source) (table : Table) (p : Parser Answering) (r : Records) (star
       text_written bytes finish = record {
         contents = contents;
         of_text = record { answers = read.answers; by_table = by_table; are = refl };
-        are = finish.whole ∙ ap (λ source. sheet_bytes source (entries_of m) (sheet_of m)) (writes.source ∙ same_source)
+        are = finish.whole ∙ ap (λ source. sheet_bytes source (marked_entries m) (sheet_of m)) (writes.source
+            ∙ same_source)
             ∙ ap₂ (λ entries sheet. sheet_bytes s.text entries sheet) (writes.entries ∙ marked)
             (writes.written ∙ later_sheet);
       }
@@ -135,14 +140,15 @@ module _ (s : Source) (table : Table) (p : Parser Answering) (r : Records) (star
           whole_reading long;
     }
 
-    pub definitions_cut : (fault : RecordFault) → IsRefusal (records_source q) (sheet_of q) definition_part fault
+    pub definitions_cut : (fault : RecordFault) → IsRecordRefusal (records_source q) (sheet_of q) definition_part fault
         → IsFaultOfText s fault
     definitions_cut fault why =
         ⊎_elim (λ (memory : fault ≡ Of Memory). inl memory) (λ (p : (fault ≡ TooLong)
         × (FitDrafts (records_source q) (sheet_of q) definition_part → ⊥)). inr (
           p.0,
           whole_begins (inl (λ fit. p.1
-              (subst (λ ds. FitDrafts (records_source q) (sheet_of q) (flat_map definition_drafts ds)) (sym definitions_are)
+              (subst (λ ds. FitDrafts (records_source q) (sheet_of q) (flat_map definition_drafts ds))
+              (sym definitions_are)
               (rw (same_source, first_sheet) (fit_later s.text blank (flat_map entry_drafts contents.entries)
               (flat_map definition_drafts contents.definitions) fit))))),
         )) why
@@ -171,7 +177,7 @@ module _ (s : Source) (table : Table) (p : Parser Answering) (r : Records) (star
 pub starts : (s : Source) (table : Table) (blocks : Blocks) (p : Parser Answering) (first : Answering) (r : Records)
     → IsBlocksOf s blocks → ReadsBlocks blocks p → parser_definitions p ≡ findable_definitions blocks
     → parser_callback p ≡ Some first → table_left first ≡ table → records_source r ≡ s.text → sheet_of r ≡ blank
-    → entries_of r ≡ 0 → Starts s table p r
+    → marked_entries r ≡ 0 → Starts s table p r
 starts s table blocks p first r of left found callback by source sheet entries = record {
   reads = of_some_text s blocks (Ok p) of left found;
   first = first;

@@ -1,5 +1,6 @@
--- Answers are used in the order of the questions. A caller may read a text with the answers that it has, ask its user the
--- first question that has none, and read the text again with one answer more: all up to that question stays as it is.
+-- Answers are used in the order of the questions. A caller may read a text with the answers that it has, ask its user
+-- the first question that has none, and read the text again with one answer more: all up to that question stays as it
+-- is.
 use Rattle.std.specs.Prelude.{◌≡◌, ◌++◌, ◌∷◌, [], ℕ, zero, suc, List, None, length, true}
 use Rattle.markdown_base.specs.Questions.{Answers}
 use Rattle.markdown_base.specs.Source.{Source}

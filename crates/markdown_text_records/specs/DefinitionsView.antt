@@ -4,7 +4,7 @@ use Rattle.markdown_base.specs.BlockParts.{definition_view}
 use Rattle.markdown_base.specs.declared.block_parts.LinkDef.{LinkDef}
 use Rattle.markdown_defs.specs.Definitions.{Labelled}
 use Rattle.markdown_defs.specs.DefinitionsLeft.{with_text}
-use Rattle.markdown_records.specs.EntryView.{LabelledView}
+use Rattle.markdown_records.specs.RecordEntry.{LabelledView}
 
 -- a definition with the text of its label
 abbrev pub worded_view : List ℕ × LinkDef → LabelledView

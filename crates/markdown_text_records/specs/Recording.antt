@@ -19,11 +19,11 @@ use Rattle.markdown_inline.specs.ParserLeft.{ReadsText, elements, parser_callbac
 use Rattle.markdown_inline.specs.declared.walk.Parser.{Parser}
 use Rattle.markdown_records.specs.Drafts.{DraftView, entry_drafts, event_drafts, question_drafts}
 use Rattle.markdown_records.specs.Encoded.{FitDrafts, blank}
-use Rattle.markdown_records.specs.RecordsOf.{entries_of, records_source, sheet_of}
+use Rattle.markdown_records.specs.RecordsOf.{marked_entries, records_source, sheet_of}
 use Rattle.markdown_records.specs.declared.encode.Records.{Records}
 use Rattle.markdown_records.specs.declared.fault.RecordFault.{RecordFault}
 use Rattle.markdown_records.specs.declared.fault.RecordFault.TheVariants.{Of, TooLong}
-use Rattle.markdown_text_records.specs.AnsweringView.{Answers as ByTable, table_left}
+use Rattle.markdown_text_records.specs.AnsweringView.{AnswersByTable, table_left}
 use Rattle.markdown_text_records.specs.RecordedEntries.{WritesEntries}
 use Rattle.markdown_text_records.specs.AnswerTable.{Table}
 use Rattle.markdown_text_records.specs.DefinitionsView.{labelled_view}
@@ -65,7 +65,7 @@ element_drafts es = flat_map entry_drafts (map entry_of es)
 -- first elements of what was left of a parser, for all answers that follow these
 pub record BeginsWith (s : Parser Answering) (first : List Element) (callback : Option Answering) : Type 0 where
   pub answers : Answers
-  pub asked : Asks ByTable (parser_callback s) (questions_of first) answers callback
+  pub asked : Asks AnswersByTable (parser_callback s) (questions_of first) answers callback
   pub begins : (later : Answers) → (others : List Element) × (elements s (answers ++ later) ≡ first ++ others)
 
 -- among the drafts of first elements is a number of 2^32 or more
@@ -83,7 +83,7 @@ IsCut old s fault = (fault ≡ Of Memory) ⊎ ((fault ≡ TooLong) × BeginsTooL
 pub record RecordsOn (old : Records) (s : Parser Answering) (new : Records) (t : Parser Answering) : Type 0 where
   pub first : List Element
   pub answers : Answers
-  pub asked : Asks ByTable (parser_callback s) (questions_of first) answers (parser_callback t)
+  pub asked : Asks AnswersByTable (parser_callback s) (questions_of first) answers (parser_callback t)
   pub left : (later : Answers) → elements s (answers ++ later) ≡ first ++ elements t later
   pub definitions : parser_definitions t ≡ parser_definitions s
   pub writes : WritesEntries {A = ⊤} old (element_drafts first) (Ok tt) new
@@ -110,7 +110,7 @@ pub record Starts (s : Source) (table : Table) (p : Parser Answering) (r : Recor
   pub definitions : map labelled_view (parser_definitions p) ≡ map labelled (findable (block_definitions s))
   pub source : records_source r ≡ s.text
   pub sheet : sheet_of r ≡ blank
-  pub entries : entries_of r ≡ 0
+  pub entries : marked_entries r ≡ 0
 
 -- from there all of the text is written, or this is why it is not
 abbrev pub WritesText : Records → Parser Answering → Result (Vec ℕ Global) RecordFault → Type 0

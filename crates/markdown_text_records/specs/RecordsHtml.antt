@@ -5,7 +5,7 @@ use Rattle.markdown_base.specs.declared.fault.Fault.TheVariants.{Blocks, Depth, 
 use Rattle.markdown_out.specs.EventHtml.{html_of}
 use Rattle.markdown_out.specs.LookBacks.{IsTooDeep}
 use Rattle.markdown_records.specs.Decoded.{decoded}
-use Rattle.markdown_records.specs.EntryView.{Contents}
+use Rattle.markdown_records.specs.RecordEntry.{Contents}
 use Rattle.markdown_records.specs.SaidBy.{events_among}
 use Rattle.markdown_records.specs.declared.fault.RecordFault.{RecordFault}
 use Rattle.markdown_records.specs.declared.fault.RecordFault.TheVariants.{NotRecords, Of, TooLong}
@@ -13,13 +13,13 @@ use Rattle.markdown_safe.specs.SafeEvents.{safe_events}
 use Rattle.markdown_safe.specs.SafeHtml.{IsSafeHtml}
 
 -- the HTML of the events that records say
-pub record IsHtmlOf (source bytes html : List ℕ) : Type 0 where
+pub record IsHtmlOfRecords (source bytes html : List ℕ) : Type 0 where
   pub contents : Contents
   pub said : decoded source bytes ≡ Some contents
   pub is : html ≡ html_of (events_among contents.entries)
 
 -- their safe HTML, which is safe
-pub record IsSafeHtmlOf (source bytes html : List ℕ) : Type 0 where
+pub record IsSafeHtmlOfRecords (source bytes html : List ℕ) : Type 0 where
   pub contents : Contents
   pub said : decoded source bytes ≡ Some contents
   pub is : html ≡ html_of (safe_events (events_among contents.entries))
@@ -27,7 +27,7 @@ pub record IsSafeHtmlOf (source bytes html : List ℕ) : Type 0 where
 
 -- among the first of the events that records say, as they are written, more Starts are open in an image than can be
 -- counted
-pub record BeginsTooDeep (as_written : List EventView → List EventView) (source bytes : List ℕ) : Type 0 where
+pub record ReadsTooDeep (as_written : List EventView → List EventView) (source bytes : List ℕ) : Type 0 where
   pub contents : Contents
   pub said : decoded source bytes ≡ Some contents
   pub first : List EventView
@@ -41,4 +41,4 @@ IsFaultOf as_written source bytes NotRecords = decoded source bytes ≡ None
 IsFaultOf as_written source bytes TooLong = ⊥
 IsFaultOf as_written source bytes (Of Memory) = ⊤
 IsFaultOf as_written source bytes (Of Blocks) = ⊥
-IsFaultOf as_written source bytes (Of Depth) = BeginsTooDeep as_written source bytes
+IsFaultOf as_written source bytes (Of Depth) = ReadsTooDeep as_written source bytes

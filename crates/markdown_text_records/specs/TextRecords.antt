@@ -1,6 +1,7 @@
--- What the records of a text say: the reading of the text, in which a table answers the questions of the callback, and its
--- link reference definitions.
-use Rattle.std.specs.Prelude.{◌≡◌, ◌⊎◌, ◌≤◌, ◌^◌, ◌++◌, max, length, true, ℕ, List, [], ◌∷◌, map, if◌then◌else◌, Option, Some, None}
+-- What the records of a text say: the reading of the text, in which a table answers the questions of the callback, and
+-- its link reference definitions.
+use Rattle.std.specs.Prelude.{◌≡◌, ◌⊎◌, ◌≤◌, ◌^◌, ◌++◌, max, length, true, ℕ, List, [], ◌∷◌, map, if◌then◌else◌, Option}
+use Rattle.std.specs.Prelude.{Some, None}
 use Rattle.std.specs.List.{fold, list_any}
 use Rattle.markdown_base.specs.Questions.{Answers}
 use Rattle.markdown_base.specs.Source.{Source}
@@ -10,22 +11,23 @@ use Rattle.markdown_builder.specs.BuilderView.{Definition}
 use Rattle.markdown_defs.specs.Folding.{is_match}
 use Rattle.markdown_inline.specs.Elements.{Element, event, question, questions_of}
 use Rattle.markdown_inline.specs.ReadingOfText.{reading_of_text, unlabelled}
-use Rattle.markdown_records.specs.EntryView as entry
-use Rattle.markdown_records.specs.EntryView.{Contents, EntryView, LabelledView}
+use Rattle.markdown_records.specs.RecordEntry as entry
+use Rattle.markdown_records.specs.RecordEntry.{Contents, RecordEntry, LabelledView}
 use Rattle.markdown_records.specs.Encoded.{FitDrafts, blank, encoded, whole_sheet}
 use Rattle.markdown_records.specs.ReadsBack.{drafts_of}
 use Rattle.markdown_records.specs.declared.fault.RecordFault.{RecordFault}
 use Rattle.markdown_records.specs.declared.fault.RecordFault.TheVariants.{Of, TooLong}
-use Rattle.markdown_text_records.specs.AnswerTable.{Table, answered}
+use Rattle.markdown_text_records.specs.AnswerTable.{Table, answers_by}
 
 -- an element of a reading, as an entry
-abbrev pub entry_of : Element → EntryView
-entry_of (question q) = entry.question q
-entry_of (event e) = entry.event e.0 e.1
+abbrev pub entry_of : Element → RecordEntry
+entry_of (question q) = entry.question_entry q
+entry_of (event e) = entry.event_entry e.0 e.1
 
 -- the definitions so far with one more, unless the label of one of them matches
 abbrev pub with_first : List Definition → Definition → List Definition
-with_first kept d = if list_any (λ (other : Definition). is_match d.label other.label) kept then kept else kept ++ d ∷ []
+with_first kept d = if list_any (λ (other : Definition). is_match d.label other.label) kept then kept else kept
+    ++ d ∷ []
 
 -- the definitions that can be found: of those whose labels match, the first
 abbrev pub findable : List Definition → List Definition
@@ -43,7 +45,7 @@ contents_of_text s answers = record {
 
 -- the answers of a table to the questions of a text, which is read with these answers
 abbrev pub AreAnswers : Source → Table → Answers → Type 0
-AreAnswers s table answers = answers ≡ answered table (questions_of (reading_of_text s true answers))
+AreAnswers s table answers = answers ≡ answers_by table (questions_of (reading_of_text s true answers))
 
 -- what is said of a text whose questions a table answers
 pub record AreContentsOf (s : Source) (table : Table) (c : Contents) : Type 0 where
@@ -62,11 +64,13 @@ abbrev pub AreTooLong : (source : List ℕ) → Contents → Type 0
 AreTooLong source c = (FitDrafts source blank (drafts_of c) → ⊥)
     ⊎ (2 ^ 32 ≤ max (length source) (length (whole_sheet source c).pool))
 
--- first elements of a text have no records, whatever answers follow those before them; or they have none with the definitions
+-- first elements of a text have no records, whatever answers follow those before them; or they have none with the
+-- definitions
 pub record BeginsTooLong (s : Source) : Type 0 where
   pub answers : Answers
   pub first : List Element
-  pub begins : (later : Answers) → (others : List Element) × (reading_of_text s true (answers ++ later) ≡ first ++ others)
+  pub begins : (later : Answers) → (others : List Element) × (reading_of_text s true (answers ++ later) ≡ first
+      ++ others)
   pub definitions : List LabelledView
   pub none_or_all : (definitions ≡ []) ⊎ (definitions ≡ map labelled (findable (block_definitions s)))
   pub too_long : AreTooLong s.text (record { entries = map entry_of first; definitions = definitions })

@@ -1,7 +1,7 @@
 //! A callback that answers from a table, and keeps what it is asked.
 ghost use Rattle.std.specs.Prelude.{◌≡◌, [], false};
 ghost use Rattle.markdown_text_records.specs.AnswerTable.{is_range};
-ghost use Rattle.markdown_text_records.specs.AnsweringView.{GivesAnswer, table_in, table_left};
+ghost use Rattle.markdown_text_records.specs.AnsweringView.{AnswersNext, table_in, table_left};
 
 use markdown_base::cow_str::CowStr;
 use markdown_defs::{BrokenLink, BrokenLinkCallback};
@@ -43,7 +43,7 @@ impl<'a> Answering<'a> {
 
     /// Returns the next answer of the table, if it is to this range.
     fn next_answer(&mut self, span: &Range<usize>) -> Option<(&'a str, &'a str)>
-        ensures { GivesAnswer self.old span.now result self.new }
+        ensures { AnswersNext self.old span.now result self.new }
     {
         let mut left = self.answers?;
         let given = left.next();
@@ -58,11 +58,11 @@ impl<'a> Answering<'a> {
 }
 
 impl<'a> BrokenLinkCallback<'a> for Answering<'a> {
-    ghost use Rattle.markdown_text_records.specs.AnsweringView.{Answers};
+    ghost use Rattle.markdown_text_records.specs.AnsweringView.{AnswersByTable};
 
     ghost can_ask = { λ _. Unit {0} };
 
-    ghost answers = { Answers };
+    ghost answers = { AnswersByTable };
 
     fn handle_broken_link(&mut self, link: BrokenLink<'a>) -> Option<(CowStr<'a>, CowStr<'a>)> {
         let answer = self.next_answer(&link.span);

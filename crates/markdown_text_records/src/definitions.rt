@@ -13,7 +13,8 @@ pub(crate) fn push_definitions(
     records: &mut Records<'_>,
     definitions: &RefDefs<'_>,
 ) -> Result<(), RecordFault>
-    ensures { Writes records.old (flat_map definition_drafts (map labelled_view definitions.now)) result records.new }
+    ensures { Writes records.old (flat_map definition_drafts
+        (map labelled_view definitions.now)) result records.new }
 {
     for (label, definition) in definitions.iter() {
         records.push_definition(label, definition)?;

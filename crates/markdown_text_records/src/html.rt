@@ -1,7 +1,7 @@
 //! The HTML of what records say.
 ghost use Rattle.std.specs.Prelude.{MatchResult, string_bytes};
 ghost use Rattle.markdown_safe.specs.SafeEvents.{safe_events};
-ghost use Rattle.markdown_text_records.specs.RecordsHtml.{IsFaultOf, IsHtmlOf, IsSafeHtmlOf};
+ghost use Rattle.markdown_text_records.specs.RecordsHtml.{IsFaultOf, IsHtmlOfRecords, IsSafeHtmlOfRecords};
 
 use markdown_base::fault::Fault;
 use markdown_out::push_html;
@@ -17,7 +17,7 @@ use std::alloc::Global;
 /// `NotRecords` unless each byte of the records is as it has to be for this text, `Of(Fault::Memory)` if an allocation fails,
 /// and `Of(Fault::Depth)` where more than 2^64 - 1 Starts are open in one image.
 pub fn html_of_records(alloc: Global, text: &str, records: &[u8]) -> Result<String, RecordFault>
-    ensures { MatchResult result (λ html. IsHtmlOf text.now records.now (string_bytes html))
+    ensures { MatchResult result (λ html. IsHtmlOfRecords text.now records.now (string_bytes html))
         (IsFaultOf (λ events. events) text.now records.now) }
 {
     let recorded = RecordedText::of_bytes(alloc, text, records)?;
@@ -38,7 +38,8 @@ pub fn safe_html_of_records(
     text: &str,
     records: &[u8],
 ) -> Result<String, RecordFault>
-    ensures { MatchResult result (λ html. IsSafeHtmlOf text.now records.now (string_bytes html))
+    ensures { MatchResult result (λ html. IsSafeHtmlOfRecords text.now records.now
+        (string_bytes html))
         (IsFaultOf safe_events text.now records.now) }
 {
     let recorded = RecordedText::of_bytes(alloc, text, records)?;

@@ -123,7 +123,8 @@ pub fn records_source<'a>(
     answers: Option<RecordAnswers<'a>>,
 ) -> Result<Vec<u8>, RecordFault>
     ensures { MatchResult result
-        (λ bytes. AreRecordsOf (source_as syntax text.entry.now) (table_in answers.entry) bytes.items)
+        (λ bytes. AreRecordsOf (source_as syntax text.entry.now)
+        (table_in answers.entry) bytes.items)
         (IsFaultOfText (source_as syntax text.entry.now)) }
 {
     let blocks = Blocks::of_source(alloc, text, Options::empty(), syntax)?;

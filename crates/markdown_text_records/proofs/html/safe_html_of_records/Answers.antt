@@ -1,4 +1,5 @@
--- What is written is of all events, made safe; where writing stops, memory was refused or the first events are too deep.
+-- What is written is of all events, made safe; where writing stops, memory was refused or the first events are too
+-- deep.
 use Rattle.std.proofs.lemmas.Result.{err_from_is_err_and}
 use Rattle.markdown_text_records.proofs.RecordsHtmlLemmas.{safe_html_faults, safe_html_written}
 use Rattle.markdown_text_records.proofs.html.safe_html_of_records.Goals as goal

@@ -5,4 +5,5 @@ use Rattle.markdown_text_records.proofs.EntriesLemmas.{EntriesTo}
 use Rattle.markdown_text_records.proofs.questions.push_all.Given as goal
 
 abbrev pub invariant-loop-link : goal.invariant-loop-link
-invariant-loop-link l = EntriesTo (λ q. question_drafts (question_of q)) l.initial.records l.questions l.link-index l.records
+invariant-loop-link l = EntriesTo (λ q. question_drafts
+    (question_of q)) l.initial.records l.questions l.link-index l.records

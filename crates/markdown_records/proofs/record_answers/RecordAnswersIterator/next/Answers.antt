@@ -4,8 +4,8 @@ use Rattle.std.specs.Option.{option_map}
 use Rattle.std.specs.declared.ops.Range.{Range}
 use Rattle.markdown_records.specs.Decoded.{entry_in}
 use Rattle.markdown_records.specs.EntryOf.{answer_view}
-use Rattle.markdown_records.specs.EntryView as entry
-use Rattle.markdown_records.specs.EntryView.{EntryView}
+use Rattle.markdown_records.specs.RecordEntry as entry
+use Rattle.markdown_records.specs.RecordEntry.{RecordEntry}
 use Rattle.markdown_records.specs.GroupOf.{group_view}
 use Rattle.markdown_records.specs.SaidBy.{list_or_none, said_entries}
 use Rattle.markdown_records.proofs.AnswerLemmas.{answer_first, begins_as, goes_on, no_answer}
@@ -36,7 +36,7 @@ returns-clause-steps c =
     let rest = list_or_none (said_entries s p c.in_ok-group.rest.now) in
     let given = option_map answer_view c.in_ok-answer.answer in
     goes_on _ _ f.first f.all f.on
-    ∙ ap (λ (v : EntryView). v ∷ rest)
+    ∙ ap (λ (v : RecordEntry). v ∷ rest)
     (answer_first s p (group_view c.in_ok-group.group) f.first given f.is c.if-group-ne-ANSWER.false
     (sym c.in_ok-answer.ensures))
-    ∙ ap (λ (r : Range ℕ). entry.answer r given ∷ rest) (sym c.span.ensures)
+    ∙ ap (λ (r : Range ℕ). entry.answer_entry r given ∷ rest) (sym c.span.ensures)

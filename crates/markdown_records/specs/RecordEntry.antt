@@ -7,12 +7,12 @@ use Rattle.markdown_base.specs.Event.{EventView}
 use Rattle.markdown_base.specs.Questions.{Answer, Question}
 
 -- an entry
-pub data EntryView : Type 0 where
-  event : EventView → Range ℕ → EntryView
+pub data RecordEntry : Type 0 where
+  event_entry : EventView → Range ℕ → RecordEntry
   -- a question to the callback, asked directly before the event that follows
-  question : Question → EntryView
+  question_entry : Question → RecordEntry
   -- the answer to a question with this range
-  answer : Range ℕ → Option Answer → EntryView
+  answer_entry : Range ℕ → Option Answer → RecordEntry
 
 -- a link reference definition, with its link label
 pub record LabelledView : Type 0 where
@@ -21,5 +21,5 @@ pub record LabelledView : Type 0 where
 
 -- all that records of a text say
 pub record Contents : Type 0 where
-  pub entries : List EntryView
+  pub entries : List RecordEntry
   pub definitions : List LabelledView
