@@ -18,34 +18,34 @@ pub(crate) struct Texts<'a> {
 
 impl<'a> Texts<'a> {
     /// Returns the text of a record, or None where it has none.
-    pub fn text_of(&self, record: &Record) -> Option<&'a str>
+    pub fn text_of(&self, head: &Record) -> Option<&'a str>
         ensures { Finds words (text_in self.now.source.now self.now.pool.now
-            (record_view record.now)) result }
+            (record_view head.now)) result }
     {
-        match record.place {
-            IN_SOURCE => slice_of(self.source, record.at as usize, record.length as usize),
-            IN_POOL => slice_of(self.pool, record.at as usize, record.length as usize),
+        match head.place {
+            IN_SOURCE => slice_of(self.source, head.at as usize, head.length as usize),
+            IN_POOL => slice_of(self.pool, head.at as usize, head.length as usize),
             _ => None,
         }
     }
 
     /// Returns the text of a record, or None where it has none.
-    pub fn cow_of(&self, record: &Record) -> Option<CowStr<'a>>
+    pub fn cow_of(&self, head: &Record) -> Option<CowStr<'a>>
         ensures { Finds text_of (text_in self.now.source.now self.now.pool.now
-            (record_view record.now)) result }
+            (record_view head.now)) result }
     {
-        Some(CowStr::Borrowed(self.text_of(record)?))
+        Some(CowStr::Borrowed(self.text_of(head)?))
     }
 
     /// Returns the text of a record, if there is to be one, or None where the record is wrong.
-    pub fn optional_text_of(&self, record: &Record) -> Option<Option<CowStr<'a>>>
+    pub fn optional_text_of(&self, head: &Record) -> Option<Option<CowStr<'a>>>
         ensures { Finds (option_map text_of)
-            (optional_text_in self.now.source.now self.now.pool.now (record_view record.now))
+            (optional_text_in self.now.source.now self.now.pool.now (record_view head.now))
             result }
     {
-        if record.has_no_text() {
+        if head.has_no_text() {
             return Some(None);
         }
-        Some(Some(self.cow_of(record)?))
+        Some(Some(self.cow_of(head)?))
     }
 }
