@@ -54,9 +54,8 @@ no_answer source pool g v e kind = by_kind (g.head.kind == 96)
     from_question None is = absurd (none_some v is)
     from_question (Some q) is = rw (← same_value (entry.question_entry q) v is) refl
 
-    from_event : (o : Option EventView) → option_map (λ (x : EventView). entry.event_entry x
-    (range_of source pool g.head)) o
-        ≡ Some v
+    from_event : (o : Option EventView)
+        → option_map (λ (x : EventView). entry.event_entry x (range_of source pool g.head)) o ≡ Some v
         → is_answer v ≡ false
     from_event None is = absurd (none_some v is)
     from_event (Some x) is = rw (← same_value (entry.event_entry x (range_of source pool g.head)) v is) refl
