@@ -18,7 +18,7 @@ use Rattle.markdown_brackets.specs.BracketDecision.{Step, Written, a_text, carri
 use Rattle.markdown_brackets.specs.BracketDecision.{link_reference, looked_up, question_at, second_end}
 use Rattle.markdown_brackets.specs.ClosingBracket.{closed, put, put_decided}
 use Rattle.markdown_brackets.specs.LeftList.{Split, bracket_taken}
-use Rattle.markdown_brackets.specs.Lookup.{LookedUp, answers_by, asked, defined_or_asked, finds_nothing, look_up}
+use Rattle.markdown_brackets.specs.Lookup.{LookedUp, answered, asked, defined_or_asked, finds_nothing, look_up}
 use Rattle.markdown_brackets.specs.ReadChain.{Reader, begun, closing_of, opened, read, read_as, read_chain, read_past}
 use Rattle.markdown_document.specs.ChainRest.{begun_at, end_of, open_body}
 use Rattle.markdown_document.specs.Document.{Notes, Shape, TreeNode, backslash_break, enclosed, leaf, no_notes, plain}
@@ -56,24 +56,24 @@ data LooksUp (agreed : ℕ) (q : Question) (one other : LookedUp) : Type 0 where
   unlike : agreed ≡ 0 → one.questions ≡ q ∷ [] → other.questions ≡ q ∷ [] → LooksUp agreed q one other
 
 asked_next : (limit : ℕ) (answers : Answers) (q : Question)
-    → asked limit answers q ≡ answers_by limit (after_next answers) q (next answers)
+    → asked limit answers q ≡ answered limit (after_next answers) q (next answers)
 asked_next limit [] q = refl
 asked_next limit (a ∷ answers) q = refl
 
 answered_asks : (limit : ℕ) (answers : Answers) (q : Question) (a : Option Answer)
-    → (answers_by limit answers q a).questions ≡ q ∷ []
+    → (answered limit answers q a).questions ≡ q ∷ []
 answered_asks limit answers q None = refl
 answered_asks limit answers q (Some a) = refl
 
 answered_alike : (agreed limit : ℕ) (answers others : Answers) (q : Question) (a : Option Answer)
     → Agree agreed answers others
-    → LooksUp (suc agreed) q (answers_by limit answers q a) (answers_by limit others q a)
+    → LooksUp (suc agreed) q (answered limit answers q a) (answered limit others q a)
 answered_alike agreed limit answers others q None g = alike agreed others (omega arith) g refl
 answered_alike agreed limit answers others q (Some a) g = alike agreed others (omega arith) g refl
 
 asked_alike : (agreed limit : ℕ) (answers others : Answers) (q : Question) → Agree agreed answers others
-    → LooksUp agreed q (answers_by limit (after_next answers) q (next answers))
-    (answers_by limit (after_next others) q (next others))
+    → LooksUp agreed q (answered limit (after_next answers) q (next answers))
+    (answered limit (after_next others) q (next others))
 asked_alike zero limit answers others q g =
     unlike refl (answered_asks limit (after_next answers) q (next answers))
     (answered_asks limit (after_next others) q (next others))
