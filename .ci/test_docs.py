@@ -131,8 +131,8 @@ class DocsTest(MadeUpTree):
         "docs/commonmark/examples.jsonl": "{}\n{}\n{}\n",
         "docs/use-in": COPIER,
         "include/markdown.h": HEADER,
-        "packaging/python/src/markdown_inline/__init__.py": '__version__ = "1.2.3"\n',
-        "packaging/README.md": 'one = { path = "../markdown_inline-1.2.3" }\ntwo = { path = "../markdown_inline-sys-1.2.3" }\n',
+        "packaging/python/src/provedown/__init__.py": '__version__ = "1.2.3"\n',
+        "packaging/README.md": 'one = { path = "../provedown-1.2.3" }\ntwo = { path = "../provedown-sys-1.2.3" }\n',
         "packaging/rust/Cargo.toml": 'version = "1.2.3"\n',
         "crates/markdown/CALLING.md": CALLING,
         "crates/markdown_base/src/lib.rt": CODE_OF_BASE,
@@ -428,8 +428,8 @@ class Versions(DocsTest):
 
     def test_no_version(self):
         self.replace("README.md", "This is version 1.2.3.", "")
-        self.remove("packaging/python/src/markdown_inline/__init__.py")
-        paths = ("README.md", "packaging/python/src/markdown_inline/__init__.py")
+        self.remove("packaging/python/src/provedown/__init__.py")
+        paths = ("README.md", "packaging/python/src/provedown/__init__.py")
         self.assert_finds(self.check, *(f"{path} names no version" for path in paths))
 
     def test_no_version_in_the_changelog(self):

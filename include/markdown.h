@@ -7,7 +7,7 @@
  *
  * # DESCRIPTION
  *
- * The calls of the library `libmarkdown_inline`. Those into a buffer work like `snprintf`: each returns the length of
+ * The calls of the library `libprovedown`. Those into a buffer work like `snprintf`: each returns the length of
  * the whole result in bytes, and writes the result to the caller's buffer if the whole result fits. A caller tries
  * with some buffer, or with none to learn the length. If the number is greater than the length of the buffer, the
  * caller tries once more with a buffer of that length. Calls whose names end in `_alloc` return the result in memory

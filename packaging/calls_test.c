@@ -1,4 +1,4 @@
-/* Tests what markdown_inline.c adds to the proved calls: calls that allocate, NULL, the version; and the stack that the header
+/* Tests what provedown.c adds to the proved calls: calls that allocate, NULL, the version; and the stack that the header
  * speaks of. What the calls give is compared with stored texts in examples/c. */
 #include <pthread.h>
 #include <stdio.h>

@@ -1,4 +1,4 @@
-"""Renders the texts of a folder by the package markdown_inline, and compares the results with what is stored beside them.
+"""Renders the texts of a folder by the package provedown, and compares the results with what is stored beside them.
 
     callers.py FOLDER NAME ..
 """
@@ -6,7 +6,7 @@ import json
 import sys
 from pathlib import Path
 
-import markdown_inline
+import provedown
 
 EXTENSIONS = ["strikethrough"]
 
@@ -20,16 +20,16 @@ def of_stored(line, encoded):
 def try_text(folder, name):
     kinds = ("md", "html", "safe", "jsonl", "outline")
     text, html, safe, lines, headings = ((folder / f"{name}.{kind}").read_bytes().decode() for kind in kinds)
-    assert markdown_inline.html(text, EXTENSIONS, safe=False) == html, name
-    assert markdown_inline.html(text, EXTENSIONS) == safe, name
-    assert markdown_inline.events_json(text, EXTENSIONS) == lines, name
-    assert markdown_inline.outline_json(text, EXTENSIONS) == headings, name
+    assert provedown.html(text, EXTENSIONS, safe=False) == html, name
+    assert provedown.html(text, EXTENSIONS) == safe, name
+    assert provedown.events_json(text, EXTENSIONS) == lines, name
+    assert provedown.outline_json(text, EXTENSIONS) == headings, name
 
     stored = [of_stored(json.loads(it), text.encode()) for it in lines.splitlines()]
-    events = [it for it in markdown_inline.events(text, EXTENSIONS)]
+    events = [it for it in provedown.events(text, EXTENSIONS)]
     assert [(it.name if it.value is None else {it.name: it.value}, it.start, it.end) for it in events] == stored, name
     stored = [of_stored(json.loads(it), text.encode()) for it in headings.splitlines()]
-    outline = markdown_inline.outline(text, EXTENSIONS)
+    outline = provedown.outline(text, EXTENSIONS)
     assert [({"level": it.level, "text": it.text}, it.start, it.end) for it in outline] == stored, name
 
 

@@ -1,6 +1,6 @@
-//! Renders the texts of a folder by the crate `markdown_inline`, and compares the results with what is stored beside them.
+//! Renders the texts of a folder by the crate `provedown`, and compares the results with what is stored beside them.
 
-use markdown_inline::{Error, Extensions, to_html, to_json, to_outline, to_safe_html};
+use provedown::{Error, Extensions, to_html, to_json, to_outline, to_safe_html};
 use std::{env, fs};
 
 type Call = fn(&str, Extensions) -> Result<String, Error>;

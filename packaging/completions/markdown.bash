@@ -1,5 +1,5 @@
 # Completion of @PROGRAM@ for bash.
-_markdown_inline() {
+_provedown() {
     local word=${COMP_WORDS[COMP_CWORD]} before=${COMP_WORDS[COMP_CWORD - 1]} words= files= kept=
     case $before in
     -t | --to) words='html events outline toc links broken' ;;
@@ -27,4 +27,4 @@ _markdown_inline() {
         mapfile -t COMPREPLY < <(compgen -f -- "$word")
     fi
 }
-complete -o filenames -F _markdown_inline @PROGRAM@
+complete -o filenames -F _provedown @PROGRAM@

@@ -2,16 +2,16 @@
 import sys
 from pathlib import Path
 
-import markdown_inline
-from markdown_inline.typed import Image, Link, Start, events
+import provedown
+from provedown.typed import Image, Link, Start, events
 
 
 def links(text):
     """Yields each link with the offset at which it begins."""
-    for event in events(text, markdown_inline.GITHUB):
+    for event in events(text, provedown.GITHUB):
         if isinstance(event, Start) and isinstance(event.tag, (Link, Image)):
             yield event.start, event.tag.dest_url
-    for link in markdown_inline.broken(text, markdown_inline.GITHUB):
+    for link in provedown.broken(text, provedown.GITHUB):
         yield link.start, f"[{link.label}] is not defined"
 
 

@@ -1,6 +1,6 @@
 /* page FILE: writes a Markdown file as a page of safe HTML to standard output.
  *
- *     cc page.c $(pkg-config --cflags --libs markdown_inline)
+ *     cc page.c $(pkg-config --cflags --libs provedown)
  */
 #include <stdio.h>
 #include <stdlib.h>

@@ -21,7 +21,7 @@ class PlatformWheel(bdist_wheel):
         return "py3", "none", "manylinux_2_17_x86_64"
 
 
-if not Path("src/markdown_inline/libmarkdown_inline.so").exists():
+if not Path("src/provedown/libprovedown.so").exists():
     raise SystemExit("the package lacks its shared object: `make wheel` in packaging/ puts it there, and builds the wheel")
 
 setup(distclass=PlatformDistribution, cmdclass={"bdist_wheel": PlatformWheel})

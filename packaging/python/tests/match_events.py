@@ -1,5 +1,5 @@
 """Events by `match`, which Python has from 3.10 on: test_typed.py imports this there."""
-from markdown_inline.typed import Code, End, HardBreak, Heading, Image, ItemList, Link, Start, TaskListMarker, Text, events
+from provedown.typed import Code, End, HardBreak, Heading, Image, ItemList, Link, Start, TaskListMarker, Text, events
 
 
 def summary(text):

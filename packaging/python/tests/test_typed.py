@@ -5,12 +5,12 @@ import sys
 import unittest
 from pathlib import Path
 
-import markdown_inline
-from markdown_inline import BadRecords, BrokenLink, Definition, Kind, MarkdownError, typed
-from markdown_inline.typed import End, Event, Heading, Html, Image, ItemList, Link, Paragraph, SoftBreak, Start, Table, Text
+import provedown
+from provedown import BadRecords, BrokenLink, Definition, Kind, MarkdownError, typed
+from provedown.typed import End, Event, Heading, Html, Image, ItemList, Link, Paragraph, SoftBreak, Start, Table, Text
 
 # The extensions that typed events have.
-EXTENSIONS = [name for name in markdown_inline.ALL if name not in ("autolinks", "heading-ids")]
+EXTENSIONS = [name for name in provedown.ALL if name not in ("autolinks", "heading-ids")]
 
 TEXTS = [
     "",
@@ -69,9 +69,9 @@ class Events(unittest.TestCase):
             Text("a").text = "b"
 
     def test_same_as_lines_of_json(self):
-        """The events have the names and the ranges of those of `markdown_inline.events`."""
+        """The events have the names and the ranges of those of `provedown.events`."""
         for text in TEXTS:
-            wanted = [(it.name, it.start, it.end) for it in markdown_inline.events(text, EXTENSIONS)]
+            wanted = [(it.name, it.start, it.end) for it in provedown.events(text, EXTENSIONS)]
             self.assertEqual([(type(it).__name__, it.start, it.end) for it in typed.events(text, EXTENSIONS)], wanted)
 
     @unittest.skipIf(sys.version_info < (3, 10), "Python has no match")
@@ -90,7 +90,7 @@ class Rendering(unittest.TestCase):
     def test_same_as_html_of_the_text(self):
         for text in TEXTS:
             for safe in (True, False):
-                wanted = markdown_inline.html(text, EXTENSIONS, safe=safe)
+                wanted = provedown.html(text, EXTENSIONS, safe=safe)
                 self.assertEqual(typed.html(typed.events(text, EXTENSIONS), safe=safe), wanted)
 
     def test_changed_events(self):
@@ -122,7 +122,7 @@ class Rendering(unittest.TestCase):
         for event in (Start(Heading(7)), End(Heading(0)), Start(ItemList(-1)), Start(ItemList(2**64)), Start(Link("x", ""))):
             self.assertRaises(MarkdownError, typed.html, [event])
         self.assertRaises(MarkdownError, typed.html, [Start(Table(("middle",)))])
-        for event in (None, "a", Paragraph(), Start(Text("a")), Text(b"a"), markdown_inline.Event("SoftBreak", None, 0, 0)):
+        for event in (None, "a", Paragraph(), Start(Text("a")), Text(b"a"), provedown.Event("SoftBreak", None, 0, 0)):
             self.assertRaises(TypeError, typed.html, [event])
         self.assertRaises(UnicodeEncodeError, typed.html, [Text("\ud800")])
 
@@ -131,8 +131,8 @@ class Questions(unittest.TestCase):
     def test_broken(self):
         text = "é [a] [b][c] [d][]\n\n[a]: e\n"
         wanted = [BrokenLink("reference", "c", 6, 12), BrokenLink("collapsed", "d", 13, 16)]
-        self.assertEqual(markdown_inline.broken(text), wanted)
-        self.assertEqual(markdown_inline.broken("[a](b) `[c]`"), [])
+        self.assertEqual(provedown.broken(text), wanted)
+        self.assertEqual(provedown.broken("[a](b) `[c]`"), [])
 
     def test_answers(self):
         asked = []
@@ -171,16 +171,16 @@ class Questions(unittest.TestCase):
 
     def test_definitions(self):
         text = "é\n\n[A  b]: <c> 'd'\n[e]: f\n[a b]: g\n"
-        found = markdown_inline.definitions(text)
+        found = provedown.definitions(text)
         self.assertEqual(found[1], Definition("e", "f", None, 19, 25))
         self.assertEqual([(it.dest_url, it.title) for it in found], [("c", "d"), ("f", None)])
-        self.assertEqual(markdown_inline.fold("Äß"), "äss")
+        self.assertEqual(provedown.fold("Äß"), "äss")
 
 
 class Columns(unittest.TestCase):
     def test_columns(self):
         text = "## é\n\n[a](b 'c') *d* [e]\n\n[f]: g 'h'\n"
-        found = markdown_inline.columns(text)
+        found = provedown.columns(text)
         events = list(typed.events(text))
         self.assertEqual(len(found.kinds), len(events))
         self.assertEqual([*zip(found.starts, found.ends)], [(it.start, it.end) for it in events])
@@ -189,7 +189,7 @@ class Columns(unittest.TestCase):
         self.assertEqual(counts, [1, 1, 1, 0])
 
     def test_no_events(self):
-        self.assertEqual(markdown_inline.columns("").kinds, b"")
+        self.assertEqual(provedown.columns("").kinds, b"")
 
 
 class Damage(unittest.TestCase):
@@ -200,7 +200,7 @@ class Damage(unittest.TestCase):
             list(typed.events_of_records(text, records))
 
     def test_header(self):
-        good = markdown_inline.records("a")
+        good = provedown.records("a")
         self.assertEqual(list(typed.events_of_records("a", good)), list(typed.events("a")))
         self.refuses("b" * 2, good)
         for bad in (b"", b"MDR1", good[:-1], good + b"a", b"MDR2" + good[4:], good[:4] + b"\2" + good[5:]):
@@ -209,7 +209,7 @@ class Damage(unittest.TestCase):
 
     def test_fields(self):
         text = "[é](b 'c')"
-        good = markdown_inline.records(text)
+        good = provedown.records(text)
         # an offset of a byte, and what it becomes: a class of a link, an unknown type, a cut character, an end of nothing
         for at, byte in ((72, 0x83), (49, 11), (108, 2), (112, 1), (24, 0x41), (32, 99), (12, 0), (12, 1), (68, 255)):
             self.assertNotEqual(good[at], byte)
@@ -227,7 +227,7 @@ class Damage(unittest.TestCase):
         read = 0
         for turn in range(4000):
             text = TEXTS[turn % len(TEXTS)]
-            bad = bytearray(markdown_inline.records(text, EXTENSIONS) if turn < len(TEXTS) else self.stored[text])
+            bad = bytearray(provedown.records(text, EXTENSIONS) if turn < len(TEXTS) else self.stored[text])
             self.stored[text] = bytes(bad)
             for _ in range(rest.randint(1, 3)):
                 bad[rest.randrange(len(bad))] = rest.choice((0, 1, 2, 3, 0x20, 0x81, 0x83, 255, rest.randrange(256)))
@@ -247,15 +247,15 @@ class Damage(unittest.TestCase):
 
 class Extensions(unittest.TestCase):
     def test_false_values(self):
-        calls = [markdown_inline.html, markdown_inline.events, markdown_inline.columns, markdown_inline.broken, typed.events]
+        calls = [provedown.html, provedown.events, provedown.columns, provedown.broken, typed.events]
         for call in calls:
             self.assertRaises(TypeError, call, "a", {"tables": False})
             self.assertRaises(TypeError, call, "a", {"tables": True, "math": None})
-        self.assertEqual(markdown_inline.html("~~a~~", {"strikethrough": True}), "<p><del>a</del></p>\n")
-        self.assertEqual(markdown_inline.html("~~a~~", markdown_inline.EXTENSIONS), "<p><del>a</del></p>\n")
+        self.assertEqual(provedown.html("~~a~~", {"strikethrough": True}), "<p><del>a</del></p>\n")
+        self.assertEqual(provedown.html("~~a~~", provedown.EXTENSIONS), "<p><del>a</del></p>\n")
 
     def test_names(self):
-        self.assertRaises(markdown_inline.UnknownExtension, typed.events, "a", ["nothing"])
+        self.assertRaises(provedown.UnknownExtension, typed.events, "a", ["nothing"])
         self.assertRaises(TypeError, typed.events, "a", "math")
         self.assertRaises(TypeError, typed.events, b"a")
         names = (it for it in ["strikethrough"])
