@@ -245,17 +245,21 @@ module _ {S : Type 0} (steps : S → Option Item → S → Type 0) (it : S) (eve
   pub links_read : (entries : List LinkEntryView) → AreLinksOfAll steps it entries → entries ≡ link_entries_of events
   links_read entries l = l.are ∙ ap link_entries_of (gives.whole l.events l.read)
 
-  pub placed_written : (seen text old new : List ℕ) → seen ≡ text → old ≡ []
-      → IsWrittenWithPlaces steps seen it old new → new ≡ placed_event_lines text events
-  placed_written seen text old new is empty w =
+  pub placed_written : (seen old new : List ℕ) → old ≡ [] → IsWrittenWithPlaces steps seen it old new
+      → new ≡ placed_event_lines seen events
+  placed_written seen old new empty w =
       w.stands
       ∙ ap (λ bytes. bytes ++ placed_event_lines seen (map ranged_view w.events)) empty
       ∙ ap (placed_event_lines seen) (gives.whole w.events w.read)
-      ∙ ap (λ t. placed_event_lines t events) is
 
   pub placed_stopped : (seen old new : List ℕ) (fault : Fault) → StopsWithPlaces steps seen it old new fault
       → fault ≡ Memory
   placed_stopped seen old new fault s = gives.memory s.events s.left fault s.read
+
+-- a text whose positions are looked up is the text of the events
+pub placed_among : (seen text : List ℕ) (events : List Ranged) (lines : List ℕ) → seen ≡ text
+    → lines ≡ placed_event_lines seen events → lines ≡ placed_event_lines text events
+placed_among seen text events lines same are = are ∙ ap (λ t. placed_event_lines t events) same
 
 -- ---- events with their ranges, made safe
 
