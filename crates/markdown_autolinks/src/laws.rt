@@ -40,9 +40,10 @@ pub fn an_adapter_stays_ended<'a, I: Iterator<Item = Result<(Event<'a>, Range<us
         (λ a. at_most (most_to_come I.remaining (linked_state a))) links.now }
 {}
 
-/// States what the links of addresses leave: without the tags that were added all other events are the ones before, and the
-/// Texts together have their bytes, unless smart punctuation made any; Starts and Ends nest if they did; and then no link is in
-/// a link if none was.
+/// States what the links of addresses leave. Each is a Start, one Text, which is the address, and an End, and stands in no link,
+/// image, code block, HTML block or metadata. Without their tags all other events are the ones before, and the Texts together
+/// have their bytes, unless smart punctuation made any. Starts and Ends nest if they did; and then no link is in a link if
+/// none was.
 pub fn events_gain_links_alone()
     ensures only { OnlyLinksAreAdded }
     ensures nest { NestingStays }

@@ -12,12 +12,13 @@ use Rattle.markdown_base.specs.declared.event.Event.{Event}
 use Rattle.markdown_base.specs.declared.fault.Fault.{Fault}
 use Rattle.markdown_base.specs.declared.fault.Fault.TheVariants.{Memory}
 use Rattle.markdown_heading_ids.specs.Anchors.{heading_anchor}
-use Rattle.markdown_heading_ids.specs.HeadingIds.{Id, free_id, given_id, id_unless, with_given}
+use Rattle.markdown_heading_ids.specs.HeadingIds.{Id, free_id, given_id, has_no_id, id_unless, lacks_id}
+use Rattle.markdown_heading_ids.specs.HeadingIds.{with_given}
 use Rattle.markdown_heading_ids.specs.HeadingIdsNext.{CallsSource, HasReturnedAll, IdsState, IsRefusedAnId, PassesItem}
 use Rattle.markdown_heading_ids.specs.HeadingIdsNext.{SourceItem, count_to_come, items_to_come, item_seen, unless_over}
 use Rattle.markdown_heading_ids.specs.HeadingItems.{RangedItem, items_with_ids, until_error}
-use Rattle.markdown_heading_ids.specs.HeadingRead.{HeadingIsRead, TakesEvent, ends_with, has_no_id}
-use Rattle.markdown_heading_ids.specs.HeadingRead.{heading_words, lacks_id, words_added}
+use Rattle.markdown_heading_ids.specs.HeadingRead.{HeadingIsRead, TakesEvent, ends_with, heading_words}
+use Rattle.markdown_heading_ids.specs.HeadingRead.{words_added}
 use Rattle.markdown_heading_ids.specs.TakenIds.{StandsFor}
 use Rattle.markdown_heading_ids.specs.declared.taken.Taken.{Taken}
 use Rattle.markdown_outline.specs.Outline.{Ranged, ends_heading, joined_text, opened_heading, text_added, up_to_end}

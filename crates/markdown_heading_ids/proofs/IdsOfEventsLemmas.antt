@@ -2,15 +2,16 @@
 use Rattle.std.proofs.Common.{◌≡◌, ◌⊎◌, ◌+◌, ◌<◌, ◌≤◌, ◌^◌, ℕ, length, Bool, true}
 use Rattle.std.proofs.Common.{false, not, if◌then◌else◌, List, [], ◌∷◌, ◌++◌, map, Option, Some}
 use Rattle.std.proofs.Common.{None, refl, sym, ap, subst, ◌∙◌, inl, inr, arith}
-use Rattle.std.specs.Prelude.{is_some}
-use Rattle.std.specs.List.{AllZip}
+use Rattle.std.specs.Prelude.{IsSome, is_some}
+use Rattle.std.specs.List.{All, AllZip}
+use Rattle.std.proofs.lemmas.List.Elements.{All-append, All-cons, All-nil}
 use Rattle.markdown_base.specs.Event.{EventView, HeadingView, TagView, heading, start}
 use Rattle.markdown_heading_ids.specs.Anchors.{heading_anchor}
-use Rattle.markdown_heading_ids.specs.HeadingIds.{Id, event_with_id, free_id, given_id, id_unless, is_taken, with_given}
-use Rattle.markdown_heading_ids.specs.HeadingIds.{with_ids, with_ids_from}
+use Rattle.markdown_heading_ids.specs.HeadingIds.{Id, event_ids, event_with_id, free_id, given_id, id_unless, is_taken}
+use Rattle.markdown_heading_ids.specs.HeadingIds.{has_no_id, lacks_id, own_ids, with_given, with_ids, with_ids_from}
 use Rattle.markdown_heading_ids.specs.IdsOfEvents.{ASecondTimeChangesNothing, AreFresh, EachHeadingHasAnId, GainsId}
 use Rattle.markdown_heading_ids.specs.IdsOfEvents.{GivenIdsAreFresh, HasId, HaveIdsFrom, OnlyIdsAreAdded}
-use Rattle.markdown_heading_ids.specs.IdsOfEvents.{OutlinesHaveIds, heading_ids, ids_given_from, start_ids_from}
+use Rattle.markdown_heading_ids.specs.IdsOfEvents.{OutlinesHaveIds, heading_ids, ids_given, start_ids_from}
 use Rattle.markdown_heading_ids.specs.IdsOfEvents.{without_id}
 use Rattle.markdown_outline.specs.Outline.{EntryView, Ranged, ends_heading, entries_from, heading_entry, joined_text}
 use Rattle.markdown_outline.specs.Outline.{opened_entry, opened_heading, text_added, up_to_end}
@@ -142,6 +143,61 @@ unchanged false taken (e ∷ events) h =
 pub a_second_time : ASecondTimeChangesNothing
 a_second_time taken again events = unchanged false again (with_ids taken events) (have_ids false taken events)
 
+-- ---- the ids given, read off the events before and after
+
+-- an event that stays has been given none
+tag_without : (t : TagView) → (if lacks_id (start t) then event_ids (start t) else []) ≡ []
+tag_without (heading h) = by h.id
+  where
+    by : (o : Option Id) → (if not (is_some o) then own_ids o else []) ≡ []
+    by None = refl
+    by (Some id) = refl
+tag_without other = refl
+
+none_read : (v : EventView) → (if lacks_id v then event_ids v else []) ≡ []
+none_read (start t) = tag_without t
+none_read other = refl
+
+has_lacks : (o : Option HeadingView) → HasId o → has_no_id o ≡ false
+has_lacks None has = refl
+has_lacks (Some h) has = by h.id has
+  where
+    by : (o : Option Id) → IsSome o → not (is_some o) ≡ false
+    by None has = cc has
+    by (Some id) has = refl
+
+-- what is given to an event is read off
+given_read : (e : Ranged) {ids : List Id} → Gets e ids
+    → (if lacks_id e.0 then event_ids (with_given ids e).0 else []) ≡ ids
+given_read e {ids} (gets_none none has) = rw (has_lacks (opened_heading e.0) has) (sym none)
+given_read e {ids} (gets_id h id is lacks given) =
+    let yes : lacks_id e.0 ≡ true = ap lacks_id is ∙ ap (λ (o : Option Id). not (is_some o)) lacks in
+    let own : event_ids (with_given (id ∷ []) e).0 ≡ id ∷ [] = ap (λ (f : Ranged). event_ids f.0) (made e h id is) in
+    rw (given, yes, own) refl
+
+-- what holds of each free id of an anchor holds of each id that is given
+module _ (P : Id → Type 0) (each : (taken : List Id) (words : List ℕ) → P (free_id taken (heading_anchor words))) where
+  each_given : (o : Option HeadingView) (taken : List Id) (events : List Ranged) → All P (given_id o taken events)
+  each_given None taken events = All-nil P
+  each_given (Some h) taken events = by h.id
+    where
+      by : (o : Option Id) → All P (id_unless o taken (joined_text (up_to_end events)))
+      by None = All-cons P _ [] (each taken (joined_text (up_to_end events))) (All-nil P)
+      by (Some id) = All-nil P
+
+  given_all : (inside : Bool) (taken : List Id) (events : List Ranged)
+      → All P (ids_given events (with_ids_from inside taken events))
+  given_all inside taken [] = All-nil P
+  given_all true taken (e ∷ events) = rw (none_read e.0) (given_all (not (ends_heading e.0)) taken events)
+  given_all false taken (e ∷ events) =
+      let ids = given_id (opened_heading e.0) taken events in
+      rw (given_read e (gets e taken events))
+      (All-append P ids _ (each_given (opened_heading e.0) taken events)
+      (given_all (is_some (opened_heading e.0)) (ids ++ taken) events))
+
+  pub all_given : (taken : List Id) (events : List Ranged) → All P (ids_given events (with_ids taken events))
+  all_given taken events = given_all false taken events
+
 -- ---- the ids given are fresh, as a free id is not taken
 
 module _ (free : (taken : List Id) (anchor : List ℕ) → length taken < 2 ^ 64
@@ -171,16 +227,16 @@ module _ (free : (taken : List Id) (anchor : List ℕ) → length taken < 2 ^ 64
       by (Some h) more = by_id h.id more
 
   fresh : (inside : Bool) (taken : List Id) (events : List Ranged) → length taken + length events < 2 ^ 64
-      → AreFresh taken (ids_given_from inside taken events)
+      → AreFresh taken (ids_given events (with_ids_from inside taken events))
   fresh inside taken [] few = tt
-  fresh true taken (e ∷ events) few = fresh (not (ends_heading e.0)) taken events (omega (arith, few))
+  fresh true taken (e ∷ events) few =
+      rw (none_read e.0) (fresh (not (ends_heading e.0)) taken events (omega (arith, few)))
   fresh false taken (e ∷ events) few =
       let most = at_most_one (opened_heading e.0) taken events in
-      fresh_before e taken events
-      (ids_given_from (is_some (opened_heading e.0)) (given_id (opened_heading e.0) taken events ++ taken) events)
-      (omega (arith, few))
-      (fresh (is_some (opened_heading e.0)) (given_id (opened_heading e.0) taken events ++ taken) events
-      (omega (arith, few, most)))
+      let now = given_id (opened_heading e.0) taken events ++ taken in
+      rw (given_read e (gets e taken events)) (fresh_before e taken events
+      (ids_given events (with_ids_from (is_some (opened_heading e.0)) now events)) (omega (arith, few))
+      (fresh (is_some (opened_heading e.0)) now events (omega (arith, few, most))))
 
   pub given_ids_are_fresh : GivenIdsAreFresh
   given_ids_are_fresh taken events few = fresh false taken events few

@@ -10,5 +10,8 @@ pub mod HeadingIdsRunLemmas
 -- events with their ids
 pub mod IdsOfEventsLemmas
 pub mod MergedIdsLemmas
+-- what an id that is given is made of
+pub mod PlainIdsLemmas
 -- ids with a prefix
 pub mod PrefixedLemmas
+pub mod PrefixLawsLemmas

@@ -29,6 +29,15 @@ free_from (suc tries) taken anchor n =
 abbrev pub free_id : (taken : List Id) → (anchor : List ℕ) → Id
 free_id taken anchor = free_from (length taken) taken anchor 0
 
+-- whether a heading has no id
+abbrev pub has_no_id : Option HeadingView → Bool
+has_no_id None = false
+has_no_id (Some h) = not (is_some h.id)
+
+-- whether an event is the Start of a heading without an id
+abbrev pub lacks_id : EventView → Bool
+lacks_id e = has_no_id (opened_heading e)
+
 -- the id that a heading without one is given, by its text
 abbrev pub id_unless : Option Id → (taken : List Id) → (words : List ℕ) → List Id
 id_unless (Some own) taken words = []
@@ -84,9 +93,13 @@ abbrev pub event_ids : EventView → List Id
 event_ids (start tag) = tag_ids tag
 event_ids other = []
 
+-- the ids that the HTML of events has, of headings and of footnote definitions
+abbrev pub ids_of : List Ranged → List Id
+ids_of events = flat_map (λ (e : Ranged). event_ids e.0) events
+
 -- what is taken from the start: the empty id, which no element may have, and the ids that the events have already
 abbrev pub taken_from_the_start : List Ranged → List Id
-taken_from_the_start events = [] ∷ flat_map (λ (e : Ranged). event_ids e.0) events
+taken_from_the_start events = [] ∷ ids_of events
 
 -- events with the ids of their headings
 abbrev pub with_all_ids : List Ranged → List Ranged

@@ -1,22 +1,11 @@
 -- What the adapter has read of a heading. Only private clauses cite this.
-use Rattle.std.specs.Prelude.{◌≡◌, ℕ, Bool, true, false, not, List, []}
-use Rattle.std.specs.Prelude.{◌∷◌, ◌++◌, Ok, Err, map, Option, Some, None, is_some}
-use Rattle.markdown_base.specs.Event.{EventView, HeadingView}
+use Rattle.std.specs.Prelude.{◌≡◌, ℕ, Bool, true, false, List, [], ◌∷◌, ◌++◌, Ok, Err, map, Option}
 use Rattle.markdown_heading_ids.specs.HeadingIds.{Id, with_given}
 use Rattle.markdown_heading_ids.specs.HeadingIdsNext.{CallsSource, IdsState, SourceItem, items_to_come, item_seen}
 use Rattle.markdown_heading_ids.specs.HeadingIdsNext.{unless_over}
 use Rattle.markdown_heading_ids.specs.HeadingItems.{RangedItem, items_with_ids, until_error}
 use Rattle.markdown_heading_ids.specs.TakenIds.{StandsFor}
-use Rattle.markdown_outline.specs.Outline.{Ranged, ends_heading, joined_text, opened_heading, text_added, up_to_end}
-
--- whether a heading has no id
-abbrev pub has_no_id : Option HeadingView → Bool
-has_no_id None = false
-has_no_id (Some h) = not (is_some h.id)
-
--- whether an event opens a heading without an id
-abbrev pub lacks_id : EventView → Bool
-lacks_id e = has_no_id (opened_heading e)
+use Rattle.markdown_outline.specs.Outline.{Ranged, ends_heading, joined_text, text_added, up_to_end}
 
 -- whether a heading ends with an item
 abbrev pub ends_with : RangedItem → Bool

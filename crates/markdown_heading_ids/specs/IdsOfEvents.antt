@@ -1,10 +1,10 @@
 -- Laws of events with the ids of their headings.
-use Rattle.std.specs.Prelude.{◌≡◌, ◌⊎◌, ◌+◌, ◌<◌, ◌^◌, Bool, true, false, not}
+use Rattle.std.specs.Prelude.{◌≡◌, ◌⊎◌, ◌+◌, ◌<◌, ◌^◌, Bool, true, false, not, if◌then◌else◌}
 use Rattle.std.specs.Prelude.{List, [], ◌∷◌, ◌++◌, map, Option, Some, None, IsSome}
 use Rattle.std.specs.Prelude.{is_some, length}
 use Rattle.std.specs.List.{AllZip}
 use Rattle.markdown_base.specs.Event.{HeadingView, heading, start}
-use Rattle.markdown_heading_ids.specs.HeadingIds.{Id, given_id, is_taken, with_all_ids, with_ids}
+use Rattle.markdown_heading_ids.specs.HeadingIds.{Id, event_ids, is_taken, lacks_id, with_all_ids, with_ids}
 use Rattle.markdown_out.specs.EventRanges.{through_ranges}
 use Rattle.markdown_out.specs.Merge.{merged}
 use Rattle.markdown_outline.specs.Outline.{EntryView, Ranged, ends_heading, entries_of, opened_heading}
@@ -37,13 +37,12 @@ HaveIdsFrom false (e ∷ events) = HasId (opened_heading e.0) × HaveIdsFrom (is
 abbrev pub EachHeadingHasAnId : Type 0
 EachHeadingHasAnId = (taken : List Id) (events : List Ranged) → HaveIdsFrom false (with_ids taken events)
 
--- the ids that are given to the headings that begin among these events, in their order
-abbrev pub ids_given_from : (inside : Bool) → (taken : List Id) → List Ranged → List Id
-ids_given_from inside taken [] = []
-ids_given_from true taken (e ∷ events) = ids_given_from (not (ends_heading e.0)) taken events
-ids_given_from false taken (e ∷ events) =
-    given_id (opened_heading e.0) taken events
-    ++ ids_given_from (is_some (opened_heading e.0)) (given_id (opened_heading e.0) taken events ++ taken) events
+-- the ids that were given, read off the events before and after: wherever the event before is the Start of a heading
+-- without an id, the id of the event after
+abbrev pub ids_given : (before after : List Ranged) → List Id
+ids_given [] after = []
+ids_given (e ∷ before) [] = []
+ids_given (e ∷ before) (f ∷ after) = (if lacks_id e.0 then event_ids f.0 else []) ++ ids_given before after
 
 -- none of these ids is taken, and each differs from those before it
 abbrev pub AreFresh : (taken : List Id) → List Id → Type 0
@@ -53,7 +52,7 @@ AreFresh taken (id ∷ ids) = (is_taken taken id ≡ false) × AreFresh (id ∷ 
 -- the ids given are fresh, where there are not too many to count
 abbrev pub GivenIdsAreFresh : Type 0
 GivenIdsAreFresh = (taken : List Id) (events : List Ranged) → length taken + length events < 2 ^ 64
-    → AreFresh taken (ids_given_from false taken events)
+    → AreFresh taken (ids_given events (with_ids taken events))
 
 -- where each heading has an id, none is given: a second time changes nothing
 abbrev pub ASecondTimeChangesNothing : Type 0

@@ -17,5 +17,6 @@ pub mod HeadingIdsLaws
 -- what a prefix makes of ids
 pub mod Prefixes
 pub mod PrefixedItems
+pub mod PrefixLaws
 -- the terms of private clauses
 pub mod HeadingRead

@@ -5,10 +5,10 @@ ghost use Rattle.std.specs.Iterator.{IsFinite, size};
 ghost use Rattle.std.specs.Option.{option_map};
 ghost use Rattle.std.specs.declared.ops.Range.{Range};
 ghost use Rattle.markdown_base.specs.Event.{event_view, tag_view};
-ghost use Rattle.markdown_heading_ids.specs.HeadingIds.{event_with_id, tag_with_id, with_given};
+ghost use Rattle.markdown_heading_ids.specs.HeadingIds.{event_with_id, lacks_id, tag_with_id, with_given};
 ghost use Rattle.markdown_heading_ids.specs.HeadingIdsNext.{MayCallSource, count_to_come, item_seen};
 ghost use Rattle.markdown_heading_ids.specs.HeadingIdsState.{ids_state};
-ghost use Rattle.markdown_heading_ids.specs.HeadingRead.{HeadingIsRead, TakesEvent, ends_with, lacks_id, words_added};
+ghost use Rattle.markdown_heading_ids.specs.HeadingRead.{HeadingIsRead, TakesEvent, ends_with, words_added};
 ghost use Rattle.markdown_outline.specs.Outline.{opened_heading};
 
 use crate::taken::Taken;
