@@ -1,5 +1,5 @@
--- The safe HTML of a text with what is added is a tree where the tables among the events of the text are whole: ids and
--- their prefix open and close nothing, and links of bare addresses stand where a Text stood.
+-- The safe HTML of a text with what is added is a tree: ids and their prefix open and close nothing, and links of bare
+-- addresses stand where a Text stood.
 use Rattle.std.proofs.Common.{◌≡◌, ◌⊎◌, inl, inr, ℕ, zero, suc, ◌-◌, Bool, false, true, List, [], ◌∷◌, ◌++◌, length}
 use Rattle.std.proofs.Common.{map, ap, refl, subst, sym, ◌∙◌, append_assoc, append-nil}
 use Rattle.std.specs.Prelude.{not, ◌&&◌}
@@ -26,44 +26,20 @@ use Rattle.markdown_base.specs.declared.tag.TagEnd.{TagEnd}
 use Rattle.markdown_base.specs.declared.tag.TagEnd.TheVariants as closes
 use Rattle.markdown_blocks.specs.Blocks.{IsBlocksOf}
 use Rattle.markdown_blocks.specs.declared.blocks.Blocks.{Blocks}
+use Rattle.markdown_event_laws.proofs.NestedTextsLemmas.{nested_texts}
+use Rattle.markdown_event_laws.proofs.WholeTablesLemmas.{whole_texts}
 use Rattle.markdown_heading_ids.specs.HeadingIds.{Id, with_given, with_ids, with_ids_from}
 use Rattle.markdown_heading_ids.specs.IdsOfText.{taken_in_text}
 use Rattle.markdown_heading_ids.specs.Prefixes.{prefixed_event, prefixed_events, prefixed_tag}
 use Rattle.markdown_heading_ids.proofs.IdsOfEventsLemmas.{Gets, gets, gets_id, gets_none}
-use Rattle.markdown_inline.specs.Balanced.{AreBalancedFrom, Awaited, EndsInTurn, ranged}
-use Rattle.markdown_inline.specs.Elements.{Element, Placed, events_of}
+use Rattle.markdown_inline.specs.Balanced.{ranged}
+use Rattle.markdown_inline.specs.Elements.{Placed}
 use Rattle.markdown_inline.specs.ReadingOfText.{events_of_text}
-use Rattle.markdown_inline.proofs.BalancedLemmas.{balanced-law}
-use Rattle.markdown_inline.proofs.ReadingOfTextLemmas.{text-law}
 use Rattle.markdown_outline.specs.Outline.{Ranged}
 use Rattle.markdown_safe.specs.HtmlTree.{IsSafeTree}
-use Rattle.markdown_safe.specs.NestedEvents.{AreNested, IsAwaited, NestFrom, awaited_after, keep_tables_whole}
-use Rattle.markdown_safe.specs.NestedEvents.{keeps_tables_whole, starts_table, tables_are_whole}
+use Rattle.markdown_event_laws.specs.NestedEvents.{AreNested, IsAwaited, NestFrom, awaited_after, keep_tables_whole}
+use Rattle.markdown_event_laws.specs.NestedEvents.{keeps_tables_whole, starts_table, tables_are_whole}
 use Rattle.markdown_safe.proofs.NestedEventsLemmas.{html_is_tree}
-
--- ---- the events of a text are nested, since they are balanced
-
-nested_event : (e : EventView) (range : Range ℕ) (awaited : List Awaited) (rest : List Awaited → Type 0)
-    (nest : List TagEnd → Type 0)
-    → ((a : List Awaited) → rest a → nest (map (λ (x : Awaited). x.0) a)) → EndsInTurn e range awaited rest
-    → IsAwaited e (map (λ (x : Awaited). x.0) awaited)
-    × nest (awaited_after e (map (λ (x : Awaited). x.0) awaited))
-nested_event (start tag) range awaited rest nest goes_on h = (tt, goes_on _ h)
-nested_event (end x) range [] rest nest goes_on h = absurd h
-nested_event (end x) range (a ∷ awaited) rest nest goes_on h = (h.0, goes_on awaited h.2)
-nested_event other range awaited rest nest goes_on h = (tt, goes_on awaited h)
-
-nested : (events : List Ranged) (awaited : List Awaited) → AreBalancedFrom awaited events
-    → NestFrom (map (λ (x : Awaited). x.0) awaited) (bare_events events)
-nested [] awaited h = ap (map (λ (x : Awaited). x.0)) h
-nested (e ∷ events) awaited h = nested_event e.0 e.1 awaited (λ a. AreBalancedFrom a events)
-    (λ a. NestFrom a (bare_events events)) (λ a k. nested events a k) h
-
-nested_text : (s : Source) (blocks : Blocks) → IsBlocksOf s blocks → AreNested (bare_events (ranged (events_of_text s)))
-nested_text s blocks of =
-    subst (λ (events : List Ranged). AreNested (bare_events events))
-    (ap (λ (es : List Element). ranged (events_of es)) (text-law s blocks of false []))
-    (nested _ [] (balanced-law blocks false []))
 
 -- ---- what is added opens and closes nothing
 
@@ -287,13 +263,12 @@ blocks_of_new (adds_prefixed_ids prefix) autolinks s (Right (Right p)) new = blo
 blocks_of_new view autolinks s events new = absurd new
 
 pub tree_of_new : (view : AdditionsView) (s : Source) (events : TextEvents) → IsNewAdded view s events
-    → tables_are_whole (map (λ e. e.0) (events_of_text s)) ≡ true
     → IsSafeTree (written_of_text SafeHtml view s)
-tree_of_new view s events new whole =
+tree_of_new view s events new =
     let b = blocks_of_new view.ids view.autolinks s (nested_events events) new in
     let t = trees_with_added_ids view.ids (taken_in_text s) (text_events view.autolinks s)
     (trees_of_text view.autolinks s (record {
-      nest = nested_text s b.0 b.1;
-      whole = ap tables_are_whole (bare_ranged (events_of_text s)) ∙ whole;
+      nest = subst AreNested (sym (bare_ranged (events_of_text s))) (nested_texts s b.0 b.1);
+      whole = ap tables_are_whole (bare_ranged (events_of_text s)) ∙ whole_texts s b.0 b.1;
     })) in
     html_is_tree (bare_events (added_events view s)) t.nest t.whole

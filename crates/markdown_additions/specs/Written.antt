@@ -1,5 +1,5 @@
 -- What is written of events with their ranges, by form, and why nothing is.
-use Rattle.std.specs.Prelude.{◌≡◌, ◌⊎◌, ℕ, Bool, true, List, map, if◌then◌else◌}
+use Rattle.std.specs.Prelude.{◌≡◌, ◌⊎◌, ℕ, Bool, List, map, if◌then◌else◌}
 use Rattle.std.specs.List.{flat_map}
 use Rattle.markdown_additions.specs.Additions.{AdditionsView, AreFirstAdded, added_events}
 use Rattle.markdown_additions.specs.declared.written.Form.{Form}
@@ -8,14 +8,12 @@ use Rattle.markdown_base.specs.Event.{EventView}
 use Rattle.markdown_base.specs.Source.{Source}
 use Rattle.markdown_base.specs.declared.fault.Fault.{Fault}
 use Rattle.markdown_base.specs.declared.fault.Fault.TheVariants.{Depth, Memory}
-use Rattle.markdown_inline.specs.ReadingOfText.{events_of_text}
 use Rattle.markdown_json.specs.Json.{line_json}
 use Rattle.markdown_links.specs.LinkEntries.{LinkEntryView, link_entries_of}
 use Rattle.markdown_out.specs.EventHtml.{html_of}
 use Rattle.markdown_out.specs.LookBacks.{IsTooDeep}
 use Rattle.markdown_outline.specs.Outline.{EntryView, Ranged, entries_of}
 use Rattle.markdown_safe.specs.HtmlTree.{IsSafeTree}
-use Rattle.markdown_safe.specs.NestedEvents.{tables_are_whole}
 use Rattle.markdown_safe.specs.SafeEvents.{safe_event, safe_events}
 
 -- events without their ranges
@@ -56,10 +54,10 @@ written_of_text form a s = written_of form (added_events a s)
 abbrev pub IsFaultOfWritingText : Form → AdditionsView → Source → Fault → Type 0
 IsFaultOfWritingText form a s fault = IsFaultOfWriting form (AreFirstAdded a s) fault
 
--- safe HTML is a tree, where the tables among the events of the text are whole
-abbrev pub IsTreeIn : Form → Source → List ℕ → Type 0
-IsTreeIn SafeHtml s written = tables_are_whole (map (λ e. e.0) (events_of_text s)) ≡ true → IsSafeTree written
-IsTreeIn other s written = Unit {0}
+-- safe HTML is a tree
+abbrev pub IsTreeIn : Form → List ℕ → Type 0
+IsTreeIn SafeHtml written = IsSafeTree written
+IsTreeIn other written = Unit {0}
 
 -- events made safe, where that is asked for; their ranges stay
 abbrev pub safe_ranged : List Ranged → List Ranged

@@ -4,6 +4,7 @@ ghost use Rattle.markdown_additions.specs.Additions.{AdditionsView, additions_vi
 ghost use Rattle.markdown_additions.specs.TextEvents.{IsNewAdded};
 ghost use Rattle.markdown_additions.specs.Written.{IsFaultOfWritingText, IsTreeIn, written_of_text};
 ghost use Rattle.markdown_base.specs.Source.{Source, source_as};
+ghost use Rattle.markdown_safe.specs.HtmlTree.{IsSafeTree};
 
 use crate::additions::Additions;
 use crate::events::{TextEvents, added_events};
@@ -45,7 +46,7 @@ fn safe_html(alloc: Global, events: TextEvents<'_>) -> Result<String, Fault>
         → IsNewAdded a s events.entry
         → string_bytes written ≡ written_of_text Form.SafeHtml a s) }
     ensures tree { IfOk result (λ written. (a : AdditionsView) (s : Source)
-        → IsNewAdded a s events.entry → IsTreeIn Form.SafeHtml s (string_bytes written)) }
+        → IsNewAdded a s events.entry → IsSafeTree (string_bytes written)) }
     ensures faults { IfErr result (λ fault. (a : AdditionsView) (s : Source)
         → IsNewAdded a s events.entry → IsFaultOfWritingText Form.SafeHtml a s fault) }
 {
@@ -83,8 +84,7 @@ pub fn written_source(
 ) -> Result<String, Fault>
     ensures written { IfOk result (λ written. string_bytes written
         ≡ written_of_text form (additions_view additions.entry) (source_as syntax text.now)) }
-    ensures tree { IfOk result (λ written.
-        IsTreeIn form (source_as syntax text.now) (string_bytes written)) }
+    ensures tree { IfOk result (λ written. IsTreeIn form (string_bytes written)) }
     ensures faults { IfErr result
         (IsFaultOfWritingText form (additions_view additions.entry) (source_as syntax text.now)) }
 {

@@ -8,5 +8,5 @@ mod LineLawsLemmas
 mod ListLawsLemmas
 mod MetadataLawsLemmas
 mod QuotedLinesLemmas
-mod TableLawsLemmas
+pub mod TableLawsLemmas
 mod TaskLawsLemmas

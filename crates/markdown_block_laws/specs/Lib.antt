@@ -5,6 +5,7 @@ pub mod ListLaws
 pub mod LeafLaws
 -- what the extensions of blocks that are read make
 pub mod TableLaws
+pub mod TablesInPlace
 pub mod TaskLaws
 pub mod MetadataLaws
 -- CommonMark's examples

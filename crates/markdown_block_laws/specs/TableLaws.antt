@@ -1,8 +1,9 @@
--- Tables contain a head and rows, which have as many cells as their table has columns, and few of these are added to a
--- text.
-use Rattle.std.specs.Prelude.{◌≡◌, ◌≤◌, ℕ, ◌-◌, true, ◌∷◌, length, max, ⊤}
+-- Tables contain a head and rows, which have as many cells as their table has columns; cells contain inline items
+-- alone, and few of them are added to a text.
+use Rattle.std.specs.Prelude.{◌≡◌, ◌≤◌, ℕ, ◌-◌, true, ◌∷◌, length, max, ⊤, IsTrue}
 use Rattle.std.specs.List.{sum_by}
-use Rattle.markdown_base.specs.Forest.{Forest, Throughout, nil, node, preorder, roots}
+use Rattle.markdown_base.specs.Forest.{Each, Forest, Throughout, nil, node, preorder, roots}
+use Rattle.markdown_base.specs.Item.{is_inline}
 use Rattle.markdown_base.specs.declared.item.ItemBody.TheVariants as body
 use Rattle.markdown_base.specs.Source.{Source}
 use Rattle.markdown_lines.specs.SourceLines.{SourceLine}
@@ -18,10 +19,11 @@ abbrev pub EachContains : {A : Type 0} → ℕ → Forest A → Type 0
 EachContains count nil = ⊤
 EachContains count (node a below after) = (length (roots below) ≡ count) × EachContains count after
 
--- these siblings are cells
+-- these siblings are cells, and hold inline items alone, at any depth
 abbrev pub AreCells : Forest Shown → Type 0
 AreCells nil = ⊤
-AreCells (node cell below after) = (cell.item.body ≡ body.TableCell) × AreCells after
+AreCells (node cell below after) =
+    (cell.item.body ≡ body.TableCell) × Each (λ a. IsTrue (is_inline a.item.body)) below × AreCells after
 
 -- these siblings are rows of cells
 abbrev pub AreRows : Forest Shown → Type 0

@@ -16,6 +16,7 @@ ghost use Rattle.markdown_block_laws.specs.ListLaws.{ListIsLooseAsSaid};
 ghost use Rattle.markdown_block_rules.specs.MadeLater.{NothingIsMadeLater};
 ghost use Rattle.markdown_block_laws.specs.MetadataLaws.{MetadataIsOutermost};
 ghost use Rattle.markdown_block_laws.specs.TableLaws.{FewCellsAreAdded, RowsAreEven};
+ghost use Rattle.markdown_block_laws.specs.TablesInPlace.{TablesOfTextsInPlace};
 ghost use Rattle.markdown_block_laws.specs.TaskLaws.{TaskMarkersComeFirst};
 
 /// States that bytes without line endings, and a line ending of any kind, are a line with these bytes (2.1).
@@ -142,10 +143,15 @@ pub fn a_blank_line_ends_a_paragraph()
     ensures { BlankLineEndsParagraph }
 {}
 
-/// States that a table directly contains its head and then its rows, and that each of these contains cells, as many as the
-/// table has alignments.
+/// States that a table directly contains its head and then its rows, that each of these contains cells, as many as the
+/// table has alignments, and that cells contain inline items alone.
 pub fn rows_are_even()
     ensures { RowsAreEven }
+{}
+
+/// States that heads, rows and cells are nowhere but in a table, in this order, and that no table is in a table.
+pub fn table_parts_are_in_tables()
+    ensures { TablesOfTextsInPlace }
 {}
 
 /// States that the cells that are added to the rows of a text's tables are no more than its bytes, or than 1,000 where

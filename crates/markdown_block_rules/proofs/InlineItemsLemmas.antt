@@ -1,13 +1,15 @@
--- No inline item that lines consist of is a task marker, metadata or a table, or refers to what only resolving makes.
+-- The items that lines consist of are inline, and none is a task marker or refers to what only resolving makes.
 use Rattle.std.proofs.Common.{◌≡◌, ℕ, zero, suc, ◌+◌, ◌-◌, ◌%◌, Bool, true, false, not, ◌==◌, ◌&&◌, ◌||◌, List, [], ◌∷◌}
 use Rattle.std.proofs.Common.{◌++◌, Option, Some, None, refl, length, nat_le, nat_lt, slice_index, slice_range, codes}
 use Rattle.std.proofs.Common.{encode_utf8, replicate}
 use Rattle.std.specs.Char.{is_ascii_punctuation}
-use Rattle.std.specs.Prelude.{⊤, if◌then◌else◌}
+use Rattle.std.proofs.lemmas.Bool.{true≢false}
+use Rattle.std.specs.Prelude.{⊤, IsTrue, if◌then◌else◌}
 use Rattle.std.specs.List.{AllByRecursion}
 use Rattle.markdown_base.proofs.ForestLemmas.{All-append}
 use Rattle.markdown_base.specs.Bytes.{ampersand, apostrophe, backslash, backtick, close_bracket, dollar_sign}
 use Rattle.markdown_base.specs.Bytes.{double_quote, exclamation_mark, full_stop, hyphen, less_than, open_bracket, space}
+use Rattle.markdown_base.specs.Item.{is_inline}
 use Rattle.markdown_base.specs.WellFormed.{is_delimiter}
 use Rattle.markdown_base.specs.declared.item.ItemBody.{ItemBody}
 use Rattle.markdown_base.specs.declared.item.ItemBody.TheVariants as body
@@ -37,18 +39,20 @@ use Rattle.markdown_block_rules.proofs.BlockBeginningsLemmas.{either}
 use Rattle.markdown_builder.specs.Shown.{Shown, plain_item, run_items, synthesized_item}
 use Rattle.markdown_items.specs.ContentItems.{content_items, items_read_from, put_found, text_between}
 
--- a task marker, metadata or a table, or what refers to what only resolving makes
+-- no inline item, or a task marker, or what refers to what only resolving makes
 abbrev pub is_marked : ItemBody → Bool
 is_marked (body.TaskListMarker done) = true
-is_marked (body.MetadataBlock kind) = true
-is_marked (body.Table alignments) = true
-is_marked (body.Code ix) = true
-is_marked (body.Math ix display) = true
 is_marked (body.OwnedInlineHtml ix) = true
-is_marked (body.Link ix) = true
-is_marked (body.Image ix) = true
-is_marked (body.FootnoteReference ix) = true
-is_marked other = false
+is_marked other = not (is_inline other)
+
+pub unmarked_inline : (b : ItemBody) → is_marked b ≡ false → IsTrue (is_inline b)
+unmarked_inline (body.TaskListMarker done) is = refl
+unmarked_inline (body.OwnedInlineHtml ix) is = refl
+unmarked_inline other is = by_kind (is_inline other) is
+  where
+    by_kind : (inline : Bool) → not inline ≡ false → IsTrue inline
+    by_kind true is = refl
+    by_kind false is = absurd (true≢false is)
 
 -- none of some items is one of these
 abbrev pub AreUnmarked : List Shown → Type 0

@@ -1,7 +1,7 @@
 -- A call from C: its outcome, the number that it returns, and what the buffer then holds.
 use Rattle.std.specs.Prelude.{◌≡◌, ℕ, ◌+◌, ℤ, Bool, true, false, not, ◌&&◌, ◌==◌, pos, negsuc, nat_le, ◌++◌, List}
 use Rattle.std.specs.Prelude.{length, drop, flat_map, if◌then◌else◌}
-use Rattle.std.specs.Prelude.{Result, Ok, Err, String, Vec, string_bytes, map}
+use Rattle.std.specs.Prelude.{Result, Ok, Err, String, Vec, string_bytes}
 use Rattle.std.specs.Global.{Global}
 use Rattle.std.specs.Int.RustNames.{bit_and}
 use Rattle.std.specs.Str.{IsUtf8}
@@ -14,10 +14,8 @@ use Rattle.markdown_base.specs.declared.fault.Fault.TheVariants as fault
 use Rattle.markdown_base.specs.Source.{Source, source_as}
 use Rattle.markdown_base.specs.Syntax.{full_syntax, profile_syntax}
 use Rattle.markdown_base.specs.declared.syntax.Syntax.{Syntax}
-use Rattle.markdown_inline.specs.ReadingOfText.{events_of_text}
 use Rattle.markdown_render.specs.Words.{of_bits}
 use Rattle.markdown_safe.specs.HtmlTree.{IsSafeTree}
-use Rattle.markdown_safe.specs.NestedEvents.{tables_are_whole}
 use Rattle.markdown_safe.specs.SafeHtml.{IsSafeHtml}
 use Rattle.markdown_text_json.specs.OutlineJson.{entry_line}
 use Rattle.markdown_c.specs.declared.readings.Refusal.{Refusal}
@@ -109,11 +107,11 @@ abbrev pub IsHtmlOutcome : (bits : ℕ) → (text : List ℕ) → Result (List �
 IsHtmlOutcome bits =
     IsOutcome (λ s html. html ≡ written_of_text Html (additions_by_bits bits) s) (IsTooDeepAsAsked Html bits) bits
 
--- the safe HTML, which is safe, and a tree where the tables among the events of the text are whole
+-- the safe HTML, which is safe and a tree
 pub record IsSafeHtmlOf (bits : ℕ) (s : Source) (html : List ℕ) : Type 0 where
   pub is : html ≡ written_of_text SafeHtml (additions_by_bits bits) s
   pub safe : IsSafeHtml html
-  pub tree : tables_are_whole (map (λ e. e.0) (events_of_text s)) ≡ true → IsSafeTree html
+  pub tree : IsSafeTree html
 
 abbrev pub IsSafeHtmlOutcome : (bits : ℕ) → (text : List ℕ) → Result (List ℕ) Refusal → Type 0
 IsSafeHtmlOutcome bits = IsOutcome (IsSafeHtmlOf bits) (IsTooDeepAsAsked SafeHtml bits) bits

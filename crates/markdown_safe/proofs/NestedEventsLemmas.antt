@@ -13,9 +13,9 @@ use Rattle.markdown_out.specs.EventHtml.{html_of}
 use Rattle.markdown_out.specs.LookBacks.{OpenImageView, image_after, image_before, told_by, head_after, unless_inside}
 use Rattle.markdown_safe.specs.SafeEvents.{safe_event, safe_events, safe_tag}
 use Rattle.markdown_safe.specs.HtmlTree.{IsSafeTree}
-use Rattle.markdown_safe.specs.NestedEvents.{past_nearest, awaited_after, IsAwaited, NestFrom, AreNested, ends_table}
-use Rattle.markdown_safe.specs.NestedEvents.{ends_cells, nearest_is, starts_table, keeps_tables_whole}
-use Rattle.markdown_safe.specs.NestedEvents.{keep_tables_whole, tables_are_whole}
+use Rattle.markdown_event_laws.specs.NestedEvents.{past_nearest, awaited_after, IsAwaited, NestFrom, AreNested}
+use Rattle.markdown_event_laws.specs.NestedEvents.{ends_table, ends_cells, nearest_is, starts_table, keeps_tables_whole}
+use Rattle.markdown_event_laws.specs.NestedEvents.{keep_tables_whole, tables_are_whole}
 use Rattle.markdown_safe.proofs.SafeHtmlLemmas.{Turn}
 use Rattle.markdown_safe.proofs.SafeTagsLemmas.{event_turns, start_turns, end_turns, level_name, cell_name}
 use Rattle.markdown_safe.proofs.SafeEventsLemmas.{turns_by_image, turns_before, html_is_markup}

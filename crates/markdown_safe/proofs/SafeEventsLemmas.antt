@@ -4,6 +4,7 @@ use Rattle.std.proofs.Common.{refl, sym, ap, ◌∙◌, append_assoc, append-nil
 use Rattle.std.specs.List.{list_all}
 use Rattle.std.specs.Fmt.{decimal}
 use Rattle.std.proofs.lemmas.List.{reverse-append, map-append}
+use Rattle.markdown_base.specs.declared.tag.LinkType.{LinkType}
 use Rattle.markdown_base.specs.Event as event
 use Rattle.markdown_base.specs.Event.{EventView, start, end, text, code, inline_math, display_math, html}
 use Rattle.markdown_base.specs.Event.{inline_html, footnote_reference, soft_break, hard_break, rule, task_list_marker}
@@ -16,6 +17,7 @@ use Rattle.markdown_out.specs.LookBacks.{Past, OpenImageView, image_after, image
 use Rattle.markdown_out.specs.TagHtml.{image_parts, image_end}
 use Rattle.markdown_safe.specs.SafeHtml.{by_itself, is_in_value, void_tag, IsSafeHtml, IsStartOfSafeHtml}
 use Rattle.markdown_safe.specs.SafeEvents.{safe_destination, safe_name, safe_event, safe_events}
+use Rattle.markdown_safe.specs.SafeUrl.{image_schemes}
 use Rattle.markdown_safe.proofs.SafeHtmlLemmas.{of_pieces, both, IsValue, value-append, Turn, IsMarkup, markup_safe}
 use Rattle.markdown_safe.proofs.SafeHtmlLemmas.{value-empty, value-escaped, value-plain}
 use Rattle.markdown_safe.proofs.SafeTagsLemmas.{two, three, IsUrlValue, url_value, number_value, event_turns}
@@ -30,7 +32,7 @@ record IsOpenImage (bytes : List ℕ) (turns : List Turn) : Type 0 where
   pub alt_read : List ℕ
   pub are : bytes ≡ before ++ (codes "<img src=\"" ++ (url ++ (codes "\" alt=\"" ++ alt)))
   pub safe : IsMarkup before turns
-  pub is_url : IsUrlValue url
+  pub is_url : IsUrlValue image_schemes url
   pub is_alt : IsValue alt alt_read
 
 -- what may be written next
@@ -38,16 +40,16 @@ abbrev StandsAt : Option OpenImageView → List ℕ → List Turn → Type 0
 StandsAt None bytes turns = IsMarkup bytes turns
 StandsAt (Some i) bytes turns = IsOpenImage bytes turns
 
-image_opens : {turns : List Turn} (bytes destination : List ℕ) → IsMarkup bytes turns
-    → IsOpenImage (bytes ++ joined (image_parts (safe_destination destination))) turns
-image_opens bytes destination safe = record {
+image_opens : {turns : List Turn} (kind : LinkType) (bytes destination : List ℕ) → IsMarkup bytes turns
+    → IsOpenImage (bytes ++ joined (image_parts (safe_destination kind image_schemes destination))) turns
+image_opens kind bytes destination safe = record {
   before = bytes;
-  url = destination_escaped (safe_destination destination);
+  url = destination_escaped (safe_destination kind image_schemes destination);
   alt = [];
   alt_read = [];
   are = refl;
   safe = safe;
-  is_url = url_value destination;
+  is_url = url_value kind image_schemes destination;
   is_alt = value-empty;
 }
 
@@ -166,7 +168,8 @@ step : (image : Option OpenImageView) (past : Past) (e : EventView) (bytes : Lis
     → StandsAt (image_after image (safe_event e)) (bytes ++ bytes_by_image image past (safe_event e))
     (turns ++ turns_by_image image past.in_head (safe_event e))
 step None past (start (event.image i)) bytes turns s =
-    same_turns (image_after None (safe_event (start (event.image i)))) _ turns (image_opens bytes i.destination s)
+    same_turns (image_after None (safe_event (start (event.image i)))) _ turns
+    (image_opens i.kind bytes i.destination s)
 step None past (start tag) bytes turns s = both bytes _ s (start_safe past tag)
 step None past e bytes turns s = both bytes _ s (other_safe past e)
 step (Some i) past e bytes turns s =

@@ -14,7 +14,7 @@ use Rattle.std.proofs.lemmas.Bool.{and_parts, cases_eq, ne_eqb}
 use Rattle.percent_encoding.specs.Percent.{percent_encode_byte}
 use Rattle.markdown_out.specs.Escapes.{text_byte, attribute_byte, destination_byte, text_escaped, attribute_escaped}
 use Rattle.markdown_out.specs.Escapes.{destination_escaped, is_kept_byte}
-use Rattle.markdown_safe.specs.SafeUrl.{is_safe_url, may_be_in_scheme, is_dropped_byte, scheme_of, is_safe_scheme}
+use Rattle.markdown_safe.specs.SafeUrl.{before_colon, is_dropped_byte, is_safe_url, may_be_in_scheme}
 use Rattle.markdown_safe.specs.SafeHtml.{Character, by_itself, by_reference, character_bytes, meant, is_in_text}
 use Rattle.markdown_safe.specs.SafeHtml.{is_in_value}
 use Rattle.markdown_safe.specs.SafeHtml.{HtmlPiece, character, start_tag, end_tag, void_tag, bytes_of_piece}
@@ -260,11 +260,11 @@ glyph_plain n = below (n % 16) (omega arith)
         by_test true e = let lt : d < 10 = grind (arith, nat_tests) in low d lt
         by_test false e = high d h e
 
--- a destination, as it is written: what a browser reads has the same scheme, or none
+-- a destination, as it is written: what a browser reads has the same bytes before a colon, or no scheme
 pub record IsDestination (bytes destination : List ℕ) : Type 0 where
   pub read : List ℕ
   pub value : IsValue bytes read
-  pub scheme : (scheme_of read ≡ scheme_of destination) ⊎ (scheme_of read ≡ None)
+  pub scheme : (before_colon read ≡ before_colon destination) ⊎ (before_colon read ≡ None)
 
 pub destination-empty : IsDestination [] []
 destination-empty = record { read = []; value = value-empty; scheme = inl refl }
@@ -339,7 +339,7 @@ pub record IsNoScheme (bytes : List ℕ) : Type 0 where
   pub first : ℕ
   pub rest : List ℕ
   pub value : IsValue bytes (first ∷ rest)
-  pub ends : (more : List ℕ) → scheme_of (first ∷ (rest ++ more)) ≡ None
+  pub ends : (more : List ℕ) → before_colon (first ∷ (rest ++ more)) ≡ None
 
 percent_no_scheme : (b : ℕ) → IsNoScheme (percent_encode_byte b)
 unfolding percent_encode_byte
@@ -356,7 +356,7 @@ percent_no_scheme b = record {
 }
 
 ends_scheme : (b : ℕ) (more : List ℕ) → is_dropped_byte b ≡ false → (b == 58) ≡ false → may_be_in_scheme b ≡ false
-    → scheme_of (b ∷ more) ≡ None
+    → before_colon (b ∷ more) ≡ None
 ends_scheme b more d c s = rw (d, c, s) refl
 
 other_byte : (b : ℕ) → may_be_in_scheme b ≡ false → (b == 58) ≡ false → IsNoScheme (destination_byte b)
@@ -370,7 +370,7 @@ other_byte b s c = elim (cases_eq b 38) [
 ]
   where
     of_reference : (b : ℕ) → destination_byte b ≡ character_bytes (by_reference b) → is_in_value (by_reference b) ≡ true
-        → ((more : List ℕ) → scheme_of (b ∷ more) ≡ None) → IsNoScheme (destination_byte b)
+        → ((more : List ℕ) → before_colon (b ∷ more) ≡ None) → IsNoScheme (destination_byte b)
     of_reference b w i e = record {
       first = b;
       rest = [];
@@ -412,7 +412,7 @@ destination-escaped (b ∷ more) =
     }
 
     scheme_step : (read : List ℕ) → is_dropped_byte b ≡ false → (b == 58) ≡ false → may_be_in_scheme b ≡ true
-        → scheme_of (b ∷ read) ≡ option_map (λ scheme. b ∷ scheme) (scheme_of read)
+        → before_colon (b ∷ read) ≡ option_map (λ found. b ∷ found) (before_colon read)
     scheme_step read d c s = rw (d, c, s) refl
 
     by_test : IsDestination (destination_escaped more) more → (b == 58) ≡ false → (t : Bool) → may_be_in_scheme b ≡ t
@@ -424,9 +424,9 @@ destination-escaped (b ∷ more) =
           value = value-append (b ∷ []) (destination_escaped more) (b ∷ []) tail.read
               (value-plain (b ∷ []) (rw (kept_plain b (scheme_in_kept b s)) refl)) tail.value;
           scheme = elim tail.scheme [
-            | inl e ↦ inl (scheme_step tail.read kept c s ∙ (ap (option_map (λ scheme. b ∷ scheme)) e
+            | inl e ↦ inl (scheme_step tail.read kept c s ∙ (ap (option_map (λ found. b ∷ found)) e
                 ∙ sym (scheme_step more kept c s)))
-            | inr e ↦ inr (scheme_step tail.read kept c s ∙ ap (option_map (λ scheme. b ∷ scheme)) e)
+            | inr e ↦ inr (scheme_step tail.read kept c s ∙ ap (option_map (λ found. b ∷ found)) e)
           ];
         })
     by_test tail c false s =
@@ -438,10 +438,10 @@ destination-escaped (b ∷ more) =
         }
 
 -- a destination that is a safe URL is one as it is written
-pub destination-safe : (bytes destination : List ℕ) (d : IsDestination bytes destination)
-    → is_safe_url destination ≡ true
-    → is_safe_url d.read ≡ true
-destination-safe bytes destination d safe = elim d.scheme [
-  | inl e ↦ ap (λ s. option_map_or is_safe_scheme s true) e ∙ safe
-  | inr e ↦ ap (λ s. option_map_or is_safe_scheme s true) e
+pub destination-safe : (schemes : List (List ℕ)) (bytes destination : List ℕ) (d : IsDestination bytes destination)
+    → is_safe_url schemes destination ≡ true
+    → is_safe_url schemes d.read ≡ true
+destination-safe schemes bytes destination d safe = elim d.scheme [
+  | inl e ↦ rw e safe
+  | inr e ↦ rw e refl
 ]

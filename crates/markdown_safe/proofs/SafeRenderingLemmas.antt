@@ -1,23 +1,21 @@
 -- What is written of a parser whose events are made safe: the HTML of the safe events of the parser.
-use Rattle.std.proofs.Common.{◌≡◌, ◌⊎◌, ℕ, true, false, Bool, None, List, [], ◌∷◌, ◌++◌, map, Ok, Err, Option, Some}
+use Rattle.std.proofs.Common.{◌≡◌, ◌⊎◌, ℕ, false, Bool, None, List, [], ◌∷◌, ◌++◌, map, Ok, Err, Option, Some}
 use Rattle.std.proofs.Common.{ap, inl, inr, refl, subst, sym, ◌∙◌, is_some}
 use Rattle.std.specs.Iterator.{Drains, Yields}
-use Rattle.std.specs.declared.ops.Range.{Range}
-use Rattle.markdown_base.specs.Event.{EventView, event_view, start, end}
+use Rattle.markdown_base.specs.Event.{EventView, event_view}
 use Rattle.markdown_base.specs.Source.{Source}
 use Rattle.markdown_base.specs.Questions.{Question, Answer, Answers}
 use Rattle.markdown_base.specs.declared.event.Event.{Event}
 use Rattle.markdown_base.specs.declared.fault.Fault.{Fault}
 use Rattle.markdown_base.specs.declared.fault.Fault.TheVariants.{Memory, Blocks, Depth}
-use Rattle.markdown_base.specs.declared.tag.TagEnd.{TagEnd}
+use Rattle.markdown_blocks.specs.Blocks.{IsBlocksOf}
 use Rattle.markdown_blocks.specs.declared.blocks.Blocks as block
-use Rattle.markdown_inline.specs.Balanced.{Ranged, Awaited, EndsInTurn, AreBalancedFrom, ranged}
-use Rattle.markdown_inline.specs.Elements.{Placed, events_of}
+use Rattle.markdown_event_laws.proofs.NestedTextsLemmas.{nested_readings}
+use Rattle.markdown_event_laws.proofs.WholeTablesLemmas.{whole_readings}
 use Rattle.markdown_inline.specs.NextGives.{NextGives, IsEventOf}
 use Rattle.markdown_inline.specs.ParserLeft.{ReadsText, parser_callback, reading_of}
 use Rattle.markdown_inline.specs.ReadingOfText.{events_of_text}
 use Rattle.markdown_inline.specs.declared.walk.Parser.{Parser}
-use Rattle.markdown_inline.proofs.BalancedLemmas.{balanced-law}
 use Rattle.markdown_inline.proofs.ReadingOfTextLemmas.{text-law}
 use Rattle.markdown_out.specs.EventHtml.{html_of}
 use Rattle.markdown_out.specs.HtmlCorrect.{IsRendered, IsOwnFault, GoesTooDeep, StopsAtError, items}
@@ -25,7 +23,6 @@ use Rattle.markdown_render.specs.HtmlOfText.{views_of}
 use Rattle.markdown_render.proofs.RenderingLemmas.{drained, events_alone, first_alone, first_by_rules}
 use Rattle.markdown_render.proofs.RenderingLemmas.{first_drained, memory_alone, read_by_rules}
 use Rattle.markdown_safe.specs.HtmlTree.{IsSafeTree}
-use Rattle.markdown_safe.specs.NestedEvents.{IsAwaited, awaited_after, NestFrom, AreNested, tables_are_whole}
 use Rattle.markdown_safe.specs.SafeEvents.{safe_events}
 use Rattle.markdown_safe.specs.SafeHtml.{IsSafeHtml}
 use Rattle.markdown_safe.specs.SafeItems.{IsSafeItem, GivesSafe}
@@ -37,40 +34,14 @@ use Rattle.markdown_safe.proofs.NestedEventsLemmas.{html_is_tree}
 use Rattle.markdown_safe.proofs.SafeEventsLemmas.{html_is_safe}
 use Rattle.markdown_safe.proofs.SafeItemsLemmas.{Item, all_safe, first_safe}
 
--- balanced events are nested
-abbrev tag_of_awaited : List Awaited → List TagEnd
-tag_of_awaited [] = []
-tag_of_awaited (a ∷ awaited) = a.0 ∷ tag_of_awaited awaited
-
-abbrev views : List Ranged → List EventView
-views [] = []
-views (e ∷ events) = e.0 ∷ views events
-
-nested_event : (e : EventView) (range : Range ℕ) (awaited : List Awaited) (rest : List Awaited → Type 0)
-    (nest : List TagEnd → Type 0) → ((a : List Awaited) → rest a → nest (tag_of_awaited a))
-    → EndsInTurn e range awaited rest
-    → IsAwaited e (tag_of_awaited awaited) × nest (awaited_after e (tag_of_awaited awaited))
-nested_event (start tag) range awaited rest nest goes_on h = (tt, goes_on _ h)
-nested_event (end x) range [] rest nest goes_on h = absurd h
-nested_event (end x) range (a ∷ awaited) rest nest goes_on h = (h.0, goes_on awaited h.2)
-nested_event other range awaited rest nest goes_on h = (tt, goes_on awaited h)
-
-nested : (events : List Ranged) (awaited : List Awaited) → AreBalancedFrom awaited events
-    → NestFrom (tag_of_awaited awaited) (views events)
-nested [] awaited h = ap tag_of_awaited h
-nested (e ∷ events) awaited h = nested_event e.0 e.1 awaited (λ a. AreBalancedFrom a events)
-    (λ a. NestFrom a (views events)) (λ a k. nested events a k) h
-
-views_ranged : (placed : List Placed) → views (ranged placed) ≡ map (λ (e : Placed). e.0) placed
-views_ranged [] = refl
-views_ranged (e ∷ placed) = ap (λ l. e.0 ∷ l) (views_ranged placed)
-
--- so the events of a document are
-nested_reading : (blocks : block.Blocks) (asks : Bool) (answers : Answers) (events : List EventView)
-    → views_of (reading_of blocks asks answers) ≡ events → AreNested events
-nested_reading blocks asks answers events are =
-    subst AreNested (views_ranged (events_of (reading_of blocks asks answers)) ∙ are)
-    (nested (ranged (events_of (reading_of blocks asks answers))) [] (balanced-law blocks asks answers))
+-- the HTML of the safe events of a reading of a text is a tree
+tree_of_reading : (s : Source) (blocks : block.Blocks) → IsBlocksOf s blocks → (asks : Bool) (answers : Answers)
+    (events : List EventView) → views_of (reading_of blocks asks answers) ≡ events
+    → IsSafeTree (html_of (safe_events events))
+tree_of_reading s blocks of asks answers events are =
+    subst (λ (es : List EventView). IsSafeTree (html_of (safe_events es))) are
+    (html_is_tree (views_of (reading_of blocks asks answers)) (nested_readings blocks asks answers)
+    (whole_readings s blocks of asks answers))
 
 -- the HTML of a new parser, made safe
 pub rendering : {F : Type 0} (step : F → Question → Option Answer → F → Type 0) (s : Source) (old new : List ℕ)
@@ -90,9 +61,8 @@ rendering {F} step s old new callback p i same empty of holds r =
       events = events;
       read = read_by_rules step s p of events d;
       is = is;
-      tree = λ whole. subst IsSafeTree (sym is) (html_is_tree events
-          (nested_reading of.blocks (is_some (parser_callback p)) (d.answers ++ []) events
-          (rw (← of.of_blocks (d.answers ++ [])) (d.are []))) whole);
+      tree = subst IsSafeTree (sym is) (tree_of_reading s of.blocks of.of_text (is_some (parser_callback p))
+          (d.answers ++ []) events (rw (← of.of_blocks (d.answers ++ [])) (d.are [])));
     })
 
 -- and it is safe HTML
@@ -161,17 +131,12 @@ faults_alone step None s fault (inr (e, d)) none =
     inr (e, record { given = d.events; missing = first.0; whole = first.1; deep = d.deep })
 faults_alone step (Some f) s fault (inr d) none = absurd (cc none)
 
--- and it is a tree where the tables among the events of the text are whole
-pub tree_alone : {F : Type 0} (step : F → Question → Option Answer → F → Type 0) (s : Source) (html : List ℕ)
-    → IsSafeHtmlFor step None s html → tables_are_whole (map (λ e. e.0) (events_of_text s)) ≡ true → IsSafeTree html
-tree_alone step s html r = rw (← events_alone step None s r.events r.read refl) r.tree
-
 -- ---- laws of texts
 
 pub texts_are_safe : TextsAreSafe
 texts_are_safe s = html_is_safe (map (λ e. e.0) (events_of_text s))
 
 pub texts_are_trees : TextsAreTrees
-texts_are_trees s blocks of whole =
-    let events : List EventView = map (λ e. e.0) (events_of_text s) in
-    html_is_tree events (nested_reading blocks false [] events (ap views_of (text-law s blocks of false []))) whole
+texts_are_trees s blocks of =
+    tree_of_reading s blocks of false [] (map (λ e. e.0) (events_of_text s))
+    (ap views_of (text-law s blocks of false []))

@@ -29,12 +29,12 @@ use Rattle.markdown_out.specs.TagHtml.{new_line, heading_parts, quote_class, cod
 use Rattle.markdown_out.specs.TagHtml.{link_parts, start_parts, end_parts, language}
 use Rattle.markdown_out.specs.TagHtml.{level_digit}
 use Rattle.markdown_out.specs.TagHtml.{numbered_list_parts}
-use Rattle.markdown_safe.specs.SafeUrl.{is_safe_url}
+use Rattle.markdown_safe.specs.SafeUrl.{is_safe_url, link_schemes}
 use Rattle.markdown_safe.specs.SafeHtml.{by_itself, character_bytes, Attribute, HtmlPiece, character}
 use Rattle.markdown_safe.specs.SafeHtml.{start_tag, end_tag, bytes_of_piece, is_safe_piece}
 use Rattle.markdown_safe.specs.SafeHtml.{is_safe_class, tag_bytes, void_tag}
 use Rattle.markdown_safe.specs.SafeEvents.{is_name, safe_destination, safe_name, safe_target, safe_info}
-use Rattle.markdown_safe.specs.SafeEvents.{safe_link_destination}
+use Rattle.markdown_safe.specs.SafeEvents.{safe_link_destination, without_scheme}
 use Rattle.markdown_safe.specs.SafeEvents.{safe_tag, safe_event}
 use Rattle.markdown_safe.proofs.SafeHtmlLemmas.{of_pieces, both, text_safe, attribute_safe, IsValue, value-append}
 use Rattle.markdown_safe.proofs.SafeHtmlLemmas.{value-empty, value-escaped, value-plain, digits_plain, decimal_digits}
@@ -221,48 +221,57 @@ three name first second third ends bytes read bytes' read' bytes'' read'' v w x 
 }
 
 -- a value that is a safe URL
-pub record IsUrlValue (bytes : List ℕ) : Type 0 where
+pub record IsUrlValue (schemes : List (List ℕ)) (bytes : List ℕ) : Type 0 where
   pub read : List ℕ
   pub value : IsValue bytes read
-  pub url : is_safe_url read ≡ true
+  pub url : is_safe_url schemes read ≡ true
 
-pub url_value : (destination : List ℕ) → IsUrlValue (destination_escaped (safe_destination destination))
-url_value destination = by_test (is_safe_url destination) refl
+-- a safe URL, as it is written
+url_written : (schemes : List (List ℕ)) (url : List ℕ) → is_safe_url schemes url ≡ true
+    → IsUrlValue schemes (destination_escaped url)
+url_written schemes url safe = let d = destination-escaped url in record {
+  read = d.read;
+  value = d.value;
+  url = destination-safe schemes (destination_escaped url) url d safe;
+}
+
+-- a destination without its scheme is one
+bare_url : (kind : LinkType) (schemes : List (List ℕ)) (destination : List ℕ)
+    → is_safe_url schemes (without_scheme kind destination) ≡ true
+bare_url (kinds.WikiLink pothole) schemes destination = refl
+bare_url other schemes destination = refl
+
+pub url_value : (kind : LinkType) (schemes : List (List ℕ)) (destination : List ℕ)
+    → IsUrlValue schemes (destination_escaped (safe_destination kind schemes destination))
+url_value kind schemes destination = by_test (is_safe_url schemes destination) refl
   where
-    by_test : (t : Bool) → is_safe_url destination ≡ t
-        → IsUrlValue (destination_escaped (if t then destination else []))
-    by_test true e = let d = destination-escaped destination in record {
-      read = d.read;
-      value = d.value;
-      url = destination-safe (destination_escaped destination) destination d e;
-    }
-    by_test false e = record { read = []; value = value-empty; url = refl }
+    by_test : (t : Bool) → is_safe_url schemes destination ≡ t
+        → IsUrlValue schemes (destination_escaped (if t then destination else without_scheme kind destination))
+    by_test true e = url_written schemes destination e
+    by_test false e = url_written schemes (without_scheme kind destination) (bare_url kind schemes destination)
 
 -- so is the destination of a link
-target_value : (destination : List ℕ) → IsUrlValue (destination_escaped (safe_target destination))
-target_value [] = url_value []
-target_value (b ∷ name) = by_test (b == number_sign && is_name name)
+target_value : (kind : LinkType) (destination : List ℕ)
+    → IsUrlValue link_schemes (destination_escaped (safe_target kind destination))
+target_value kind [] = url_written link_schemes [] refl
+target_value kind (b ∷ name) = by_test (b == number_sign && is_name name)
   where
-    by_test : (t : Bool)
-        → IsUrlValue (destination_escaped (if t then codes "#" ++ safe_name name else safe_destination (b ∷ name)))
-    by_test true = let d = destination-escaped (codes "#" ++ safe_name name) in record {
-      read = d.read;
-      value = d.value;
-      url = destination-safe (destination_escaped (codes "#" ++ safe_name name)) (codes "#" ++ safe_name name) d refl;
-    }
-    by_test false = url_value (b ∷ name)
+    by_test : (t : Bool) → IsUrlValue link_schemes (destination_escaped
+        (if t then codes "#" ++ safe_name name else safe_destination kind link_schemes (b ∷ name)))
+    by_test true = url_written link_schemes (codes "#" ++ safe_name name) refl
+    by_test false = url_value kind link_schemes (b ∷ name)
 
 link_value : (kind : LinkType) (destination : List ℕ)
-    → IsUrlValue (link_scheme kind ++ destination_escaped (safe_link_destination kind destination))
+    → IsUrlValue link_schemes (link_scheme kind ++ destination_escaped (safe_link_destination kind destination))
 link_value kinds.Email destination =
-    let u = url_value destination in record {
+    let u = url_value kinds.Email link_schemes destination in record {
       read = codes "mailto:" ++ u.read;
-      value = value-append (codes "mailto:") (destination_escaped (safe_destination destination)) (codes "mailto:")
-          u.read
+      value = value-append (codes "mailto:")
+          (destination_escaped (safe_destination kinds.Email link_schemes destination)) (codes "mailto:") u.read
           (value-plain (codes "mailto:") refl) u.value;
       url = refl;
     }
-link_value kind destination = target_value destination
+link_value kind destination = target_value kind destination
 
 -- a link's Start
 link_safe : (kind : LinkType) (destination title : List ℕ)

@@ -5,7 +5,9 @@ use Rattle.std.specs.Prelude.{nat_eq}
 use Rattle.std.specs.List.{starts_with}
 use Rattle.std.proofs.lemmas.Bool.{cases_eq, ne_eqb}
 use Rattle.markdown_base.specs.Bytes.{number_sign}
+use Rattle.markdown_base.specs.declared.tag.LinkType.{LinkType}
 use Rattle.markdown_safe.specs.SafeEvents.{id_prefix, is_name, safe_destination, safe_name, safe_target}
+use Rattle.markdown_safe.specs.SafeUrl.{link_schemes}
 
 -- a name that is not empty
 pub name-some : (name : List ℕ) (starts : Bool) → (length name == 0) ≡ false
@@ -14,20 +16,21 @@ name-some [] starts some is = cc some
 name-some (b ∷ name) starts some is = ap not is
 
 -- a destination of `#` and what is a name
-pub target-named : (destination name : List ℕ) → destination ≡ number_sign ∷ name → is_name name ≡ true
-    → codes "#" ++ safe_name name ≡ safe_target destination
-target-named destination name are is = rw (are, is) refl
+pub target-named : (kind : LinkType) (destination name : List ℕ) → destination ≡ number_sign ∷ name
+    → is_name name ≡ true → codes "#" ++ safe_name name ≡ safe_target kind destination
+target-named kind destination name are is = rw (are, is) refl
 
 -- of `#` and what is none
-pub target-unnamed : (destination name : List ℕ) → destination ≡ number_sign ∷ name → is_name name ≡ false
-    → safe_destination destination ≡ safe_target destination
-target-unnamed destination name are is = rw (are, is) refl
+pub target-unnamed : (kind : LinkType) (destination name : List ℕ) → destination ≡ number_sign ∷ name
+    → is_name name ≡ false → safe_destination kind link_schemes destination ≡ safe_target kind destination
+target-unnamed kind destination name are is = rw (are, is) refl
 
 -- and one that does not begin with `#`
-pub target-other : (destination : List ℕ) → ((name : List ℕ) → destination ≡ number_sign ∷ name → ⊥)
-    → safe_destination destination ≡ safe_target destination
-target-other [] other = refl
-target-other (b ∷ name) other = elim (cases_eq b number_sign) [
+pub target-other : (kind : LinkType) (destination : List ℕ)
+    → ((name : List ℕ) → destination ≡ number_sign ∷ name → ⊥)
+    → safe_destination kind link_schemes destination ≡ safe_target kind destination
+target-other kind [] other = refl
+target-other kind (b ∷ name) other = elim (cases_eq b number_sign) [
   | inl e ↦ absurd (other name (ap (λ x. x ∷ name) e))
   | inr n ↦ rw (ne_eqb b number_sign n) refl
 ]

@@ -1,4 +1,4 @@
--- The scheme of a URL byte by byte.
+-- The bytes of a URL before its first colon, byte by byte.
 use Rattle.std.proofs.Common.{◌≡◌, ◌≢◌, ◌<◌, ◌≤◌, ◌+◌, ◌++◌, ℕ, true, false, List, [], ◌∷◌, length, get_or}
 use Rattle.std.proofs.Common.{refl, sym, ap, ◌∙◌, append_assoc, add-one, arith, drop-cons, Option, Some, None, subst}
 use Rattle.std.proofs.Common.{take}
@@ -10,18 +10,18 @@ use Rattle.std.specs.Char.{is_ascii_whitespace}
 use Rattle.std.proofs.lemmas.List.{take_all}
 use Rattle.std.proofs.lemmas.List.Sums.{position_or_len_is}
 use Rattle.markdown_safe.specs.SafeEvents.{safe_info}
-use Rattle.markdown_safe.specs.SafeUrl.{scheme_of, is_dropped_byte, may_be_in_scheme}
+use Rattle.markdown_safe.specs.SafeUrl.{before_colon, is_dropped_byte, may_be_in_scheme}
 
 -- the bytes found so far, before the rest of a scheme
 abbrev pub onto : List ℕ → Option (List ℕ) → Option (List ℕ)
-onto found rest = option_map (λ scheme. found ++ scheme) rest
+onto found rest = option_map (λ more. found ++ more) rest
 
 pub onto-none : (o : Option (List ℕ)) → onto [] o ≡ o
 onto-none None = refl
 onto-none (Some s) = refl
 
 onto-more : (found : List ℕ) (b : ℕ) (o : Option (List ℕ))
-    → onto found (option_map (λ scheme. b ∷ scheme) o) ≡ onto (found ++ b ∷ []) o
+    → onto found (option_map (λ found. b ∷ found) o) ≡ onto (found ++ b ∷ []) o
 onto-more found b None = refl
 onto-more found b (Some s) = ap Some (sym (append_assoc found (b ∷ []) s))
 
@@ -37,39 +37,39 @@ below b h = grind (arith, nat_tests)
 
 -- a byte that is dropped
 pub passed_over : (url found : List ℕ) (i : ℕ) → i < length url → get_or url i 0 < 33
-    → onto found (scheme_of (drop i url)) ≡ onto found (scheme_of (drop (i + 1) url))
-passed_over url found i h l = ap (λ u. onto found (scheme_of u)) (from url i h)
+    → onto found (before_colon (drop i url)) ≡ onto found (before_colon (drop (i + 1) url))
+passed_over url found i h l = ap (λ u. onto found (before_colon u)) (from url i h)
     ∙ ap (onto found) (skip (get_or url i 0) (drop (i + 1) url) l)
   where
-    skip : (b : ℕ) (rest : List ℕ) → b < 33 → scheme_of (b ∷ rest) ≡ scheme_of rest
+    skip : (b : ℕ) (rest : List ℕ) → b < 33 → before_colon (b ∷ rest) ≡ before_colon rest
     skip b rest l = rw (below b l) refl
 
 -- a colon
 pub at_colon : (url found : List ℕ) (i : ℕ) → i < length url → get_or url i 0 ≡ 58
-    → onto found (scheme_of (drop i url)) ≡ Some (found ++ [])
-at_colon url found i h e = ap (λ u. onto found (scheme_of u)) (from url i h)
-    ∙ ap (λ b. onto found (scheme_of (b ∷ drop (i + 1) url))) e
+    → onto found (before_colon (drop i url)) ≡ Some (found ++ [])
+at_colon url found i h e = ap (λ u. onto found (before_colon u)) (from url i h)
+    ∙ ap (λ b. onto found (before_colon (b ∷ drop (i + 1) url))) e
 
 -- a byte of a scheme
 pub one_more : (url found : List ℕ) (i : ℕ) → i < length url → 33 ≤ get_or url i 0 → get_or url i 0 ≢ 58
     → may_be_in_scheme (get_or url i 0) ≡ true
-    → onto found (scheme_of (drop i url)) ≡ onto (found ++ get_or url i 0 ∷ []) (scheme_of (drop (i + 1) url))
-one_more url found i h l n s = ap (λ u. onto found (scheme_of u)) (from url i h)
+    → onto found (before_colon (drop i url)) ≡ onto (found ++ get_or url i 0 ∷ []) (before_colon (drop (i + 1) url))
+one_more url found i h l n s = ap (λ u. onto found (before_colon u)) (from url i h)
     ∙ (ap (onto found) (longer (get_or url i 0) (drop (i + 1) url) l n s)
-    ∙ onto-more found (get_or url i 0) (scheme_of (drop (i + 1) url)))
+    ∙ onto-more found (get_or url i 0) (before_colon (drop (i + 1) url)))
   where
     longer : (b : ℕ) (rest : List ℕ) → 33 ≤ b → b ≢ 58 → may_be_in_scheme b ≡ true
-        → scheme_of (b ∷ rest) ≡ option_map (λ scheme. b ∷ scheme) (scheme_of rest)
+        → before_colon (b ∷ rest) ≡ option_map (λ found. b ∷ found) (before_colon rest)
     longer b rest l n s = rw (above b l, ne_eqb b 58 n, s) refl
 
 -- a byte that no scheme has
 pub no_scheme : (url found : List ℕ) (i : ℕ) → i < length url → 33 ≤ get_or url i 0 → get_or url i 0 ≢ 58
     → may_be_in_scheme (get_or url i 0) ≡ false
-    → onto found (scheme_of (drop i url)) ≡ None
-no_scheme url found i h l n s = ap (λ u. onto found (scheme_of u)) (from url i h)
+    → onto found (before_colon (drop i url)) ≡ None
+no_scheme url found i h l n s = ap (λ u. onto found (before_colon u)) (from url i h)
     ∙ ap (onto found) (none (get_or url i 0) (drop (i + 1) url) l n s)
   where
-    none : (b : ℕ) (rest : List ℕ) → 33 ≤ b → b ≢ 58 → may_be_in_scheme b ≡ false → scheme_of (b ∷ rest) ≡ None
+    none : (b : ℕ) (rest : List ℕ) → 33 ≤ b → b ≢ 58 → may_be_in_scheme b ≡ false → before_colon (b ∷ rest) ≡ None
     none b rest l n s = rw (above b l, ne_eqb b 58 n, s) refl
 
 -- a text up to its first white space

@@ -4,7 +4,6 @@ pub mod SafeHtml
 pub mod TagStarts
 pub mod HtmlTree
 pub mod SafeEvents
-pub mod NestedEvents
 pub mod SafeItems
 pub mod SafeSource
 pub mod SafeRendering

@@ -7,7 +7,7 @@ use Rattle.std.specs.Char.{is_ascii_digit, is_ascii_whitespace}
 use Rattle.std.specs.List.{flat_map, list_all, list_any, starts_with}
 use Rattle.std.specs.Str.{bytes_eq}
 use Rattle.markdown_base.specs.Bytes.{ampersand, double_quote, greater_than, less_than}
-use Rattle.markdown_safe.specs.SafeUrl.{is_safe_url}
+use Rattle.markdown_safe.specs.SafeUrl.{image_schemes, is_safe_url, link_schemes}
 
 -- a byte of text or of an attribute's value, as it is written in HTML
 pub data Character : Type 0 where
@@ -69,8 +69,8 @@ is_alignment value =
 -- each attribute, with what its value must be
 abbrev pub value_rules : List (List ℕ × (List ℕ → Bool))
 value_rules =
-    (codes "href", is_safe_url) ∷ (codes "src", is_safe_url) ∷ (codes "alt", λ value. true)
-    ∷ (codes "title", λ value. true) ∷ (codes "class", is_safe_class)
+    (codes "href", is_safe_url link_schemes) ∷ (codes "src", is_safe_url image_schemes)
+    ∷ (codes "alt", λ value. true) ∷ (codes "title", λ value. true) ∷ (codes "class", is_safe_class)
     ∷ (codes "id", λ value. starts_with nat_eq value (codes "user-content-"))
     ∷ (codes "start", list_all is_ascii_digit) ∷ (codes "style", is_alignment)
     ∷ (codes "type", is_listed (codes "checkbox" ∷ [])) ∷ (codes "disabled", is_listed ([] ∷ []))

@@ -1,5 +1,5 @@
 -- What safe rendering returns: the HTML of the safe events of a text's reading.
-use Rattle.std.specs.Prelude.{◌≡◌, ℕ, true, List, ◌++◌, Option, is_some, map}
+use Rattle.std.specs.Prelude.{◌≡◌, ℕ, List, ◌++◌, Option, is_some, map}
 use Rattle.markdown_base.specs.Event.{EventView}
 use Rattle.markdown_base.specs.Questions.{Question, Answer}
 use Rattle.markdown_base.specs.Source.{Source}
@@ -8,21 +8,19 @@ use Rattle.markdown_out.specs.EventHtml.{html_of}
 use Rattle.markdown_out.specs.LookBacks.{IsTooDeep}
 use Rattle.markdown_render.specs.RenderingFor.{AreEventsFor, AreFirstEventsFor}
 use Rattle.markdown_safe.specs.HtmlTree.{IsSafeTree}
-use Rattle.markdown_safe.specs.NestedEvents.{tables_are_whole}
 use Rattle.markdown_safe.specs.SafeEvents.{safe_events}
 
 -- the safe HTML of a text, by definition: that of its events, each made safe, where no callback is asked
 abbrev pub safe_html_of_text : Source → List ℕ
 safe_html_of_text s = html_of (safe_events (map (λ e. e.0) (events_of_text s)))
 
--- this is the safe HTML of a text, for the answers of the callback; and where the tables among its events are whole, it
--- is a tree
+-- this is the safe HTML of a text, for the answers of the callback, and a tree
 pub record IsSafeHtmlFor {F : Type 0} (step : F → Question → Option Answer → F → Type 0) (callback : Option F)
     (s : Source) (html : List ℕ) : Type 0 where
   pub events : List EventView
   pub read : AreEventsFor step callback (reading_of_text s (is_some callback)) events
   pub is : html ≡ html_of (safe_events events)
-  pub tree : tables_are_whole events ≡ true → IsSafeTree html
+  pub tree : IsSafeTree html
 
 -- among the first events of a text, for the answers of the callback, each made safe, more Starts are open in an image
 -- than can be counted

@@ -7,7 +7,7 @@ ghost use Rattle.markdown_out.specs.EventHtml.{html_of, open_html};
 ghost use Rattle.markdown_out.specs.HtmlCorrect.{IsOwnFault, IsRendered, StopsAtError};
 ghost use Rattle.markdown_safe.specs.SafeTexts.{TextsAreSafe, TextsAreTrees};
 ghost use Rattle.markdown_safe.specs.HtmlTree.{IsSafeTree};
-ghost use Rattle.markdown_safe.specs.NestedEvents.{AreNested, tables_are_whole};
+ghost use Rattle.markdown_event_laws.specs.NestedEvents.{AreNested, tables_are_whole};
 ghost use Rattle.markdown_safe.specs.SafeEvents.{safe_events};
 ghost use Rattle.markdown_safe.specs.SafeHtml.{IsSafeHtml, IsStartOfSafeHtml};
 ghost use Rattle.markdown_safe.specs.SafeSource.{safe_steps};
@@ -52,7 +52,7 @@ pub fn html_of_nested_events_is_a_tree()
         → IsSafeTree (html_of (safe_events events)) }
 {}
 
-/// States that the safe HTML of every text is safe, and where the tables among its events are whole, a tree.
+/// States that the safe HTML of every text is safe, and where the text has a block result, a tree.
 pub fn safe_html_of_texts_is_safe()
     ensures safe { TextsAreSafe }
     ensures trees { TextsAreTrees }

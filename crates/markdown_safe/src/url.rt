@@ -1,6 +1,7 @@
 //! The schemes of URLs.
 ghost use Rattle.std.specs.Prelude.{◌≡◌, Some, None, IfOk, MatchOption};
-ghost use Rattle.markdown_safe.specs.SafeUrl.{is_dropped_byte, is_safe_scheme, is_safe_url, may_be_in_scheme, scheme_of};
+ghost use Rattle.markdown_safe.specs.SafeUrl.{before_colon, image_schemes, is_dropped_byte, is_safe_url, is_scheme};
+ghost use Rattle.markdown_safe.specs.SafeUrl.{is_scheme_of, link_schemes, may_be_in_scheme};
 
 use std::alloc::{AllocError, Global};
 
@@ -11,30 +12,48 @@ fn may_be_in_scheme(byte: u8) -> bool
     matches!(byte, b'a'..=b'z' | b'A'..=b'Z' | b'0'..=b'9' | b'+' | b'-' | b'.')
 }
 
-/// Returns the scheme of a URL, if it has one. Spaces and control bytes are passed over.
-fn scheme_of(alloc: Global, url: &[u8]) -> Result<Option<Vec<u8>>, AllocError>
-    ensures { IfOk result (λ found. MatchOption found (scheme_of url.now ≡ None)
-        (λ scheme. scheme_of url.now ≡ Some scheme.items)) }
+/// Returns the bytes of a URL before its first colon, if all of them may be in a scheme. Spaces and control bytes are
+/// passed over.
+fn before_colon(alloc: Global, url: &[u8]) -> Result<Option<Vec<u8>>, AllocError>
+    ensures { IfOk result (λ found. MatchOption found (before_colon url.now ≡ None)
+        (λ bytes. before_colon url.now ≡ Some bytes.items)) }
 {
-    let mut scheme = Vec::new(alloc);
+    let mut found = Vec::new(alloc);
     for byte in url {
         if *byte < 33 {
             continue;
         }
         if *byte == b':' {
-            return Ok(Some(scheme));
+            return Ok(Some(found));
         }
         if !may_be_in_scheme(*byte) {
             return Ok(None);
         }
-        scheme.push(*byte)?;
+        found.push(*byte)?;
     }
     Ok(None)
 }
 
-/// Returns whether a scheme runs no script: whether it is in the list, in upper or lower case.
-fn is_safe_scheme(scheme: &[u8]) -> bool
-    ensures { result ≡ is_safe_scheme scheme.now }
+/// Returns whether bytes before a colon are a scheme: whether they begin with a letter.
+fn is_scheme(found: &[u8]) -> bool
+    ensures { result ≡ is_scheme found.now }
+{
+    match found.first() {
+        Some(byte) => byte.is_ascii_alphabetic(),
+        None => false,
+    }
+}
+
+/// Returns whether an image may have a scheme, in upper or lower case.
+fn is_image_scheme(scheme: &[u8]) -> bool
+    ensures { result ≡ is_scheme_of image_schemes scheme.now }
+{
+    scheme.eq_ignore_ascii_case(b"http") || scheme.eq_ignore_ascii_case(b"https")
+}
+
+/// Returns whether a link may have a scheme, in upper or lower case.
+fn is_link_scheme(scheme: &[u8]) -> bool
+    ensures { result ≡ is_scheme_of link_schemes scheme.now }
 {
     scheme.eq_ignore_ascii_case(b"http")
         || scheme.eq_ignore_ascii_case(b"https")
@@ -42,12 +61,22 @@ fn is_safe_scheme(scheme: &[u8]) -> bool
         || scheme.eq_ignore_ascii_case(b"tel")
 }
 
-/// Returns whether a URL has no scheme, or one that runs no script. Fails only if an allocation fails.
-pub(crate) fn is_safe_url(alloc: Global, url: &str) -> Result<bool, AllocError>
-    ensures { IfOk result (λ safe. safe ≡ is_safe_url url.now) }
+/// Returns whether a URL has no scheme, or one that a link may have. Fails only if an allocation fails.
+pub(crate) fn is_safe_link(alloc: Global, url: &str) -> Result<bool, AllocError>
+    ensures { IfOk result (λ safe. safe ≡ is_safe_url link_schemes url.now) }
 {
-    match scheme_of(alloc, url.as_bytes())? {
-        Some(scheme) => Ok(is_safe_scheme(&scheme)),
+    match before_colon(alloc, url.as_bytes())? {
+        Some(found) => Ok(!is_scheme(&found) || is_link_scheme(&found)),
+        None => Ok(true),
+    }
+}
+
+/// Returns whether a URL has no scheme, or one that an image may have. Fails only if an allocation fails.
+pub(crate) fn is_safe_image(alloc: Global, url: &str) -> Result<bool, AllocError>
+    ensures { IfOk result (λ safe. safe ≡ is_safe_url image_schemes url.now) }
+{
+    match before_colon(alloc, url.as_bytes())? {
+        Some(found) => Ok(!is_scheme(&found) || is_image_scheme(&found)),
         None => Ok(true),
     }
 }

@@ -13,7 +13,7 @@ returns-clause-written c a s new =
     c.new-written.ensures.bytes c.in_ok-push_html.ensures.ok
 
 pub returns-clause-tree : goal.returns-clause-tree
-returns-clause-tree c a s new whole = rw (returns-clause-written c a s new) (tree_of_new a s c.args.events new whole)
+returns-clause-tree c a s new = rw (returns-clause-written c a s new) (tree_of_new a s c.args.events new)
 
 pub returns-in_err-push_html-clause-faults : goal.returns-in_err-push_html-clause-faults
 returns-in_err-push_html-clause-faults c =

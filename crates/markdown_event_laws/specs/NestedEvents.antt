@@ -1,5 +1,5 @@
--- Events whose HTML is a tree: each End is that of the nearest Start that is still open, and each table holds its head,
--- first, and then rows.
+-- Nested events, whose HTML is a tree: each End is that of the nearest Start that is still open, and each table holds
+-- its head, first, and then rows.
 use Rattle.std.specs.Prelude.{◌≡◌, Bool, true, false, not, List, [], ◌∷◌, ◌&&◌}
 use Rattle.std.specs.List.{list_any}
 use Rattle.markdown_base.specs.Event.{EventView, start, end, table, table_head, table_row, table_cell, tag_end}

@@ -1,0 +1,2 @@
+pub mod NestedTextsLemmas
+pub mod WholeTablesLemmas

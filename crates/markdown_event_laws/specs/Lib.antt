@@ -1,0 +1,3 @@
+-- The definitions that the laws cite.
+pub mod NestedEvents
+pub mod EventsOfTexts
