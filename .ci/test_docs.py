@@ -84,6 +84,13 @@ The last column names docs: `header` for the header.
 CONTRIBUTING = """\
 # Contributing
 
+### What each edit shows
+
+| Edit | The clause says |
+|---|---|
+| **Bytes** | |
+| `base/kinds_blank_is_none`, `base/kinds_tab_is_none` | which bytes are blank |
+
 ## Adding a syntax, an option or an event
 
 1. `base/src/kinds.rt`: `Kind`, `Kind::Superscript`. The variant.
@@ -139,6 +146,8 @@ class DocsTest(MadeUpTree):
         "crates/markdown_base/src/kinds.rt": "pub enum Kind {\n    Superscript,\n}\n",
         "crates/markdown_base/specs/Blank.antt": "-- Blank bytes.\npub BlankByte : Nat -> Bool\n",
         "crates/markdown_base/proofs/Lemmas.antt": "-- Lemmas.\n",
+        "crates/markdown_base/must-fail/kinds_blank_is_none.edit": "file: src/kinds.rt\nold: Superscript,\nnew: Other,\n",
+        "crates/markdown_base/must-fail/kinds_tab_is_none.edit": "file: src/kinds.rt\nold: Superscript,\nnew: Kind,\n",
         "crates/markdown_base/README.md": "# Base\n\nIts `Kind` is in `markdown_base/src/kinds`.\n",
         "crates/markdown_c/src/lib.rt": 'pub const VERSION: &str = "1.2.3";\n',
         "crates/markdown_hello/src/main.rt": CODE_OF_HELLO,
@@ -187,6 +196,25 @@ class Entities(DocsTest):
     def test_a_script_that_fails_without_a_message(self):
         self.write(".ci/entities", "#!/bin/sh\nexit 1\n")
         self.assert_finds(self.check, ".ci/entities fails")
+
+
+class Edits(DocsTest):
+    check = staticmethod(docs.check_edits)
+
+    def test_passes(self):
+        self.assert_passes(self.check)
+
+    def test_an_edit_without_a_row(self):
+        self.write("crates/markdown_scan/must-fail/lib_all.edit", "file: src/lib.rt\n")
+        self.assert_finds(self.check, "docs/CONTRIBUTING.md: the edit scan/lib_all has no row in 'What each edit shows'; add what it shows")
+
+    def test_a_row_without_an_edit(self):
+        self.replace("docs/CONTRIBUTING.md", "`base/kinds_tab_is_none`", "`base/kinds_tab_is_none`, `base/kinds_gone`")
+        self.assert_finds(self.check, "docs/CONTRIBUTING.md: 'What each edit shows' names base/kinds_gone, which is no edit")
+
+    def test_an_edit_with_two_rows(self):
+        self.replace("docs/CONTRIBUTING.md", "| `base/kinds_blank_is_none`", "| `base/kinds_tab_is_none`, `base/kinds_blank_is_none`")
+        self.assert_finds(self.check, "docs/CONTRIBUTING.md: 'What each edit shows' names base/kinds_tab_is_none more than once")
 
 
 class Callers(DocsTest):

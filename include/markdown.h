@@ -136,7 +136,7 @@ extern "C" {
 /** Alerts, block quotes that begin with `[!NOTE]`, or another of five kinds; not in the port's profile. */
 #define MARKDOWN_ALERTS (1 << 11)
 
-/** Another name of `MARKDOWN_ALERTS`, which libraries up to 0.10.0 have alone. */
+/** Another name of `MARKDOWN_ALERTS`. */
 #define MARKDOWN_GFM MARKDOWN_ALERTS
 
 /** `^a^`. */
@@ -165,6 +165,11 @@ extern "C" {
     (MARKDOWN_EXTENDED | MARKDOWN_ALERTS | MARKDOWN_AUTOLINKS | MARKDOWN_FOOTNOTES | MARKDOWN_HEADING_IDS | \
      MARKDOWN_STRIKETHROUGH | MARKDOWN_TABLES | MARKDOWN_TASKLISTS)
 
+/** All extensions but `MARKDOWN_OLD_FOOTNOTES`, which changes what footnotes are, as `markdown -a` does. */
+#define MARKDOWN_ALL \
+    (MARKDOWN_GITHUB | MARKDOWN_HEADING_ATTRIBUTES | MARKDOWN_MATH | MARKDOWN_PLUSES | MARKDOWN_SMART | \
+     MARKDOWN_SUBSCRIPT | MARKDOWN_SUPERSCRIPT | MARKDOWN_WIKILINKS | MARKDOWN_YAML)
+
 /** The port's profile in place of the full reading: HTML that is fixed to the byte. E-mail addresses in angle brackets,
  * and named entities other than `&amp;`, `&lt;`, `&gt;` and `&quot;`, are text. Libraries up to 0.9.0 ignore the bit, and
  * read by the profile without it.
@@ -189,9 +194,9 @@ int64_t markdown_to_html(const uint8_t *text, size_t text_length, uint32_t optio
 
 /** Renders an untrusted `text` as safe HTML.
  *
- * Raw HTML is shown as text. A destination is empty unless its scheme is `http`, `https`, `mailto` or `tel`, or it has
- * no scheme. The ids of headings and footnotes begin with `user-content-`, and a link to `#x` leads to
- * `#user-content-x`. Put the HTML into a `div` of a page that is declared to be in UTF-8, and not into a link or a
+ * Raw HTML is shown as text. A destination is empty unless its scheme is `http`, `https`, `mailto` or `tel`, that of an
+ * image `http` or `https`, or it has no scheme; that of a wikilink begins with `./` instead. The ids of headings and
+ * footnotes begin with `user-content-`, and a link to `#x` leads to `#user-content-x`. Put the HTML into a `div` of a page that is declared to be in UTF-8, and not into a link or a
  * paragraph. Images are loaded from where the text says.
  *
  * Results and errors are those of `markdown_to_html`.

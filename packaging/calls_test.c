@@ -101,6 +101,9 @@ static void test_bare_addresses(void) {
     test_result(&html, text, MARKDOWN_DEFAULT, none);
     test_result(&html, text, MARKDOWN_PROFILE | MARKDOWN_AUTOLINKS, none);
     test_result(&safe, text, MARKDOWN_GITHUB, links);
+    test_result(&html, "~a~ ^b^ $c$ www.d.e", MARKDOWN_ALL,
+                "<p><sub>a</sub> <sup>b</sup> <span class=\"math math-inline\">c</span> "
+                "<a href=\"http://www.d.e\">www.d.e</a></p>\n");
     test_result(&json, "x@y.z", MARKDOWN_AUTOLINKS,
                 "[{\"Start\":\"Paragraph\"},{\"start\":0,\"end\":5}]\n"
                 "[{\"Start\":{\"Link\":{\"link_type\":\"Email\",\"dest_url\":\"x@y.z\",\"title\":\"\",\"id\":\"\"}}},"

@@ -65,16 +65,17 @@ class Library:
             self.library.markdown_free(result)
 
 
-def has_safe_scheme(url):
+def has_no_scheme_but(schemes, url):
     """Reads the scheme as the URL standard does: ends stripped of controls and spaces, tabs and line ends dropped."""
     url = re.sub("[\t\n\r]", "", url.strip("".join(map(chr, range(33)))))
     scheme = re.match(r"([A-Za-z][A-Za-z0-9+.-]*):", url)
-    return not scheme or scheme[1].lower() in {"http", "https", "mailto", "tel"}
+    return not scheme or scheme[1].lower() in schemes
 
 
 def is_safe(name, value):
     return {
-        "href": has_safe_scheme, "src": has_safe_scheme, "alt": lambda value: True, "title": lambda value: True,
+        "href": lambda value: has_no_scheme_but({"http", "https", "mailto", "tel"}, value),
+        "src": lambda value: has_no_scheme_but({"http", "https"}, value), "alt": lambda value: True, "title": lambda value: True,
         "class": lambda value: value in CLASSES or re.fullmatch(r"language-[^ \t\n\f\r]*", value),
         "id": lambda value: value.startswith("user-content-"), "start": str.isdigit,
         "style": lambda value: re.fullmatch("text-align: (left|center|right)", value),

@@ -36,7 +36,7 @@ def html(text: str, extensions: Iterable[str] = (), *, safe: bool = True) -> str
     """Returns the HTML of a text.
 
     Safe HTML is for untrusted input: raw HTML is shown as text, and destinations have one of the schemes http,
-    https, mailto and tel, or none. With `safe=False` raw HTML and all destinations come through as the text's author
+    https, mailto and tel, those of images http or https, or none. With `safe=False` raw HTML and all destinations come through as the text's author
     wrote them.
     """
     return result_of("safe_html" if safe else "html", encoded(text), extensions).decode()

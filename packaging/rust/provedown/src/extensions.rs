@@ -102,6 +102,7 @@ mod tests {
     fn sets() {
         let (github, all) = (Extensions::GITHUB.0, Extensions::ALL.0);
         assert_eq!(github | sys::MARKDOWN_EXTENDED, sys::MARKDOWN_GITHUB);
+        assert_eq!(all | sys::MARKDOWN_EXTENDED, sys::MARKDOWN_ALL);
         assert_eq!(github & !all, 0);
         assert_eq!((Extensions::ALL | Extensions::OLD_FOOTNOTES).0, all | 1 << 9);
         assert_eq!(Extensions::GFM, Extensions::ALERTS);

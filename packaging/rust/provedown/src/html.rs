@@ -58,7 +58,7 @@ pub fn try_push_html<'a, I: Iterator<Item = Event<'a>>>(s: &mut String, iter: I)
 }
 
 /// Appends the safe HTML of events to a string: HTML in events is shown as text, even what the caller put there, and
-/// destinations have one of the schemes `http`, `https`, `mailto` and `tel`, or none.
+/// destinations have one of the schemes `http`, `https`, `mailto` and `tel`, those of images `http` or `https`, or none.
 ///
 /// ```
 /// use provedown::{Parser, html};

@@ -52,6 +52,7 @@
 //! | [`html::push_html`] and the calls that write | take all events, and then write | write with each event |
 //! | [`RefDefs::iter`] | goes in the order of the text | goes in no order |
 //! | [`Options`] | has the methods of `bitflags`, and not its traits | implements `bitflags::Flags` |
+//! | Rust | 1.85 or later | 1.71.1 or later |
 //! | Features | `serde`, which copies the texts that it reads; `html`, `simd` and `getopts` change nothing | |
 //!
 //! The rules for events are those of pulldown-cmark 0.13.6, but for faults of it that are mended. (The two were not run against

@@ -7,7 +7,7 @@ pub fn to_html(text: &str, extensions: Extensions) -> Result<String, Error> {
 }
 
 /// Returns the safe HTML of untrusted input: raw HTML is shown as text, and destinations have one of the schemes
-/// `http`, `https`, `mailto` and `tel`, or none.
+/// `http`, `https`, `mailto` and `tel`, those of images `http` or `https`, or none.
 pub fn to_safe_html(text: &str, extensions: Extensions) -> Result<String, Error> {
     library::of_text(sys::markdown_safe_html_alloc, text, extensions.bits())
 }
