@@ -4,7 +4,7 @@ use Rattle.std.proofs.Common.{get_or, take}
 use Rattle.std.proofs.Common.{append_assoc, inl, inr, refl, sym, ap, ◌∙◌, subst, arith}
 use Rattle.std.proofs.lemmas.Bool.{cases_lt, cond_below, cond_above}
 use Rattle.std.proofs.lemmas.List.{reverse-append, take_more, length-reverse, length-take-le}
-use Rattle.markdown.specs.OutlineWords.{EntryView}
+use Rattle.markdown_outline.specs.Outline.{EntryView}
 use Rattle.markdown_contents.specs.Contents.{depth, line_after, lines_after}
 use Rattle.markdown_contents.specs.ContentsSoFar.{AreLinesSoFar, AreOpen, IsStair, lower_from}
 

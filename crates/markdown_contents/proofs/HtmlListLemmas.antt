@@ -6,10 +6,14 @@ use mathlib.Core.List.{reverse_aux}
 use Rattle.std.specs.Iterator.{AlwaysYields, Drains, Yields}
 use Rattle.std.proofs.lemmas.Iterator.{YieldsList}
 use Rattle.std.proofs.lemmas.List.{map-append}
-use Rattle.markdown.specs.EventWords.{Event, EventView, Fault, TagEnd, end, event_view, list_item, start}
-use Rattle.markdown.specs.HtmlWords.{IsOwnFault, IsRendered, IsTooDeep, StopsAtError, html_of, items}
-use Rattle.markdown.specs.OutlineWords.{EntryView}
-use Rattle.markdown_out.specs.LookBacks.{image_after, image_before}
+use Rattle.markdown_base.specs.Event.{EventView, end, event_view, list_item, start}
+use Rattle.markdown_base.specs.declared.event.Event.{Event}
+use Rattle.markdown_base.specs.declared.fault.Fault.{Fault}
+use Rattle.markdown_base.specs.declared.tag.TagEnd.{TagEnd}
+use Rattle.markdown_out.specs.EventHtml.{html_of}
+use Rattle.markdown_out.specs.HtmlCorrect.{IsOwnFault, IsRendered, StopsAtError, items}
+use Rattle.markdown_outline.specs.Outline.{EntryView}
+use Rattle.markdown_out.specs.LookBacks.{IsTooDeep, image_after, image_before}
 use Rattle.markdown_contents.specs.Contents.{depth}
 use Rattle.markdown_contents.specs.ContentsSoFar.{AreEventsSoFar, AreOpen}
 use Rattle.markdown_contents.specs.HtmlList.{before_item, item_after, items_after, label_events, list_ends, list_events}

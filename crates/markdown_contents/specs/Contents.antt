@@ -4,8 +4,8 @@ use Rattle.std.specs.Prelude.{List, [], ◌∷◌, ◌++◌, flat_map, Option, S
 use Rattle.std.specs.Prelude.{codes, chars, encode_utf8}
 use Rattle.std.specs.List.{list_any}
 use Rattle.percent_encoding.specs.Percent.{percent_encode_byte}
-use Rattle.markdown.specs.ByteWords.{carriage_return, colon, line_feed, slash, space}
-use Rattle.markdown.specs.OutlineWords.{EntryView}
+use Rattle.markdown_base.specs.Bytes.{carriage_return, colon, line_feed, slash, space}
+use Rattle.markdown_outline.specs.Outline.{EntryView}
 
 -- whether a character may be markup in the text of a link
 abbrev pub is_markup : ℕ → Bool

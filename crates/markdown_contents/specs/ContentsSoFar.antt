@@ -1,8 +1,8 @@
 -- What the next heading depends on in the headings so far: the open levels, which it may be below. Only private clauses
 -- cite this.
 use Rattle.std.specs.Prelude.{◌≡◌, ℕ, nat_lt, if◌then◌else◌, List, [], ◌∷◌, ◌++◌, length}
-use Rattle.markdown.specs.EventWords.{EventView}
-use Rattle.markdown.specs.OutlineWords.{EntryView}
+use Rattle.markdown_base.specs.Event.{EventView}
+use Rattle.markdown_outline.specs.Outline.{EntryView}
 use Rattle.markdown_contents.specs.Contents.{depth, lines_after}
 use Rattle.markdown_contents.specs.HtmlList.{items_after}
 

@@ -1,9 +1,11 @@
 -- The table of contents of headings as HTML: the HTML of the events of a tight list of links, nested by `depth`.
 use Rattle.std.specs.Prelude.{ℕ, zero, suc, ◌+◌, ◌-◌, false, nat_lt, if◌then◌else◌}
 use Rattle.std.specs.Prelude.{List, [], ◌∷◌, ◌++◌, codes, Option, Some, None}
-use Rattle.markdown.specs.EventWords.{EventView, LinkType, TagEnd, end, link, list, list_item, start, text}
-use Rattle.markdown.specs.HtmlWords.{html_of}
-use Rattle.markdown.specs.OutlineWords.{EntryView}
+use Rattle.markdown_base.specs.Event.{EventView, end, link, list, list_item, start, text}
+use Rattle.markdown_base.specs.declared.tag.LinkType.{LinkType}
+use Rattle.markdown_base.specs.declared.tag.TagEnd.{TagEnd}
+use Rattle.markdown_out.specs.EventHtml.{html_of}
+use Rattle.markdown_outline.specs.Outline.{EntryView}
 use Rattle.markdown_contents.specs.Contents.{depth}
 
 -- the text of a heading without an id, and otherwise a link to the id in the same text

@@ -2,15 +2,15 @@
 ghost use Rattle.std.specs.Prelude.{◌≡◌, ◌++◌, ◌∷◌, ◌<◌, ◌≤◌, ℕ, List, IfOk, IfErr, OnOk, chars, flat_map};
 ghost use Rattle.std.specs.Prelude.{length, map, option_map, reverse, string_bytes, take};
 ghost use Rattle.percent_encoding.specs.Percent.{percent_encode_byte};
-ghost use Rattle.markdown.specs.OutlineWords.{entry_view};
+ghost use Rattle.markdown_outline.specs.Outline.{entry_view};
 ghost use Rattle.markdown_contents.specs.Contents.{contents_in_file, contents_of, depth, escaped, escaped_char};
 ghost use Rattle.markdown_contents.specs.Contents.{file_char, heading_link, id_char, id_in_destination, indent};
 ghost use Rattle.markdown_contents.specs.Contents.{is_address_mark, is_destination_markup, is_encoded, is_markup};
 ghost use Rattle.markdown_contents.specs.Contents.{line, may_be_scheme};
 ghost use Rattle.markdown_contents.specs.ContentsSoFar.{AreOpen, lower_from};
 
-use markdown::Fault;
-use markdown::outline::Entry;
+use markdown_base::fault::Fault;
+use markdown_outline::Entry;
 use percent_encoding::percent_encode_byte;
 use std::alloc::Global;
 

@@ -1,14 +1,17 @@
 //! `html_list_of`: the table of contents of headings as HTML, a nested list of links to them.
 ghost use Rattle.std.specs.Prelude.{◌≡◌, ◌++◌, ◌∷◌, [], IfOk, IfErr, OnOk, Ok, map, option_map, string_bytes};
-ghost use Rattle.markdown.specs.EventWords.{event_view, list_item, start};
-ghost use Rattle.markdown.specs.OutlineWords.{entry_view};
+ghost use Rattle.markdown_base.specs.Event.{event_view, list_item, start};
+ghost use Rattle.markdown_outline.specs.Outline.{entry_view};
 ghost use Rattle.markdown_contents.specs.HtmlList.{before_item, html_list_of, item_after, label_events};
 ghost use Rattle.markdown_contents.specs.HtmlList.{list_ends, list_events};
 
 use crate::contents::next_depth;
-use markdown::html::push_html;
-use markdown::outline::Entry;
-use markdown::{CowStr, Event, Fault, LinkType, Tag, TagEnd};
+use markdown_base::cow_str::CowStr;
+use markdown_base::event::Event;
+use markdown_base::fault::Fault;
+use markdown_base::tag::{LinkType, Tag, TagEnd};
+use markdown_out::push_html;
+use markdown_outline::Entry;
 use std::alloc::Global;
 
 /// Appends the ends of this many items and of their lists.

@@ -1,6 +1,6 @@
 //! What fails, and what is said of it.
 use crate::text::NotText;
-use markdown::Fault;
+use markdown_base::fault::Fault;
 use std::alloc::{AllocError, AllocFailed};
 use std::io::{self, ErrorKind, Write};
 

@@ -1,7 +1,8 @@
 -- A line more is written for the next heading.
 use Rattle.std.proofs.Common.{◌∙◌, ◌++◌, List, ap, drop, map, reverse, string_bytes, subst, sym, ◌∷◌, ◌+◌, ◌≡◌}
 use Rattle.std.proofs.lemmas.List.{at_drop_more}
-use Rattle.markdown.specs.OutlineWords.{Entry, EntryView, entry_view}
+use Rattle.markdown_outline.specs.Outline.{EntryView, entry_view}
+use Rattle.markdown_outline.specs.declared.entry.Entry.{Entry}
 use Rattle.markdown_contents.specs.Contents.{contents_in_file, line}
 use Rattle.markdown_contents.specs.ContentsSoFar.{AreLinesSoFar}
 use Rattle.markdown_contents.proofs.ContentsSoFarLemmas.{lines_next}

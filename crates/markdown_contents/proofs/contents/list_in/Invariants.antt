@@ -1,6 +1,6 @@
 -- With the lines of the headings that are left, what is written so far is the whole.
 use Rattle.std.proofs.Common.{drop, map, reverse, string_bytes}
-use Rattle.markdown.specs.OutlineWords.{entry_view}
+use Rattle.markdown_outline.specs.Outline.{entry_view}
 use Rattle.markdown_contents.specs.Contents.{contents_in_file}
 use Rattle.markdown_contents.specs.ContentsSoFar.{AreLinesSoFar}
 use Rattle.markdown_contents.proofs.contents.list_in.Given as goal

@@ -4,7 +4,7 @@ use Rattle.std.proofs.lemmas.Iterator.{YieldsList-from_map}
 use Rattle.std.proofs.lemmas.Iterator.Adapters.{YieldsList-from_vec}
 use Rattle.std.proofs.lemmas.Iterator.Consumers.{YieldsList-at}
 use Rattle.std.proofs.lemmas.Result.{err_from_is_err_and}
-use Rattle.markdown.specs.OutlineWords.{entry_view}
+use Rattle.markdown_outline.specs.Outline.{entry_view}
 use Rattle.markdown_contents.proofs.HtmlListLemmas.{only_memory, written_list}
 use Rattle.markdown_contents.proofs.html_list.html_list_of.Goals as goal
 

@@ -1,8 +1,9 @@
 -- An item more is appended for the next heading, and at the end what is open ends.
 use Rattle.std.proofs.Common.{◌∙◌, ◌++◌, List, ap, drop, map, reverse, subst, sym, ◌∷◌, [], ◌+◌, ◌≡◌}
 use Rattle.std.proofs.lemmas.List.{at_drop_all, at_drop_more, length-reverse}
-use Rattle.markdown.specs.EventWords.{event_view}
-use Rattle.markdown.specs.OutlineWords.{Entry, EntryView, entry_view}
+use Rattle.markdown_base.specs.Event.{event_view}
+use Rattle.markdown_outline.specs.Outline.{EntryView, entry_view}
+use Rattle.markdown_outline.specs.declared.entry.Entry.{Entry}
 use Rattle.markdown_contents.specs.Contents.{depth}
 use Rattle.markdown_contents.specs.ContentsSoFar.{AreEventsSoFar}
 use Rattle.markdown_contents.specs.HtmlList.{item_after, list_ends, list_events}

@@ -1,6 +1,7 @@
 -- The ends of an item and its list more are those of one level more.
 use Rattle.std.proofs.Common.{◌∙◌, ◌++◌, ◌∷◌, [], ap, append_assoc, false, map, sym}
-use Rattle.markdown.specs.EventWords.{TagEnd, end, event_view}
+use Rattle.markdown_base.specs.Event.{end, event_view}
+use Rattle.markdown_base.specs.declared.tag.TagEnd.{TagEnd}
 use Rattle.markdown_contents.specs.HtmlList.{list_ends}
 use Rattle.markdown_contents.proofs.HtmlListLemmas.{ends-more, with_event}
 use Rattle.markdown_contents.proofs.html_list.push_ends.Goals as goal

@@ -1,5 +1,5 @@
 use Rattle.std.proofs.Common.{◌≡◌, ◌++◌, map}
-use Rattle.markdown.specs.EventWords.{event_view}
+use Rattle.markdown_base.specs.Event.{event_view}
 use Rattle.markdown_contents.specs.HtmlList.{list_ends}
 use Rattle.markdown_contents.proofs.html_list.push_ends.Given as goal
 
