@@ -83,49 +83,51 @@ fn file<'a>(alloc: Global) -> Arg<'a>
 fn with_extensions<'a>(alloc: Global, command: Command<'a>) -> Result<Command<'a>, AllocError>
     ensures { IfOk result (λ made. app_of made ≡ with_extension_rules (app_of command.entry)) }
 {
-    let all = flag(alloc, "all-extensions")
-        .short('a')
-        .help("Enable all extensions but old-footnotes");
-    let gfm = flag(alloc, "gfm").help("Enable the extensions of GitHub, which are marked with a *");
     let named = command.arg(extension(alloc))?;
-    let with_all = named.arg(all)?;
-    with_all.arg(gfm)
+    let with_all = named.arg(
+        flag(alloc, "all-extensions")
+            .short('a')
+            .help("Enable all extensions but old-footnotes"),
+    )?;
+    with_all.arg(flag(alloc, "gfm").help(
+        "Enable the extensions of GitHub, which are marked with a *",
+    ))
 }
 
 /// Adds the arguments for a page, its title and its style sheet.
 fn with_page<'a>(alloc: Global, command: Command<'a>) -> Result<Command<'a>, AllocError>
     ensures { IfOk result (λ made. app_of made ≡ with_page_rules (app_of command.entry)) }
 {
-    let full_page = flag(alloc, "full-page")
-        .short('f')
-        .help("Write a whole page of HTML, with heading-ids");
-    let title = option_with_value(alloc, "title", "TITLE").help(
+    let paged = command.arg(
+        flag(alloc, "full-page")
+            .short('f')
+            .help("Write a whole page of HTML, with heading-ids"),
+    )?;
+    let titled = paged.arg(option_with_value(alloc, "title", "TITLE").help(
         "The title of the page [default: that of the text, or the name of the first file]",
-    );
-    let css = option_with_value(alloc, "css", "URL").help(
+    ))?;
+    titled.arg(option_with_value(alloc, "css", "URL").help(
         "The style sheet of the page, in place of the default style; '' for none",
-    );
-    let paged = command.arg(full_page)?;
-    let titled = paged.arg(title)?;
-    titled.arg(css)
+    ))
 }
 
 /// Adds the arguments for the language and the contents of a page.
 fn with_contents<'a>(alloc: Global, command: Command<'a>) -> Result<Command<'a>, AllocError>
     ensures { IfOk result (λ made. app_of made ≡ with_contents_rules (app_of command.entry)) }
 {
-    let lang = option_with_value(alloc, "lang", "TAG").help("The language of the page");
-    let toc = flag(alloc, "toc").help("Begin the page with a table of contents");
-    let with_lang = command.arg(lang)?;
-    with_lang.arg(toc)
+    let with_lang = command.arg(option_with_value(alloc, "lang", "TAG").help(
+        "The language of the page",
+    ))?;
+    with_lang.arg(flag(alloc, "toc").help("Begin the page with a table of contents"))
 }
 
 /// Adds the arguments for files.
 fn with_files<'a>(alloc: Global, command: Command<'a>) -> Result<Command<'a>, AllocError>
     ensures { IfOk result (λ made. app_of made ≡ with_file_rules (app_of command.entry)) }
 {
-    let lossy = flag(alloc, "lossy").help("Read bytes that are not UTF-8 as U+FFFD");
-    let with_lossy = command.arg(lossy)?;
+    let with_lossy = command.arg(flag(alloc, "lossy").help(
+        "Read bytes that are not UTF-8 as U+FFFD",
+    ))?;
     with_lossy.arg(output(alloc))?.arg(file(alloc))
 }
 
@@ -153,15 +155,17 @@ fn bare<'a>(alloc: Global) -> Result<Command<'a>, AllocError>
 fn command<'a>(alloc: Global, formats: &'a [&'a str]) -> Result<Command<'a>, AllocError>
     ensures { IfOk result (λ made. app_of made ≡ tool (Names formats.entry)) }
 {
-    let safe = flag(alloc, "safe").help("Write safe HTML, for texts of strangers");
-    let positions = flag(alloc, "positions").help("Add lines and columns to lines of JSON");
     let bare = bare(alloc)?;
     let with_formats = bare.arg(to(alloc, formats))?;
-    let with_safe = with_formats.arg(safe)?;
+    let with_safe = with_formats.arg(flag(alloc, "safe").help(
+        "Write safe HTML, for texts of strangers",
+    ))?;
     let extended = with_extensions(alloc, with_safe)?;
     let paged = with_page(alloc, extended)?;
     let with_contents = with_contents(alloc, paged)?;
-    let with_positions = with_contents.arg(positions)?;
+    let with_positions = with_contents.arg(flag(alloc, "positions").help(
+        "Add lines and columns to lines of JSON",
+    ))?;
     with_files(alloc, with_positions)
 }
 

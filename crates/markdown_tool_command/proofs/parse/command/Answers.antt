@@ -9,8 +9,8 @@ use Rattle.markdown_tool_command.proofs.parse.command.Goals as goal
 
 pub returns : goal.returns
 returns c =
-    let safe : rule_of c.help-safe.result ≡ flag (codes "safe") = search rules in
-    let positions : rule_of c.help-positions.result ≡ flag (codes "positions") = search rules in
+    let safe : rule_of c.help.result ≡ flag (codes "safe") = search rules in
+    let positions : rule_of c.help-2.result ≡ flag (codes "positions") = search rules in
     let with_formats = c.in_ok-with_formats.ensures.shape c.to.ensures.local
     ∙ ap₂ with_rule c.in_ok-bare.ensures c.to.ensures.rule in
     let with_safe = c.in_ok-with_safe.ensures.shape (search rules) ∙ ap₂ with_rule with_formats safe in
