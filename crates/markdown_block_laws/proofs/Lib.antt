@@ -2,6 +2,7 @@ mod AddedCellsLemmas
 mod BlockLawsLemmas
 mod ExampleResultsLemmas
 mod IndentedLinesLemmas
+mod ItemPlacesLemmas
 mod KeptLemmas
 mod LeafLawsLemmas
 mod LineLawsLemmas

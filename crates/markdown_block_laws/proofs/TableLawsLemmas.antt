@@ -1,4 +1,4 @@
--- Where tables, their rows and their cells are, and how many cells a row has.
+-- Where tables, their rows and their cells are, how many cells a row has, and where lists and their items are.
 use Rattle.std.proofs.Common.{◌≡◌, ℕ, zero, suc, ◌+◌, Bool, true, false, not, ◌==◌, List, [], ◌∷◌, length, take}
 use Rattle.std.proofs.Common.{Option, Some, None, refl, sym, ap, ◌∙◌, arith, length-take}
 use Rattle.std.proofs.lemmas.Bool.{true≢false}
@@ -21,7 +21,7 @@ use Rattle.markdown_lines.specs.declared.table_row.Cell.{Cell}
 use Rattle.markdown_scan.specs.Entity.{entity_names}
 use Rattle.markdown_block_rules.specs.BlockGrowth as was
 use Rattle.markdown_block_rules.specs.BlockGrowth.{Block, Kind, blocks_of}
-use Rattle.markdown_block_rules.specs.BlockRules.{Around, before_braces, block_end, cells_shown, code_lines}
+use Rattle.markdown_block_rules.specs.BlockRules.{Around, before_braces, block_end, block_tree, cells_shown, code_lines}
 use Rattle.markdown_block_rules.specs.BlockRules.{empty_cells, in_no_item, info_of, is_loose, items_after_task}
 use Rattle.markdown_block_rules.specs.BlockRules.{last_braces, last_end, paragraph_body, paragraph_items, shown_block}
 use Rattle.markdown_block_rules.specs.BlockRules.{shown_blocks, shown_cells, shown_heading, shown_rows}
@@ -29,7 +29,10 @@ use Rattle.markdown_block_rules.specs.BlockRules.{shown_setext, shown_table, sho
 use Rattle.markdown_block_rules.specs.LineContents.{cell_items, lines_items, source_lines}
 use Rattle.markdown_block_laws.specs.TableLaws.{AreCells, AreRows, EachContains, KeepsRowsEven}
 use Rattle.markdown_block_laws.specs.TableLaws.{RowsAreEven}
-use Rattle.markdown_block_laws.specs.TablesInPlace.{HoldNoTable, StandsOutside, TablesInPlace, TablesOfTextsInPlace}
+use Rattle.markdown_block_laws.proofs.ItemPlacesLemmas.{Fit, fits, holds_items, text_fit}
+use Rattle.markdown_block_laws.specs.ItemsInPlace.{ItemsInPlace, ItemsOfTextsInPlace, is_list}
+use Rattle.markdown_block_laws.specs.TaskLaws.{is_list_item}
+use Rattle.markdown_block_laws.specs.TablesInPlace.{StandsOutside, TablesInPlace, TablesOfTextsInPlace}
 use Rattle.markdown_block_laws.specs.TablesInPlace.{is_of_table}
 use Rattle.markdown_block_rules.specs.TableLines.{cells_added, cells_of}
 use Rattle.markdown_block_rules.proofs.InlineItemsLemmas.{AreUnmarked, cell_unmarked, content_unmarked, is_marked}
@@ -41,19 +44,19 @@ use Rattle.markdown_builder.specs.TreeLevels.{followed_by}
 abbrev Even : Forest Shown → Type 0
 Even f = Throughout (λ a below after. KeepsRowsEven a below) f
 
--- what holds of items that are in no table
-abbrev Keep : Forest Shown → Type 0
-Keep f = Even f × TablesInPlace f
+-- what holds of items that are in no table, and are directly in a list or not
+abbrev Keep : (in_list : Bool) → Forest Shown → Type 0
+Keep in_list f = Even f × TablesInPlace f × ItemsInPlace in_list f
 
-none_kept : Keep nil
-none_kept = (tt, tt)
+none_kept : Keep false nil
+none_kept = (tt, tt, tt)
 
 -- items behind others
-joined : (f g : Forest Shown) → Keep f → Keep g → Keep (followed_by f g)
-joined nil g first second = second
-joined (node a below after) g first second =
-    let rest = joined after g (first.0.2, first.1.1) second in
-    ((first.0.0, first.0.1, rest.0), (first.1.0, rest.1))
+joined : (in_list : Bool) (f g : Forest Shown) → Keep in_list f → Keep in_list g → Keep in_list (followed_by f g)
+joined in_list nil g first second = second
+joined in_list (node a below after) g first second =
+    let rest = joined in_list after g (first.0.2, first.1.1, first.2.2) second in
+    ((first.0.0, first.0.1, rest.0), (first.1.0, rest.1), (first.2.0, first.2.1, rest.2))
 
 -- a first item more, which is no table
 no_rows : (a : Shown) (below : Forest Shown) → is_table a.item.body ≡ false → KeepsRowsEven a below
@@ -72,93 +75,99 @@ outside body.TableRow below inner is holds = absurd (true≢false is)
 outside body.TableCell below inner is holds = absurd (true≢false is)
 outside other below inner is holds = holds
 
-one_more : (a : Shown) (below after : Forest Shown) → is_of_table a.item.body ≡ false → Keep below → Keep after
-    → Keep (node a below after)
-one_more a below after other inner rest = (
+one_more : (in_list : Bool) (a : Shown) (below after : Forest Shown) → is_of_table a.item.body ≡ false
+    → is_list_item a.item.body ≡ in_list → Keep (is_list a.item.body) below → Keep in_list after
+    → Keep in_list (node a below after)
+one_more in_list a below after other item inner rest = (
   (no_rows a below (no_table a.item.body other), inner.0, rest.0),
   (outside a.item.body below (TablesInPlace below) other inner.1, rest.1),
+  (item, inner.2, rest.2),
 )
+
+-- the body is that of no table, no list, and no part of these
+abbrev IsApart : ItemBody → Type 0
+IsApart b = (is_of_table b ≡ false) × (is_list_item b ≡ false) × (is_list b ≡ false)
+
+one_apart : (a : Shown) (below after : Forest Shown) → IsApart a.item.body → Keep false below → Keep false after
+    → Keep false (node a below after)
+one_apart a below after apart inner rest = one_more false a below after apart.0 apart.1 (rw apart.2 inner) rest
 
 -- inline items
 abbrev AreInline : Forest Shown → Type 0
 AreInline f = Each (λ a. IsTrue (is_inline a.item.body)) f
 
-inline_apart : (b : ItemBody) → IsTrue (is_inline b) → is_of_table b ≡ false
-inline_apart (body.Table alignments) is = sym is
-inline_apart body.TableHead is = sym is
-inline_apart body.TableRow is = sym is
-inline_apart body.TableCell is = sym is
-inline_apart other is = refl
+inline_apart : (b : ItemBody) → IsTrue (is_inline b) → IsApart b
+inline_apart (body.Table alignments) is = absurd (true≢false (sym is))
+inline_apart body.TableHead is = absurd (true≢false (sym is))
+inline_apart body.TableRow is = absurd (true≢false (sym is))
+inline_apart body.TableCell is = absurd (true≢false (sym is))
+inline_apart (body.List tight marker first) is = absurd (true≢false (sym is))
+inline_apart (body.ListItem indent) is = absurd (true≢false (sym is))
+inline_apart other is = (refl, refl, refl)
 
--- a table or a part of one is no inline item
-pub inline_hold_no_table : (f : Forest Shown) → Each (λ a. IsTrue (is_inline a.item.body)) f → HoldNoTable f
-inline_hold_no_table nil are = tt
-inline_hold_no_table (node a below after) are =
-    (inline_apart a.item.body are.0, inline_hold_no_table below are.1, inline_hold_no_table after are.2)
-
--- so these keep what holds outside of tables
-apart_kept : (f : Forest Shown) → HoldNoTable f → Keep f
-apart_kept nil none = none_kept
-apart_kept (node a below after) none =
-    one_more a below after none.0 (apart_kept below none.1) (apart_kept after none.2)
+-- these keep what holds outside of tables and lists
+apart_kept : (f : Forest Shown) → AreInline f → Keep false f
+apart_kept nil are = none_kept
+apart_kept (node a below after) are =
+    one_apart a below after (inline_apart a.item.body are.0) (apart_kept below are.1) (apart_kept after are.2)
 
 chain_inline : (items : List Shown) → AreUnmarked items → AreInline (chain_of items)
 chain_inline [] none = tt
 chain_inline (a ∷ items) none = (unmarked_inline a.item.body none.0, tt, chain_inline items none.1)
 
-chain_kept : (items : List Shown) → AreUnmarked items → Keep (chain_of items)
-chain_kept items none =
-    apart_kept (chain_of items) (inline_hold_no_table (chain_of items) (chain_inline items none))
+chain_kept : (items : List Shown) → AreUnmarked items → Keep false (chain_of items)
+chain_kept items none = apart_kept (chain_of items) (chain_inline items none)
 
-inline_kept : (a : Shown) (items : List Shown) → is_of_table a.item.body ≡ false → AreUnmarked items
-    → Keep (node a (chain_of items) nil)
-inline_kept a items other none = one_more a (chain_of items) nil other (chain_kept items none) none_kept
+inline_kept : (a : Shown) (items : List Shown) → IsApart a.item.body → AreUnmarked items
+    → Keep false (node a (chain_of items) nil)
+inline_kept a items apart none = one_apart a (chain_of items) nil apart (chain_kept items none) none_kept
 
 -- those of a paragraph: there may be a task marker before the others
 task_kept : (s : Source) (l : SourceLine) (lines : List SourceLine) (task : Option Bool)
-    → Keep (chain_of (items_after_task s l lines task))
+    → Keep false (chain_of (items_after_task s l lines task))
 task_kept s l lines None =
     let extensions = item_syntax s.syntax in
     chain_kept (lines_items s.text extensions (l ∷ lines)) (lines_unmarked s.text extensions (l ∷ lines))
 task_kept s l lines (Some done) =
     let extensions = item_syntax s.syntax in
     let rest = without_empty (past_task l ∷ lines) in
-    one_more (plain_item l.left.scanned (l.left.scanned + 3) (body.TaskListMarker done)) nil
-    (chain_of (lines_items s.text extensions rest)) refl none_kept
+    one_apart (plain_item l.left.scanned (l.left.scanned + 3) (body.TaskListMarker done)) nil
+    (chain_of (lines_items s.text extensions rest)) (refl, refl, refl) none_kept
     (chain_kept (lines_items s.text extensions rest) (lines_unmarked s.text extensions rest))
 
-items_kept : (s : Source) (marked : ℕ) (lines : List SourceLine) → Keep (chain_of (paragraph_items s marked lines))
+items_kept : (s : Source) (marked : ℕ) (lines : List SourceLine)
+    → Keep false (chain_of (paragraph_items s marked lines))
 items_kept s marked [] = none_kept
 items_kept s marked (l ∷ lines) =
     task_kept s l lines (if l.next == marked then task_read s.syntax l.left.bytes else None)
 
 -- blocks of text
 paragraph_kept : (s : Source) (around : Around) (b : Block) (lines : List SourceLine)
-    → Keep (shown_text s around.marked b (paragraph_body around.tight) lines)
+    → Keep false (shown_text s around.marked b (paragraph_body around.tight) lines)
 paragraph_kept s around b [] = none_kept
 paragraph_kept s around b (l ∷ lines) =
-    one_more (plain_item l.left.scanned b.last (paragraph_body around.tight))
+    one_apart (plain_item l.left.scanned b.last (paragraph_body around.tight))
     (chain_of (paragraph_items s around.marked (l ∷ lines))) nil (is_other around.tight)
     (items_kept s around.marked (l ∷ lines)) none_kept
   where
-    is_other : (tight : Bool) → is_of_table (paragraph_body tight) ≡ false
-    is_other true = refl
-    is_other false = refl
+    is_other : (tight : Bool) → IsApart (paragraph_body tight)
+    is_other true = (refl, refl, refl)
+    is_other false = (refl, refl, refl)
 
 heading_kept : (s : Source) (start end : ℕ) (level : HeadingLevel) (braces : Option Braces) (below : Forest Shown)
-    → Keep below → Keep (shown_heading s start end level braces below)
+    → Keep false below → Keep false (shown_heading s start end level braces below)
 heading_kept s start end level None below inner =
-    one_more (plain_item start end (body.Heading level None)) below nil refl inner none_kept
+    one_apart (plain_item start end (body.Heading level None)) below nil (refl, refl, refl) inner none_kept
 heading_kept s start end level (Some braces) below inner =
-    one_more (record {
+    one_apart (record {
       item = record { start = start; end = end; body = body.Heading level (Some (record { 0 = 1 })) };
       text = None;
       heading = Some (heading_of_words level (words_in s.text braces));
       alignments = [];
-    }) below nil refl inner none_kept
+    }) below nil (refl, refl, refl) inner none_kept
 
 setext_kept : (s : Source) (marked : ℕ) (b : Block) (level : HeadingLevel) (lines : List SourceLine)
-    → Keep (shown_setext s marked b level lines)
+    → Keep false (shown_setext s marked b level lines)
 setext_kept s marked b level [] = none_kept
 setext_kept s marked b level (l ∷ lines) =
     let braces = last_braces s.syntax (l ∷ lines) in
@@ -185,19 +194,24 @@ cells_joined : (f g : Forest Shown) → AreCells f → AreCells g → AreCells (
 cells_joined nil g first second = second
 cells_joined (node cell below after) g first second = (first.0, first.1, cells_joined after g first.2 second)
 
--- no table is in a table
-cells_even : (f : Forest Shown) → AreCells f → Even f
-cells_even nil are = tt
-cells_even (node cell below after) are = (
-  no_rows cell below (ap is_table are.0),
-  (apart_kept below (inline_hold_no_table below are.1)).0,
-  cells_even after are.2,
-)
+-- no table and no list is in a table
+cells_kept : (f : Forest Shown) → AreCells f → Even f × ItemsInPlace false f
+cells_kept nil are = (tt, tt)
+cells_kept (node cell below after) are =
+    let inner = apart_kept below are.1 in
+    let rest = cells_kept after are.2 in (
+      (no_rows cell below (ap is_table are.0), inner.0, rest.0),
+      (ap is_list_item are.0, rw (ap is_list are.0) inner.2, rest.1),
+    )
 
-rows_even : (f : Forest Shown) → AreRows f → Even f
-rows_even nil are = tt
-rows_even (node row cells after) are =
-    (no_rows row cells (ap is_table are.0), cells_even cells are.1, rows_even after are.2)
+rows_kept : (f : Forest Shown) → AreRows f → Even f × ItemsInPlace false f
+rows_kept nil are = (tt, tt)
+rows_kept (node row cells after) are =
+    let inner = cells_kept cells are.1 in
+    let rest = rows_kept after are.2 in (
+      (no_rows row cells (ap is_table are.0), inner.0, rest.0),
+      (ap is_list_item are.0, rw (ap is_list are.0) inner.1, rest.1),
+    )
 
 cells_counted : (s : Source) (cells : List Cell) → length (roots (shown_cells s cells)) ≡ length cells
 cells_counted s [] = refl
@@ -238,11 +252,13 @@ rows_counted s columns (l ∷ rows) = (row_counted s columns l, rows_counted s c
 
 -- a table
 table_kept : (s : Source) (start end : ℕ) (head : SourceLine) (alignments : List Alignment) (rows : List SourceLine)
-    → Keep (shown_table s start end head alignments rows)
+    → Keep false (shown_table s start end head alignments rows)
 table_kept s start end head alignments rows =
     let columns = length alignments in
     let cells = row_cells s columns head in
-    let others = are_rows s columns rows in (
+    let others = are_rows s columns rows in
+    let cells_held = cells_kept (cells_shown s columns head) cells in
+    let rows_held = rows_kept (shown_rows s columns rows) others in (
       (
         record {
           rows = λ is. (refl, cells, others);
@@ -250,82 +266,96 @@ table_kept s start end head alignments rows =
         },
         (
           no_rows (plain_item head.left.scanned head.next body.TableHead) (cells_shown s columns head) refl,
-          cells_even (cells_shown s columns head) cells,
-          rows_even (shown_rows s columns rows) others,
+          cells_held.0,
+          rows_held.0,
         ),
         tt,
       ),
       ((refl, cells, others), tt),
+      (refl, (refl, cells_held.1, rows_held.1), tt),
     )
 
 -- lines of code, of HTML or of metadata
-lines_kept : (a : Shown) (b : ItemBody) (lines : List SourceLine) → is_of_table a.item.body ≡ false
-    → is_marked b ≡ false → Keep (node a (chain_of (source_lines b lines)) nil)
+lines_kept : (a : Shown) (b : ItemBody) (lines : List SourceLine) → IsApart a.item.body
+    → is_marked b ≡ false → Keep false (node a (chain_of (source_lines b lines)) nil)
 lines_kept a b lines other is = inline_kept a (source_lines b lines) other (source_unmarked b lines is)
 
 -- one block, from what the blocks in it become
-block_kept : (s : Source) (around : Around) (b : Block) (end : ℕ) (below : Forest Block)
-    (inside : Around → Forest Shown) → ((around : Around) → Keep (inside around)) → (kind : Kind)
-    → Keep (shown_block s around b end below inside kind)
-block_kept s around b end below inside kept was.blank_line = none_kept
-block_kept s around b end below inside kept (was.paragraph_leaf lines) =
+block_kept : (s : Source) (in_list : Bool) (around : Around) (b : Block) (end : ℕ) (below : Forest Block)
+    (inside : Around → Forest Shown) (kind : Kind) → fits in_list kind ≡ true
+    → ((around : Around) → Keep (holds_items kind) (inside around))
+    → Keep in_list (shown_block s around b end below inside kind)
+block_kept s in_list around b end below inside was.blank_line fit kept = none_kept
+block_kept s true around b end below inside (was.item_container indent) fit kept =
+    let blocks : Around = record { tight = around.tight; marked = b.first } in
+    one_more true (plain_item b.start end (body.ListItem indent)) (inside blocks) nil refl refl (kept blocks) none_kept
+block_kept s true around b end below inside other fit kept = absurd (true≢false (sym fit))
+block_kept s false around b end below inside (was.item_container indent) fit kept = absurd (true≢false (sym fit))
+block_kept s false around b end below inside (was.paragraph_leaf lines) fit kept =
     paragraph_kept s around b (divided (entity_names s.syntax) s.text lines).lines
-block_kept s around b end below inside kept (was.underlined_leaf level lines) =
+block_kept s false around b end below inside (was.underlined_leaf level lines) fit kept =
     setext_kept s around.marked b level (divided (entity_names s.syntax) s.text lines).lines
-block_kept s around b end below inside kept (was.heading_leaf found) =
+block_kept s false around b end below inside (was.heading_leaf found) fit kept =
     let extensions = item_syntax s.syntax in
     let items = content_items s.text extensions found.from found.to in
     heading_kept s b.start end found.level found.braces (chain_of items)
     (chain_kept items (content_unmarked s.text extensions found.from found.to))
-block_kept s around b end below inside kept was.break_leaf =
-    one_more (plain_item b.start end body.Rule) nil nil refl none_kept none_kept
-block_kept s around b end below inside kept (was.indented_leaf lines) =
-    lines_kept (plain_item b.start end body.IndentCodeBlock) (body.Text false) (code_lines lines) refl refl
-block_kept s around b end below inside kept (was.fenced_leaf opening closed lines) =
+block_kept s false around b end below inside was.break_leaf fit kept =
+    one_apart (plain_item b.start end body.Rule) nil nil (refl, refl, refl) none_kept none_kept
+block_kept s false around b end below inside (was.indented_leaf lines) fit kept =
+    lines_kept (plain_item b.start end body.IndentCodeBlock) (body.Text false) (code_lines lines) (refl, refl, refl)
+    refl
+block_kept s false around b end below inside (was.fenced_leaf opening closed lines) fit kept =
     lines_kept (record {
       item = record { start = b.start; end = end; body = body.FencedCodeBlock (record { 0 = 0 }) };
       text = Some (info_of s opening);
       heading = None;
       alignments = [];
-    }) (body.Text false) lines refl refl
-block_kept s around b end below inside kept (was.html_leaf kind closed lines) =
-    lines_kept (plain_item b.start end body.HtmlBlock) body.Html lines refl refl
-block_kept s around b end below inside kept (was.metadata_leaf kind closed lines) =
-    lines_kept (plain_item b.start end (body.MetadataBlock kind)) (body.Text false) lines refl refl
-block_kept s around b end below inside kept (was.table_leaf ended head alignments rows) =
+    }) (body.Text false) lines (refl, refl, refl) refl
+block_kept s false around b end below inside (was.html_leaf kind closed lines) fit kept =
+    lines_kept (plain_item b.start end body.HtmlBlock) body.Html lines (refl, refl, refl) refl
+block_kept s false around b end below inside (was.metadata_leaf kind closed lines) fit kept =
+    lines_kept (plain_item b.start end (body.MetadataBlock kind)) (body.Text false) lines (refl, refl, refl) refl
+block_kept s false around b end below inside (was.table_leaf ended head alignments rows) fit kept =
     table_kept s b.start end head alignments rows
-block_kept s around b end below inside kept was.quote_container =
-    one_more (plain_item b.start end (body.BlockQuote None)) (inside in_no_item) nil refl (kept in_no_item) none_kept
-block_kept s around b end below inside kept (was.alert_container kind) =
-    one_more (plain_item b.start end (body.BlockQuote (Some kind))) (inside in_no_item) nil refl (kept in_no_item)
-    none_kept
-block_kept s around b end below inside kept (was.list_container marker) =
+block_kept s false around b end below inside was.quote_container fit kept =
+    one_apart (plain_item b.start end (body.BlockQuote None)) (inside in_no_item) nil (refl, refl, refl)
+    (kept in_no_item) none_kept
+block_kept s false around b end below inside (was.alert_container kind) fit kept =
+    one_apart (plain_item b.start end (body.BlockQuote (Some kind))) (inside in_no_item) nil (refl, refl, refl)
+    (kept in_no_item) none_kept
+block_kept s false around b end below inside (was.list_container marker) fit kept =
     let items : Around = record { tight = not (is_loose below); marked = 0 } in
-    one_more (plain_item b.start end (body.List (not (is_loose below)) marker.character marker.first)) (inside items)
-    nil refl (kept items) none_kept
-block_kept s around b end below inside kept (was.item_container indent) =
-    let blocks : Around = record { tight = around.tight; marked = b.first } in
-    one_more (plain_item b.start end (body.ListItem indent)) (inside blocks) nil refl (kept blocks) none_kept
-block_kept s around b end below inside kept (was.footnote_container label) =
-    one_more (record {
+    one_more false (plain_item b.start end (body.List (not (is_loose below)) marker.character marker.first))
+    (inside items) nil refl refl (kept items) none_kept
+block_kept s false around b end below inside (was.footnote_container label) fit kept =
+    one_apart (record {
       item = record { start = b.start; end = end; body = body.FootnoteDefinition (record { 0 = 0 }) };
       text = Some label;
       heading = None;
       alignments = [];
-    }) (inside in_no_item) nil refl (kept in_no_item) none_kept
+    }) (inside in_no_item) nil (refl, refl, refl) (kept in_no_item) none_kept
 
-blocks_kept : (s : Source) (blocks : Forest Block) (around : Around) → Keep (shown_blocks s around blocks)
+blocks_kept : (s : Source) (in_list : Bool) (blocks : Forest Block) → Fit in_list blocks → (around : Around)
+    → Keep in_list (shown_blocks s around blocks)
 unfolding shown_blocks
-blocks_kept s nil around = none_kept
-blocks_kept s (node b below after) around =
+blocks_kept s in_list nil fit around = none_kept
+blocks_kept s in_list (node b below after) fit around =
     let end = block_end b (last_end b.first below) b.kind in
-    joined (shown_block s around b end below (λ inside. shown_blocks s inside below) b.kind)
+    joined in_list (shown_block s around b end below (λ inside. shown_blocks s inside below) b.kind)
     (shown_blocks s around after)
-    (block_kept s around b end below (λ inside. shown_blocks s inside below)
-    (λ inside. blocks_kept s below inside) b.kind) (blocks_kept s after around)
+    (block_kept s in_list around b end below (λ inside. shown_blocks s inside below) b.kind fit.0
+    (λ inside. blocks_kept s (holds_items b.kind) below fit.1 inside)) (blocks_kept s in_list after fit.2 around)
+
+-- what is kept of the blocks of a text
+text_kept : (s : Source) → Keep false (block_tree s)
+text_kept s = blocks_kept s false (blocks_of s) (text_fit s) in_no_item
 
 pub even_rows : RowsAreEven
-even_rows s = (blocks_kept s (blocks_of s) in_no_item).0
+even_rows s = (text_kept s).0
 
 pub tables_in_place : TablesOfTextsInPlace
-tables_in_place s = (blocks_kept s (blocks_of s) in_no_item).1
+tables_in_place s = (text_kept s).1
+
+pub items_in_place : ItemsOfTextsInPlace
+items_in_place s = (text_kept s).2

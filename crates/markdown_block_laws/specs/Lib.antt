@@ -2,6 +2,7 @@
 pub mod LineLaws
 pub mod BlockLaws
 pub mod ListLaws
+pub mod ItemsInPlace
 pub mod LeafLaws
 -- what the extensions of blocks that are read make
 pub mod TableLaws

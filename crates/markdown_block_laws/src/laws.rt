@@ -7,6 +7,7 @@ ghost use Rattle.markdown_block_laws.specs.BlockLaws.{MarkerBeforeTextMayBeLeftO
 ghost use Rattle.markdown_block_laws.specs.BlockLaws.{QuotedLinesMakeQuote};
 ghost use Rattle.markdown_block_laws.specs.ExampleTrees.{HaveTrees, ResultsAreWritten};
 ghost use Rattle.markdown_block_laws.specs.ExamplesOfUnderlines.{examples_of_underlines};
+ghost use Rattle.markdown_block_laws.specs.ItemsInPlace.{ItemsOfTextsInPlace};
 ghost use Rattle.markdown_block_laws.specs.LeafLaws.{HeadingsAndBreaksEnd, IndentedCodeEndsBeforeText, FencedCodeGoesOn};
 ghost use Rattle.markdown_block_laws.specs.LeafLaws.{ClosedCodeEnds, ClosingFenceClosesCode, HtmlGoesOn, EndConditionEndsHtml};
 ghost use Rattle.markdown_block_laws.specs.LeafLaws.{BlankLineEndsHtml, BlankLineEndsParagraph};
@@ -141,6 +142,11 @@ pub fn closed_metadata_ends_before_a_line()
 /// States that a blank line ends a paragraph (4.8).
 pub fn a_blank_line_ends_a_paragraph()
     ensures { BlankLineEndsParagraph }
+{}
+
+/// States that list items stand directly in lists and nowhere else, and that a list holds items alone (5.2, 5.3).
+pub fn list_items_are_in_lists()
+    ensures { ItemsOfTextsInPlace }
 {}
 
 /// States that a table directly contains its head and then its rows, that each of these contains cells, as many as the

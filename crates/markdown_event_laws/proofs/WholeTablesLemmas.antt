@@ -1,13 +1,14 @@
--- The tables of a text are whole: its blocks hold them in place, resolving chains keeps them there, and the events of
--- such a tree keep them whole.
-use Rattle.std.proofs.Common.{◌≡◌, ◌&&◌, ℕ, Bool, true, false, List, [], ◌∷◌, ◌++◌, Some, append-nil}
+-- The tables of a text are whole, its list items stand in lists, and its headings apart: its blocks hold them in place,
+-- resolving chains keeps them there, and the events of such a tree keep them so.
+use Rattle.std.proofs.Common.{◌≡◌, ◌&&◌, ◌||◌, ℕ, Bool, true, false, List, [], ◌∷◌, ◌++◌, None, Some, append-nil}
 use Rattle.std.proofs.Common.{append_assoc, ap, map, refl, subst, sym, ◌∙◌}
 use Rattle.std.specs.List.{list_any}
 use Rattle.std.proofs.Math.Bool.{or-true}
 use Rattle.std.specs.Prelude.{IsTrue, not, slice_range}
 use Rattle.std.specs.declared.ops.Range.{Range}
 use Rattle.markdown_base.specs.BlockTree.{Numbered, tree_of}
-use Rattle.markdown_base.specs.Event.{EventView, TagView, end, start, table, table_cell, table_head, table_row, tag_end}
+use Rattle.markdown_base.specs.Event.{EventView, TagView, end, heading, list, list_item, start, tag_end}
+use Rattle.markdown_base.specs.Event.{table, table_cell, table_head, table_row}
 use Rattle.markdown_base.specs.Forest.{Each, Forest, nil, node, relabelled}
 use Rattle.markdown_base.specs.Item.{is_childless, is_inline, is_open}
 use Rattle.markdown_base.specs.WellFormed.{AllKeepRules, PartCounts, all_inline, counts_of, has_open}
@@ -16,11 +17,14 @@ use Rattle.markdown_base.specs.declared.item.ItemBody.TheVariants as body
 use Rattle.markdown_base.specs.declared.tag.TagEnd.{TagEnd}
 use Rattle.markdown_base.specs.declared.tag.TagEnd.TheVariants as closes
 use Rattle.markdown_base.specs.Source.{Source}
-use Rattle.markdown_block_laws.proofs.TableLawsLemmas.{tables_in_place}
+use Rattle.markdown_block_laws.proofs.TableLawsLemmas.{items_in_place, tables_in_place}
+use Rattle.markdown_block_laws.specs.ItemsInPlace.{ItemsInPlace, is_list}
+use Rattle.markdown_block_laws.specs.TaskLaws.{is_list_item}
 use Rattle.markdown_block_laws.specs.TableLaws.{AreCells, AreHeadAndRows, AreRows}
 use Rattle.markdown_block_laws.specs.TablesInPlace.{StandsOutside, TablesInPlace}
 use Rattle.markdown_blocks.specs.Blocks.{IsBlocksOf, block_arena, block_parts, text_of_blocks}
 use Rattle.markdown_blocks.specs.declared.blocks.Blocks.{Blocks}
+use Rattle.markdown_builder.specs.HeadingsHoldInline.{HeadingsHoldInline, is_heading_block}
 use Rattle.markdown_builder.specs.Shown.{Parts, Shown, shown_item, stored_parts, unnumbered}
 use Rattle.markdown_document.proofs.PlaceLemmas.{open-unresolved}
 use Rattle.markdown_document.specs.ChainRest.{cut_shape}
@@ -29,124 +33,173 @@ use Rattle.markdown_document.specs.Document.{leaf, no_notes, plain, shape_of, tr
 use Rattle.markdown_document.specs.EnclosingBlocks.{EnclosingBlocks, inside_node, no_blocks}
 use Rattle.markdown_document.specs.Setting.{ReferenceState, Setting, setting_of}
 use Rattle.markdown_document.specs.Tables.{Tables, tables_at_start}
-use Rattle.markdown_event_laws.specs.EventsOfTexts.{TablesOfReadingsAreWhole, TablesOfTextsAreWhole}
-use Rattle.markdown_event_laws.specs.NestedEvents.{ends_cells, ends_table, keep_tables_whole, keeps_tables_whole}
-use Rattle.markdown_event_laws.specs.NestedEvents.{nearest_is, starts_table}
+use Rattle.markdown_event_laws.specs.EventsOfTexts.{ReadingsPass, TablesOfReadingsAreWhole, TablesOfTextsAreWhole}
+use Rattle.markdown_event_laws.specs.EventsOfTexts.{TextsPass}
+use Rattle.markdown_event_laws.specs.NestedEvents.{awaited_after, closes_heading, each_passes, ends_cells, ends_list}
+use Rattle.markdown_event_laws.specs.NestedEvents.{ends_table, headings_are_apart, items_are_in_lists}
+use Rattle.markdown_event_laws.specs.NestedEvents.{keep_tables_whole, keeps_headings_apart, keeps_items_in_lists}
+use Rattle.markdown_event_laws.specs.NestedEvents.{keeps_tables_whole, nearest_is, starts_table, tables_are_whole}
 use Rattle.markdown_inline.proofs.ReadingOfTextLemmas.{text-law}
 use Rattle.markdown_inline.proofs.ResolvedShapesLemmas.{shapes-law}
 use Rattle.markdown_inline.proofs.WholeReadingLemmas.{block_tree-law}
 use Rattle.markdown_inline.specs.Elements.{Element, Placed, events_of}
-use Rattle.markdown_inline.specs.ParserLeft.{rules_of, state_at_start}
+use Rattle.markdown_inline.specs.ParserLeft.{reading_of, rules_of, state_at_start}
 use Rattle.markdown_inline.specs.ResolvedDocument.{Resolving, resolved_blocks, resolved_chain, resolved_document}
 use Rattle.markdown_inline.specs.ResolvedDocument.{resolved_tree}
 use Rattle.markdown_inline.specs.ResolvedShapes.{IsMadeShape, IsMadeTag}
 use Rattle.markdown_inline.specs.TreeReading.{GivesBoth, IsLone, events_in, tree_events}
 
--- ---- tables in place, in a tree as it is read
+-- ---- tables, lists and headings in place, in a tree as it is read
 
--- the tag is that of a table, or of a part of one
-abbrev is_of_table : TagView → Bool
-is_of_table (table alignments) = true
-is_of_table table_head = true
-is_of_table table_row = true
-is_of_table table_cell = true
-is_of_table other = false
+-- the event keeps tables whole, list items in lists, and headings apart
+abbrev keeps_all : EventView → (awaited : List TagEnd) → (first : Bool) → Bool
+keeps_all e awaited first =
+    keeps_tables_whole e awaited first && (keeps_items_in_lists e awaited && keeps_headings_apart e awaited)
 
-abbrev not_of_table : Shape → Bool
-not_of_table (enclosed tag origins) = not (is_of_table tag)
-not_of_table other = true
+abbrev keep_all : (awaited : List TagEnd) → (first : Bool) → List EventView → Bool
+keep_all awaited first [] = true
+keep_all awaited first (e ∷ events) =
+    keeps_all e awaited first && keep_all (awaited_after e awaited) (starts_table e) events
 
--- A tree of this shape keeps tables whole, where these Ends are awaited before it and the event before it is the Start
+-- an event that is no Start of a table's head or of a list item may stand here
+abbrev IsFree : (awaited : List TagEnd) → (first : Bool) → Type 0
+IsFree awaited first = (first ≡ false) × (nearest_is ends_list awaited ≡ false)
+
+-- the tag is that of a table, a list or a heading, or of a part of one
+abbrev is_placed : TagView → Bool
+is_placed (heading h) = true
+is_placed (list number) = true
+is_placed list_item = true
+is_placed (table alignments) = true
+is_placed table_head = true
+is_placed table_row = true
+is_placed table_cell = true
+is_placed other = false
+
+abbrev not_placed : Shape → Bool
+not_placed (enclosed tag origins) = not (is_placed tag)
+not_placed other = true
+
+-- A tree of this shape keeps all of these, where these Ends are awaited before it and the event before it is the Start
 -- of a table or is not: by itself, in what is below it, and in what comes after it. An open one begins a chain that
--- holds no table.
+-- holds none of them.
 abbrev StandsAt : Shape → (awaited : List TagEnd) → (first : Bool) → (chain : Type 0)
     → (below : List TagEnd → Bool → Type 0) → (after : Type 0) → Type 0
-StandsAt (leaf e origins) awaited first chain below after = (first ≡ false) × after
+StandsAt (leaf e origins) awaited first chain below after = IsFree awaited first × after
 StandsAt (enclosed tag origins) awaited first chain below after =
-    (keeps_tables_whole (start tag) awaited first ≡ true)
+    (keeps_all (start tag) awaited first ≡ true)
     × below (tag_end tag ∷ awaited) (starts_table (start tag)) × after
-StandsAt plain awaited first chain below after = (first ≡ false) × below awaited false × after
-StandsAt backslash_break awaited first chain below after = (first ≡ false) × after
-StandsAt (unresolved b) awaited first chain below after = (first ≡ false) × chain
+StandsAt plain awaited first chain below after = IsFree awaited first × below awaited false × after
+StandsAt backslash_break awaited first chain below after = IsFree awaited first × after
+StandsAt (unresolved b) awaited first chain below after = IsFree awaited first × chain
 
--- a tag that is of no table keeps tables whole wherever a head does not have to follow
+-- another tag keeps all of these wherever it is free to stand
 record IsOther (tag : TagView) : Type 0 where
-  keeps : (awaited : List TagEnd) → keeps_tables_whole (start tag) awaited false ≡ true
+  keeps : (awaited : List TagEnd) → nearest_is ends_list awaited ≡ false → keeps_all (start tag) awaited false ≡ true
   starts : starts_table (start tag) ≡ false
-  ends : ends_table (tag_end tag) ≡ false
+  tables : ends_table (tag_end tag) ≡ false
+  lists : ends_list (tag_end tag) ≡ false
+  headings : closes_heading (tag_end tag) ≡ false
 
-other_tag : (tag : TagView) → not (is_of_table tag) ≡ true → IsOther tag
+other_tag : (tag : TagView) → not (is_placed tag) ≡ true → IsOther tag
+other_tag (heading h) n = absurd (cc n)
+other_tag (list number) n = absurd (cc n)
+other_tag list_item n = absurd (cc n)
 other_tag (table alignments) n = absurd (cc n)
 other_tag table_head n = absurd (cc n)
 other_tag table_row n = absurd (cc n)
 other_tag table_cell n = absurd (cc n)
-other_tag other n = record { keeps = λ awaited. refl; starts = refl; ends = refl }
+other_tag other n =
+    record { keeps = λ awaited free. rw free refl; starts = refl; tables = refl; lists = refl; headings = refl }
+
+-- these Ends are awaited below such a tag, where others are awaited before it
+record AreInside (awaited ends : List TagEnd) : Type 0 where
+  tables : list_any ends_table ends ≡ list_any ends_table awaited
+  headings : list_any closes_heading ends ≡ list_any closes_heading awaited
+  free : nearest_is ends_list ends ≡ false
 
 other_stands : (shape : Shape) (awaited : List TagEnd) (chain : Type 0) (below : List TagEnd → Bool → Type 0)
     (after : Type 0)
-    → not_of_table shape ≡ true
-    → ((ends : List TagEnd) → list_any ends_table ends ≡ list_any ends_table awaited → below ends false) → after
+    → not_placed shape ≡ true → nearest_is ends_list awaited ≡ false
+    → ((ends : List TagEnd) → AreInside awaited ends → below ends false) → after
     → (is_unresolved shape ≡ true → chain) → StandsAt shape awaited false chain below after
-other_stands (leaf e origins) awaited chain below after n i l c = (refl, l)
-other_stands (enclosed tag origins) awaited chain below after n i l c =
-    let o = other_tag tag n in
-    (o.keeps awaited, rw o.starts (i (tag_end tag ∷ awaited) (rw o.ends refl)), l)
-other_stands plain awaited chain below after n i l c = (refl, i awaited refl, l)
-other_stands backslash_break awaited chain below after n i l c = (refl, l)
-other_stands (unresolved b) awaited chain below after n i l c = (refl, c refl)
+other_stands (leaf e origins) awaited chain below after n free i l c = ((refl, free), l)
+other_stands (enclosed tag origins) awaited chain below after n free i l c =
+    let o = other_tag tag n in (
+      o.keeps awaited free,
+      rw o.starts (i (tag_end tag ∷ awaited)
+          (record { tables = rw o.tables refl; headings = rw o.headings refl; free = o.lists })),
+      l,
+    )
+other_stands plain awaited chain below after n free i l c =
+    ((refl, free), i awaited (record { tables = refl; headings = refl; free = free }), l)
+other_stands backslash_break awaited chain below after n free i l c = ((refl, free), l)
+other_stands (unresolved b) awaited chain below after n free i l c = ((refl, free), c refl)
 
--- events keep tables whole
+-- events keep all of these
 abbrev AreWhole : (awaited : List TagEnd) → (first : Bool) → List Placed → Type 0
-AreWhole awaited first events = keep_tables_whole awaited first (map (λ (e : Placed). e.0) events) ≡ true
+AreWhole awaited first events = keep_all awaited first (map (λ (e : Placed). e.0) events) ≡ true
 
 lone_whole : (e : EventView) (awaited : List TagEnd) (events : List EventView) → IsLone e
-    → keep_tables_whole awaited false events ≡ true → keep_tables_whole awaited false (e ∷ events) ≡ true
-lone_whole (start tag) awaited events lone w = absurd lone
-lone_whole (end x) awaited events lone w = absurd lone
-lone_whole other awaited events lone w = w
+    → nearest_is ends_list awaited ≡ false → keep_all awaited false events ≡ true
+    → keep_all awaited false (e ∷ events) ≡ true
+lone_whole (start tag) awaited events lone free w = absurd lone
+lone_whole (end x) awaited events lone free w = absurd lone
+lone_whole other awaited events lone free w = rw free w
+
+end_whole : (e : TagEnd) (awaited : List TagEnd) (events : List EventView) → keep_all awaited false events ≡ true
+    → keep_all (e ∷ awaited) false (end e ∷ events) ≡ true
+end_whole e awaited events w = rw (ends (ends_list e)) w
+  where
+    ends : (is : Bool) → (is || not is) ≡ true
+    ends true = refl
+    ends false = refl
 
 module _ {A : Type 0} where
-  -- none of these trees is a table or a part of one, at any depth
-  abbrev HoldNoTable : Forest (TreeNode A) → Type 0
-  HoldNoTable f = Each (λ (a : TreeNode A). not_of_table a.part.shape ≡ true) f
+  -- none of these trees is a table, a list, a heading or a part of one, at any depth
+  abbrev HoldNone : Forest (TreeNode A) → Type 0
+  HoldNone f = Each (λ (a : TreeNode A). not_placed a.part.shape ≡ true) f
 
-  -- these trees keep tables whole, where these Ends are awaited before the first
+  -- these trees keep all of these, where these Ends are awaited before the first
   abbrev AreInPlace : (awaited : List TagEnd) → (first : Bool) → Forest (TreeNode A) → Type 0
   AreInPlace awaited first nil = first ≡ false
   AreInPlace awaited first (node a below after) =
-      StandsAt a.part.shape awaited first (HoldNoTable (node a below after))
+      StandsAt a.part.shape awaited first (HoldNone (node a below after))
       (λ ends starts. AreInPlace ends starts below) (AreInPlace awaited false after)
 
-  without_tables : (f : Forest (TreeNode A)) (awaited : List TagEnd) → HoldNoTable f → AreInPlace awaited false f
-  without_tables nil awaited n = refl
-  without_tables (node a below after) awaited n =
-      other_stands a.part.shape awaited (HoldNoTable (node a below after))
-      (λ ends starts. AreInPlace ends starts below) (AreInPlace awaited false after) n.0
-      (λ ends same. without_tables below ends n.1) (without_tables after awaited n.2) (λ is. n)
+  without_placed : (f : Forest (TreeNode A)) (awaited : List TagEnd) → nearest_is ends_list awaited ≡ false
+      → HoldNone f → AreInPlace awaited false f
+  without_placed nil awaited free n = refl
+  without_placed (node a below after) awaited free n =
+      other_stands a.part.shape awaited (HoldNone (node a below after))
+      (λ ends starts. AreInPlace ends starts below) (AreInPlace awaited false after) n.0 free
+      (λ ends is. without_placed below ends is.free n.1) (without_placed after awaited free n.2) (λ is. n)
 
   -- ---- the events of such a tree
 
   -- a tree before others, and its forest
   tree_whole : (shape : Shape) (range : Range ℕ) (a : TreeNode A) (below after : Forest (TreeNode A))
       (awaited : List TagEnd) (first : Bool) (rest : List Placed) → GivesBoth shape
-      → StandsAt shape awaited first (HoldNoTable (node a below after))
+      → StandsAt shape awaited first (HoldNone (node a below after))
       (λ ends starts. AreInPlace ends starts below) (AreInPlace awaited false after)
       → ((ends : List TagEnd) (starts : Bool) (more : List Placed) → AreInPlace ends starts below
       → AreWhole ends false more → AreWhole ends starts (events_in below ++ more))
       → (AreInPlace awaited false after → AreWhole awaited false (events_in after ++ rest))
       → AreWhole awaited first (tree_events shape range (events_in below) (events_in after) ++ rest)
   tree_whole (leaf e origins) range a below after awaited first rest both p i l =
-      rw p.0 (lone_whole e awaited (map (λ (e : Placed). e.0) (events_in after ++ rest)) both (l p.1))
+      rw p.0.0 (lone_whole e awaited (map (λ (e : Placed). e.0) (events_in after ++ rest)) both p.0.1
+      (l p.1))
   tree_whole (enclosed tag origins) range a below after awaited first rest both p i l =
       rw (p.0, append_assoc (events_in below) ((end (tag_end tag), range, []) ∷ events_in after) rest)
       (i (tag_end tag ∷ awaited) (starts_table (start tag)) ((end (tag_end tag), range, []) ∷ (events_in after ++ rest))
-      p.1 (l p.2))
+      p.1 (end_whole (tag_end tag) awaited (map (λ (e : Placed). e.0) (events_in after ++ rest)) (l p.2)))
   tree_whole plain range a below after awaited first rest both p i l =
-      rw (p.0, append_assoc (events_in below) (events_in after) rest)
+      rw (p.0.0, append_assoc (events_in below) (events_in after) rest)
       (i awaited false (events_in after ++ rest) p.1 (l p.2))
-  tree_whole backslash_break range a below after awaited first rest both p i l = rw p.0 (l p.1)
+  tree_whole backslash_break range a below after awaited first rest both p i l =
+      rw (p.0.0, p.0.1) (l p.1)
   tree_whole (unresolved b) range a below after awaited first rest both p i l =
-      rw p.0 (l (without_tables after awaited p.1.2))
+      rw p.0.0 (l (without_placed after awaited p.0.1 p.1.2))
 
   events_whole : (f : Forest (TreeNode A)) (awaited : List TagEnd) (first : Bool) (rest : List Placed)
       → Each (λ (a : TreeNode A). GivesBoth a.part.shape) f → AreInPlace awaited first f → AreWhole awaited false rest
@@ -157,20 +210,23 @@ module _ {A : Type 0} where
       (λ ends starts more q v. events_whole below ends starts more both.1 q v)
       (λ q. events_whole after awaited false rest both.2 q w)
 
--- ---- resolving keeps tables in place
+-- ---- resolving keeps them in place
 
-made_tag : (tag : TagView) → IsMadeTag tag → not (is_of_table tag) ≡ true
+made_tag : (tag : TagView) → IsMadeTag tag → not (is_placed tag) ≡ true
+made_tag (heading h) m = absurd m
+made_tag (list number) m = absurd m
+made_tag list_item m = absurd m
 made_tag (table alignments) m = absurd m
 made_tag table_head m = absurd m
 made_tag table_row m = absurd m
 made_tag table_cell m = absurd m
 made_tag other m = refl
 
-made : (shape : Shape) → IsMadeShape shape → not_of_table shape ≡ true
+made : (shape : Shape) → IsMadeShape shape → not_placed shape ≡ true
 made (enclosed tag origins) m = made_tag tag m
 made other m = refl
 
-cuts : (n : ℕ) (shape : Shape) → not_of_table (cut_shape n shape) ≡ not_of_table shape
+cuts : (n : ℕ) (shape : Shape) → not_placed (cut_shape n shape) ≡ not_placed shape
 cuts n (leaf e origins) = refl
 cuts n other = refl
 
@@ -180,13 +236,13 @@ record StayInPlace (a : Plain) (below after : Forest Plain) (inside later chain 
       → AreInPlace awaited first (inside state).trees
   after_stays : (awaited : List TagEnd) (state : ReferenceState) → AreInPlace awaited false after
       → AreInPlace awaited false (later state).trees
-  chain_stays : (awaited : List TagEnd) (state : ReferenceState) → HoldNoTable (node a below after)
-      → AreInPlace awaited false (chain state).trees
+  chain_stays : (awaited : List TagEnd) (state : ReferenceState) → nearest_is ends_list awaited ≡ false
+      → HoldNone (node a below after) → AreInPlace awaited false (chain state).trees
 
 tree_stays : (shape : Shape) (a : Plain) (below after : Forest Plain) (inside later chain : Resolving (Unit {0}))
     (awaited : List TagEnd) (first : Bool) (state : ReferenceState) → a.part.shape ≡ shape
     → StayInPlace a below after inside later chain
-    → StandsAt shape awaited first (HoldNoTable (node a below after)) (λ ends starts. AreInPlace ends starts below)
+    → StandsAt shape awaited first (HoldNone (node a below after)) (λ ends starts. AreInPlace ends starts below)
     (AreInPlace awaited false after)
     → AreInPlace awaited first (resolved_tree shape a inside later chain state).trees
 tree_stays (leaf e origins) a below after inside later chain awaited first state is k p =
@@ -202,7 +258,7 @@ tree_stays plain a below after inside later chain awaited first state is k p =
 tree_stays backslash_break a below after inside later chain awaited first state is k p =
     rw is (p.0, k.after_stays awaited state p.1)
 tree_stays (unresolved b) a below after inside later chain awaited first state is k p =
-    rw p.0 (k.chain_stays awaited state p.1)
+    rw p.0.0 (k.chain_stays awaited state p.0.1 p.1)
 
 document_stays : (s : Setting) (above : EnclosingBlocks) (f : Forest Plain) (awaited : List TagEnd) (first : Bool)
     (state : ReferenceState) → AreInPlace awaited first f
@@ -214,8 +270,8 @@ document_stays s above (node a below after) awaited first state p =
     (λ k. resolved_document s no_notes above after k) chain awaited first state refl (record {
       below_stays = λ ends starts k q. document_stays s (inside_node a above) below ends starts k q;
       after_stays = λ ends k q. document_stays s above after ends false k q;
-      chain_stays = λ ends k n. without_tables (chain k).trees ends
-          (shapes-law not_of_table made cuts s no_notes above (node a below after) k n);
+      chain_stays = λ ends k free n. without_placed (chain k).trees ends free
+          (shapes-law not_placed made cuts s no_notes above (node a below after) k n);
     }) p
 
 -- ---- the tree of a text's blocks
@@ -235,9 +291,13 @@ same_part (body.Heading level (Some ix)) h = cc h
 same_part (body.Table ix) h = cc h
 same_part other h = refl
 
--- an inline item is of no table, and has no children
+-- an inline item is none of these, and has no children
 inline_shape : (tables : Tables) (bytes : List ℕ) (b : ItemBody) → is_inline (unnumbered b) ≡ true
-    → not_of_table (shape_of tables bytes b) ≡ true
+    → not_placed (shape_of tables bytes b) ≡ true
+inline_shape tables bytes (body.Heading level (Some ix)) h = cc h
+inline_shape tables bytes (body.Heading level None) h = cc h
+inline_shape tables bytes (body.List tight marker number) h = cc h
+inline_shape tables bytes (body.ListItem indent) h = cc h
 inline_shape tables bytes (body.Table ix) h = cc h
 inline_shape tables bytes body.TableHead h = cc h
 inline_shape tables bytes body.TableRow h = cc h
@@ -258,27 +318,37 @@ both : (a b : Bool) → (a && b) ≡ true → (a ≡ true) × (b ≡ true)
 both true b h = (refl, h)
 both false b h = cc h
 
--- an item outside of tables
-body_stands : (tables : Tables) (bytes : List ℕ) (b : ItemBody) (shown : Forest Shown) (inner : Type 0)
-    (awaited : List TagEnd) (chain : Type 0) (below : List TagEnd → Bool → Type 0) (after : Type 0)
-    → list_any ends_table awaited ≡ false → StandsOutside (unnumbered b) shown inner
-    → (AreHeadAndRows shown → below (closes.Table ∷ awaited) true)
-    → (inner → (ends : List TagEnd) → list_any ends_table ends ≡ list_any ends_table awaited → below ends false)
-    → after → (is_unresolved (shape_of tables bytes b) ≡ true → chain)
-    → StandsAt (shape_of tables bytes b) awaited false chain below after
-body_stands tables bytes (body.Table ix) shown inner awaited chain below after out h rows i l c =
-    (rw out refl, rows h, l)
-body_stands tables bytes body.TableHead shown inner awaited chain below after out h rows i l c = absurd h
-body_stands tables bytes body.TableRow shown inner awaited chain below after out h rows i l c = absurd h
-body_stands tables bytes body.TableCell shown inner awaited chain below after out h rows i l c = absurd h
-body_stands tables bytes (body.Heading level (Some ix)) shown inner awaited chain below after out h rows i l c =
-    other_stands (shape_of tables bytes (body.Heading level (Some ix))) awaited chain below after refl (i h) l c
-body_stands tables bytes (body.HardBreak true) shown inner awaited chain below after out h rows i l c =
-    other_stands (shape_of tables bytes (body.HardBreak true)) awaited chain below after refl (i h) l c
-body_stands tables bytes (body.HardBreak false) shown inner awaited chain below after out h rows i l c =
-    other_stands (shape_of tables bytes (body.HardBreak false)) awaited chain below after refl (i h) l c
-body_stands tables bytes other shown inner awaited chain below after out h rows i l c =
-    other_stands (shape_of tables bytes other) awaited chain below after refl (i h) l c
+-- no table and no heading is open
+abbrev AreOutside : (awaited : List TagEnd) → Type 0
+AreOutside awaited = (list_any ends_table awaited ≡ false) × (list_any closes_heading awaited ≡ false)
+
+-- an item outside of tables and headings, in a list if it is a list item
+module _ (tables : Tables) (bytes : List ℕ) (shown : Forest Shown) (inner : Type 0) (awaited : List TagEnd)
+    (chain : Type 0) (below : List TagEnd → Bool → Type 0) (after : Type 0) (out : AreOutside awaited)
+    (rows : AreHeadAndRows shown → below (closes.Table ∷ awaited) true) where
+  abbrev BodyStands : ItemBody → Type 0
+  BodyStands b =
+      nearest_is ends_list awaited ≡ is_list_item (unnumbered b) → StandsOutside (unnumbered b) shown inner
+      → (IsTrue (is_heading_block b) → (ends : List TagEnd) → nearest_is ends_list ends ≡ false → below ends false)
+      → (inner → (ends : List TagEnd) → AreOutside ends → nearest_is ends_list ends ≡ is_list (unnumbered b)
+      → below ends false)
+      → after → (is_unresolved (shape_of tables bytes b) ≡ true → chain)
+      → StandsAt (shape_of tables bytes b) awaited false chain below after
+
+  body_stands : (b : ItemBody) → BodyStands b
+  body_stands (body.Table ix) at h heads i l c = (rw (at, out.0) refl, rows h, l)
+  body_stands body.TableHead at h heads i l c = absurd h
+  body_stands body.TableRow at h heads i l c = absurd h
+  body_stands body.TableCell at h heads i l c = absurd h
+  body_stands (body.Heading level None) at h heads i l c = (rw (at, out.1) refl, heads refl _ refl, l)
+  body_stands (body.Heading level (Some ix)) at h heads i l c = (rw (at, out.1) refl, heads refl _ refl, l)
+  body_stands (body.List tight marker number) at h heads i l c = (rw at refl, i h _ out refl, l)
+  body_stands (body.ListItem indent) at h heads i l c = (rw at refl, i h _ out refl, l)
+  body_stands (body.HardBreak true) at h heads i l c = ((refl, at), l)
+  body_stands (body.HardBreak false) at h heads i l c = ((refl, at), l)
+  body_stands other at h heads i l c =
+      other_stands (shape_of tables bytes other) awaited chain below after refl at
+      (λ ends is. i h ends (is.tables ∙ out.0, is.headings ∙ out.1) is.free) l c
 
 module _ (source : List ℕ) (tables : Tables) (held : Parts) (counts : PartCounts) where
   -- the items as they are shown, and as they are read
@@ -297,30 +367,40 @@ module _ (source : List ℕ) (tables : Tables) (held : Parts) (counts : PartCoun
       (sym (same_part a.item.body (ap is_part e ∙ is)) ∙ e)
 
   inline_items : (f : Forest Numbered) → Each (λ (a : Shown). IsTrue (is_inline a.item.body)) (shown f)
-      → HoldNoTable (labelled f)
+      → HoldNone (labelled f)
   inline_items nil h = tt
   inline_items (node a below after) h =
       (inline_shape tables _ a.item.body h.0, inline_items below h.1, inline_items after h.2)
 
-  -- an inline chain holds no table
-  inline_chain : (f : Forest Numbered) → AllKeepRules source counts f → all_inline f ≡ true → HoldNoTable (labelled f)
+  -- what is in a heading
+  below_heading : (f : Forest Numbered) → Each (λ (a : Numbered). IsTrue (is_inline a.item.body)) f
+      → HoldNone (labelled f)
+  below_heading nil h = tt
+  below_heading (node a below after) h = (
+    inline_shape tables _ a.item.body (inline_shown a.item.body h.0),
+    below_heading below h.1,
+    below_heading after h.2,
+  )
+
+  -- an inline chain holds none of these
+  inline_chain : (f : Forest Numbered) → AllKeepRules source counts f → all_inline f ≡ true → HoldNone (labelled f)
   inline_chain nil k h = tt
   inline_chain (node a below after) k h =
       let h = both (is_inline a.item.body) (all_inline after) h in (
         inline_shape tables _ a.item.body (inline_shown a.item.body h.0),
-        subst (λ (f : Forest Numbered). HoldNoTable (labelled f))
+        subst (λ (f : Forest Numbered). HoldNone (labelled f))
             (sym (k.0.chains_are_kept.childless (inline_childless a.item.body h.0))) tt,
         inline_chain after k.2 h.1,
       )
 
   cells_in_place : (f : Forest Numbered) (awaited : List TagEnd) → nearest_is ends_cells awaited ≡ true
-      → AreCells (shown f) → AreInPlace awaited false (labelled f)
-  cells_in_place nil awaited near c = refl
-  cells_in_place (node a below after) awaited near c =
+      → nearest_is ends_list awaited ≡ false → AreCells (shown f) → AreInPlace awaited false (labelled f)
+  cells_in_place nil awaited near free c = refl
+  cells_in_place (node a below after) awaited near free c =
       rw (part_shape a body.TableCell refl c.0) (
-        near,
-        without_tables (labelled below) (closes.TableCell ∷ awaited) (inline_items below c.1),
-        cells_in_place after awaited near c.2,
+        rw (near, free) refl,
+        without_placed (labelled below) (closes.TableCell ∷ awaited) refl (inline_items below c.1),
+        cells_in_place after awaited near free c.2,
       )
 
   rows_in_place : (f : Forest Numbered) (awaited : List TagEnd) → AreRows (shown f)
@@ -329,7 +409,7 @@ module _ (source : List ℕ) (tables : Tables) (held : Parts) (counts : PartCoun
   rows_in_place (node a below after) awaited r =
       rw (part_shape a body.TableRow refl r.0) (
         refl,
-        cells_in_place below (closes.TableRow ∷ closes.Table ∷ awaited) refl r.1,
+        cells_in_place below (closes.TableRow ∷ closes.Table ∷ awaited) refl refl r.1,
         rows_in_place after awaited r.2,
       )
 
@@ -339,21 +419,24 @@ module _ (source : List ℕ) (tables : Tables) (held : Parts) (counts : PartCoun
   head_in_place (node a below after) awaited h =
       rw (part_shape a body.TableHead refl h.0) (
         refl,
-        cells_in_place below (closes.TableHead ∷ closes.Table ∷ awaited) refl h.1,
+        cells_in_place below (closes.TableHead ∷ closes.Table ∷ awaited) refl refl h.1,
         rows_in_place after awaited h.2,
       )
 
-  blocks_in_place : (f : Forest Numbered) (awaited : List TagEnd) → list_any ends_table awaited ≡ false
-      → TablesInPlace (shown f) → AllKeepRules source counts f → (has_open f ≡ true → all_inline f ≡ true)
+  blocks_in_place : (f : Forest Numbered) (awaited : List TagEnd) (in_list : Bool) → AreOutside awaited
+      → nearest_is ends_list awaited ≡ in_list → TablesInPlace (shown f) → ItemsInPlace in_list (shown f)
+      → HeadingsHoldInline f → AllKeepRules source counts f → (has_open f ≡ true → all_inline f ≡ true)
       → AreInPlace awaited false (labelled f)
-  blocks_in_place nil awaited out t k o = refl
-  blocks_in_place (node a below after) awaited out t k o =
-      body_stands tables (slice_range source a.item.start a.item.end) a.item.body (shown below)
-      (TablesInPlace (shown below)) awaited (HoldNoTable (labelled (node a below after)))
-      (λ ends starts. AreInPlace ends starts (labelled below)) (AreInPlace awaited false (labelled after)) out t.0
-      (λ h. head_in_place below awaited h)
-      (λ h ends same. blocks_in_place below ends (same ∙ out) h k.1 k.0.chains_are_kept.inline_only)
-      (blocks_in_place after awaited out t.1 k.2
+  blocks_in_place nil awaited in_list out at t items heads k o = refl
+  blocks_in_place (node a below after) awaited in_list out at t items heads k o =
+      body_stands tables (slice_range source a.item.start a.item.end) (shown below) (TablesInPlace (shown below))
+      awaited (HoldNone (labelled (node a below after))) (λ ends starts. AreInPlace ends starts (labelled below))
+      (AreInPlace awaited false (labelled after)) out (λ h. head_in_place below awaited h) a.item.body
+      (at ∙ sym items.0) t.0
+      (λ is ends free. without_placed (labelled below) ends free (below_heading below (heads.0 is)))
+      (λ h ends outer near. blocks_in_place below ends (is_list (unnumbered a.item.body)) outer near h items.1 heads.1
+      k.1 k.0.chains_are_kept.inline_only)
+      (blocks_in_place after awaited in_list out at t.1 items.2 heads.2 k.2
       (λ later. (both (is_inline a.item.body) (all_inline after) (o (rw later (or-true (is_open a.item.body))))).1))
       (λ is. inline_chain (node a below after) k (o (rw (open-unresolved tables _ a.item.body is) refl)))
 
@@ -367,21 +450,59 @@ text_in_place s blocks of =
     let parts = block_parts blocks in
     blocks_in_place (text_of_blocks blocks) (tables_at_start parts)
     (stored_parts parts.cows.items parts.headings.items parts.alignments.items) (counts_of parts)
-    (tree_of (block_arena blocks).nodes) [] refl (subst TablesInPlace (sym of.by_rules.tree) (tables_in_place s))
+    (tree_of (block_arena blocks).nodes) [] false (refl, refl) refl
+    (subst TablesInPlace (sym of.by_rules.tree) (tables_in_place s))
+    (subst (ItemsInPlace false) (sym of.by_rules.tree) (items_in_place s)) of.by_rules.headings_hold_inline
     blocks.well_formed.rules (λ o. cc (o, blocks.well_formed.top_is_closed))
 
-pub whole_readings : TablesOfReadingsAreWhole
-whole_readings s blocks of asks answers =
+-- events that keep all of these keep each
+all_kept : (events : List EventView) (awaited : List TagEnd) (first : Bool) → keep_all awaited first events ≡ true
+    → (keep_tables_whole awaited first events ≡ true) × (each_passes keeps_items_in_lists awaited events ≡ true)
+    × (each_passes keeps_headings_apart awaited events ≡ true)
+all_kept [] awaited first h = (refl, refl, refl)
+all_kept (e ∷ events) awaited first h =
+    let more = keep_all (awaited_after e awaited) (starts_table e) events in
+    let parts = both (keeps_all e awaited first) more h in
+    let own = both (keeps_tables_whole e awaited first)
+    (keeps_items_in_lists e awaited && keeps_headings_apart e awaited) parts.0 in
+    let others = both (keeps_items_in_lists e awaited) (keeps_headings_apart e awaited) own.1 in
+    let rest = all_kept events (awaited_after e awaited) (starts_table e) parts.1 in
+    (rw own.0 rest.0, rw others.0 rest.1, rw others.1 rest.2)
+
+-- a test that such events pass
+readings_pass : (test : List EventView → Bool)
+    → ((events : List EventView) → keep_all [] false events ≡ true → test events ≡ true) → ReadingsPass test
+readings_pass test passes s blocks of asks answers =
     let reads = block_tree-law blocks asks answers in
     let trees : Forest Plain = (resolved_blocks blocks asks answers).trees in
     let text = text_of_blocks blocks in
     let place = document_stays (setting_of text (rules_of blocks asks)) (no_blocks text)
     (document text (tables_at_start (block_parts blocks)) (block_arena blocks).nodes) [] false
     (state_at_start text answers) (text_in_place s blocks of) in
-    subst (AreWhole [] false) (append-nil (events_in trees) ∙ sym reads.events)
-    (events_whole trees [] false [] reads.both place refl)
+    passes (map (λ (e : Placed). e.0) (events_of (reading_of blocks asks answers)))
+    (subst (AreWhole [] false) (append-nil (events_in trees) ∙ sym reads.events)
+    (events_whole trees [] false [] reads.both place refl))
+
+pub whole_readings : TablesOfReadingsAreWhole
+whole_readings = readings_pass tables_are_whole (λ events kept. (all_kept events [] false kept).0)
+
+pub items_of_readings : ReadingsPass items_are_in_lists
+items_of_readings = readings_pass items_are_in_lists (λ events kept. (all_kept events [] false kept).1)
+
+pub headings_of_readings : ReadingsPass headings_are_apart
+headings_of_readings = readings_pass headings_are_apart (λ events kept. (all_kept events [] false kept).2)
+
+-- the events of a text are those of its block result
+texts_pass : (test : List EventView → Bool) → ReadingsPass test → TextsPass test
+texts_pass test readings s blocks of =
+    subst (λ (read : List Element). test (map (λ (e : Placed). e.0) (events_of read)) ≡ true)
+    (text-law s blocks of false []) (readings s blocks of false [])
 
 pub whole_texts : TablesOfTextsAreWhole
-whole_texts s blocks of =
-    subst (λ (read : List Element). AreWhole [] false (events_of read)) (text-law s blocks of false [])
-    (whole_readings s blocks of false [])
+whole_texts = texts_pass tables_are_whole whole_readings
+
+pub items_of_texts : TextsPass items_are_in_lists
+items_of_texts = texts_pass items_are_in_lists items_of_readings
+
+pub headings_of_texts : TextsPass headings_are_apart
+headings_of_texts = texts_pass headings_are_apart headings_of_readings

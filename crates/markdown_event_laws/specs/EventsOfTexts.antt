@@ -1,5 +1,7 @@
--- The events of texts are nested, and the tables among them are whole.
-use Rattle.std.specs.Prelude.{◌≡◌, Bool, true, map}
+-- The events of texts are nested, and the tables among them are whole. What else holds of them is said by a test that
+-- they pass.
+use Rattle.std.specs.Prelude.{◌≡◌, Bool, true, List, map}
+use Rattle.markdown_base.specs.Event.{EventView}
 use Rattle.markdown_base.specs.Questions.{Answers}
 use Rattle.markdown_base.specs.Source.{Source}
 use Rattle.markdown_blocks.specs.Blocks.{IsBlocksOf}
@@ -27,3 +29,13 @@ TablesOfReadingsAreWhole = (s : Source) (blocks : Blocks) → IsBlocksOf s block
 abbrev pub TablesOfTextsAreWhole : Type 0
 TablesOfTextsAreWhole = (s : Source) (blocks : Blocks) → IsBlocksOf s blocks
     → tables_are_whole (map (λ e. e.0) (events_of_text s)) ≡ true
+
+-- the events of a text's block result pass a test, for all answers of the callback
+abbrev pub ReadingsPass : (test : List EventView → Bool) → Type 0
+ReadingsPass test = (s : Source) (blocks : Blocks) → IsBlocksOf s blocks → (asks : Bool) (answers : Answers)
+    → test (map (λ e. e.0) (events_of (reading_of blocks asks answers))) ≡ true
+
+-- the events of a text that has a block result pass a test
+abbrev pub TextsPass : (test : List EventView → Bool) → Type 0
+TextsPass test = (s : Source) (blocks : Blocks) → IsBlocksOf s blocks
+    → test (map (λ e. e.0) (events_of_text s)) ≡ true

@@ -1,8 +1,10 @@
--- Nested events, whose HTML is a tree: each End is that of the nearest Start that is still open, and each table holds
--- its head, first, and then rows.
-use Rattle.std.specs.Prelude.{◌≡◌, Bool, true, false, not, List, [], ◌∷◌, ◌&&◌}
+-- Nested events, whose HTML is a tree: each End is that of the nearest Start that is still open; each table holds its
+-- head, first, and then rows; list items stand directly in lists, which hold nothing else; and no heading is in
+-- another.
+use Rattle.std.specs.Prelude.{◌≡◌, Bool, true, false, not, List, [], ◌∷◌, ◌&&◌, ◌||◌}
 use Rattle.std.specs.List.{list_any}
-use Rattle.markdown_base.specs.Event.{EventView, start, end, table, table_head, table_row, table_cell, tag_end}
+use Rattle.markdown_base.specs.Event.{EventView, start, end, heading, list_item, tag_end}
+use Rattle.markdown_base.specs.Event.{table, table_head, table_row, table_cell}
 use Rattle.markdown_base.specs.declared.tag.TagEnd.{TagEnd}
 use Rattle.markdown_base.specs.declared.tag.TagEnd.TheVariants as closes
 
@@ -72,3 +74,38 @@ keep_tables_whole awaited first (e ∷ events) = keeps_tables_whole e awaited fi
 -- the tables among these events are whole; so they are where there is none
 abbrev pub tables_are_whole : List EventView → Bool
 tables_are_whole events = keep_tables_whole [] false events
+
+-- each of these events passes a test, given the Ends that are awaited before it
+abbrev pub each_passes : (test : EventView → List TagEnd → Bool) → (awaited : List TagEnd) → List EventView → Bool
+each_passes test awaited [] = true
+each_passes test awaited (e ∷ events) = test e awaited && each_passes test (awaited_after e awaited) events
+
+-- the End is that of a list
+abbrev pub ends_list : TagEnd → Bool
+ends_list (closes.List ordered) = true
+ends_list other = false
+
+-- the End is that of a heading
+abbrev pub closes_heading : TagEnd → Bool
+closes_heading (closes.Heading level) = true
+closes_heading other = false
+
+-- The event keeps list items in lists where these Ends are awaited before it: the Start of an item stands directly in a
+-- list, and directly in a list stands nothing else up to the list's End.
+abbrev pub keeps_items_in_lists : EventView → (awaited : List TagEnd) → Bool
+keeps_items_in_lists (start list_item) awaited = nearest_is ends_list awaited
+keeps_items_in_lists (end e) awaited = ends_list e || not (nearest_is ends_list awaited)
+keeps_items_in_lists other awaited = not (nearest_is ends_list awaited)
+
+-- the event starts no heading where the End of a heading is awaited
+abbrev pub keeps_headings_apart : EventView → (awaited : List TagEnd) → Bool
+keeps_headings_apart (start (heading h)) awaited = not (list_any closes_heading awaited)
+keeps_headings_apart other awaited = true
+
+-- the list items among these events stand directly in lists, and the lists hold items alone
+abbrev pub items_are_in_lists : List EventView → Bool
+items_are_in_lists events = each_passes keeps_items_in_lists [] events
+
+-- no heading among these events stands in a heading
+abbrev pub headings_are_apart : List EventView → Bool
+headings_are_apart events = each_passes keeps_headings_apart [] events

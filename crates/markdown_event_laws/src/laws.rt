@@ -1,6 +1,7 @@
 //! Laws of the events of texts: functions without code, whose clauses state them.
-ghost use Rattle.markdown_event_laws.specs.EventsOfTexts.{ReadingsAreNested, TablesOfReadingsAreWhole};
-ghost use Rattle.markdown_event_laws.specs.EventsOfTexts.{TablesOfTextsAreWhole, TextsAreNested};
+ghost use Rattle.markdown_event_laws.specs.EventsOfTexts.{ReadingsAreNested, ReadingsPass, TablesOfReadingsAreWhole};
+ghost use Rattle.markdown_event_laws.specs.EventsOfTexts.{TablesOfTextsAreWhole, TextsAreNested, TextsPass};
+ghost use Rattle.markdown_event_laws.specs.NestedEvents.{headings_are_apart, items_are_in_lists};
 
 /// States that the events of each block result are nested, for all answers of a callback, and so are those of its text:
 /// each End is that of the nearest Start that is still open.
@@ -15,4 +16,18 @@ pub fn events_of_texts_are_nested()
 pub fn tables_of_texts_are_whole()
     ensures readings { TablesOfReadingsAreWhole }
     ensures texts { TablesOfTextsAreWhole }
+{}
+
+/// States that the list items among the events of a text's block result stand directly in lists, and that these lists
+/// hold items alone, for all answers of a callback; and so it is among the events of the text.
+pub fn items_of_texts_are_in_lists()
+    ensures readings { ReadingsPass items_are_in_lists }
+    ensures texts { TextsPass items_are_in_lists }
+{}
+
+/// States that no heading among the events of a text's block result stands in a heading, for all answers of a callback;
+/// nor does one among the events of the text.
+pub fn headings_of_texts_are_apart()
+    ensures readings { ReadingsPass headings_are_apart }
+    ensures texts { TextsPass headings_are_apart }
 {}
