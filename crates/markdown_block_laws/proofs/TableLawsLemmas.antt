@@ -33,7 +33,6 @@ use Rattle.markdown_block_laws.proofs.ItemPlacesLemmas.{Fit, fits, holds_items, 
 use Rattle.markdown_block_laws.specs.ItemsInPlace.{ItemsInPlace, ItemsOfTextsInPlace, is_list}
 use Rattle.markdown_block_laws.specs.TaskLaws.{is_list_item}
 use Rattle.markdown_block_laws.specs.TablesInPlace.{StandsOutside, TablesInPlace, TablesOfTextsInPlace}
-use Rattle.markdown_block_laws.specs.TablesInPlace.{is_of_table}
 use Rattle.markdown_block_rules.specs.TableLines.{cells_added, cells_of}
 use Rattle.markdown_block_rules.proofs.InlineItemsLemmas.{AreUnmarked, cell_unmarked, content_unmarked, is_marked}
 use Rattle.markdown_block_rules.proofs.InlineItemsLemmas.{lines_unmarked, source_unmarked, unmarked_inline}
@@ -57,6 +56,14 @@ joined in_list nil g first second = second
 joined in_list (node a below after) g first second =
     let rest = joined in_list after g (first.0.2, first.1.1, first.2.2) second in
     ((first.0.0, first.0.1, rest.0), (first.1.0, rest.1), (first.2.0, first.2.1, rest.2))
+
+-- the body is that of a table, or of a head, a row or a cell of one
+abbrev is_of_table : ItemBody → Bool
+is_of_table (body.Table alignments) = true
+is_of_table body.TableHead = true
+is_of_table body.TableRow = true
+is_of_table body.TableCell = true
+is_of_table other = false
 
 -- a first item more, which is no table
 no_rows : (a : Shown) (below : Forest Shown) → is_table a.item.body ≡ false → KeepsRowsEven a below

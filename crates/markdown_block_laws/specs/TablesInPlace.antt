@@ -1,24 +1,12 @@
 -- A table holds a head and then rows, and heads, rows and cells stand nowhere else.
-use Rattle.std.specs.Prelude.{◌≡◌, Bool, true, false, ⊤}
-use Rattle.markdown_base.specs.Forest.{Each, Forest, nil, node}
+use Rattle.std.specs.Prelude.{⊤}
+use Rattle.markdown_base.specs.Forest.{Forest, nil, node}
 use Rattle.markdown_base.specs.declared.item.ItemBody.{ItemBody}
 use Rattle.markdown_base.specs.declared.item.ItemBody.TheVariants as body
 use Rattle.markdown_base.specs.Source.{Source}
 use Rattle.markdown_block_laws.specs.TableLaws.{AreHeadAndRows}
 use Rattle.markdown_block_rules.specs.BlockRules.{block_tree}
 use Rattle.markdown_builder.specs.Shown.{Shown}
-
--- the body is that of a table, or of a head, a row or a cell of one
-abbrev pub is_of_table : ItemBody → Bool
-is_of_table (body.Table alignments) = true
-is_of_table body.TableHead = true
-is_of_table body.TableRow = true
-is_of_table body.TableCell = true
-is_of_table other = false
-
--- none of some items, at any depth, is a table or a part of one
-abbrev pub HoldNoTable : Forest Shown → Type 0
-HoldNoTable items = Each (λ a. is_of_table a.item.body ≡ false) items
 
 -- Outside of tables an item of this body may stand over the items below it: a table over a head and rows, of cells with
 -- inline items alone; no head, row or cell; and any other item if `inner` is so of the items below.

@@ -33,8 +33,7 @@ use Rattle.markdown_document.specs.Document.{leaf, no_notes, plain, shape_of, tr
 use Rattle.markdown_document.specs.EnclosingBlocks.{EnclosingBlocks, inside_node, no_blocks}
 use Rattle.markdown_document.specs.Setting.{ReferenceState, Setting, setting_of}
 use Rattle.markdown_document.specs.Tables.{Tables, tables_at_start}
-use Rattle.markdown_event_laws.specs.EventsOfTexts.{ReadingsPass, TablesOfReadingsAreWhole, TablesOfTextsAreWhole}
-use Rattle.markdown_event_laws.specs.EventsOfTexts.{TextsPass}
+use Rattle.markdown_event_laws.specs.EventsOfTexts.{ReadingsPass, TextsPass}
 use Rattle.markdown_event_laws.specs.NestedEvents.{awaited_after, closes_heading, each_passes, ends_cells, ends_list}
 use Rattle.markdown_event_laws.specs.NestedEvents.{ends_table, headings_are_apart, items_are_in_lists}
 use Rattle.markdown_event_laws.specs.NestedEvents.{keep_tables_whole, keeps_headings_apart, keeps_items_in_lists}
@@ -483,7 +482,7 @@ readings_pass test passes s blocks of asks answers =
     (subst (AreWhole [] false) (append-nil (events_in trees) ∙ sym reads.events)
     (events_whole trees [] false [] reads.both place refl))
 
-pub whole_readings : TablesOfReadingsAreWhole
+pub whole_readings : ReadingsPass tables_are_whole
 whole_readings = readings_pass tables_are_whole (λ events kept. (all_kept events [] false kept).0)
 
 pub items_of_readings : ReadingsPass items_are_in_lists
@@ -498,7 +497,7 @@ texts_pass test readings s blocks of =
     subst (λ (read : List Element). test (map (λ (e : Placed). e.0) (events_of read)) ≡ true)
     (text-law s blocks of false []) (readings s blocks of false [])
 
-pub whole_texts : TablesOfTextsAreWhole
+pub whole_texts : TextsPass tables_are_whole
 whole_texts = texts_pass tables_are_whole whole_readings
 
 pub items_of_texts : TextsPass items_are_in_lists

@@ -1,7 +1,6 @@
 //! Laws of the events of texts: functions without code, whose clauses state them.
-ghost use Rattle.markdown_event_laws.specs.EventsOfTexts.{ReadingsAreNested, ReadingsPass, TablesOfReadingsAreWhole};
-ghost use Rattle.markdown_event_laws.specs.EventsOfTexts.{TablesOfTextsAreWhole, TextsAreNested, TextsPass};
-ghost use Rattle.markdown_event_laws.specs.NestedEvents.{headings_are_apart, items_are_in_lists};
+ghost use Rattle.markdown_event_laws.specs.EventsOfTexts.{ReadingsAreNested, ReadingsPass, TextsAreNested, TextsPass};
+ghost use Rattle.markdown_event_laws.specs.NestedEvents.{headings_are_apart, items_are_in_lists, tables_are_whole};
 
 /// States that the events of each block result are nested, for all answers of a callback, and so are those of its text:
 /// each End is that of the nearest Start that is still open.
@@ -14,8 +13,8 @@ pub fn events_of_texts_are_nested()
 /// are those among the events of the text: each begins with its one head, rows stand directly in tables alone and cells
 /// in heads and rows alone, and no table is in a table.
 pub fn tables_of_texts_are_whole()
-    ensures readings { TablesOfReadingsAreWhole }
-    ensures texts { TablesOfTextsAreWhole }
+    ensures readings { ReadingsPass tables_are_whole }
+    ensures texts { TextsPass tables_are_whole }
 {}
 
 /// States that the list items among the events of a text's block result stand directly in lists, and that these lists
