@@ -5,7 +5,6 @@ use Rattle.std.proofs.Common.{true, false, Bool, nat_lt, ◌-◌}
 use mathlib.Core.List.{reverse_aux}
 use Rattle.std.specs.Iterator.{AlwaysYields, Drains, Yields}
 use Rattle.std.proofs.lemmas.Iterator.{YieldsList}
-use Rattle.std.proofs.lemmas.List.{map-append}
 use Rattle.markdown_base.specs.Event.{EventView, end, event_view, list_item, start}
 use Rattle.markdown_base.specs.declared.event.Event.{Event}
 use Rattle.markdown_base.specs.declared.fault.Fault.{Fault}
@@ -25,12 +24,6 @@ pub ends-more : (lists : ℕ) → list_ends (lists + 1) ≡ list_ends lists ++ e
 ends-more zero = refl
 ends-more (suc lists) = ap list_ends (add-one (suc lists))
     ∙ ap (λ e. end TagEnd.Item ∷ end (TagEnd.List false) ∷ e) (ap list_ends (sym (add-one lists)) ∙ ends-more lists)
-
--- an event more at the end
-pub with_event : (olds news : List Event) (e : Event) (before : List EventView) → news ≡ olds ++ e ∷ []
-    → map event_view olds ≡ before → map event_view news ≡ before ++ event_view e ∷ []
-with_event olds news e before are is =
-    ap (map event_view) are ∙ map-append event_view olds (e ∷ []) ∙ ap (λ b. b ++ event_view e ∷ []) is
 
 -- as many lists are open as levels
 pub lists-open : (open_levels levels : List ℕ) → AreOpen open_levels levels → length open_levels ≡ open_lists levels

@@ -14,6 +14,15 @@ use markdown_out::push_html;
 use markdown_outline::Entry;
 use std::alloc::Global;
 
+/// Appends an event. Where that fails it is dropped here, and nowhere else: proofs of an event's drop are long.
+fn push<'h>(events: &mut Vec<Event<'h>>, event: Event<'h>) -> Result<(), Fault>
+    ensures ok { OnOk result (map event_view events.new.items
+        ≡ map event_view events.old.items ++ event_view event.entry ∷ []) }
+    ensures refused { IfErr result (λ fault. fault ≡ Fault.Memory) }
+{
+    Ok(events.push(event)?)
+}
+
 /// Appends the ends of this many items and of their lists.
 fn push_ends<'h>(events: &mut Vec<Event<'h>>, lists: usize) -> Result<(), Fault>
     ensures ok { OnOk result (map event_view events.new.items
@@ -21,8 +30,8 @@ fn push_ends<'h>(events: &mut Vec<Event<'h>>, lists: usize) -> Result<(), Fault>
     ensures refused { IfErr result (λ fault. fault ≡ Fault.Memory) }
 {
     for _ in 0..lists {
-        events.push(Event::End(TagEnd::Item))?;
-        events.push(Event::End(TagEnd::List(false)))?;
+        push(events, Event::End(TagEnd::Item))?;
+        push(events, Event::End(TagEnd::List(false)))?;
     }
     Ok(())
 }
@@ -34,10 +43,10 @@ fn push_before<'h>(events: &mut Vec<Event<'h>>, lists: usize, depth: usize) -> R
     ensures refused { IfErr result (λ fault. fault ≡ Fault.Memory) }
 {
     if depth >= lists {
-        return Ok(events.push(Event::Start(Tag::List(None)))?);
+        return push(events, Event::Start(Tag::List(None)));
     }
     push_ends(events, lists - depth - 1)?;
-    Ok(events.push(Event::End(TagEnd::Item))?)
+    push(events, Event::End(TagEnd::Item))
 }
 
 /// Appends the text of a heading without an id, and otherwise a link to the id.
@@ -53,18 +62,19 @@ fn push_label<'h>(
     let text = CowStr::Borrowed(heading.text.as_str());
     let id = match &heading.id {
         Some(id) => id,
-        None => return Ok(events.push(Event::Text(text))?),
+        None => return push(events, Event::Text(text)),
     };
     let mut destination = String::from_str(alloc, "#")?;
     destination.push_str(id.as_str())?;
-    events.push(Event::Start(Tag::Link {
+    let link = Event::Start(Tag::Link {
         link_type: LinkType::Inline,
         dest_url: CowStr::from(destination),
         title: CowStr::Borrowed(""),
         id: CowStr::Borrowed(""),
-    }))?;
-    events.push(Event::Text(text))?;
-    Ok(events.push(Event::End(TagEnd::Link))?)
+    });
+    push(events, link)?;
+    push(events, Event::Text(text))?;
+    push(events, Event::End(TagEnd::Link))
 }
 
 /// Appends the item of a heading at this depth, without its end, where this many lists are open.
@@ -80,7 +90,7 @@ fn push_item<'h>(
     ensures refused { IfErr result (λ fault. fault ≡ Fault.Memory) }
 {
     push_before(events, lists, depth)?;
-    events.push(Event::Start(Tag::Item))?;
+    push(events, Event::Start(Tag::Item))?;
     push_label(alloc, events, heading)
 }
 
