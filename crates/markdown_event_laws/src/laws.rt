@@ -26,7 +26,7 @@ pub fn items_of_texts_are_in_lists()
 
 /// States that no heading among the events of a text's block result stands in a heading, for all answers of a callback;
 /// nor does one among the events of the text.
-pub fn headings_of_texts_are_apart()
+pub fn no_heading_is_in_a_heading()
     ensures readings { ReadingsPass headings_are_apart }
     ensures texts { TextsPass headings_are_apart }
 {}

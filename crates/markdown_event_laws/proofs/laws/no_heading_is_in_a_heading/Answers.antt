@@ -1,5 +1,5 @@
 use Rattle.markdown_event_laws.proofs.WholeTablesLemmas.{headings_of_readings, headings_of_texts}
-use Rattle.markdown_event_laws.proofs.laws.headings_of_texts_are_apart.Goals as goal
+use Rattle.markdown_event_laws.proofs.laws.no_heading_is_in_a_heading.Goals as goal
 
 pub returns-clause-readings : goal.returns-clause-readings
 returns-clause-readings c = headings_of_readings
