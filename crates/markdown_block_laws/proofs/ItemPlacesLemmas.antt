@@ -1,12 +1,13 @@
 -- Each line of a text leaves list items directly in lists and nowhere else, and nothing else but blank lines in lists.
 use Rattle.std.proofs.Common.{◌≡◌, ℕ, zero, suc, Bool, true, false, not, ◌&&◌, ◌||◌, List, [], ◌∷◌, ◌++◌, ◌==◌}
 use Rattle.std.proofs.Common.{Option, Some, None, IfSome, refl, ◌∙◌, fold, length, nat_le}
-use Rattle.std.specs.Prelude.{⊤, unwrap_or, if◌then◌else◌}
-use Rattle.std.specs.Option.{option_map, option_or}
+use Rattle.std.specs.Prelude.{⊤, if◌then◌else◌}
+use Rattle.std.specs.Option.{option_map}
 use Rattle.markdown_base.specs.Forest.{Forest, nil, node}
 use Rattle.markdown_base.specs.Source.{Source}
 use Rattle.markdown_base.specs.declared.tag.Alignment.{Alignment}
 use Rattle.markdown_block_rules.proofs.BlockBeginningsLemmas.{either}
+use Rattle.markdown_block_rules.proofs.GrowthLemmas.{chosen, mapped, or_both, unwrapped}
 use Rattle.markdown_block_rules.specs.BlockGrowth as was
 use Rattle.markdown_block_rules.specs.BlockGrowth.{Block, Kind, added_in, another_item, begins_but_underline, begun_by}
 use Rattle.markdown_block_rules.specs.BlockGrowth.{begun_in, block_with, blocks_of, closes, container_with}
@@ -49,25 +50,6 @@ Fit in_list (node b below after) =
 -- a kind may stand where another may, and hold what that may
 abbrev Alike : (old new : Kind) → Type 0
 Alike old new = (holds_items new ≡ holds_items old) × ((in_list : Bool) → fits in_list new ≡ fits in_list old)
-
--- facts of what is there, if something is
-chosen : {A : Type 0} (p : A → Type 0) (test : Bool) (a b : Option A) → IfSome a p → IfSome b p
-    → IfSome (if test then a else b) p
-chosen p true a b first second = first
-chosen p false a b first second = second
-
-or_both : {A : Type 0} (p : A → Type 0) (a b : Option A) → IfSome a p → IfSome b p → IfSome (option_or a b) p
-or_both p None b first second = second
-or_both p (Some x) b first second = first
-
-mapped : {A B : Type 0} (p : A → Type 0) (q : B → Type 0) (f : A → B) (o : Option A)
-    → ((a : A) → p a → q (f a)) → IfSome o p → IfSome (option_map f o) q
-mapped p q f None h there = tt
-mapped p q f (Some a) h there = h a there
-
-unwrapped : {A : Type 0} (p : A → Type 0) (o : Option A) (d : A) → IfSome o p → p d → p (unwrap_or o d)
-unwrapped p None d there other = other
-unwrapped p (Some a) d there other = there
 
 joined : (in_list : Bool) (f g : Forest Block) → Fit in_list f → Fit in_list g → Fit in_list (followed_by f g)
 joined in_list nil g first second = second
@@ -173,10 +155,10 @@ unfolding with_lazy
 lazy_fit l in_list nil fit = tt
 lazy_fit l in_list (node b below nil) fit =
     or_both (Fit in_list) (with_lazy_text l b below b.kind) _ (lazy_text_fit l b below in_list b.kind fit.0 fit.1)
-    (mapped (Fit (holds_items b.kind)) (Fit in_list) _ (with_lazy l below) (λ f inner. (fit.0, inner, tt))
+    (mapped (Fit (holds_items b.kind)) (Fit in_list) _ (λ f inner. (fit.0, inner, tt)) (with_lazy l below)
     (lazy_fit l (holds_items b.kind) below fit.1))
 lazy_fit l in_list (node b below (node c others after)) fit =
-    mapped (Fit in_list) (Fit in_list) _ (with_lazy l (node c others after)) (λ f later. (fit.0, fit.1, later))
+    mapped (Fit in_list) (Fit in_list) _ (λ f later. (fit.0, fit.1, later)) (with_lazy l (node c others after))
     (lazy_fit l in_list (node c others after) fit.2)
 
 -- another item of a list, or a blank line in it
@@ -215,7 +197,7 @@ module _ (s : Source) (l : SourceLine) (below : Forest Block) (inner : SourceLin
   container_fit (was.alert_container kind) fit goes = rest_fit (past_quote l.left) fit goes
   container_fit (was.list_container marker) fit goes =
       or_both (Fit true) (inner l) _ (goes l)
-      (mapped (Fit true) (Fit true) _ (next_item s l marker) (λ new fresh. joined true below new fit fresh)
+      (mapped (Fit true) (Fit true) _ (λ new fresh. joined true below new fit fresh) (next_item s l marker)
       (next_fit s l marker))
   container_fit (was.item_container indent) fit goes =
       chosen (Fit false) (is_blank_rest l && is_nil below) _ _ tt (rest_fit (past_indent indent l.left) fit goes)
@@ -230,10 +212,10 @@ module _ (s : Source) (l : SourceLine) (below : Forest Block) (inner : SourceLin
   block_fit b in_list is fit goes =
       or_both (Fit in_list) (table_with s l b b.kind) _ (table_fit s l b in_list b.kind is)
       (or_both (Fit in_list) (option_map _ (leaf_with s l b.kind)) _
-      (mapped (Alike b.kind) (Fit in_list) _ (leaf_with s l b.kind) (λ kind a. (a.1 in_list ∙ is, rw a.0 fit, tt))
+      (mapped (Alike b.kind) (Fit in_list) _ (λ kind a. (a.1 in_list ∙ is, rw a.0 fit, tt)) (leaf_with s l b.kind)
       (leaf_alike s l b.kind))
-      (mapped (Fit (holds_items b.kind)) (Fit in_list) _ (container_with s l below inner b.kind)
-      (λ f grown. (is, grown, tt))
+      (mapped (Fit (holds_items b.kind)) (Fit in_list) _ (λ f grown. (is, grown, tt))
+      (container_with s l below inner b.kind)
       (container_fit b.kind fit goes)))
 
 goes_fit : (s : Source) (in_list : Bool) (blocks : Forest Block) → Fit in_list blocks → (l : SourceLine)
@@ -243,7 +225,7 @@ goes_fit s in_list nil fit l = tt
 goes_fit s in_list (node b below nil) fit l =
     block_fit s l below (goes_on s below) b in_list fit.0 fit.1 (goes_fit s (holds_items b.kind) below fit.1)
 goes_fit s in_list (node b below (node c others after)) fit l =
-    mapped (Fit in_list) (Fit in_list) _ (goes_on s (node c others after) l) (λ f grown. (fit.0, fit.1, grown))
+    mapped (Fit in_list) (Fit in_list) _ (λ f grown. (fit.0, fit.1, grown)) (goes_on s (node c others after) l)
     (goes_fit s in_list (node c others after) fit.2 l)
 
 -- one more line of a text

@@ -93,20 +93,20 @@ pub data Grown (s : Source) (l : SourceLine) : Bool → Forest Block → Forest 
       → Grown s l top (node b below nil) (node d nil (node c nil nil))
 
 -- facts of what is there, if something is
-or_both : {A : Type 0} (p : A → Type 0) (a b : Option A) → IfSome a p → IfSome b p → IfSome (option_or a b) p
+pub or_both : {A : Type 0} (p : A → Type 0) (a b : Option A) → IfSome a p → IfSome b p → IfSome (option_or a b) p
 or_both p None b first second = second
 or_both p (Some x) b first second = first
 
-mapped : {A B : Type 0} (p : A → Type 0) (q : B → Type 0) (f : A → B) → ((a : A) → p a → q (f a)) → (o : Option A)
+pub mapped : {A B : Type 0} (p : A → Type 0) (q : B → Type 0) (f : A → B) → ((a : A) → p a → q (f a)) → (o : Option A)
     → IfSome o p → IfSome (option_map f o) q
 mapped p q f h None there = tt
 mapped p q f h (Some a) there = h a there
 
-unwrapped : {A : Type 0} (p : A → Type 0) (o : Option A) (d : A) → IfSome o p → p d → p (unwrap_or o d)
+pub unwrapped : {A : Type 0} (p : A → Type 0) (o : Option A) (d : A) → IfSome o p → p d → p (unwrap_or o d)
 unwrapped p None d there other = other
 unwrapped p (Some a) d there other = there
 
-chosen : {A : Type 0} (p : A → Type 0) (test : Bool) (a b : Option A) → IfSome a p → IfSome b p
+pub chosen : {A : Type 0} (p : A → Type 0) (test : Bool) (a b : Option A) → IfSome a p → IfSome b p
     → IfSome (if test then a else b) p
 chosen p true a b first second = first
 chosen p false a b first second = second
