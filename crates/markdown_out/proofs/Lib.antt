@@ -7,6 +7,7 @@ pub mod FootnoteNamesLemmas
 pub mod FootnotePartsLemmas
 pub mod HtmlCorrectLemmas
 pub mod ImageHtmlLemmas
+pub mod LinkSchemesLemmas
 pub mod WriterLemmas
 pub mod MergeLemmas
 pub mod HeldItemsLemmas

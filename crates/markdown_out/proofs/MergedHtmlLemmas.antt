@@ -24,6 +24,7 @@ use Rattle.markdown_out.proofs.ByteListsLemmas.{fresh_after_bytes-append}
 -- what the writer keeps after one more event
 abbrev pub past_after : Past → EventView → Past
 past_after past e = record {
+  rules = past.rules;
   fresh = fresh_after past e;
   in_metadata = unless_inside metadata_after past.open_image past.in_metadata e;
   in_head = unless_inside head_after past.open_image past.in_head e;

@@ -16,7 +16,7 @@ use Rattle.markdown_base.specs.declared.fault.Fault.TheVariants.{Depth}
 use Rattle.markdown_base.specs.declared.tag.TagEnd.TheVariants as closes
 use Rattle.markdown_out.specs.ByteLists.{joined, fresh_after_bytes}
 use Rattle.markdown_out.specs.EventHtml.{bytes_by_image, event_bytes, fresh_after}
-use Rattle.markdown_out.specs.EventHtml.{fresh_after_empty, past_of}
+use Rattle.markdown_out.specs.EventHtml.{fresh_after_empty, past_by}
 use Rattle.markdown_out.specs.TagHtml.{start_parts, cell_style}
 use Rattle.markdown_out.specs.LookBacks.{Past, OpenImageView, unless_inside, cell_column_after}
 use Rattle.markdown_out.specs.LookBacks.{metadata_after, head_after}
@@ -24,6 +24,7 @@ use Rattle.markdown_out.specs.LookBacks.{alignments_after, names_after, image_af
 use Rattle.markdown_out.specs.Writer.{piece_bytes, spelled, counted_after, view_after, IsFull}
 use Rattle.markdown_out.specs.Writer.{MayRefuse}
 use Rattle.markdown_out.specs.declared.html.Piece.{Piece}
+use Rattle.markdown_out.specs.declared.html.rules.HtmlRules.{HtmlRules}
 use Rattle.markdown_out.proofs.ByteListsLemmas.{joined-flat_map}
 
 -- the bytes of pieces are those of each in turn
@@ -61,7 +62,8 @@ slice_get-capped xs k cap h = by_order (order k cap)
 start_parts-capped : (past : Past) (tag : TagView) → length past.alignments ≤ highest
     → start_parts (capped past) tag ≡ start_parts past tag
 start_parts-capped past table_cell h =
-    ap (λ a. (if past.in_head then codes "<th" else codes "<td") ∷ cell_style a ∷ [])
+    ap (λ a. (if past.in_head then codes "<th" else codes "<td") ∷ cell_style past.rules.align a
+    ∷ [])
     (slice_get-capped past.alignments past.column highest h)
 start_parts-capped past tag h = refl
 
@@ -101,6 +103,7 @@ counted_after-capped None column e = refl
 -- what is told after an event, with this freshness and this column
 abbrev told_with : Past → EventView → Bool → ℕ → Past
 told_with past e fresh column = record {
+  rules = past.rules;
   fresh = fresh;
   in_metadata = unless_inside metadata_after past.open_image past.in_metadata e;
   in_head = unless_inside head_after past.open_image past.in_head e;
@@ -111,11 +114,11 @@ told_with past e fresh column = record {
 }
 
 -- what the writer remembers after an event is what the events then tell
-pub view_after-capped : (before : List EventView) (e : EventView)
-    → length (past_of before).alignments ≤ highest
-    → view_after (capped (past_of before)) e ≡ capped (past_of (e ∷ before))
-view_after-capped before e h =
-    let past = past_of before in
+pub view_after-capped : {rules : HtmlRules} (before : List EventView) (e : EventView)
+    → length (past_by rules before).alignments ≤ highest
+    → view_after (capped (past_by rules before)) e ≡ capped (past_by rules (e ∷ before))
+view_after-capped {rules} before e h =
+    let past = past_by rules before in
     ap (λ f. told_with past e f (unless_inside counted_after past.open_image
     (min past.column highest) e)) (fresh_after-capped past e h)
     ∙ ap (told_with past e (fresh_after past e)) (counted_after-capped past.open_image past.column

@@ -1,4 +1,5 @@
--- The HTML of a list of events: the bytes of each event, which depend on the events before it, one after another.
+-- The HTML of a list of events by rules: the bytes of each event, which depend on the events before it, one after
+-- another. The words without `by` are those of upstream's rules.
 use Rattle.std.specs.Prelude.{ℕ, zero, suc, Bool, true, false, List, [], ◌∷◌, ◌++◌, codes, if◌then◌else◌, reverse}
 use Rattle.std.specs.Prelude.{Option, Some, None}
 use Rattle.markdown_base.specs.Event.{EventView, start, end, text, code, inline_math, display_math, html, inline_html}
@@ -6,9 +7,11 @@ use Rattle.markdown_base.specs.Event.{footnote_reference, soft_break, hard_break
 use Rattle.markdown_out.specs.AltText.{alt_parts}
 use Rattle.markdown_out.specs.ByteLists.{joined, fresh_after_bytes}
 use Rattle.markdown_out.specs.Escapes.{text_escaped, attribute_escaped}
+use Rattle.markdown_out.specs.HtmlRules.{upstream_rules}
 use Rattle.markdown_out.specs.LookBacks.{Past, OpenImageView, footnote_number, image_before, names_before, told_by}
 use Rattle.markdown_out.specs.LookBacks.{metadata_after, head_after, cell_column_after, alignments_after}
 use Rattle.markdown_out.specs.TagHtml.{new_line, start_parts, end_parts, image_end}
+use Rattle.markdown_out.specs.declared.html.rules.HtmlRules.{HtmlRules}
 
 -- a footnote reference, from its name and its number
 abbrev pub reference_parts : List ℕ → List ℕ → List (List ℕ)
@@ -63,36 +66,6 @@ abbrev pub fresh_after : Past → EventView → Bool
 fresh_after past (text []) = fresh_after_empty past.open_image past
 fresh_after past e = fresh_after_bytes past.fresh (event_bytes past e)
 
--- what the HTML of an event after these events depends on, where the line is fresh or not
-abbrev pub past_with : (fresh : Bool) → List EventView → Past
-past_with fresh before = record {
-  fresh = fresh;
-  in_metadata = told_by metadata_after false before;
-  in_head = told_by head_after true before;
-  column = told_by cell_column_after 0 before;
-  alignments = told_by alignments_after [] before;
-  names = names_before before;
-  open_image = image_before before;
-}
-
--- whether the line is fresh after these events
-abbrev pub fresh_before : List EventView → Bool
-fresh_before [] = true
-fresh_before (e ∷ before) = fresh_after (past_with (fresh_before before) before) e
-
--- what the HTML of an event after these events depends on
-abbrev pub past_of : List EventView → Past
-past_of before = past_with (fresh_before before) before
-
--- the bytes of these events
-abbrev pub bytes_before : List EventView → List ℕ
-bytes_before [] = []
-bytes_before (e ∷ before) = bytes_before before ++ event_bytes (past_of before) e
-
--- the bytes of an event after these events
-abbrev pub bytes_after : List EventView → EventView → List ℕ
-bytes_after events e = event_bytes (past_of (reverse events)) e
-
 -- what closes the image that is open, if there is one
 abbrev pub closing : Option OpenImageView → List ℕ
 closing None = []
@@ -102,10 +75,70 @@ closing (Some i) = image_end i.title
 abbrev pub closing_after : List EventView → List ℕ
 closing_after events = closing (image_before (reverse events))
 
+module _ (rules : HtmlRules) where
+  -- what the HTML of an event after these events depends on, where the line is fresh or not
+  abbrev pub past_with_by : (fresh : Bool) → List EventView → Past
+  past_with_by fresh before = record {
+    rules = rules;
+    fresh = fresh;
+    in_metadata = told_by metadata_after false before;
+    in_head = told_by head_after true before;
+    column = told_by cell_column_after 0 before;
+    alignments = told_by alignments_after [] before;
+    names = names_before before;
+    open_image = image_before before;
+  }
+
+  -- whether the line is fresh after these events
+  abbrev pub fresh_before_by : List EventView → Bool
+  fresh_before_by [] = true
+  fresh_before_by (e ∷ before) = fresh_after (past_with_by (fresh_before_by before) before) e
+
+  -- what the HTML of an event after these events depends on
+  abbrev pub past_by : List EventView → Past
+  past_by before = past_with_by (fresh_before_by before) before
+
+  -- the bytes of these events
+  abbrev pub bytes_before_by : List EventView → List ℕ
+  bytes_before_by [] = []
+  bytes_before_by (e ∷ before) = bytes_before_by before ++ event_bytes (past_by before) e
+
+  -- the bytes of an event after these events
+  abbrev pub bytes_after_by : List EventView → EventView → List ℕ
+  bytes_after_by events e = event_bytes (past_by (reverse events)) e
+
+  -- the HTML of a list of events, without the closing bytes of an image whose End is not in it
+  abbrev pub open_html_by : List EventView → List ℕ
+  open_html_by events = bytes_before_by (reverse events)
+
+  -- the HTML of a list of events
+  abbrev pub html_by : List EventView → List ℕ
+  html_by events = open_html_by events ++ closing_after events
+
+-- the same by upstream's rules: what the HTML of an event after these events depends on, where the line is fresh or not
+abbrev pub past_with : (fresh : Bool) → List EventView → Past
+past_with = past_with_by upstream_rules
+
+-- whether the line is fresh after these events
+abbrev pub fresh_before : List EventView → Bool
+fresh_before = fresh_before_by upstream_rules
+
+-- what the HTML of an event after these events depends on
+abbrev pub past_of : List EventView → Past
+past_of = past_by upstream_rules
+
+-- the bytes of these events
+abbrev pub bytes_before : List EventView → List ℕ
+bytes_before = bytes_before_by upstream_rules
+
+-- the bytes of an event after these events
+abbrev pub bytes_after : List EventView → EventView → List ℕ
+bytes_after = bytes_after_by upstream_rules
+
 -- the HTML of a list of events, without the closing bytes of an image whose End is not in it
 abbrev pub open_html : List EventView → List ℕ
-open_html events = bytes_before (reverse events)
+open_html = open_html_by upstream_rules
 
 -- the HTML of a list of events
 abbrev pub html_of : List EventView → List ℕ
-html_of events = open_html events ++ closing_after events
+html_of = html_by upstream_rules

@@ -1,5 +1,6 @@
 -- The HTML of events, what `push_html` leaves in the string, and the merge of neighbouring Texts.
 pub mod Escapes
+pub mod HtmlRules
 pub mod LookBacks
 pub mod AltText
 pub mod TagHtml

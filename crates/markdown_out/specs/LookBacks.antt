@@ -14,6 +14,7 @@ use Rattle.markdown_base.specs.Event.{EventView, start, end, footnote_reference,
 use Rattle.markdown_base.specs.Event.{footnote_definition, metadata_block}
 use Rattle.markdown_base.specs.declared.tag.Alignment.{Alignment}
 use Rattle.markdown_base.specs.declared.tag.TagEnd.TheVariants as closes
+use Rattle.markdown_out.specs.declared.html.rules.HtmlRules.{HtmlRules}
 
 -- an image whose End has not come: the number of Starts inside it that have no End yet, and its title
 pub record OpenImageView : Type 0 where
@@ -92,8 +93,10 @@ abbrev pub names_before : List EventView → List (List ℕ)
 names_before [] = []
 names_before (e ∷ before) = names_after (image_before before) (names_before before) e
 
--- what the HTML of an event depends on in the events before it
+-- what the HTML of an event depends on: the rules, and what the events before it tell
 pub record Past : Type 0 where
+  -- the rules by which it is written
+  pub rules : HtmlRules
   -- whether the line is fresh: what is written next counts as its beginning
   pub fresh : Bool
   -- whether a metadata block is open

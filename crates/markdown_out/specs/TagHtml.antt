@@ -1,11 +1,12 @@
 -- The HTML of tags: what the Start and the End of a block or of inline markup write outside images, in parts, which
 -- `joined` puts together.
-use Rattle.std.specs.Prelude.{ℕ, Bool, true, false, List, [], ◌∷◌, ◌++◌, ◌==◌, codes, if◌then◌else◌, slice_get}
-use Rattle.std.specs.Prelude.{Option, Some, None}
+use Rattle.std.specs.Prelude.{ℕ, Bool, true, false, List, [], ◌∷◌, ◌++◌, ◌==◌, ◌&&◌, ◌||◌, codes, if◌then◌else◌}
+use Rattle.std.specs.Prelude.{Option, Some, None, nat_eq, slice_get}
+use Rattle.std.specs.Char.{is_ascii_alphabetic, is_ascii_alphanumeric}
 use Rattle.std.specs.Option.{option_map_or}
-use Rattle.std.specs.List.{flat_map, before_first}
+use Rattle.std.specs.List.{flat_map, before_first, list_any, starts_with}
 use Rattle.std.specs.Fmt.{decimal}
-use Rattle.markdown_base.specs.Bytes.{space}
+use Rattle.markdown_base.specs.Bytes.{colon, space}
 use Rattle.markdown_base.specs.Event as event
 use Rattle.markdown_base.specs.Event.{TagView, HeadingView}
 use Rattle.markdown_base.specs.declared.tag.Alignment.{Alignment}
@@ -83,13 +84,16 @@ code_block_parts fresh (b ∷ name) = new_line fresh ∷ codes "<pre><code class
 abbrev pub numbered_list_parts : Bool → List ℕ → List (List ℕ)
 numbered_list_parts fresh number = new_line fresh ∷ codes "<ol start=\"" ∷ number ∷ codes "\">\n" ∷ []
 
--- the alignment of a cell, and the end of its tag
-abbrev pub cell_style : Option Alignment → List ℕ
-cell_style (Some align.Left) = codes " style=\"text-align: left\">"
-cell_style (Some align.Center) = codes " style=\"text-align: center\">"
-cell_style (Some align.Right) = codes " style=\"text-align: right\">"
-cell_style (Some align.None) = codes ">"
-cell_style None = codes ">"
+-- the alignment of a cell, by the attribute `align` or by its style, and the end of its tag
+abbrev pub cell_style : (align : Bool) → Option Alignment → List ℕ
+cell_style by_align (Some align.Left) =
+    if by_align then codes " align=\"left\">" else codes " style=\"text-align: left\">"
+cell_style by_align (Some align.Center) =
+    if by_align then codes " align=\"center\">" else codes " style=\"text-align: center\">"
+cell_style by_align (Some align.Right) =
+    if by_align then codes " align=\"right\">" else codes " style=\"text-align: right\">"
+cell_style by_align (Some align.None) = codes ">"
+cell_style by_align None = codes ">"
 
 -- the scheme that is written before a link's destination
 abbrev pub link_scheme : LinkType → List ℕ
@@ -109,11 +113,41 @@ abbrev pub title_parts : List ℕ → List (List ℕ)
 title_parts [] = []
 title_parts (b ∷ title) = codes " title=\"" ∷ attribute_escaped (b ∷ title) ∷ codes "\"" ∷ []
 
--- a link's Start
-abbrev pub link_parts : LinkType → List ℕ → List ℕ → List (List ℕ)
-link_parts kind destination title =
+-- a scheme may have this byte: an ASCII letter or digit, or `+`, `-` or `.`
+abbrev pub may_be_in_scheme : ℕ → Bool
+may_be_in_scheme b = is_ascii_alphanumeric b || list_any (λ mark. mark == b) (codes "+-.")
+
+-- bytes of a scheme up to a colon follow
+abbrev pub scheme_goes_on : List ℕ → Bool
+scheme_goes_on [] = false
+scheme_goes_on (b ∷ bytes) = (b == colon) || (may_be_in_scheme b && scheme_goes_on bytes)
+
+-- a destination begins with a scheme: a letter, then letters, digits, `+`, `-` or `.` up to a colon
+abbrev pub begins_with_scheme : List ℕ → Bool
+begins_with_scheme [] = false
+begins_with_scheme (b ∷ bytes) = is_ascii_alphabetic b && scheme_goes_on bytes
+
+-- a link leads to another site: what is written of its destination begins with a scheme or with two slashes. A browser
+-- finds a scheme or a host nowhere else: the bytes that it passes over or takes for a slash, which are spaces, control
+-- bytes and backslashes, are percent-encoded by `destination_escaped`.
+abbrev pub leaves_site : LinkType → List ℕ → Bool
+leaves_site written.Email destination = true
+leaves_site other destination = begins_with_scheme destination || starts_with nat_eq destination (codes "//")
+
+-- the `rel` attribute of a link, where it has one
+abbrev pub rel_attribute : Bool → List ℕ
+rel_attribute true = codes " rel=\"nofollow ugc noopener\""
+rel_attribute false = []
+
+-- a link's Start, with a `rel` or without
+abbrev pub link_tag : (has_rel : Bool) → LinkType → List ℕ → List ℕ → List (List ℕ)
+link_tag has_rel kind destination title =
     (codes "<a href=\"" ∷ link_scheme kind ∷ destination_escaped destination ∷ codes "\"" ∷ [])
-    ++ (title_parts title ++ codes ">" ∷ [])
+    ++ (title_parts title ++ rel_attribute has_rel ∷ codes ">" ∷ [])
+
+-- a link's Start, with a `rel` where `rel` asks for it and the link leads to another site
+abbrev pub link_parts : (rel : Bool) → LinkType → List ℕ → List ℕ → List (List ℕ)
+link_parts rel kind destination title = link_tag (rel && leaves_site kind destination) kind destination title
 
 -- an image's Start, up to its alt text
 abbrev pub image_parts : List ℕ → List (List ℕ)
@@ -149,13 +183,14 @@ start_parts past (event.table alignments) = codes "<table>" ∷ []
 start_parts past event.table_head = codes "<thead><tr>" ∷ []
 start_parts past event.table_row = codes "<tr>" ∷ []
 start_parts past event.table_cell =
-    (if past.in_head then codes "<th" else codes "<td") ∷ cell_style (slice_get past.alignments past.column) ∷ []
+    (if past.in_head then codes "<th" else codes "<td")
+    ∷ cell_style past.rules.align (slice_get past.alignments past.column) ∷ []
 start_parts past event.emphasis = codes "<em>" ∷ []
 start_parts past event.strong = codes "<strong>" ∷ []
 start_parts past event.strikethrough = codes "<del>" ∷ []
 start_parts past event.superscript = codes "<sup>" ∷ []
 start_parts past event.subscript = codes "<sub>" ∷ []
-start_parts past (event.link l) = link_parts l.kind l.destination l.title
+start_parts past (event.link l) = link_parts past.rules.rel l.kind l.destination l.title
 start_parts past (event.image i) = image_parts i.destination
 start_parts past event.html_block = []
 start_parts past (event.metadata_block kind) = []

@@ -1,5 +1,5 @@
 -- What the writer of HTML holds, in the terms of its own clauses. Only private clauses cite this.
-use Rattle.std.specs.Prelude.{◌≤◌, ℕ, ◌+◌, ◌-◌, ◌^◌, List, Option, Some}
+use Rattle.std.specs.Prelude.{◌≤◌, ℕ, ◌+◌, ◌-◌, ◌^◌, Bool, List, Option, Some}
 use Rattle.std.specs.Prelude.{map, min}
 use Rattle.std.specs.Option.{option_map}
 use Rattle.markdown_base.specs.CowText.{text_of}
@@ -20,10 +20,12 @@ use Rattle.markdown_out.specs.EventHtml.{fresh_after}
 use Rattle.markdown_out.specs.LookBacks.{Past, OpenImageView, unless_inside, metadata_after}
 use Rattle.markdown_out.specs.LookBacks.{head_after, alignments_after, names_after, image_after}
 use Rattle.markdown_out.specs.LookBacks.{with_name}
+use Rattle.markdown_out.specs.TagHtml.{link_tag}
 use Rattle.markdown_out.specs.declared.html.OpenImage.{OpenImage}
 use Rattle.markdown_out.specs.declared.html.Piece.{Piece}
 use Rattle.markdown_out.specs.declared.html.Piece.TheVariants as piece
 use Rattle.markdown_out.specs.declared.html.Writer.{Writer}
+use Rattle.markdown_out.specs.declared.html.links.LinkStart.{LinkStart}
 
 -- the bytes of a piece
 abbrev pub piece_bytes : Piece → List ℕ
@@ -43,6 +45,7 @@ image_view i = record { starts = i.starts; title = text_of i.title }
 -- what the writer keeps of the events so far
 abbrev pub view : Writer → Past
 view w = record {
+  rules = w.rules;
   fresh = w.fresh;
   in_metadata = w.in_metadata;
   in_head = w.in_head;
@@ -74,6 +77,7 @@ counted_after column e = column
 -- what the writer keeps after one more event
 abbrev pub view_after : Past → EventView → Past
 view_after past e = record {
+  rules = past.rules;
   fresh = fresh_after past e;
   in_metadata = unless_inside metadata_after past.open_image past.in_metadata e;
   in_head = unless_inside head_after past.open_image past.in_head e;
@@ -100,6 +104,10 @@ abbrev pub MayRefuse : Past → EventView → Fault → Type 0
 MayRefuse past e Memory = Unit {0}
 MayRefuse past e Depth = IsFull past.open_image e
 MayRefuse past e Blocks = ⊥
+
+-- a link's Start, from what it holds, with a `rel` or without
+abbrev pub held_link_tag : (has_rel : Bool) → LinkStart → List (List ℕ)
+held_link_tag has_rel held = link_tag has_rel held.kind held.destination.now held.title.now
 
 -- a heading, from what its Start holds
 abbrev pub heading_view : HeadingLevel

@@ -14,11 +14,13 @@ mod names;
 mod outside;
 mod pieces;
 mod push;
+pub mod rules;
 mod starts;
 mod tables;
 
 use names::FootnoteNames;
-pub use push::push_html;
+pub use push::{push_html, push_html_by};
+pub use rules::HtmlRules;
 
 /// A piece of HTML: a text that is written as it is, or escaped for its context.
 #[derive(Clone, Copy, Drop)]
@@ -52,4 +54,5 @@ struct Writer<'a> {
     /// The names of footnotes, in the order of their first occurrence.
     names: FootnoteNames<'a>,
     image: Option<OpenImage<'a>>,
+    rules: HtmlRules,
 }

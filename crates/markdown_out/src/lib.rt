@@ -6,5 +6,5 @@ pub mod html;
 pub mod laws;
 pub mod merge;
 
-pub use html::push_html;
+pub use html::{HtmlRules, push_html, push_html_by};
 pub use merge::{TextMergeStream, TextMergeWithOffset};

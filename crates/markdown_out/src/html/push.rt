@@ -1,15 +1,16 @@
-//! `push_html`, which writes the events of an iterator up to its first `None`.
+//! `push_html` and `push_html_by`, which write the events of an iterator up to its first `None`.
 ghost use Rattle.std.specs.Prelude.{◌≡◌, ◌⊎◌, ◌++◌, [], OnOk, IfErr};
 ghost use Rattle.std.specs.Iterator.{IsFinite};
 ghost use Rattle.std.specs.String.{string_bytes};
 ghost use Rattle.markdown_base.specs.Event.{event_view};
 ghost use Rattle.markdown_base.specs.declared.fault.Fault.TheVariants.{Memory};
 ghost use Rattle.markdown_out.specs.StringAppends.{Appends, AppendsPart};
-ghost use Rattle.markdown_out.specs.EventHtml.{closing, event_bytes, past_of};
+ghost use Rattle.markdown_out.specs.EventHtml.{closing, event_bytes, past_by};
 ghost use Rattle.markdown_out.specs.HtmlCorrect.{IsRendered, StopsAtError, IsOwnFault};
+ghost use Rattle.markdown_out.specs.HtmlCorrect.{IsRenderedBy, StopsAtErrorBy, IsOwnFaultBy};
 
-use super::Writer;
 use super::names::FootnoteNames;
+use super::{HtmlRules, Writer};
 use markdown_base::event::Event;
 use markdown_base::fault::Fault;
 use std::alloc::Global;
@@ -17,9 +18,9 @@ use std::alloc::Global;
 impl<'a> Writer<'a> {
     ghost use Rattle.markdown_out.specs.Writer.{view, view_after, MayRefuse};
 
-    /// Returns a writer that has read no event. Allocates nothing.
-    fn new(alloc: Global) -> Self
-        ensures { view result ≡ past_of [] }
+    /// Returns a writer by these rules that has read no event. Allocates nothing.
+    fn new(alloc: Global, rules: HtmlRules) -> Self
+        ensures { view result ≡ past_by rules [] }
     {
         Writer {
             fresh: true,
@@ -29,6 +30,7 @@ impl<'a> Writer<'a> {
             alignments: Vec::new(alloc),
             names: FootnoteNames::new(alloc),
             image: None,
+            rules,
         }
     }
 
@@ -102,7 +104,34 @@ where
         StopsAtError I.next_gives iter (string_bytes s.old) (string_bytes s.new) fault
         ⊎ IsOwnFault I.next_gives iter (string_bytes s.old) (string_bytes s.new) fault) }
 {
-    let mut writer = Writer::new(alloc);
+    push_html_by(alloc, s, iter, HtmlRules::upstream())
+}
+
+/// Appends the HTML of the events up to the first `None`, by rules, as `push_html` does by those of upstream.
+///
+/// # Errors
+///
+/// Those of `push_html`.
+pub fn push_html_by<'a, I>(
+    alloc: Global,
+    s: &mut String,
+    iter: I,
+    rules: HtmlRules,
+) -> Result<(), Fault>
+where
+    I: Iterator<Item = Result<Event<'a>, Fault>>,
+    requires can { I.can_next iter }
+    requires ends { IsFinite (I.remaining iter) }
+    // The old text is followed by the HTML of all events.
+    ensures ok { OnOk result
+        (IsRenderedBy rules I.next_gives iter (string_bytes s.old) (string_bytes s.new)) }
+
+    // The first item that is an error, or an error of this function's own.
+    ensures err { IfErr result (λ fault.
+        StopsAtErrorBy rules I.next_gives iter (string_bytes s.old) (string_bytes s.new) fault
+        ⊎ IsOwnFaultBy rules I.next_gives iter (string_bytes s.old) (string_bytes s.new) fault) }
+{
+    let mut writer = Writer::new(alloc, rules);
     for item in iter {
         let event = item?;
         writer.event(s, event)?;

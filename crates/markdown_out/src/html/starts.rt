@@ -6,7 +6,7 @@ ghost use Rattle.markdown_out.specs.StringAppends.{Appends, AppendsPart};
 ghost use Rattle.markdown_out.specs.TagHtml.{image_parts, new_line, start_parts};
 
 use super::heading::put_heading;
-use super::links::{put_image, put_link};
+use super::links::put_image;
 use super::pieces::{line_break, put, put_raw};
 use super::{OpenImage, Piece, Writer};
 use markdown_base::cow_str::CowStr;
@@ -198,15 +198,7 @@ impl<'a> Writer<'a> {
                 dest_url,
                 title,
                 ..
-            } => {
-                return put_link(
-                    s,
-                    &mut self.fresh,
-                    link_type,
-                    dest_url.as_str(),
-                    title.as_str(),
-                );
-            }
+            } => return self.link(s, link_type, dest_url.as_str(), title.as_str()),
             rarer => return self.rarer_start(s, rarer),
         };
         self.raw(s, text)

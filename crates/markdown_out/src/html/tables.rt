@@ -11,11 +11,14 @@ use super::{Piece, Writer};
 use markdown_base::tag::Alignment;
 use std::alloc::AllocError;
 
-/// Returns the rest of a cell's tag: its alignment, and the `>`.
-fn style_of(alignment: Option<&Alignment>) -> &'static str
-    ensures { result.now ≡ cell_style (option_copied alignment.entry) }
+/// Returns the rest of a cell's tag: its alignment, by the attribute `align` or by its style, and the `>`.
+fn style_of(align: bool, alignment: Option<&Alignment>) -> &'static str
+    ensures { result.now ≡ cell_style align (option_copied alignment.entry) }
 {
     match alignment {
+        Some(Alignment::Left) if align => " align=\"left\">",
+        Some(Alignment::Center) if align => " align=\"center\">",
+        Some(Alignment::Right) if align => " align=\"right\">",
         Some(Alignment::Left) => " style=\"text-align: left\">",
         Some(Alignment::Center) => " style=\"text-align: center\">",
         Some(Alignment::Right) => " style=\"text-align: right\">",
@@ -50,7 +53,13 @@ impl<'a> Writer<'a> {
         ensures { result.0.now ++ result.1.now ≡ joined (start_parts (view self.now) table_cell) }
     {
         let name = if self.in_head { "<th" } else { "<td" };
-        (name, style_of(self.alignments.as_slice().get(self.column)))
+        (
+            name,
+            style_of(
+                self.rules.align,
+                self.alignments.as_slice().get(self.column),
+            ),
+        )
     }
 
     /// Appends the Start of a cell.

@@ -2,8 +2,8 @@
 use Rattle.std.specs.String.{string_bytes}
 use Rattle.markdown_out.specs.Writer.{view}
 use Rattle.markdown_out.proofs.HtmlCorrectLemmas.{Wrote}
-use Rattle.markdown_out.proofs.html.push.push_html.Given as goal
+use Rattle.markdown_out.proofs.html.push.push_html_by.Given as goal
 
 abbrev pub invariant-loop-item : goal.invariant-loop-item
-invariant-loop-item g l = Wrote (view l.writer) (string_bytes l.initial.s) (string_bytes l.s)
+invariant-loop-item g l = Wrote l.fn.rules (view l.writer) (string_bytes l.initial.s) (string_bytes l.s)
     l.yielded

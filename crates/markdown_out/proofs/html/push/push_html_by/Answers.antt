@@ -5,7 +5,7 @@ use Rattle.std.proofs.lemmas.Result.{err_from_is_err_and, IfOk-weaker, IfErr-wea
 use Rattle.markdown_out.proofs.HtmlCorrectLemmas.{Wrote-none, Wrote-more, StopsAtError-from}
 use Rattle.markdown_out.proofs.HtmlCorrectLemmas.{IsOwnFault-event, IsOwnFault-end, IsRendered-from}
 use Rattle.markdown_out.proofs.WriterLemmas.{highest}
-use Rattle.markdown_out.proofs.html.push.push_html.Goals as goal
+use Rattle.markdown_out.proofs.html.push.push_html_by.Goals as goal
 
 pub loop-item-init : goal.loop-item-init
 loop-item-init g c = Wrote-none _ _ _ c.new-writer.ensures refl
