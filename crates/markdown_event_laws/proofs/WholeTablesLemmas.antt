@@ -1,5 +1,5 @@
--- The tables of a text are whole, its list items stand in lists, and its headings apart: its blocks hold them in place,
--- resolving chains keeps them there, and the events of such a tree keep them so.
+-- The tables of a text are whole, with their parts alone, its list items stand in lists, and its headings apart: its
+-- blocks hold them in place, resolving chains keeps them there, and the events of such a tree keep them so.
 use Rattle.std.proofs.Common.{◌≡◌, ◌&&◌, ◌||◌, ℕ, Bool, true, false, List, [], ◌∷◌, ◌++◌, None, Some, append-nil}
 use Rattle.std.proofs.Common.{append_assoc, ap, map, refl, subst, sym, ◌∙◌}
 use Rattle.std.specs.List.{list_any}
@@ -35,9 +35,10 @@ use Rattle.markdown_document.specs.Setting.{ReferenceState, Setting, setting_of}
 use Rattle.markdown_document.specs.Tables.{Tables, tables_at_start}
 use Rattle.markdown_event_laws.specs.EventsOfTexts.{ReadingsPass, TextsPass}
 use Rattle.markdown_event_laws.specs.NestedEvents.{awaited_after, closes_heading, each_passes, ends_cells, ends_list}
-use Rattle.markdown_event_laws.specs.NestedEvents.{ends_table, headings_are_apart, items_are_in_lists}
-use Rattle.markdown_event_laws.specs.NestedEvents.{keep_tables_whole, keeps_headings_apart, keeps_items_in_lists}
-use Rattle.markdown_event_laws.specs.NestedEvents.{keeps_tables_whole, nearest_is, starts_table, tables_are_whole}
+use Rattle.markdown_event_laws.specs.NestedEvents.{ends_rows_or_cells, ends_table, headings_are_apart}
+use Rattle.markdown_event_laws.specs.NestedEvents.{items_are_in_lists, keep_tables_whole, keeps_headings_apart}
+use Rattle.markdown_event_laws.specs.NestedEvents.{keeps_items_in_lists, keeps_table_parts_alone, keeps_tables_whole}
+use Rattle.markdown_event_laws.specs.NestedEvents.{nearest_is, starts_table, table_parts_are_alone, tables_are_whole}
 use Rattle.markdown_inline.proofs.ReadingOfTextLemmas.{text-law}
 use Rattle.markdown_inline.proofs.ResolvedShapesLemmas.{shapes-law}
 use Rattle.markdown_inline.proofs.WholeReadingLemmas.{block_tree-law}
@@ -50,19 +51,25 @@ use Rattle.markdown_inline.specs.TreeReading.{GivesBoth, IsLone, events_in, tree
 
 -- ---- tables, lists and headings in place, in a tree as it is read
 
--- the event keeps tables whole, list items in lists, and headings apart
+-- the event keeps tables whole, list items in lists, headings apart, and the parts of tables alone
 abbrev keeps_all : EventView → (awaited : List TagEnd) → (first : Bool) → Bool
-keeps_all e awaited first =
-    keeps_tables_whole e awaited first && (keeps_items_in_lists e awaited && keeps_headings_apart e awaited)
+keeps_all e awaited first = keeps_tables_whole e awaited first
+    && (keeps_items_in_lists e awaited && (keeps_headings_apart e awaited && keeps_table_parts_alone e awaited))
 
 abbrev keep_all : (awaited : List TagEnd) → (first : Bool) → List EventView → Bool
 keep_all awaited first [] = true
 keep_all awaited first (e ∷ events) =
     keeps_all e awaited first && keep_all (awaited_after e awaited) (starts_table e) events
 
--- an event that is no Start of a table's head or of a list item may stand here
+-- what has no place of its own may stand here: the nearest awaited End is neither that of a list nor of a table, a head
+-- or a row
+record HoldsAny (awaited : List TagEnd) : Type 0 where
+  lists : nearest_is ends_list awaited ≡ false
+  parts : nearest_is ends_rows_or_cells awaited ≡ false
+
+-- an event that is no Start of a list item or of a table's head, row or cell may stand here
 abbrev IsFree : (awaited : List TagEnd) → (first : Bool) → Type 0
-IsFree awaited first = (first ≡ false) × (nearest_is ends_list awaited ≡ false)
+IsFree awaited first = (first ≡ false) × HoldsAny awaited
 
 -- the tag is that of a table, a list or a heading, or of a part of one
 abbrev is_placed : TagView → Bool
@@ -94,11 +101,12 @@ StandsAt (unresolved b) awaited first chain below after = IsFree awaited first �
 
 -- another tag keeps all of these wherever it is free to stand
 record IsOther (tag : TagView) : Type 0 where
-  keeps : (awaited : List TagEnd) → nearest_is ends_list awaited ≡ false → keeps_all (start tag) awaited false ≡ true
+  keeps : (awaited : List TagEnd) → HoldsAny awaited → keeps_all (start tag) awaited false ≡ true
   starts : starts_table (start tag) ≡ false
   tables : ends_table (tag_end tag) ≡ false
   lists : ends_list (tag_end tag) ≡ false
   headings : closes_heading (tag_end tag) ≡ false
+  parts : ends_rows_or_cells (tag_end tag) ≡ false
 
 other_tag : (tag : TagView) → not (is_placed tag) ≡ true → IsOther tag
 other_tag (heading h) n = absurd (cc n)
@@ -108,18 +116,24 @@ other_tag (table alignments) n = absurd (cc n)
 other_tag table_head n = absurd (cc n)
 other_tag table_row n = absurd (cc n)
 other_tag table_cell n = absurd (cc n)
-other_tag other n =
-    record { keeps = λ awaited free. rw free refl; starts = refl; tables = refl; lists = refl; headings = refl }
+other_tag other n = record {
+  keeps = λ awaited free. rw (free.lists, free.parts) refl;
+  starts = refl;
+  tables = refl;
+  lists = refl;
+  headings = refl;
+  parts = refl;
+}
 
 -- these Ends are awaited below such a tag, where others are awaited before it
 record AreInside (awaited ends : List TagEnd) : Type 0 where
   tables : list_any ends_table ends ≡ list_any ends_table awaited
   headings : list_any closes_heading ends ≡ list_any closes_heading awaited
-  free : nearest_is ends_list ends ≡ false
+  free : HoldsAny ends
 
 other_stands : (shape : Shape) (awaited : List TagEnd) (chain : Type 0) (below : List TagEnd → Bool → Type 0)
     (after : Type 0)
-    → not_placed shape ≡ true → nearest_is ends_list awaited ≡ false
+    → not_placed shape ≡ true → HoldsAny awaited
     → ((ends : List TagEnd) → AreInside awaited ends → below ends false) → after
     → (is_unresolved shape ≡ true → chain) → StandsAt shape awaited false chain below after
 other_stands (leaf e origins) awaited chain below after n free i l c = ((refl, free), l)
@@ -127,7 +141,11 @@ other_stands (enclosed tag origins) awaited chain below after n free i l c =
     let o = other_tag tag n in (
       o.keeps awaited free,
       rw o.starts (i (tag_end tag ∷ awaited)
-          (record { tables = rw o.tables refl; headings = rw o.headings refl; free = o.lists })),
+          (record {
+            tables = rw o.tables refl;
+            headings = rw o.headings refl;
+            free = record { lists = o.lists; parts = o.parts };
+          })),
       l,
     )
 other_stands plain awaited chain below after n free i l c =
@@ -139,12 +157,11 @@ other_stands (unresolved b) awaited chain below after n free i l c = ((refl, fre
 abbrev AreWhole : (awaited : List TagEnd) → (first : Bool) → List Placed → Type 0
 AreWhole awaited first events = keep_all awaited first (map (λ (e : Placed). e.0) events) ≡ true
 
-lone_whole : (e : EventView) (awaited : List TagEnd) (events : List EventView) → IsLone e
-    → nearest_is ends_list awaited ≡ false → keep_all awaited false events ≡ true
-    → keep_all awaited false (e ∷ events) ≡ true
+lone_whole : (e : EventView) (awaited : List TagEnd) (events : List EventView) → IsLone e → HoldsAny awaited
+    → keep_all awaited false events ≡ true → keep_all awaited false (e ∷ events) ≡ true
 lone_whole (start tag) awaited events lone free w = absurd lone
 lone_whole (end x) awaited events lone free w = absurd lone
-lone_whole other awaited events lone free w = rw free w
+lone_whole other awaited events lone free w = rw (free.lists, free.parts) w
 
 end_whole : (e : TagEnd) (awaited : List TagEnd) (events : List EventView) → keep_all awaited false events ≡ true
     → keep_all (e ∷ awaited) false (end e ∷ events) ≡ true
@@ -166,8 +183,8 @@ module _ {A : Type 0} where
       StandsAt a.part.shape awaited first (HoldNone (node a below after))
       (λ ends starts. AreInPlace ends starts below) (AreInPlace awaited false after)
 
-  without_placed : (f : Forest (TreeNode A)) (awaited : List TagEnd) → nearest_is ends_list awaited ≡ false
-      → HoldNone f → AreInPlace awaited false f
+  without_placed : (f : Forest (TreeNode A)) (awaited : List TagEnd) → HoldsAny awaited → HoldNone f
+      → AreInPlace awaited false f
   without_placed nil awaited free n = refl
   without_placed (node a below after) awaited free n =
       other_stands a.part.shape awaited (HoldNone (node a below after))
@@ -196,7 +213,7 @@ module _ {A : Type 0} where
       rw (p.0.0, append_assoc (events_in below) (events_in after) rest)
       (i awaited false (events_in after ++ rest) p.1 (l p.2))
   tree_whole backslash_break range a below after awaited first rest both p i l =
-      rw (p.0.0, p.0.1) (l p.1)
+      rw (p.0.0, p.0.1.lists, p.0.1.parts) (l p.1)
   tree_whole (unresolved b) range a below after awaited first rest both p i l =
       rw p.0.0 (l (without_placed after awaited p.0.1 p.1.2))
 
@@ -235,8 +252,8 @@ record StayInPlace (a : Plain) (below after : Forest Plain) (inside later chain 
       → AreInPlace awaited first (inside state).trees
   after_stays : (awaited : List TagEnd) (state : ReferenceState) → AreInPlace awaited false after
       → AreInPlace awaited false (later state).trees
-  chain_stays : (awaited : List TagEnd) (state : ReferenceState) → nearest_is ends_list awaited ≡ false
-      → HoldNone (node a below after) → AreInPlace awaited false (chain state).trees
+  chain_stays : (awaited : List TagEnd) (state : ReferenceState) → HoldsAny awaited → HoldNone (node a below after)
+      → AreInPlace awaited false (chain state).trees
 
 tree_stays : (shape : Shape) (a : Plain) (below after : Forest Plain) (inside later chain : Resolving (Unit {0}))
     (awaited : List TagEnd) (first : Bool) (state : ReferenceState) → a.part.shape ≡ shape
@@ -317,9 +334,10 @@ both : (a b : Bool) → (a && b) ≡ true → (a ≡ true) × (b ≡ true)
 both true b h = (refl, h)
 both false b h = cc h
 
--- no table and no heading is open
+-- no table and no heading is open, nor, nearest of all, a head or a row
 abbrev AreOutside : (awaited : List TagEnd) → Type 0
 AreOutside awaited = (list_any ends_table awaited ≡ false) × (list_any closes_heading awaited ≡ false)
+    × (nearest_is ends_rows_or_cells awaited ≡ false)
 
 -- an item outside of tables and headings, in a list if it is a list item
 module _ (tables : Tables) (bytes : List ℕ) (shown : Forest Shown) (inner : Type 0) (awaited : List TagEnd)
@@ -328,26 +346,29 @@ module _ (tables : Tables) (bytes : List ℕ) (shown : Forest Shown) (inner : Ty
   abbrev BodyStands : ItemBody → Type 0
   BodyStands b =
       nearest_is ends_list awaited ≡ is_list_item (unnumbered b) → StandsOutside (unnumbered b) shown inner
-      → (IsTrue (is_heading_block b) → (ends : List TagEnd) → nearest_is ends_list ends ≡ false → below ends false)
+      → (IsTrue (is_heading_block b) → (ends : List TagEnd) → HoldsAny ends → below ends false)
       → (inner → (ends : List TagEnd) → AreOutside ends → nearest_is ends_list ends ≡ is_list (unnumbered b)
       → below ends false)
       → after → (is_unresolved (shape_of tables bytes b) ≡ true → chain)
       → StandsAt (shape_of tables bytes b) awaited false chain below after
 
   body_stands : (b : ItemBody) → BodyStands b
-  body_stands (body.Table ix) at h heads i l c = (rw (at, out.0) refl, rows h, l)
+  body_stands (body.Table ix) at h heads i l c = (rw (at, out.0, out.2) refl, rows h, l)
   body_stands body.TableHead at h heads i l c = absurd h
   body_stands body.TableRow at h heads i l c = absurd h
   body_stands body.TableCell at h heads i l c = absurd h
-  body_stands (body.Heading level None) at h heads i l c = (rw (at, out.1) refl, heads refl _ refl, l)
-  body_stands (body.Heading level (Some ix)) at h heads i l c = (rw (at, out.1) refl, heads refl _ refl, l)
-  body_stands (body.List tight marker number) at h heads i l c = (rw at refl, i h _ out refl, l)
-  body_stands (body.ListItem indent) at h heads i l c = (rw at refl, i h _ out refl, l)
-  body_stands (body.HardBreak true) at h heads i l c = ((refl, at), l)
-  body_stands (body.HardBreak false) at h heads i l c = ((refl, at), l)
+  body_stands (body.Heading level None) at h heads i l c =
+      (rw (at, out.1, out.2) refl, heads refl _ (record { lists = refl; parts = refl }), l)
+  body_stands (body.Heading level (Some ix)) at h heads i l c =
+      (rw (at, out.1, out.2) refl, heads refl _ (record { lists = refl; parts = refl }), l)
+  body_stands (body.List tight marker number) at h heads i l c =
+      (rw (at, out.2) refl, i h _ (out.0, out.1, refl) refl, l)
+  body_stands (body.ListItem indent) at h heads i l c = (rw (at, out.2) refl, i h _ (out.0, out.1, refl) refl, l)
+  body_stands (body.HardBreak true) at h heads i l c = ((refl, record { lists = at; parts = out.2 }), l)
+  body_stands (body.HardBreak false) at h heads i l c = ((refl, record { lists = at; parts = out.2 }), l)
   body_stands other at h heads i l c =
-      other_stands (shape_of tables bytes other) awaited chain below after refl at
-      (λ ends is. i h ends (is.tables ∙ out.0, is.headings ∙ out.1) is.free) l c
+      other_stands (shape_of tables bytes other) awaited chain below after refl (record { lists = at; parts = out.2 })
+      (λ ends is. i h ends (is.tables ∙ out.0, is.headings ∙ out.1, is.free.parts) is.free.lists) l c
 
 module _ (source : List ℕ) (tables : Tables) (held : Parts) (counts : PartCounts) where
   -- the items as they are shown, and as they are read
@@ -398,7 +419,8 @@ module _ (source : List ℕ) (tables : Tables) (held : Parts) (counts : PartCoun
   cells_in_place (node a below after) awaited near free c =
       rw (part_shape a body.TableCell refl c.0) (
         rw (near, free) refl,
-        without_placed (labelled below) (closes.TableCell ∷ awaited) refl (inline_items below c.1),
+        without_placed (labelled below) (closes.TableCell ∷ awaited) (record { lists = refl; parts = refl })
+            (inline_items below c.1),
         cells_in_place after awaited near free c.2,
       )
 
@@ -449,7 +471,7 @@ text_in_place s blocks of =
     let parts = block_parts blocks in
     blocks_in_place (text_of_blocks blocks) (tables_at_start parts)
     (stored_parts parts.cows.items parts.headings.items parts.alignments.items) (counts_of parts)
-    (tree_of (block_arena blocks).nodes) [] false (refl, refl) refl
+    (tree_of (block_arena blocks).nodes) [] false (refl, refl, refl) refl
     (subst TablesInPlace (sym of.by_rules.tree) (tables_in_place s))
     (subst (ItemsInPlace false) (sym of.by_rules.tree) (items_in_place s)) of.by_rules.headings_hold_inline
     blocks.well_formed.rules (λ o. cc (o, blocks.well_formed.top_is_closed))
@@ -458,15 +480,17 @@ text_in_place s blocks of =
 all_kept : (events : List EventView) (awaited : List TagEnd) (first : Bool) → keep_all awaited first events ≡ true
     → (keep_tables_whole awaited first events ≡ true) × (each_passes keeps_items_in_lists awaited events ≡ true)
     × (each_passes keeps_headings_apart awaited events ≡ true)
-all_kept [] awaited first h = (refl, refl, refl)
+    × (each_passes keeps_table_parts_alone awaited events ≡ true)
+all_kept [] awaited first h = (refl, refl, refl, refl)
 all_kept (e ∷ events) awaited first h =
     let more = keep_all (awaited_after e awaited) (starts_table e) events in
-    let parts = both (keeps_all e awaited first) more h in
-    let own = both (keeps_tables_whole e awaited first)
-    (keeps_items_in_lists e awaited && keeps_headings_apart e awaited) parts.0 in
-    let others = both (keeps_items_in_lists e awaited) (keeps_headings_apart e awaited) own.1 in
-    let rest = all_kept events (awaited_after e awaited) (starts_table e) parts.1 in
-    (rw own.0 rest.0, rw others.0 rest.1, rw others.1 rest.2)
+    let headings_and_parts = keeps_headings_apart e awaited && keeps_table_parts_alone e awaited in
+    let kept = both (keeps_all e awaited first) more h in
+    let own = both (keeps_tables_whole e awaited first) (keeps_items_in_lists e awaited && headings_and_parts) kept.0 in
+    let others = both (keeps_items_in_lists e awaited) headings_and_parts own.1 in
+    let last = both (keeps_headings_apart e awaited) (keeps_table_parts_alone e awaited) others.1 in
+    let rest = all_kept events (awaited_after e awaited) (starts_table e) kept.1 in
+    (rw own.0 rest.0, rw others.0 rest.1, rw last.0 rest.2, rw last.1 rest.3)
 
 -- a test that such events pass
 readings_pass : (test : List EventView → Bool)
@@ -491,6 +515,9 @@ items_of_readings = readings_pass items_are_in_lists (λ events kept. (all_kept 
 pub headings_of_readings : ReadingsPass headings_are_apart
 headings_of_readings = readings_pass headings_are_apart (λ events kept. (all_kept events [] false kept).2)
 
+pub alone_readings : ReadingsPass table_parts_are_alone
+alone_readings = readings_pass table_parts_are_alone (λ events kept. (all_kept events [] false kept).3)
+
 -- the events of a text are those of its block result
 texts_pass : (test : List EventView → Bool) → ReadingsPass test → TextsPass test
 texts_pass test readings s blocks of =
@@ -505,3 +532,6 @@ items_of_texts = texts_pass items_are_in_lists items_of_readings
 
 pub headings_of_texts : TextsPass headings_are_apart
 headings_of_texts = texts_pass headings_are_apart headings_of_readings
+
+pub alone_texts : TextsPass table_parts_are_alone
+alone_texts = texts_pass table_parts_are_alone alone_readings

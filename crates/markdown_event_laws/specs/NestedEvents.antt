@@ -1,6 +1,6 @@
 -- Nested events, whose HTML is a tree: each End is that of the nearest Start that is still open; each table holds its
--- head, first, and then rows; list items stand directly in lists, which hold nothing else; and no heading is in
--- another.
+-- head, first, and then rows, these hold cells, and nothing else stands directly in them; list items stand directly in
+-- lists, which hold nothing else; and no heading is in another.
 use Rattle.std.specs.Prelude.{◌≡◌, Bool, true, false, not, List, [], ◌∷◌, ◌&&◌, ◌||◌}
 use Rattle.std.specs.List.{list_any}
 use Rattle.markdown_base.specs.Event.{EventView, start, end, heading, list_item, tag_end}
@@ -109,3 +109,19 @@ items_are_in_lists events = each_passes keeps_items_in_lists [] events
 -- no heading among these events stands in a heading
 abbrev pub headings_are_apart : List EventView → Bool
 headings_are_apart events = each_passes keeps_headings_apart [] events
+
+-- the End is that of a table, or of a head or a row of one
+abbrev pub ends_rows_or_cells : TagEnd → Bool
+ends_rows_or_cells e = ends_table e || ends_cells e
+
+-- directly in a table, or in a head or a row of one, the event is an End, or the Start of a head, a row or a cell
+abbrev pub keeps_table_parts_alone : EventView → (awaited : List TagEnd) → Bool
+keeps_table_parts_alone (end e) awaited = true
+keeps_table_parts_alone (start table_head) awaited = true
+keeps_table_parts_alone (start table_row) awaited = true
+keeps_table_parts_alone (start table_cell) awaited = true
+keeps_table_parts_alone other awaited = not (nearest_is ends_rows_or_cells awaited)
+
+-- in the tables among these events stand no events but those of their parts and of what cells hold
+abbrev pub table_parts_are_alone : List EventView → Bool
+table_parts_are_alone events = each_passes keeps_table_parts_alone [] events

@@ -1,6 +1,7 @@
 //! Laws of the events of texts: functions without code, whose clauses state them.
 ghost use Rattle.markdown_event_laws.specs.EventsOfTexts.{ReadingsAreNested, ReadingsPass, TextsAreNested, TextsPass};
-ghost use Rattle.markdown_event_laws.specs.NestedEvents.{headings_are_apart, items_are_in_lists, tables_are_whole};
+ghost use Rattle.markdown_event_laws.specs.NestedEvents.{headings_are_apart, items_are_in_lists, table_parts_are_alone};
+ghost use Rattle.markdown_event_laws.specs.NestedEvents.{tables_are_whole};
 
 /// States that the events of each block result are nested, for all answers of a callback, and so are those of its text:
 /// each End is that of the nearest Start that is still open.
@@ -15,6 +16,13 @@ pub fn events_of_texts_are_nested()
 pub fn tables_of_texts_are_whole()
     ensures readings { ReadingsPass tables_are_whole }
     ensures texts { TextsPass tables_are_whole }
+{}
+
+/// States that nothing but their parts stands directly in the tables among the events of a text's block result, nor in
+/// the heads and rows of these, for all answers of a callback; and so it is among the events of the text.
+pub fn only_parts_stand_in_tables()
+    ensures readings { ReadingsPass table_parts_are_alone }
+    ensures texts { TextsPass table_parts_are_alone }
 {}
 
 /// States that the list items among the events of a text's block result stand directly in lists, and that these lists
